@@ -1,0 +1,6 @@
+pub mod formers
+pub mod Number
+pub mod Store
+pub mod Names
+pub mod Uses
+pub mod Locks

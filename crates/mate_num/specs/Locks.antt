@@ -1,0 +1,37 @@
+-- A lock set as two words of bits, and the sets that they stand for.
+use Rattle.std.specs.Prelude.{ℕ, ◌+◌, Bool, nat_lt, ◌&&◌, ◌==◌, IsTrue}
+use Rattle.std.specs.Int.{bit_at}
+use Rattle.mate_num.specs.Uses.{Uses}
+use Rattle.mate_num.specs.declared.resource.Resource.{Resource}
+use Rattle.mate_num.specs.declared.resource.Resource.TheVariants.{Shared, Buffer, Device}
+use Rattle.mate_num.specs.declared.lock_set.LockSet.{LockSet}
+
+-- the resource's bit
+abbrev pub bit_of : Resource → ℕ
+bit_of (Shared v) = v.0
+bit_of (Buffer b) = 16 + b.0
+bit_of (Device d) = 24 + d.0
+
+-- a machine can have the resource: 16 shared variables, 8 buffers and 8 devices
+abbrev pub is_resource : Resource → Bool
+is_resource (Shared v) = nat_lt v.0 16
+is_resource (Buffer b) = nat_lt b.0 8
+is_resource (Device d) = nat_lt d.0 8
+
+-- the word has the resource
+abbrev pub has : ℕ → Resource → Bool
+has word r = is_resource r && (bit_at word (bit_of r) == 1)
+
+-- the sets that a lock set stands for
+abbrev pub uses_of : LockSet → Uses
+uses_of s = record { reads = has s.read; writes = has s.written }
+
+-- both words have a resource
+pub record Share (a b : ℕ) : Type 0 where
+  pub resource : Resource
+  pub left : IsTrue (has a resource)
+  pub right : IsTrue (has b resource)
+
+-- no resource is in both words
+pub record IsApart (a b : ℕ) : Type 0 where
+  pub apart : (r : Resource) → IsTrue (has a r) → IsTrue (has b r) → ⊥

@@ -1,0 +1,99 @@
+//! Which resources a handler reads and which it writes, as two words of bits.
+
+ghost use Rattle.std.specs.Prelude.{◌≡◌, ℕ, ◌<◌, ◌^◌, IsTrue, MatchBool};
+ghost use Rattle.mate_num.specs.Uses.{Adds, Conflicts, IsCompatible, no_uses, IsSameUses};
+ghost use Rattle.mate_num.specs.Locks.{bit_of, is_resource, has, uses_of, Share, IsApart};
+
+use crate::resource::Resource;
+
+/// A set of resources to read and a set of resources to write. Bit v stands for shared variable v,
+/// bit 16 + b for buffer b and bit 24 + d for device d.
+#[derive(Clone, Copy, PartialEq, Eq, Debug)]
+pub struct LockSet {
+    read: u32,
+    written: u32,
+}
+
+/// The word that has this resource alone.
+fn bit(resource: Resource) -> u32
+    requires { IsTrue (is_resource resource) }
+    ensures { result ≡ 2 ^ bit_of resource }
+{
+    match resource {
+        Resource::Shared(var) => 1 << var.0,
+        Resource::Buffer(buf) => 1 << (16 + buf.0),
+        Resource::Device(device) => 1 << (24 + device.0),
+    }
+}
+
+/// A law on lock sets: two that stand for the same reads and the same writes are equal.
+pub fn lock_sets_are_their_words(a: LockSet, b: LockSet)
+    ensures { IsSameUses (uses_of a) (uses_of b) → a ≡ b }
+{}
+
+/// Whether the two words share a resource.
+fn overlap(a: u32, b: u32) -> bool
+    ensures { MatchBool result (Share a b) (IsApart a b) }
+{
+    a & b != 0
+}
+
+impl LockSet {
+    /// Nothing to read and nothing to write.
+    pub fn empty() -> LockSet
+        ensures { IsSameUses (uses_of result) no_uses }
+    {
+        LockSet {
+            read: 0,
+            written: 0,
+        }
+    }
+
+    /// The set with `resource` among those to read.
+    pub fn with_read(self, resource: Resource) -> LockSet
+        requires { IsTrue (is_resource resource) }
+        ensures reads { Adds (uses_of self).reads (uses_of result).reads resource }
+        ensures writes { (uses_of result).writes ≡ (uses_of self).writes }
+    {
+        LockSet {
+            read: self.read | bit(resource),
+            written: self.written,
+        }
+    }
+
+    /// The set with `resource` among those to write.
+    pub fn with_write(self, resource: Resource) -> LockSet
+        requires { IsTrue (is_resource resource) }
+        ensures reads { (uses_of result).reads ≡ (uses_of self).reads }
+        ensures writes { Adds (uses_of self).writes (uses_of result).writes resource }
+    {
+        LockSet {
+            read: self.read,
+            written: self.written | bit(resource),
+        }
+    }
+
+    /// Whether `resource` is among those to read.
+    pub fn reads(&self, resource: Resource) -> bool
+        requires { IsTrue (is_resource resource) }
+        ensures { result ≡ (uses_of self.now).reads resource }
+    {
+        self.read & bit(resource) != 0
+    }
+
+    /// Whether `resource` is among those to write.
+    pub fn writes(&self, resource: Resource) -> bool
+        requires { IsTrue (is_resource resource) }
+        ensures { result ≡ (uses_of self.now).writes resource }
+    {
+        self.written & bit(resource) != 0
+    }
+
+    /// Whether no resource that one of the two writes is read or written by the other.
+    pub fn compatible(&self, other: &LockSet) -> bool
+        ensures { MatchBool result (IsCompatible (uses_of self.now) (uses_of other.now)) (Conflicts (uses_of self.now) (uses_of other.now)) }
+    {
+        !overlap(self.written, other.read | other.written)
+            && !overlap(other.written, self.read | self.written)
+    }
+}
