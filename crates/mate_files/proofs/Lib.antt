@@ -1,0 +1,4 @@
+pub mod SinkLemmas
+pub mod PenLemmas
+mod HexPieces
+mod WriteTurns

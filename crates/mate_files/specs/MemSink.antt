@@ -1,0 +1,28 @@
+-- A sink in memory: what its state shows, and how calls change it.
+use Rattle.std.specs.Prelude.{ℕ, List, Option, Some, Contains}
+use Rattle.mate_files.specs.Counts.{one_more}
+use Rattle.mate_files.specs.declared.mem_sink.MemSink.{MemSink}
+
+-- the bytes that were written
+abbrev pub bytes_of : MemSink → List ℕ
+bytes_of sink = sink.bytes.items
+
+-- the bytes that were written, which are always told
+abbrev pub told_of : MemSink → Option (List ℕ)
+told_of sink = Some (bytes_of sink)
+
+-- the numbers of the writes that are to fail, from 1
+abbrev pub failing_of : MemSink → List ℕ
+failing_of sink = sink.failing.items
+
+-- how many writes were made
+abbrev pub calls_of : MemSink → ℕ
+calls_of sink = sink.calls
+
+-- how many writes failed
+abbrev pub faults_of : MemSink → ℕ
+faults_of sink = sink.faults
+
+-- the next write has a listed number
+abbrev pub IsListed : MemSink → Type 0
+IsListed sink = Contains (failing_of sink) (one_more (calls_of sink))

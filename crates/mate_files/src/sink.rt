@@ -1,0 +1,36 @@
+//! A sink, which takes bytes at its end.
+ghost use Rattle.std.specs.Prelude.{◌≡◌, ℕ, ◌≤◌, List, Option};
+ghost use Rattle.mate_files.specs.Sink.{Writes, HasCause};
+
+use thiserror::Error;
+
+/// Why a sink didn't take all of a piece. A prefix of the piece was appended.
+#[derive(Clone, Copy, Debug, PartialEq, Eq, Error)]
+pub enum SinkFault {
+    /// The sink could not be written.
+    #[error("the sink can't be written")]
+    Failed,
+    /// No memory was left for the bytes.
+    #[error("no memory is left")]
+    NoMemory,
+}
+
+/// Bytes that are written one piece after another, and a count of the writes that failed.
+///
+/// A count that reached `u64::MAX` stays there; a write that fails then is counted by that.
+pub trait Sink {
+    // The bytes that were written, where the type tells them.
+    ghost written: { Self → Option (List ℕ) };
+
+    // How many writes failed. It never falls.
+    ghost faults: { Self → ℕ };
+
+    /// Appends exactly `bytes`, or a prefix of them where it is refused.
+    ///
+    /// `Failed` comes only where the count of faults rose in this call. Memory comes from the sink's
+    /// own allocator.
+    fn put(&mut self, bytes: &[u8]) -> Result<(), SinkFault>
+        ensures writes { Writes (written self.old) (written self.new) result bytes.now }
+        ensures cause { HasCause (faults self.old) (faults self.new) result }
+        ensures later { faults self.old ≤ faults self.new };
+}
