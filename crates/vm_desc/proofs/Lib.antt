@@ -1,0 +1,4 @@
+pub mod DescriptionLemmas
+pub mod FieldLemmas
+pub mod Fronts
+pub mod ReadingLemmas

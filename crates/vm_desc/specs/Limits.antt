@@ -1,0 +1,110 @@
+-- What a description holds, and its lengths, ranges and rules.
+use Rattle.std.specs.Prelude.{ℕ, List, length, map, Bool, true, ◌&&◌, ◌+◌, ◌*◌, ◌%◌, ◌^◌, ◌==◌, nat_le, nat_lt, Option, Some, None, is_none, ◌++◌, sum_by}
+use Rattle.std.specs.List.{list_all}
+use Rattle.vm_desc.specs.Names.{between, is_name, first_repeat}
+use Rattle.vm_desc.specs.declared.handler.Handler.{Handler}
+use Rattle.vm_desc.specs.declared.handler.HandlerKind.{HandlerKind}
+use Rattle.vm_desc.specs.declared.handler.HandlerKind.TheVariants.{Plain, Timer, Receive, Once}
+use Rattle.vm_desc.specs.declared.function.Function.{Function}
+use Rattle.vm_desc.specs.declared.function.FunKind.{FunKind}
+use Rattle.vm_desc.specs.declared.function.FunKind.TheVariants.{Sense, Act, Send, Id, Rand, Clock}
+use Rattle.vm_desc.specs.declared.settings.TrickleSet.{TrickleSet}
+use Rattle.vm_desc.specs.declared.settings.RadioSet.{RadioSet}
+use Rattle.mate_num.specs.declared.id.DeviceId.{DeviceId}
+
+-- the parts of a description, each list as a list
+pub record Parts : Type 0 where
+  pub vm_id : ℕ
+  pub handlers : List Handler
+  pub functions : List Function
+  pub shared : List (List ℕ)
+  pub buffers : List (List ℕ)
+  pub devices : List (List ℕ)
+  pub turns : ℕ
+  pub quantum : ℕ
+  pub trickle : TrickleSet
+  pub radio : RadioSet
+
+-- a timer's period is from 1 to 3,600,000 ms
+abbrev pub is_kind : HandlerKind → Bool
+is_kind Plain = true
+is_kind (Timer period) = between 1 3600000 period
+is_kind Receive = true
+is_kind Once = true
+
+abbrev pub is_handler : Handler → Bool
+is_handler h = (is_name h.name && is_kind h.kind) && between 1 4 h.contexts
+
+-- how many values a function takes, other than a buffer
+abbrev pub args_of : FunKind → ℕ
+args_of Sense = 0
+args_of (Act args) = args
+args_of Send = 0
+args_of Id = 0
+args_of Rand = 0
+args_of Clock = 0
+
+-- the number, where there is one, is below the number of devices
+abbrev pub is_device : ℕ → Option DeviceId → Bool
+is_device devices None = true
+is_device devices (Some d) = nat_lt d.0 devices
+
+abbrev pub is_function : ℕ → Function → Bool
+is_function devices f = ((is_name f.name && nat_le (args_of f.kind) 4) && is_device devices f.device) && between 1 60000 f.latency
+
+-- the longest interval, in ms
+abbrev pub longest : TrickleSet → ℕ
+longest t = t.imin * 2 ^ t.doublings
+
+abbrev pub is_trickle : TrickleSet → Bool
+is_trickle t = ((between 2 60000 t.imin && t.imin % 2 == 0) && (nat_le t.doublings 16 && nat_le (longest t) 3600000)) && between 1 255 t.k
+
+abbrev pub is_radio : RadioSet → Bool
+is_radio r = between 1 10000 r.delay && between 1 10000 r.gap
+
+-- the time, in ms, that one round of all handlers' packets takes at most: a capsule has up to 22 fragments
+abbrev pub round_time : ℕ → RadioSet → ℕ
+round_time handlers r = handlers * 22 * r.gap + 3 * r.delay
+
+abbrev pub context_sum : List Handler → ℕ
+context_sum handlers = sum_by (λ h. h.contexts) handlers
+
+abbrev pub first_of_two : Option (List ℕ) → Option (List ℕ) → Option (List ℕ)
+first_of_two None later = later
+first_of_two (Some name) later = Some name
+
+-- the first name that stands earlier in its list: shared variables and buffers are one list
+abbrev pub duplicate_among : List (List ℕ) → List (List ℕ) → List (List ℕ) → List Handler → List Function → Option (List ℕ)
+duplicate_among shared buffers devices handlers functions =
+    first_of_two (first_repeat (shared ++ buffers))
+    (first_of_two (first_repeat devices)
+    (first_of_two (first_repeat (map (λ h. h.name) handlers))
+    (first_repeat (map (λ f. f.name) functions))))
+
+abbrev pub duplicate_of : Parts → Option (List ℕ)
+duplicate_of p = duplicate_among p.shared p.buffers p.devices p.handlers p.functions
+
+-- 1 to 8 handlers with at most 16 contexts in all
+abbrev pub are_handlers : List Handler → Bool
+are_handlers hs = (between 1 8 (length hs) && list_all is_handler hs) && nat_le (context_sum hs) 16
+
+-- at most 32 functions
+abbrev pub are_functions : ℕ → List Function → Bool
+are_functions devices fs = nat_le (length fs) 32 && list_all (is_function devices) fs
+
+-- at most so many names
+abbrev pub are_names : ℕ → List (List ℕ) → Bool
+are_names most names = nat_le (length names) most && list_all is_name names
+
+abbrev pub are_variables : Parts → Bool
+are_variables p = (are_names 16 p.shared && are_names 8 p.buffers) && are_names 8 p.devices
+
+abbrev pub are_settings : Parts → Bool
+are_settings p =
+    ((nat_le p.vm_id 4294967295 && nat_le p.turns 1000000) && between 1 10000 p.quantum) && (is_trickle p.trickle && is_radio p.radio)
+
+-- all rules of a description
+abbrev pub is_valid : Parts → Bool
+is_valid p =
+    ((are_handlers p.handlers && are_functions (length p.devices) p.functions) && (are_variables p && are_settings p))
+    && (is_none (duplicate_of p) && nat_le (round_time (length p.handlers) p.radio) (longest p.trickle))

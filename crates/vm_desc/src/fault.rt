@@ -1,0 +1,42 @@
+//! Why a text is no description.
+
+use crate::key::Key;
+use mate_num::Name;
+use std::error::Error;
+use std::fmt;
+
+/// Why a text is no description. Where several causes hold, the first in this order is given; of
+/// the causes that name a key, the key that comes first counts, and at one key `OverLimit`.
+#[derive(PartialEq, Eq, Debug, Drop)]
+pub enum DescFault {
+    /// The text is no TOML, or its bytes are no UTF-8.
+    NotToml,
+    /// The value of `key` is missing, of another type or out of its range. `Key::Unknown`, which
+    /// comes before all others, stands for a key that no description has.
+    BadField { key: Key },
+    /// The list of `key` is too long. `Key::HandlerContexts`, after all other keys, says that the
+    /// handlers have more than 16 contexts in all.
+    OverLimit { key: Key },
+    /// `name` is the first that stands earlier in its list: shared variables and buffers are one
+    /// list, which comes before those of the devices, the handlers and the functions.
+    Duplicate { name: Name },
+    /// A round of all handlers' packets needs `need` ms, and the longest interval has `have` ms.
+    SlowImax { need: u64, have: u64 },
+    /// Memory was refused.
+    NoMemory,
+}
+
+impl fmt::Display for DescFault {
+    fn fmt<W: fmt::Write>(&self, f: &mut fmt::Formatter<W>) -> fmt::Result {
+        match self {
+            DescFault::NotToml => f.write_str("toml"),
+            DescFault::BadField { key } => write!(f, "field {}", key.word()),
+            DescFault::OverLimit { key } => write!(f, "limit {}", key.word()),
+            DescFault::Duplicate { name } => write!(f, "duplicate {name}"),
+            DescFault::SlowImax { need, have } => write!(f, "slow {need} {have}"),
+            DescFault::NoMemory => f.write_str("no memory"),
+        }
+    }
+}
+
+impl Error for DescFault {}

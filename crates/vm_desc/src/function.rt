@@ -1,0 +1,48 @@
+//! The functions that a machine's scripts call.
+
+ghost use Rattle.std.specs.Prelude.{◌≡◌};
+
+use mate_num::{DeviceId, Name};
+
+/// What a function does.
+#[derive(Clone, Copy, PartialEq, Eq, Default, Debug)]
+pub enum FunKind {
+    /// Reads a sensor.
+    Sense,
+    /// Drives an actuator with `args` values, from 0 to 4.
+    Act { args: u8 },
+    /// Sends a buffer by radio.
+    Send,
+    /// Gives the node's number.
+    #[default]
+    Id,
+    /// Gives a random number.
+    Rand,
+    /// Gives the time.
+    Clock,
+}
+
+/// A function of the machine. A call of it waits for its answer.
+#[derive(PartialEq, Eq, Default, Debug, Drop)]
+pub struct Function {
+    pub name: Name,
+    pub kind: FunKind,
+    /// The device that it speaks to, which one invocation holds at a time.
+    pub device: Option<DeviceId>,
+    /// The time from a call to its answer in a simulated world, in ms: 1 to 60,000.
+    pub latency: u32,
+}
+
+impl Function {
+    /// The same function again. It takes no memory.
+    pub fn copy(&self) -> Function
+        ensures { result ≡ self.now }
+    {
+        Function {
+            name: self.name.copy(),
+            kind: self.kind,
+            device: self.device,
+            latency: self.latency,
+        }
+    }
+}

@@ -1,0 +1,41 @@
+//! The handlers of a machine.
+
+ghost use Rattle.std.specs.Prelude.{◌≡◌};
+
+use mate_num::Name;
+
+/// What invokes a handler.
+#[derive(Clone, Copy, PartialEq, Eq, Default, Debug)]
+pub enum HandlerKind {
+    /// Posts alone.
+    #[default]
+    Plain,
+    /// A timer: the handler is posted every `period` ms, from 1 to 3,600,000.
+    Timer { period: u32 },
+    /// Radio messages of other nodes.
+    Receive,
+    /// Its own install, once.
+    Once,
+}
+
+/// A handler: one script, which runs in each of its contexts.
+#[derive(PartialEq, Eq, Default, Debug, Drop)]
+pub struct Handler {
+    pub name: Name,
+    pub kind: HandlerKind,
+    /// How many invocations of it may stand at once: 1 to 4.
+    pub contexts: u8,
+}
+
+impl Handler {
+    /// The same handler again. It takes no memory.
+    pub fn copy(&self) -> Handler
+        ensures { result ≡ self.now }
+    {
+        Handler {
+            name: self.name.copy(),
+            kind: self.kind,
+            contexts: self.contexts,
+        }
+    }
+}

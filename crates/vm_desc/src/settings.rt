@@ -1,0 +1,46 @@
+//! The settings of the Trickle timer and of the radio.
+
+ghost use Rattle.std.specs.Prelude.{◌≡◌, ◌≤◌, ◌*◌, ◌^◌, IsTrue};
+
+/// The settings of a handler's Trickle timer.
+#[derive(Clone, Copy, PartialEq, Eq, Default, Debug)]
+pub struct TrickleSet {
+    /// The shortest interval, in ms: even, from 2 to 60,000.
+    pub imin: u32,
+    /// How often the shortest interval doubles before it stays, up to 16: the longest interval has
+    /// `imin * 2^doublings` ms, at most 3,600,000.
+    pub doublings: u8,
+    /// How many consistent packets heard in an interval keep a node silent: 1 to 255.
+    pub k: u8,
+}
+
+/// The settings of the radio.
+#[derive(Clone, Copy, PartialEq, Eq, Default, Debug)]
+pub struct RadioSet {
+    /// The time from a packet's sending to its hearing, in ms: 1 to 10,000.
+    pub delay: u32,
+    /// The time between two packets that a node sends, in ms: 1 to 10,000.
+    pub gap: u32,
+}
+
+impl TrickleSet {
+    ghost use Rattle.vm_desc.specs.Limits.{longest, is_trickle};
+
+    /// The longest interval, in ms: `imin` doubled `doublings` times.
+    pub fn longest(&self) -> u32
+        requires { IsTrue (is_trickle self.now) }
+        ensures value { result ≡ longest self.now }
+        ensures most { result ≤ 3600000 }
+    {
+        doubled(self.imin, u32::from(self.doublings))
+    }
+}
+
+/// `imin`, doubled `doublings` times.
+pub(crate) fn doubled(imin: u32, doublings: u32) -> u32
+    requires imin { imin ≤ 60000 }
+    requires doublings { doublings ≤ 16 }
+    ensures { result ≡ imin * 2 ^ doublings }
+{
+    imin << doublings
+}
