@@ -1,0 +1,224 @@
+-- What a derived tree spells is a whole part of the grammar.
+use Rattle.std.proofs.Common.{◌≡◌, Bool, true, false, nat_le, List, [], ◌∷◌, ◌++◌, Option, Some, None, refl, sym, ◌∙◌, ap, append_assoc, append-nil}
+use Rattle.ts_syntax.specs.declared.bin_op.BinOp.{BinOp}
+use Rattle.ts_syntax.specs.declared.bin_op.BinOp.TheVariants as op
+use Rattle.ts_syntax.specs.declared.word.Word.{Word}
+use Rattle.ts_syntax.specs.declared.stmt.Step.{Step}
+use Rattle.ts_syntax.specs.declared.script.Decl.{Decl}
+use Rattle.ts_syntax.specs.declared.script.DeclKind.{DeclKind}
+use Rattle.ts_syntax.specs.declared.script.DeclKind.TheVariants as decls
+use Rattle.ts_syntax.specs.declared.token.TokenKind.{TokenKind}
+use Rattle.ts_syntax.specs.declared.token.TokenKind.TheVariants as kind
+use Rattle.ts_syntax.specs.Tree.{Tree, number, variable, item, size, message_item, message_size, call, negative, inverse, two, paren, Trees, no_trees, tree_then, Act, set, set_item, append, take_last, clear, call_alone, if_then, if_else, for_next, while_do, Acts, no_acts, act_then, Source}
+use Rattle.ts_syntax.specs.Spelling.{sign, spelled, args_spelled, more_spelled, minus_spelled, step_spelled, act_spelled, acts_spelled, name, decl_keyword, decl_start, decl_end, decls_gap, decls_spelled, source_spelled}
+use Rattle.ts_syntax.specs.Derived.{Level, at_or, at_and, at_not, at_compare, at_sum, at_product, at_sign, at_atom, rank, level, level_of, left_of, right_of, Holds, Derived, ArgsDerived, ActDerived, ActsDerived, DeclsDerived, IsDerived}
+use Rattle.ts_syntax.specs.Grammar.{Rule, script, decl, stmt, expr, andx, notx, cmp, sum, prod, neg, atom, Part, NAME, NUM, key, rule, ◌▸◌, ◌∣◌, many, maybe, arguments, step, rules, Whole, w_nothing, w_name, w_number, w_key, w_rule, w_then, w_left, w_right, w_end, w_more}
+
+-- the rule of a level
+abbrev pub rule_of : Level → Rule
+rule_of at_or = expr
+rule_of at_and = andx
+rule_of at_not = notx
+rule_of at_compare = cmp
+rule_of at_sum = sum
+rule_of at_product = prod
+rule_of at_sign = neg
+rule_of at_atom = atom
+
+-- tokens that an expression's rule derives
+abbrev IsWhole : Level → List TokenKind → Type 0
+IsWhole n ms = Whole (rule (rule_of n)) ms
+
+-- the tighter level's tokens are those of the looser, for levels from a level on
+below_or : {ms : List TokenKind} (n : Level) → Holds (nat_le (rank n) 0) → IsWhole at_or ms → IsWhole n ms
+below_or at_or h w = w
+below_or _ h w = absurd h
+
+below_and : {ms : List TokenKind} (n : Level) → Holds (nat_le (rank n) 1) → IsWhole at_and ms → IsWhole n ms
+below_and at_and h w = w
+below_and n h w = below_or n h (w_rule (w_then w w_end (sym (append-nil _))))
+
+below_not : {ms : List TokenKind} (n : Level) → Holds (nat_le (rank n) 2) → IsWhole at_not ms → IsWhole n ms
+below_not at_not h w = w
+below_not n h w = below_and n h (w_rule (w_then w w_end (sym (append-nil _))))
+
+below_compare : {ms : List TokenKind} (n : Level) → Holds (nat_le (rank n) 3) → IsWhole at_compare ms → IsWhole n ms
+below_compare at_compare h w = w
+below_compare n h w = below_not n h (w_rule (w_right w))
+
+below_sum : {ms : List TokenKind} (n : Level) → Holds (nat_le (rank n) 4) → IsWhole at_sum ms → IsWhole n ms
+below_sum at_sum h w = w
+below_sum n h w = below_compare n h (w_rule (w_then w (w_right w_nothing) (sym (append-nil _))))
+
+below_product : {ms : List TokenKind} (n : Level) → Holds (nat_le (rank n) 5) → IsWhole at_product ms → IsWhole n ms
+below_product at_product h w = w
+below_product n h w = below_sum n h (w_rule (w_then w w_end (sym (append-nil _))))
+
+below_sign : {ms : List TokenKind} (n : Level) → Holds (nat_le (rank n) 6) → IsWhole at_sign ms → IsWhole n ms
+below_sign at_sign h w = w
+below_sign n h w = below_product n h (w_rule (w_then w w_end (sym (append-nil _))))
+
+below_atom : {ms : List TokenKind} (n : Level) → Holds (nat_le (rank n) 7) → IsWhole at_atom ms → IsWhole n ms
+below_atom at_atom h w = w
+below_atom n h w = below_sign n h (w_rule (w_right w))
+
+below : {ms : List TokenKind} (m n : Level) → Holds (nat_le (rank n) (rank m)) → IsWhole m ms → IsWhole n ms
+below at_or n h w = below_or n h w
+below at_and n h w = below_and n h w
+below at_not n h w = below_not n h w
+below at_compare n h w = below_compare n h w
+below at_sum n h w = below_sum n h w
+below at_product n h w = below_product n h w
+below at_sign n h w = below_sign n h w
+below at_atom n h w = below_atom n h w
+
+at_loosest : {ms : List TokenKind} (m : Level) → IsWhole m ms → IsWhole at_or ms
+at_loosest at_or w = w
+at_loosest at_and w = below_and at_or tt w
+at_loosest at_not w = below_not at_or tt w
+at_loosest at_compare w = below_compare at_or tt w
+at_loosest at_sum w = below_sum at_or tt w
+at_loosest at_product w = below_product at_or tt w
+at_loosest at_sign w = below_sign at_or tt w
+at_loosest at_atom w = below_atom at_or tt w
+
+unrule : {r : Rule} {ms : List TokenKind} → Whole (rule r) ms → Whole (rules r) ms
+unrule (w_rule w) = w
+
+-- one more part behind many
+snoc : {p : Part} {xs ys : List TokenKind} → Whole (many p) xs → Whole p ys → Whole (many p) (xs ++ ys)
+snoc {ys} w_end v = w_more v w_end (sym (append-nil ys))
+snoc {ys} (w_more {xs = a} {ys = b} v w e) u = w_more v (snoc w u) (ap (λ z. z ++ ys) e ∙ append_assoc a b ys)
+
+-- one more link of a chain
+extend : {p l : Part} {xs ys : List TokenKind} → Whole (p ▸ many l) xs → Whole l ys → Whole (p ▸ many l) (xs ++ ys)
+extend {ys} (w_then {xs = a} {ys = b} v w e) u = w_then v (snoc w u) (ap (λ z. z ++ ys) e ∙ append_assoc a b ys)
+
+-- an operator between its operands
+two_whole : (o : BinOp) {xs ys : List TokenKind} → IsWhole (left_of o) xs → IsWhole (right_of o) ys → IsWhole (level_of o) (xs ++ sign o ∷ ys)
+two_whole op.Or v w = w_rule (extend (unrule v) (w_then w_key w refl))
+two_whole op.And v w = w_rule (extend (unrule v) (w_then w_key w refl))
+two_whole op.Eq v w = w_rule (w_then v (w_left (w_then (w_left w_key) w refl)) refl)
+two_whole op.Ne v w = w_rule (w_then v (w_left (w_then (w_right (w_left w_key)) w refl)) refl)
+two_whole op.Lt v w = w_rule (w_then v (w_left (w_then (w_right (w_right (w_left w_key))) w refl)) refl)
+two_whole op.Gt v w = w_rule (w_then v (w_left (w_then (w_right (w_right (w_right (w_left w_key)))) w refl)) refl)
+two_whole op.Le v w = w_rule (w_then v (w_left (w_then (w_right (w_right (w_right (w_right (w_left w_key))))) w refl)) refl)
+two_whole op.Ge v w = w_rule (w_then v (w_left (w_then (w_right (w_right (w_right (w_right (w_right w_key))))) w refl)) refl)
+two_whole op.Add v w = w_rule (extend (unrule v) (w_then (w_left w_key) w refl))
+two_whole op.Sub v w = w_rule (extend (unrule v) (w_then (w_right w_key) w refl))
+two_whole op.Mul v w = w_rule (extend (unrule v) (w_then (w_left w_key) w refl))
+two_whole op.Div v w = w_rule (extend (unrule v) (w_then (w_right (w_left w_key)) w refl))
+two_whole op.Rem v w = w_rule (extend (unrule v) (w_then (w_right (w_right w_key)) w refl))
+
+-- an expression at its level, and a call's arguments
+mutual
+  whole : (e : Tree) → Derived e → IsWhole (level e) (spelled e)
+  whole (number n) d = w_rule (w_left w_number)
+  whole (variable w) d = w_rule (w_right (w_left w_name))
+  whole (item w e) d = w_rule (w_right (w_right (w_right (w_left
+      (w_then w_name (w_then w_key (w_then (at_loosest (level e) (whole e d)) w_key refl) refl) refl)))))
+  whole (size w) d = w_rule (w_right (w_right (w_right (w_right (w_left
+      (w_then w_key (w_then w_key (w_then w_name w_key refl) refl) refl))))))
+  whole (message_item e) d = w_rule (w_right (w_right (w_right (w_right (w_right (w_right (w_left
+      (w_then w_key (w_then w_key (w_then (at_loosest (level e) (whole e d)) w_key refl) refl) refl))))))))
+  whole message_size d = w_rule (w_right (w_right (w_right (w_right (w_right (w_left
+      (w_then w_key (w_then w_key (w_then w_key w_key refl) refl) refl)))))))
+  whole (call w es) d = w_rule (w_right (w_right (w_left
+      (w_then w_name (w_then w_key (w_then (args_whole es d) w_key refl) refl) refl))))
+  whole (negative e) d = w_rule (w_left (w_then w_key (below (level e) at_sign d.0 (whole e d.1)) refl))
+  whole (inverse e) d = w_rule (w_left (w_then w_key (below (level e) at_not d.0 (whole e d.1)) refl))
+  whole (two o l r) d = two_whole o (below (level l) (left_of o) d.0 (whole l d.1)) (below (level r) (right_of o) d.2 (whole r d.3))
+  whole (paren e) d = w_rule (w_right (w_right (w_right (w_right (w_right (w_right (w_right
+      (w_then w_key (w_then (at_loosest (level e) (whole e d)) w_key refl) refl))))))))
+
+  args_whole : (es : Trees) → ArgsDerived es → Whole arguments (args_spelled es)
+  args_whole no_trees d = w_right w_nothing
+  args_whole (tree_then e es) d = w_left (w_then (at_loosest (level e) (whole e d.0)) (more_whole es d.1) refl)
+
+  more_whole : (es : Trees) → ArgsDerived es → Whole (many (key kind.Comma ▸ rule expr)) (more_spelled es)
+  more_whole no_trees d = w_end
+  more_whole (tree_then e es) d = w_more (w_then w_key (at_loosest (level e) (whole e d.0)) refl) (more_whole es d.1) refl
+
+-- an expression
+pub expr_whole : (e : Tree) → Derived e → Whole (rule expr) (spelled e)
+expr_whole e d = at_loosest (level e) (whole e d)
+
+step_whole : (s : Option Step) → Whole step (step_spelled s)
+step_whole None = w_right w_nothing
+step_whole (Some s) = w_left (w_then w_key (signed s.minus) refl)
+  where
+    signed : (b : Bool) → Whole (maybe (key kind.Minus) ▸ NUM) (minus_spelled b ++ kind.Num s.size ∷ [])
+    signed true = w_then (w_left w_key) w_number refl
+    signed false = w_then (w_right w_nothing) w_number refl
+
+-- a statement, and a block's
+mutual
+  act_whole : (a : Act) → ActDerived a → Whole (rule stmt) (act_spelled a)
+  act_whole (set w e) d = w_rule (w_left (w_then w_name (w_then w_key (w_then (expr_whole e d) w_key refl) refl) refl))
+  act_whole (take_last w b) d = w_rule (w_right (w_left
+      (w_then w_name (w_then w_key (w_then w_name (w_then w_key (w_then w_key w_key refl) refl) refl) refl) refl)))
+  act_whole (set_item w i e) d = w_rule (w_right (w_right (w_left
+      (w_then w_name (w_then w_key (w_then (expr_whole i d.0) (w_then w_key (w_then w_key (w_then (expr_whole e d.1) w_key refl) refl) refl) refl) refl) refl))))
+  act_whole (append w e) d = w_rule (w_right (w_right (w_right (w_left
+      (w_then w_name (w_then w_key (w_then w_key (w_then w_key (w_then (expr_whole e d) w_key refl) refl) refl) refl) refl)))))
+  act_whole (clear w) d = w_rule (w_right (w_right (w_right (w_right (w_left
+      (w_then w_key (w_then w_key (w_then w_name (w_then w_key w_key refl) refl) refl) refl))))))
+  act_whole (call_alone w es) d = w_rule (w_right (w_right (w_right (w_right (w_right (w_left
+      (w_then w_name (w_then w_key (w_then (args_whole es d) (w_then w_key w_key refl) refl) refl) refl)))))))
+  act_whole (if_then e a) d = w_rule (w_right (w_right (w_right (w_right (w_right (w_right (w_left
+      (w_then w_key (w_then (expr_whole e d.0) (w_then w_key (w_then (acts_whole a d.1)
+      (w_then (w_right w_nothing) (w_then w_key w_key refl) refl) refl) refl) refl) refl))))))))
+  act_whole (if_else e a b) d = w_rule (w_right (w_right (w_right (w_right (w_right (w_right (w_left
+      (w_then w_key (w_then (expr_whole e d.0) (w_then w_key (w_then (acts_whole a d.1)
+      (w_then (w_left (w_then w_key (acts_whole b d.2) refl)) (w_then w_key w_key refl) refl) refl) refl) refl) refl))))))))
+  act_whole (for_next w f t s a v) d = w_rule (w_right (w_right (w_right (w_right (w_right (w_right (w_right (w_left
+      (w_then w_key (w_then w_name (w_then w_key (w_then (expr_whole f d.0) (w_then w_key (w_then (expr_whole t d.1)
+      (w_then (step_whole s) (w_then (acts_whole a d.2) (w_then w_key w_name refl) refl) refl) refl) refl) refl) refl) refl) refl)))))))))
+  act_whole (while_do e a) d = w_rule (w_right (w_right (w_right (w_right (w_right (w_right (w_right (w_right
+      (w_then w_key (w_then (expr_whole e d.0) (w_then (acts_whole a d.1) (w_then w_key w_key refl) refl) refl) refl)))))))))
+
+  acts_whole : (more : Acts) → ActsDerived more → Whole (many (rule stmt)) (acts_spelled more)
+  acts_whole no_acts d = w_end
+  acts_whole (act_then a more) d = w_more (act_whole a d.0) (acts_whole more d.1) refl
+
+-- what follows a declared name: further names, the sign, and further declarations
+record Follows (ms : List TokenKind) : Type 0 where
+  names : List TokenKind
+  others : List TokenKind
+  whole_names : Whole (many (key kind.Comma ▸ NAME)) names
+  whole_others : Whole (many (rule decl)) others
+  are : ms ≡ names ++ kind.Semi ∷ others
+
+keyword_whole : (k : DeclKind) → Whole (key kind.Shared ∣ key kind.Private ∣ key kind.Buffer) (decl_keyword k ∷ [])
+keyword_whole decls.Shared = w_left w_key
+keyword_whole decls.Private = w_right (w_left w_key)
+keyword_whole decls.Buffer = w_right (w_right w_key)
+
+-- a declaration and those behind it
+declared : (k : DeclKind) (w : Word) {ms : List TokenKind} → Follows ms → Whole (many (rule decl)) (decl_keyword k ∷ name w ∷ ms)
+declared k w f = w_more
+    (w_rule (w_then (keyword_whole k) (w_then w_name (w_then f.whole_names w_key refl) refl) refl))
+    f.whole_others
+    (ap (λ z. decl_keyword k ∷ name w ∷ z) (f.are ∙ sym (append_assoc f.names (kind.Semi ∷ []) f.others)))
+
+follow_next : (b : Bool) (k : DeclKind) (w : Word) {ms : List TokenKind} → Follows ms → Follows (decl_end b ++ (decl_start b k ∷ name w ∷ ms))
+follow_next true k w f = record { names = []; others = _; whole_names = w_end; whole_others = declared k w f; are = refl }
+follow_next false k w f = record {
+  names = kind.Comma ∷ name w ∷ f.names;
+  others = f.others;
+  whole_names = w_more (w_then w_key w_name refl) f.whole_names refl;
+  whole_others = f.whole_others;
+  are = ap (λ z. kind.Comma ∷ name w ∷ z) f.are;
+}
+
+follow : (ds : List Decl) → Follows (decls_gap ds ++ decls_spelled ds)
+follow [] = record { names = []; others = []; whole_names = w_end; whole_others = w_end; are = refl }
+follow (d ∷ ds) = follow_next d.first d.kind d.word (follow ds)
+
+decls_whole : (ds : List Decl) → DeclsDerived ds → Whole (many (rule decl)) (decls_spelled ds)
+decls_whole [] h = w_end
+decls_whole (d ∷ ds) h = rw h.0 (declared d.kind d.word (follow ds))
+
+-- a script
+pub source_whole : (s : Source) → IsDerived s → Whole (rule script) (source_spelled s)
+source_whole s d = w_rule (w_then (decls_whole s.decls d.decls) (acts_whole s.body d.body) refl)

@@ -1,0 +1,24 @@
+-- The grammar and the trees agree: on whole scripts, and on what begins one.
+use Rattle.std.proofs.Common.{◌↔◌, List, refl, subst}
+use Rattle.ts_syntax.specs.declared.token.TokenKind.{TokenKind}
+use Rattle.ts_syntax.specs.Grammar.{rule, script, Whole, Begins}
+use Rattle.ts_syntax.specs.Script.{IsScript, BeginsScript}
+use Rattle.ts_syntax.proofs.Begins.{Completed, completed, begun}
+use Rattle.ts_syntax.proofs.FromTree.{source_whole}
+use Rattle.ts_syntax.proofs.ToTree.{script_spelled}
+
+script_whole : {ms : List TokenKind} → IsScript ms → Whole (rule script) ms
+script_whole s = subst (λ z. Whole (rule script) z) s.spells (source_whole s.source s.derived)
+
+-- tokens are a whole script exactly where a derived tree spells them
+pub whole_is_script : (ms : List TokenKind) → Whole (rule script) ms ↔ IsScript ms
+whole_is_script ms = (script_spelled, script_whole)
+
+to_begins : {ms : List TokenKind} → Begins (rule script) ms → BeginsScript ms
+to_begins b =
+    let c : Completed (rule script) _ = completed b in
+    record { rest = c.rest; script = script_spelled c.whole }
+
+-- tokens begin a script exactly where some tokens after them make it whole
+pub begins_is_begins_script : (ms : List TokenKind) → Begins (rule script) ms ↔ BeginsScript ms
+begins_is_begins_script ms = (to_begins, λ b. begun (script_whole b.script) ms b.rest refl)

@@ -1,0 +1,9 @@
+pub mod Begins
+pub mod Examples
+pub mod FromTree
+pub mod GrammarLemmas
+pub mod ListLemmas
+pub mod PrintLemmas
+pub mod RightLemmas
+pub mod SeenLemmas
+pub mod ToTree

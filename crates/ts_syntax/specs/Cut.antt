@@ -1,0 +1,136 @@
+-- How bytes are cut into tokens, byte by byte from the left.
+use Rattle.std.specs.Prelude.{ℕ, ◌+◌, ◌-◌, ◌*◌, Bool, ◌&&◌, ◌||◌, ◌==◌, nat_lt, nat_le, if◌then◌else◌, List, [], ◌∷◌, ◌++◌, length, Option, Some, None, Result, Ok, Err}
+use Rattle.std.specs.Str.{bytes_eq}
+use Rattle.ts_syntax.specs.declared.token.Token.{Token}
+use Rattle.ts_syntax.specs.declared.token.TokenKind.{TokenKind}
+use Rattle.ts_syntax.specs.declared.token.TokenKind.TheVariants as kind
+use Rattle.ts_syntax.specs.Text.{token_text}
+
+-- space, tab, CR and LF
+abbrev pub is_blank : ℕ → Bool
+is_blank b = b == 32 || b == 9 || b == 13 || b == 10
+
+abbrev pub is_digit : ℕ → Bool
+is_digit b = nat_le 48 b && nat_le b 57
+
+-- a letter or `_`
+abbrev pub begins_name : ℕ → Bool
+begins_name b = nat_le 97 b && nat_le b 122 || nat_le 65 b && nat_le b 90 || b == 95
+
+-- a letter, a digit or `_`
+abbrev pub in_name : ℕ → Bool
+in_name b = begins_name b || is_digit b
+
+-- the signs of one byte that no other byte can lengthen
+abbrev pub sign_of : ℕ → Option TokenKind
+sign_of b =
+    if b == 59 then Some kind.Semi else
+    if b == 44 then Some kind.Comma else
+    if b == 40 then Some kind.Open else
+    if b == 41 then Some kind.Close else
+    if b == 91 then Some kind.OpenBox else
+    if b == 93 then Some kind.CloseBox else
+    if b == 61 then Some kind.Eq else
+    if b == 43 then Some kind.Plus else
+    if b == 45 then Some kind.Minus else
+    if b == 42 then Some kind.Star else
+    if b == 47 then Some kind.Slash else
+    if b == 37 then Some kind.Percent else None
+
+abbrev pub keywords : List TokenKind
+keywords = kind.Shared ∷ kind.Private ∷ kind.Buffer ∷ kind.If ∷ kind.Then ∷ kind.Else ∷ kind.End ∷ kind.For ∷ kind.To ∷ kind.Step
+    ∷ kind.Next ∷ kind.While ∷ kind.And ∷ kind.Or ∷ kind.Not ∷ kind.Size ∷ kind.Clear ∷ kind.Msg ∷ []
+
+-- the keyword of these that reads so; else a name
+abbrev pub keyword_among : List TokenKind → List ℕ → TokenKind
+keyword_among [] w = kind.Name w
+keyword_among (k ∷ ks) w = if bytes_eq w (token_text k) then k else keyword_among ks w
+
+unfoldable pub word_kind : List ℕ → TokenKind
+word_kind w = keyword_among keywords w
+
+abbrev pub token : TokenKind → ℕ → ℕ → Token
+token k from to = record { kind = k; from = from; to = to }
+
+-- a byte that begins no token; a literal over 65535
+pub data CutFault : Type 0 where
+  bad_byte : ℕ → CutFault
+  big_literal : ℕ → CutFault
+
+-- what a byte stands in: nothing yet, a comment, a name or keyword so far, a literal so far, or behind `<` or `>`
+pub data Mode : Type 0 where
+  between : Mode
+  comment : Mode
+  word : (from : ℕ) (text : List ℕ) → Mode
+  literal : (from value : ℕ) → Mode
+  less : (from : ℕ) → Mode
+  greater : (from : ℕ) → Mode
+
+-- what a byte does: a fault, or the tokens that end before or with it, and what the next byte stands in
+pub data Turn : Type 0 where
+  stop : CutFault → Turn
+  go : List Token → Mode → Turn
+
+-- a token that ends before the byte
+abbrev pub behind : Token → Turn → Turn
+behind t (stop f) = stop f
+behind t (go ts m) = go (t ∷ ts) m
+
+abbrev pub sign_turn : ℕ → Option TokenKind → Turn
+sign_turn i None = stop (bad_byte i)
+sign_turn i (Some k) = go (token k i (i + 1) ∷ []) between
+
+-- a byte at place i that begins a token, a comment or a blank
+abbrev pub fresh : ℕ → ℕ → Turn
+fresh i b =
+    if is_blank b then go [] between else
+    if b == 33 then go [] comment else
+    if begins_name b then go [] (word i (b ∷ [])) else
+    if is_digit b then go [] (literal i (b - 48)) else
+    if b == 60 then go [] (less i) else
+    if b == 62 then go [] (greater i) else sign_turn i (sign_of b)
+
+-- a byte at place i
+abbrev pub turn : ℕ → Mode → ℕ → Turn
+turn i between b = fresh i b
+turn i comment b = if b == 10 then go [] between else go [] comment
+turn i (word from w) b =
+    if in_name b then (if nat_lt (length w) 16 then go [] (word from (w ++ b ∷ [])) else stop (bad_byte i))
+    else behind (token (word_kind w) from i) (fresh i b)
+turn i (literal from n) b =
+    if is_digit b then go [] (literal from (n * 10 + (b - 48))) else
+    if nat_lt 65535 n then stop (big_literal from) else
+    if begins_name b then stop (bad_byte i) else behind (token (kind.Num n) from i) (fresh i b)
+turn i (less from) b =
+    if b == 61 then go (token kind.Le from (i + 1) ∷ []) between else
+    if b == 62 then go (token kind.Ne from (i + 1) ∷ []) between else behind (token kind.Lt from i) (fresh i b)
+turn i (greater from) b =
+    if b == 61 then go (token kind.Ge from (i + 1) ∷ []) between else behind (token kind.Gt from i) (fresh i b)
+
+-- the end of the text, at place i
+abbrev pub at_end : ℕ → Mode → Result (List Token) CutFault
+at_end i between = Ok []
+at_end i comment = Ok []
+at_end i (word from w) = Ok (token (word_kind w) from i ∷ [])
+at_end i (literal from n) = if nat_lt 65535 n then Err (big_literal from) else Ok (token (kind.Num n) from i ∷ [])
+at_end i (less from) = Ok (token kind.Lt from i ∷ [])
+at_end i (greater from) = Ok (token kind.Gt from i ∷ [])
+
+-- tokens before others
+abbrev pub with_front : List Token → Result (List Token) CutFault → Result (List Token) CutFault
+with_front ts (Ok us) = Ok (ts ++ us)
+with_front ts (Err f) = Err f
+
+-- the rest of the text behind a turn, where rest gives the tokens of a mode there
+abbrev pub turned : (Mode → Result (List Token) CutFault) → Turn → Result (List Token) CutFault
+turned rest (stop f) = Err f
+turned rest (go ts m) = with_front ts (rest m)
+
+-- the tokens of the bytes from place i on, or the first fault
+unfoldable pub cut_from : ℕ → Mode → List ℕ → Result (List Token) CutFault
+cut_from i m [] = at_end i m
+cut_from i m (b ∷ bs) = turned (λ n. cut_from (i + 1) n bs) (turn i m b)
+
+-- the tokens of a text, or its first fault
+abbrev pub cut : List ℕ → Result (List Token) CutFault
+cut bytes = cut_from 0 between bytes

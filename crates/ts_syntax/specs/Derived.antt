@@ -1,0 +1,151 @@
+-- Which trees the grammar derives: each operand stands at a level that its place allows.
+use Rattle.std.specs.Prelude.{◌≡◌, ◌⊎◌, ℕ, Bool, true, false, nat_le, List, [], ◌∷◌}
+use Rattle.ts_syntax.specs.declared.bin_op.BinOp.{BinOp}
+use Rattle.ts_syntax.specs.declared.bin_op.BinOp.TheVariants as op
+use Rattle.ts_syntax.specs.declared.script.Decl.{Decl}
+use Rattle.ts_syntax.specs.declared.script.DeclKind.{DeclKind}
+use Rattle.ts_syntax.specs.Tree.{Tree, number, variable, item, size, message_item, message_size, call, negative, inverse, two, paren, Trees, no_trees, tree_then, Act, set, set_item, append, take_last, clear, call_alone, if_then, if_else, for_next, while_do, Acts, no_acts, act_then, Source}
+
+-- the levels of expressions, from the loosest
+pub data Level : Type 0 where
+  at_or : Level
+  at_and : Level
+  at_not : Level
+  at_compare : Level
+  at_sum : Level
+  at_product : Level
+  at_sign : Level
+  at_atom : Level
+
+abbrev pub rank : Level → ℕ
+rank at_or = 0
+rank at_and = 1
+rank at_not = 2
+rank at_compare = 3
+rank at_sum = 4
+rank at_product = 5
+rank at_sign = 6
+rank at_atom = 7
+
+-- the level at which an operator's tree stands
+abbrev pub level_of : BinOp → Level
+level_of op.Or = at_or
+level_of op.And = at_and
+level_of op.Eq = at_compare
+level_of op.Ne = at_compare
+level_of op.Lt = at_compare
+level_of op.Gt = at_compare
+level_of op.Le = at_compare
+level_of op.Ge = at_compare
+level_of op.Add = at_sum
+level_of op.Sub = at_sum
+level_of op.Mul = at_product
+level_of op.Div = at_product
+level_of op.Rem = at_product
+
+-- the level that its left operand needs: chains group to the left, and comparisons make no chain
+abbrev pub left_of : BinOp → Level
+left_of op.Or = at_or
+left_of op.And = at_and
+left_of op.Eq = at_sum
+left_of op.Ne = at_sum
+left_of op.Lt = at_sum
+left_of op.Gt = at_sum
+left_of op.Le = at_sum
+left_of op.Ge = at_sum
+left_of op.Add = at_sum
+left_of op.Sub = at_sum
+left_of op.Mul = at_product
+left_of op.Div = at_product
+left_of op.Rem = at_product
+
+-- the level that its right operand needs
+abbrev pub right_of : BinOp → Level
+right_of op.Or = at_and
+right_of op.And = at_not
+right_of op.Eq = at_sum
+right_of op.Ne = at_sum
+right_of op.Lt = at_sum
+right_of op.Gt = at_sum
+right_of op.Le = at_sum
+right_of op.Ge = at_sum
+right_of op.Add = at_product
+right_of op.Sub = at_product
+right_of op.Mul = at_sign
+right_of op.Div = at_sign
+right_of op.Rem = at_sign
+
+-- the level at which a tree stands
+abbrev pub level : Tree → Level
+level (number n) = at_atom
+level (variable w) = at_atom
+level (item w e) = at_atom
+level (size w) = at_atom
+level (message_item e) = at_atom
+level message_size = at_atom
+level (call w es) = at_atom
+level (negative e) = at_sign
+level (inverse e) = at_not
+level (two o l r) = level_of o
+level (paren e) = at_atom
+
+-- a test that holds
+abbrev pub Holds : Bool → Type 0
+Holds true = Unit {0}
+Holds false = ⊥
+
+-- the tree stands at this level or at a tighter one
+abbrev pub IsPart : Level → Tree → Type 0
+IsPart n e = Holds (nat_le (rank n) (rank (level e)))
+
+-- each operand in an expression stands at the level that its place needs
+abbrev mutual
+  pub Derived : Tree → Type 0
+  Derived (number n) = Unit {0}
+  Derived (variable w) = Unit {0}
+  Derived (item w e) = Derived e
+  Derived (size w) = Unit {0}
+  Derived (message_item e) = Derived e
+  Derived message_size = Unit {0}
+  Derived (call w es) = ArgsDerived es
+  Derived (negative e) = IsPart at_sign e × Derived e
+  Derived (inverse e) = IsPart at_not e × Derived e
+  Derived (two o l r) = IsPart (left_of o) l × Derived l × IsPart (right_of o) r × Derived r
+  Derived (paren e) = Derived e
+
+  pub ArgsDerived : Trees → Type 0
+  ArgsDerived no_trees = Unit {0}
+  ArgsDerived (tree_then e es) = Derived e × ArgsDerived es
+
+-- each expression in a statement is derived
+abbrev mutual
+  pub ActDerived : Act → Type 0
+  ActDerived (set w e) = Derived e
+  ActDerived (set_item w i e) = Derived i × Derived e
+  ActDerived (append w e) = Derived e
+  ActDerived (take_last w b) = Unit {0}
+  ActDerived (clear w) = Unit {0}
+  ActDerived (call_alone w es) = ArgsDerived es
+  ActDerived (if_then e a) = Derived e × ActsDerived a
+  ActDerived (if_else e a b) = Derived e × ActsDerived a × ActsDerived b
+  ActDerived (for_next w f t s a v) = Derived f × Derived t × ActsDerived a
+  ActDerived (while_do e a) = Derived e × ActsDerived a
+
+  pub ActsDerived : Acts → Type 0
+  ActsDerived no_acts = Unit {0}
+  ActsDerived (act_then a more) = ActDerived a × ActsDerived more
+
+-- names of one declaration, and then whole declarations
+abbrev pub NamesFollow : DeclKind → List Decl → Type 0
+NamesFollow k [] = Unit {0}
+NamesFollow k (d ∷ ds) = ((d.first ≡ true) ⊎ (d.kind ≡ k)) × NamesFollow d.kind ds
+
+-- declared names: the first has its keyword, and each without a keyword is of the kind before it
+abbrev pub DeclsDerived : List Decl → Type 0
+DeclsDerived [] = Unit {0}
+DeclsDerived (d ∷ ds) = (d.first ≡ true) × NamesFollow d.kind ds
+
+-- a script that the grammar derives
+pub record IsDerived (s : Source) : Type 0 where
+  pub decls : DeclsDerived s.decls
+  pub body : ActsDerived s.body

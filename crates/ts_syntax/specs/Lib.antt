@@ -1,0 +1,16 @@
+pub mod Checked
+pub mod Cut
+pub mod Depth
+pub mod Derived
+pub mod Expression
+pub mod Faults
+pub mod Grammar
+pub mod Print
+pub mod Right
+pub mod Script
+pub mod Seen
+pub mod Spelling
+pub mod Statement
+pub mod Text
+pub mod Tree
+pub mod TreeOf

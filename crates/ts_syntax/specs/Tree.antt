@@ -1,0 +1,48 @@
+-- Trees without pointers: what definitions and laws see of a script.
+use Rattle.std.specs.Prelude.{ℕ, List, Option}
+use Rattle.ts_syntax.specs.declared.bin_op.BinOp.{BinOp}
+use Rattle.ts_syntax.specs.declared.word.Word.{Word}
+use Rattle.ts_syntax.specs.declared.stmt.Step.{Step}
+use Rattle.ts_syntax.specs.declared.script.Decl.{Decl}
+
+-- an expression, a case for each of its forms; and a call's arguments
+mutual
+  pub data Tree : Type 0 where
+    number : ℕ → Tree
+    variable : Word → Tree
+    item : Word → Tree → Tree
+    size : Word → Tree
+    message_item : Tree → Tree
+    message_size : Tree
+    call : Word → Trees → Tree
+    negative : Tree → Tree
+    inverse : Tree → Tree
+    two : BinOp → Tree → Tree → Tree
+    paren : Tree → Tree
+
+  pub data Trees : Type 0 where
+    no_trees : Trees
+    tree_then : Tree → Trees → Trees
+
+-- a statement, a case for each of its forms; and the statements of a block
+mutual
+  pub data Act : Type 0 where
+    set : Word → Tree → Act
+    set_item : Word → Tree → Tree → Act
+    append : Word → Tree → Act
+    take_last : Word → Word → Act
+    clear : Word → Act
+    call_alone : Word → Trees → Act
+    if_then : Tree → Acts → Act
+    if_else : Tree → Acts → Acts → Act
+    for_next : Word → Tree → Tree → Option Step → Acts → Word → Act
+    while_do : Tree → Acts → Act
+
+  pub data Acts : Type 0 where
+    no_acts : Acts
+    act_then : Act → Acts → Acts
+
+-- a script: its declarations and its statements
+pub record Source : Type 0 where
+  pub decls : List Decl
+  pub body : Acts

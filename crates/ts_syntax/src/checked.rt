@@ -1,0 +1,46 @@
+//! A checked script: a body, and the shape of the machine for which it is right.
+
+ghost use Rattle.std.specs.Prelude.{IsTrue};
+ghost use Rattle.ts_syntax.specs.Right.{is_right};
+ghost use Rattle.ts_syntax.specs.TreeOf.{block_tree};
+
+use crate::checked_stmt::CBlock;
+use mate_num::Shape;
+
+/// A script that passed all checks for a machine of its shape. The type keeps that its body is right for
+/// the shape: each name is in range, each call has its function's arguments, no call stands in the limit
+/// of a `for`, and no step is 0.
+#[derive(Debug, Drop)]
+pub struct Checked {
+    shape: Shape,
+    body: CBlock,
+    pub ghost right: { IsTrue (is_right shape (block_tree body)) },
+}
+
+impl Checked {
+    ghost use Rattle.std.specs.Prelude.{◌≡◌, IsTrue};
+    ghost use Rattle.ts_syntax.specs.Checked.{shape_of, tree_of};
+    ghost use Rattle.ts_syntax.specs.Right.{is_right};
+    ghost use Rattle.ts_syntax.specs.TreeOf.{block_tree};
+
+    /// A body with the shape for which it is right, as `is_right` tells. It takes no memory.
+    pub fn new(shape: Shape, body: CBlock) -> Checked
+        requires { IsTrue (is_right shape (block_tree body)) }
+        ensures shape { shape_of result ≡ shape }
+        ensures body { tree_of result ≡ block_tree body }
+    {
+        Checked { shape, body }
+    }
+
+    pub fn shape(&self) -> &Shape
+        ensures { result.now ≡ shape_of self.now }
+    {
+        &self.shape
+    }
+
+    pub fn body(&self) -> &CBlock
+        ensures { block_tree result.now ≡ tree_of self.now }
+    {
+        &self.body
+    }
+}

@@ -1,0 +1,30 @@
+//! TinyScript's syntax: tokens, trees, the grammar that both follow, checked trees, and how a tree is printed.
+#![tactic(auto)]
+
+pub mod bin_op;
+pub mod checked;
+pub mod checked_expr;
+pub mod checked_stmt;
+pub mod expr;
+pub mod grammar;
+pub mod printer;
+pub mod right;
+pub mod script;
+pub mod stmt;
+#[cfg(test)]
+mod tests;
+pub mod token;
+pub mod word;
+
+pub use bin_op::BinOp;
+pub use checked::Checked;
+pub use checked_expr::{CArgs, CExpr};
+pub use checked_stmt::{CBlock, CForHead, CStmt, CVar};
+pub use expr::{Args, Expr};
+pub use grammar::grammar_law;
+pub use printer::print;
+pub use right::is_right;
+pub use script::{Decl, DeclKind, Decls, Script};
+pub use stmt::{Block, ForHead, Step, Stmt};
+pub use token::{Token, TokenKind, Tokens};
+pub use word::Word;

@@ -1,0 +1,32 @@
+//! Whole scripts.
+
+use crate::stmt::Block;
+use crate::word::Word;
+use mate_num::Items;
+
+/// What a declaration makes of a name.
+#[derive(Clone, Copy, PartialEq, Eq, Debug)]
+pub enum DeclKind {
+    Shared,
+    Private,
+    Buffer,
+}
+
+/// A name that is declared.
+#[derive(PartialEq, Eq, Debug, Drop)]
+pub struct Decl {
+    pub kind: DeclKind,
+    pub word: Word,
+    /// Whether the keyword stands before the name; a comma does otherwise.
+    pub first: bool,
+}
+
+/// The names that a script declares, in order. Contracts see a list of Decl.
+pub type Decls = Items<Decl>;
+
+/// A script: its declarations, then its statements.
+#[derive(Drop)]
+pub struct Script {
+    pub decls: Decls,
+    pub body: Block,
+}

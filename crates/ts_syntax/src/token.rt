@@ -1,0 +1,74 @@
+//! The tokens of a source.
+
+use mate_num::{Items, Name};
+
+/// What a token is: a keyword, a sign, a name or a literal.
+#[derive(PartialEq, Eq, Debug, Drop)]
+pub enum TokenKind {
+    Shared,
+    Private,
+    Buffer,
+    If,
+    Then,
+    Else,
+    End,
+    For,
+    To,
+    Step,
+    Next,
+    While,
+    And,
+    Or,
+    Not,
+    Size,
+    Clear,
+    Msg,
+    /// `;`
+    Semi,
+    /// `,`
+    Comma,
+    /// `(`
+    Open,
+    /// `)`
+    Close,
+    /// `[`
+    OpenBox,
+    /// `]`
+    CloseBox,
+    /// `=`
+    Eq,
+    /// `<>`
+    Ne,
+    /// `<`
+    Lt,
+    /// `>`
+    Gt,
+    /// `<=`
+    Le,
+    /// `>=`
+    Ge,
+    /// `+`
+    Plus,
+    /// `-`
+    Minus,
+    /// `*`
+    Star,
+    /// `/`
+    Slash,
+    /// `%`
+    Percent,
+    Name(Name),
+    /// A literal: a run of digits with this value.
+    Num(u16),
+}
+
+/// A token; its text is the source from `from` to before `to`, both counted in bytes.
+#[derive(PartialEq, Eq, Debug, Drop)]
+pub struct Token {
+    pub kind: TokenKind,
+    pub from: u32,
+    pub to: u32,
+}
+
+/// The tokens of a source, in order. Contracts see a list of Token.
+pub type Tokens = Items<Token>;

@@ -1,0 +1,11 @@
+//! A name where it stands.
+
+use mate_num::Name;
+
+/// A name as it stands in a source.
+#[derive(PartialEq, Eq, Debug, Drop)]
+pub struct Word {
+    pub name: Name,
+    /// The place of its first byte in the source.
+    pub place: u32,
+}
