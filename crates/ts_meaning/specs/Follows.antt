@@ -1,0 +1,28 @@
+-- How the evaluator's results stand for outcomes.
+use Rattle.std.specs.Prelude.{◌≡◌, Result, Ok, Err, ⊤}
+use Rattle.ts_meaning.specs.State.{State, Outcome, Done, Over}
+use Rattle.ts_meaning.specs.declared.evaluator.Evaluator.{Evaluator}
+use Rattle.ts_meaning.specs.declared.evaluator.Stop.{Stop}
+use Rattle.ts_meaning.specs.declared.evaluator.Stop.TheVariants.{Ended, OutOfMemory}
+
+-- what the evaluator holds
+abbrev pub state_of : Evaluator → State
+state_of e =
+    record {
+      store = e.store;
+      privates = e.privates;
+      msg = e.msg.now.items;
+      left = e.answers.now;
+      calls = e.calls;
+      turns = e.turns;
+    }
+
+-- the result tells the outcome; want of memory tells nothing
+abbrev pub Tells : {A : Type 0} → Result A Stop → State → Outcome A → Type 0
+Tells (Ok a) s outcome = outcome ≡ Done a s
+Tells (Err (Ended end)) s outcome = outcome ≡ Over end s
+Tells (Err OutOfMemory) s outcome = ⊤
+
+-- from one evaluator to the next, the result tells what the part of the run does
+abbrev pub Follows : {A : Type 0} → (State → Outcome A) → Evaluator → Result A Stop → Evaluator → Type 0
+Follows part old result new = Tells result (state_of new) (part (state_of old))

@@ -1,0 +1,4 @@
+pub mod State
+pub mod Meaning
+pub mod Uses
+pub mod Follows

@@ -1,0 +1,128 @@
+-- What a run of a script holds on its way, and how a part of it ends.
+use Rattle.std.specs.Prelude.{ℕ, zero, suc, ℤ, pos, Bool, true, false, List, [], ◌∷◌, ◌++◌, Result, Ok, Err, take, replicate, slice_index_or, slice_set, ⊤}
+use Rattle.arrayvec.specs.ArrayVec.{ArrayVec}
+use Rattle.mate_num.specs.Store.{value_at, set_value, buffer_at, set_buffer, without_last}
+use Rattle.mate_num.specs.declared.store.Store.{Store}
+use Rattle.mate_num.specs.declared.call.Call.{Call}
+use Rattle.mate_num.specs.declared.call.End.{End}
+use Rattle.mate_num.specs.declared.call.End.TheVariants.{Fault, Wants}
+use Rattle.mate_num.specs.declared.call.FaultKind.{FaultKind}
+use Rattle.mate_num.specs.declared.call.FaultKind.TheVariants.{Overrun}
+use Rattle.mate_num.specs.declared.id.BufId.{BufId}
+use Rattle.mate_num.specs.declared.id.FunId.{FunId}
+use Rattle.ts_syntax.specs.declared.checked_stmt.CVar.{CVar}
+use Rattle.ts_syntax.specs.declared.checked_stmt.CVar.TheVariants.{Shared, Private}
+
+-- the store, the private variables, the message, the answers that no call took yet, the calls that were
+-- answered, and the turns that are left
+pub record State : Type 0 where
+  pub store : Store
+  pub privates : List ℤ
+  pub msg : List ℤ
+  pub left : List ℤ
+  pub calls : List Call
+  pub turns : ℕ
+
+-- a part of a run is done, with a value, or the whole run is over
+pub data Outcome (A : Type 0) : Type 0 where
+  Done : (value : A) (after : State) → Outcome A
+  Over : (end : End) (after : State) → Outcome A
+
+-- goes on with the value, unless the run is over
+abbrev pub then_do : {A B : Type 0} → Outcome A → (A → State → Outcome B) → Outcome B
+then_do (Done a s) next = next a s
+then_do (Over end s) next = Over end s
+
+-- the value, or the fault
+abbrev pub given : {A : Type 0} → Result A FaultKind → State → Outcome A
+given (Ok a) s = Done a s
+given (Err kind) s = Over (Fault kind) s
+
+-- the value of a private variable, and 0 where there is no such variable
+abbrev pub private_at : State → ℕ → ℤ
+private_at s i = slice_index_or s.privates i (pos 0)
+
+-- the value of a variable
+abbrev pub variable_at : CVar → State → ℤ
+variable_at (Shared v) s = value_at s.store v.0
+variable_at (Private i) s = private_at s i
+
+-- the state with that value in a variable
+abbrev pub with_variable : CVar → ℤ → State → State
+with_variable (Shared v) value s = record s { store = set_value s.store v.0 value }
+with_variable (Private i) value s = record s { privates = slice_set s.privates i value }
+
+-- the state with those values in a buffer
+abbrev pub with_buffer : BufId → List ℤ → State → State
+with_buffer p values s = record s { store = set_buffer s.store p.0 values }
+
+-- the buffer has the new values, or the fault comes
+abbrev pub changed : BufId → Result (List ℤ) FaultKind → State → Outcome ⊤
+changed p (Ok values) s = Done tt (with_buffer p values s)
+changed p (Err kind) s = Over (Fault kind) s
+
+-- the value goes from the end of the buffer into the variable, or the fault comes
+abbrev pub moved : CVar → BufId → Result ℤ FaultKind → State → Outcome ⊤
+moved x p (Ok value) s = Done tt (with_variable x value (with_buffer p (without_last (buffer_at s.store p.0)) s))
+moved x p (Err kind) s = Over (Fault kind) s
+
+-- the values as the arguments of a call, which have room for ten; a right call has at most four
+abbrev pub first_ten : List ℤ → ArrayVec ℤ
+first_ten values = record { items = take 10 values }
+
+-- a call takes the next answer and is listed with it; with no answer left it ends the run
+abbrev pub answered : FunId → ArrayVec ℤ → List ℤ → State → Outcome ℤ
+answered f args [] s = Over (Wants f args) s
+answered f args (a ∷ left) s =
+    Done a (record s { left = left; calls = s.calls ++ record { fun = f; args = args; result = a } ∷ [] })
+
+abbrev pub asked : FunId → ArrayVec ℤ → State → Outcome ℤ
+asked f args s = answered f args s.left s
+
+-- the result of a call is dropped
+abbrev pub dropped : ℤ → State → Outcome ⊤
+dropped value s = Done tt s
+
+-- going back costs one turn; with no turn left it is a fault
+abbrev pub with_turns : ℕ → (State → Outcome ⊤) → State → Outcome ⊤
+with_turns zero next s = Over (Fault Overrun) s
+with_turns (suc n) next s = next (record s { turns = n })
+
+abbrev pub go_back : (State → Outcome ⊤) → State → Outcome ⊤
+go_back next s = with_turns s.turns next s
+
+-- after a round a loop goes back, or is done
+abbrev pub after_round : (State → Outcome ⊤) → Bool → State → Outcome ⊤
+after_round next true s = go_back next s
+after_round next false s = Done tt s
+
+-- a loop that goes back at most n times
+abbrev pub rounds : ℕ → (State → Outcome Bool) → State → Outcome ⊤
+rounds zero round s = then_do (round s) (after_round (λ s. Over (Fault Overrun) s))
+rounds (suc n) round s = then_do (round s) (after_round (rounds n round))
+
+-- a loop: it goes back at most once for each turn that is left
+abbrev pub loop_does : (State → Outcome Bool) → State → Outcome ⊤
+loop_does round s = rounds s.turns round s
+
+-- the first at true, and else the second
+abbrev pub choose : Bool → (State → Outcome ⊤) → (State → Outcome ⊤) → State → Outcome ⊤
+choose true a b s = a s
+choose false a b s = b s
+
+-- a round of a loop: at true the body runs and the loop may go back, and else it ends
+abbrev pub round_if : Bool → (State → Outcome ⊤) → State → Outcome Bool
+round_if true body s = then_do (body s) (λ _ s. Done true s)
+round_if false body s = Done false s
+
+-- a run begins with the private variables at 0
+abbrev pub begun : Store → ArrayVec ℤ → List ℤ → ℕ → State
+begun store msg answers turns =
+    record {
+      store = store;
+      privates = replicate 8 (pos 0);
+      msg = msg.items;
+      left = answers;
+      calls = [];
+      turns = turns;
+    }

@@ -1,0 +1,50 @@
+//! The run of a whole script.
+
+ghost use Rattle.std.specs.Prelude.{◌≡◌, IfOk};
+ghost use Rattle.ts_syntax.specs.Checked.{shape_of, tree_of};
+ghost use Rattle.ts_meaning.specs.Meaning.{run_of};
+ghost use Rattle.ts_meaning.specs.Uses.{IsSameOutside, block_writes};
+
+use crate::evaluator::{Evaluator, Stop};
+use mate_num::{Call, End, Items, NoMemory, Payload, Store};
+use std::alloc::Global;
+use ts_syntax::Checked;
+
+/// Calls, in the order in which they were answered.
+pub type Calls = Items<Call>;
+
+/// What a run of a script gives.
+#[derive(Drop)]
+pub struct Played {
+    /// How far the run came.
+    pub end: End,
+    /// The store that it left.
+    pub store: Store,
+    /// The calls that were answered.
+    pub calls: Calls,
+}
+
+/// Runs `script` on `store`, with the message `msg`, with `answers` to its calls in their order, and with
+/// `turns` goings back of its loops. `NoMemory` comes only where memory for the list of calls is refused.
+pub fn play(
+    alloc: Global,
+    script: &Checked,
+    store: &Store,
+    msg: &Payload,
+    answers: &[i16],
+    turns: u32,
+) -> Result<Played, NoMemory>
+    ensures gives { let run = run_of (tree_of script.now) store.now msg.now answers.now turns in
+        IfOk result (λ played. played ≡ run) }
+
+    // What the script doesn't write stays as it was.
+    ensures outside { let written = block_writes (shape_of script.now) (tree_of script.now) in
+        IfOk result (λ played. IsSameOutside written store.now played.store) }
+{
+    let mut evaluator = Evaluator::new(alloc, store.copy(), msg, answers, turns);
+    match evaluator.block(script.body()) {
+        Ok(()) => Ok(evaluator.played(End::Halt)),
+        Err(Stop::Ended(end)) => Ok(evaluator.played(end)),
+        Err(Stop::OutOfMemory) => Err(NoMemory),
+    }
+}
