@@ -1,0 +1,14 @@
+pub mod CodeLemmas
+pub mod DecodeLaws
+pub mod DecodeLoop
+pub mod ListLemmas
+pub mod NameLemmas
+pub mod OpcodeLemmas
+pub mod ReadLemmas
+pub mod TableLemmas
+pub mod CellLemmas
+pub mod RunLemmas
+pub mod EffectLemmas
+pub mod VerificationLemmas
+pub mod BoundLemmas
+pub mod BytesVerificationLemmas

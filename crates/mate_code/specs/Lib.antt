@@ -1,0 +1,14 @@
+pub mod Code
+pub mod Instr
+pub mod Kind
+pub mod Listing
+pub mod Table
+pub mod Cells
+pub mod CodeUses
+pub mod Effect
+pub mod Run
+pub mod Flow
+pub mod Verification
+pub mod Laws
+pub mod Examples
+pub mod BytesVerification

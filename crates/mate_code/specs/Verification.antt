@@ -1,0 +1,199 @@
+-- Verification: one pass over code, with a depth of the stack at each place, and the first refusal.
+use Rattle.std.specs.Prelude.{◌≡◌, ℕ, ◌+◌, ◌-◌, ◌<◌, ◌≤◌, Bool, true, false, not, IsTrue, ℤ, [], ◌∷◌, length, Option, None, Some, is_some, Result, Ok, Err, nat_lt, nat_le, ◌==◌, if◌then◌else◌, ⊤}
+use Rattle.mate_num.specs.declared.shape.Shape.{Shape}
+use Rattle.mate_code.specs.declared.instr.Instr.{Instr}
+use Rattle.mate_code.specs.Flow.{Flow, Next, Ends, Branches, Jumps, Returns, flow_of, pops_of, pushes_of, is_in_range}
+use Rattle.mate_code.specs.Effect.{Private, Effect, Goes, Writes, Asks, Halts, Faults, Sticks, push}
+use Rattle.mate_code.specs.Instr.{size_of}
+use Rattle.mate_code.specs.Run.{Code, fetch}
+
+-- why code is refused, and at which place; or the length of code that is too long
+pub data Refusal : Type 0 where
+  Decode : (place : ℕ) → Refusal
+  BadTarget : (place : ℕ) → Refusal
+  BackJump : (place : ℕ) → Refusal
+  Underflow : (place : ℕ) → Refusal
+  Overflow : (place : ℕ) → Refusal
+  DepthDiffers : (place : ℕ) → Refusal
+  BadIndex : (place : ℕ) → Refusal
+  NoHalt : Refusal
+  TooLong : (len : ℕ) → Refusal
+
+-- the depths that were given to a place: none, one and the same, or two that differ
+pub data Mark : Type 0 where
+  Blank : Mark
+  Depth : (n : ℕ) → Mark
+  Clash : Mark
+
+abbrev pub Marks : Type 0
+Marks = ℕ → Mark
+
+-- the mark of a place that is given one more depth
+abbrev pub given : Mark → ℕ → Mark
+given Blank n = Depth n
+given (Depth m) n = if m == n then Depth m else Clash
+given Clash n = Clash
+
+-- the depth at a place; 0 where none was given
+abbrev pub depth_in : Mark → ℕ
+depth_in Blank = 0
+depth_in (Depth n) = n
+depth_in Clash = 0
+
+abbrev pub depth_at : Marks → ℕ → ℕ
+depth_at marks place = depth_in (marks place)
+
+abbrev pub is_clash : Mark → Bool
+is_clash Blank = false
+is_clash (Depth n) = false
+is_clash Clash = true
+
+-- the marks where a place is given a depth
+abbrev pub mark : ℕ → ℕ → Marks → Marks
+mark place n marks = λ q. if q == place then given (marks q) n else marks q
+
+-- place 0 has depth 0
+abbrev pub first_marks : Marks
+first_marks = mark 0 0 (λ _. Blank)
+
+-- the depth after an instruction
+abbrev pub depth_after : Shape → Instr → ℕ → ℕ
+depth_after shape i depth = depth - pops_of shape i + pushes_of i
+
+-- an instruction stands there
+abbrev pub is_start : Code → ℕ → Bool
+is_start code place = is_some (fetch code place)
+
+-- the target, if there is one, is a start
+abbrev pub has_target : Code → Flow → Bool
+has_target code Next = true
+has_target code Ends = true
+has_target code (Branches target) = is_start code target
+has_target code (Jumps target) = is_start code target
+has_target code (Returns target) = is_start code target
+
+-- the target lies forward, and that of a going back doesn't
+abbrev pub has_direction : ℕ → Flow → Bool
+has_direction place Next = true
+has_direction place Ends = true
+has_direction place (Branches target) = nat_lt place target
+has_direction place (Jumps target) = nat_lt place target
+has_direction place (Returns target) = nat_le target place
+
+-- a going back has its target's depth
+abbrev pub has_back_depth : Marks → ℕ → Flow → Bool
+has_back_depth marks depth Next = true
+has_back_depth marks depth Ends = true
+has_back_depth marks depth (Branches target) = true
+has_back_depth marks depth (Jumps target) = true
+has_back_depth marks depth (Returns target) = depth_at marks target == depth
+
+-- the refusal where the test fails, and else what comes after it
+abbrev pub demand : Bool → Refusal → Option Refusal → Option Refusal
+demand true refusal rest = rest
+demand false refusal rest = Some refusal
+
+-- the first refusal at an instruction, in order
+abbrev pub refusal_at : Shape → Code → Marks → ℕ → Instr → Option Refusal
+refusal_at shape code marks place i =
+    demand (not (is_clash (marks place))) (DepthDiffers place)
+    (demand (is_in_range shape i) (BadIndex place)
+    (demand (has_target code (flow_of i)) (BadTarget place)
+    (demand (has_direction place (flow_of i)) (BackJump place)
+    (demand (nat_le (pops_of shape i) (depth_at marks place)) (Underflow place)
+    (demand (nat_le (depth_after shape i (depth_at marks place)) 16) (Overflow place)
+    (demand (has_back_depth marks (depth_after shape i (depth_at marks place)) (flow_of i)) (DepthDiffers place) None))))))
+
+-- the marks that an instruction leaves: its depth goes on to the next place and to the target of a jump forward
+abbrev pub marks_after : Flow → ℕ → ℕ → Marks → Marks
+marks_after Next next depth marks = mark next depth marks
+marks_after Ends next depth marks = marks
+marks_after (Branches target) next depth marks = mark next depth (mark target depth marks)
+marks_after (Jumps target) next depth marks = mark target depth marks
+marks_after (Returns target) next depth marks = marks
+
+abbrev pub instr_marks : Shape → ℕ → Instr → Marks → Marks
+instr_marks shape place i marks = marks_after (flow_of i) (place + size_of i) (depth_after shape i (depth_at marks place)) marks
+
+-- goes on unless there is a refusal
+abbrev pub unless : Option Refusal → Result Marks Refusal → Result Marks Refusal
+unless None rest = rest
+unless (Some refusal) rest = Err refusal
+
+-- the pass over the rest of the code
+unfoldable pub pass : Shape → Code → Marks → Code → Result Marks Refusal
+pass shape code marks [] = Ok marks
+pass shape code marks (p ∷ rest) =
+    unless (refusal_at shape code marks p.0 p.1) (pass shape code (instr_marks shape p.0 p.1 marks) rest)
+
+-- the last instruction halts
+abbrev pub is_end : Flow → Bool
+is_end Next = false
+is_end Ends = true
+is_end (Branches target) = false
+is_end (Jumps target) = false
+is_end (Returns target) = false
+
+abbrev pub halts : Code → Bool
+halts [] = false
+halts (p ∷ []) = is_end (flow_of p.1)
+halts (p ∷ q ∷ rest) = halts (q ∷ rest)
+
+abbrev pub if_halts : Bool → Result Marks Refusal → Result Marks Refusal
+if_halts halts (Err refusal) = Err refusal
+if_halts true (Ok marks) = Ok marks
+if_halts false (Ok marks) = Err NoHalt
+
+-- the depth at each place, or the first refusal
+abbrev pub verification : Shape → Code → Result Marks Refusal
+verification shape code = if_halts (halts code) (pass shape code first_marks code)
+
+-- the instructions stand one after another, from this place on
+abbrev pub AreFrom : ℕ → Code → Type 0
+AreFrom place [] = ⊤
+AreFrom place (p ∷ rest) = (p.0 ≡ place) × AreFrom (place + size_of p.1) rest
+
+-- the code is verified, with these marks
+pub record IsVerified (shape : Shape) (code : Code) (marks : Marks) : Type 0 where
+  pub places : AreFrom 0 code
+  pub passed : verification shape code ≡ Ok marks
+
+-- an instruction stands at the place, with that depth
+pub record IsPlace (code : Code) (depth : ℕ → ℕ) (place n : ℕ) : Type 0 where
+  pub start : IsTrue (is_start code place)
+  pub depth_is : depth place ≡ n
+
+-- a run goes on at a place of that depth: a jump forward, a going back not
+abbrev pub Flows : Code → (ℕ → ℕ) → ℕ → ℕ → ℕ → Flow → Type 0
+Flows code depth place next n Next = IsPlace code depth next n
+Flows code depth place next n Ends = ⊤
+Flows code depth place next n (Branches target) = IsPlace code depth next n × IsPlace code depth target n × (place < target)
+Flows code depth place next n (Jumps target) = IsPlace code depth target n × (place < target)
+Flows code depth place next n (Returns target) = IsPlace code depth target n × (target ≤ place)
+
+-- what verification tells of the instruction at a place: its names are in range, its operands are there, what it
+-- pushes has room, and it goes on at an instruction of the depth that it leaves
+pub record IsRight (shape : Shape) (code : Code) (depth : ℕ → ℕ) (place : ℕ) (i : Instr) : Type 0 where
+  pub names : IsTrue (is_in_range shape i)
+  pub operands : pops_of shape i ≤ depth place
+  pub room : depth_after shape i (depth place) ≤ 16
+  pub flow : Flows code depth place (place + size_of i) (depth_after shape i (depth place)) (flow_of i)
+
+-- what verification tells of the code: it begins with depth 0, each instruction is right, and all stand below its size
+pub record IsSound (shape : Shape) (code : Code) (depth : ℕ → ℕ) : Type 0 where
+  pub begins : IsPlace code depth 0 0
+  pub each : (place : ℕ) (i : Instr) → fetch code place ≡ Some i → IsRight shape code depth place i
+
+-- an invocation fits verified code: it is at an instruction, and its stack is as deep as verification says there
+pub record IsFitting (code : Code) (depth : ℕ → ℕ) (p : Private) : Type 0 where
+  pub start : IsTrue (is_start code p.pc)
+  pub depth_is : depth p.pc ≡ length p.stack
+
+-- an effect goes on fitting, after an ask with any answer, and doesn't stick
+abbrev pub GoesOnFitting : Code → (ℕ → ℕ) → Effect → Type 0
+GoesOnFitting code depth (Goes p) = IsFitting code depth p
+GoesOnFitting code depth (Writes p cell) = IsFitting code depth p
+GoesOnFitting code depth (Asks p f args) = (answer : ℤ) → IsFitting code depth (push answer p)
+GoesOnFitting code depth Halts = ⊤
+GoesOnFitting code depth (Faults kind) = ⊤
+GoesOnFitting code depth Sticks = ⊥

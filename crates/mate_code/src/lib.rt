@@ -1,0 +1,30 @@
+//! The byte code of a Maté machine: instructions, their opcodes, and what they mean.
+#![tactic(auto)]
+
+pub mod codec_laws;
+pub mod decoding;
+pub mod encoding;
+pub mod instr;
+pub mod instrs;
+pub mod kind;
+pub mod laws;
+pub mod printing;
+pub mod table;
+
+pub use codec_laws::{each_opcode_once, one_encoding};
+pub use decoding::{DecodeFault, decode};
+pub use encoding::{TooLong, encode};
+pub use instr::Instr;
+pub use instrs::Instrs;
+pub use kind::{Kind, OperandForm};
+pub use laws::{
+    changes_what_it_writes, ends_in_time, ends_once, goes_on_with_an_answer,
+    is_sound_where_verified, sees_what_it_uses,
+};
+pub use printing::listing;
+pub use table::Table;
+
+#[cfg(test)]
+mod meaning_tests;
+#[cfg(test)]
+mod tests;

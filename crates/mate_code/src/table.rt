@@ -1,0 +1,176 @@
+//! The opcode table of a machine.
+
+ghost use Rattle.std.specs.Prelude.{◌≡◌, ◌+◌, ◌≤◌, length, slice_get};
+ghost use Rattle.std.specs.Option.{option_map};
+ghost use Rattle.mate_code.specs.Table.{table_of, opcode_of, kind_at, kinds_of, first_function, function_kind, IsInTable};
+
+use crate::kind::Kind;
+use arrayvec::ArrayVec;
+use mate_num::{FunId, Shape};
+use std::marker::Model;
+
+// The kinds that every table has, in the order of their opcodes.
+static BASE: [Kind; 28] = [
+    Kind::Halt,
+    Kind::PushW,
+    Kind::PushB,
+    Kind::GetS,
+    Kind::SetS,
+    Kind::GetP,
+    Kind::SetP,
+    Kind::Add,
+    Kind::Sub,
+    Kind::Mul,
+    Kind::Div,
+    Kind::Mod,
+    Kind::Neg,
+    Kind::Not,
+    Kind::And,
+    Kind::Or,
+    Kind::Eq,
+    Kind::Ne,
+    Kind::Lt,
+    Kind::Gt,
+    Kind::Le,
+    Kind::Ge,
+    Kind::Jz,
+    Kind::Jmp,
+    Kind::Back,
+    Kind::Drop,
+    Kind::MsgGet,
+    Kind::MsgSize,
+];
+
+// The kinds that follow where the machine has a buffer.
+static BUFFER_GROUP: [Kind; 6] = [
+    Kind::BGet,
+    Kind::BSet,
+    Kind::BAdd,
+    Kind::BTake,
+    Kind::BSize,
+    Kind::BClear,
+];
+
+/// Which kinds of instructions a machine has, and the opcode of each: 28 that each machine has, 6 for
+/// buffers where it has one, and one for each function, in their order.
+#[derive(Debug, Drop)]
+pub struct Table {
+    // Whether the machine has a buffer.
+    buffer: bool,
+    // Of each function whether it sends a buffer.
+    sends: ArrayVec<bool, 32>,
+}
+
+impl Model for Table {
+    ghost use Rattle.mate_code.specs.Table.{Layout};
+
+    ghost Value = { Layout };
+
+    ghost view = { λ t. record { buffer = t.buffer; sends = t.sends.items } };
+
+    ghost inverse = { λ l. record { buffer = l.buffer; sends = record { items = l.sends } } };
+}
+
+impl Table {
+    /// The table of a machine of this shape.
+    pub fn of(shape: &Shape) -> Table
+        ensures { result ≡ table_of shape.now }
+    {
+        let mut sends = ArrayVec::new();
+        for function in shape.functions.as_slice() {
+            sends.push(function.send);
+        }
+        Table {
+            buffer: shape.buffers > 0,
+            sends,
+        }
+    }
+
+    /// How many opcodes the machine has, from 28 to 66.
+    pub fn len(&self) -> usize
+        ensures value { result ≡ length (kinds_of self.now) }
+        ensures fits { result ≤ 66 }
+    {
+        self.first_function() as usize + self.sends.len()
+    }
+
+    /// The kind of an opcode; None exactly where the machine has none.
+    pub fn kind(&self, opcode: u8) -> Option<Kind>
+        ensures { result ≡ kind_at self.now opcode }
+    {
+        let first = self.first_function();
+        if opcode < 28 {
+            return Some(BASE[opcode as usize]);
+        }
+        if opcode < first {
+            return Some(BUFFER_GROUP[opcode as usize - 28]);
+        }
+        self.function_kind(opcode - first)
+    }
+
+    /// The opcode of a kind.
+    pub fn opcode(&self, kind: Kind) -> u8
+        requires { IsInTable self.now kind }
+        ensures { result ≡ opcode_of self.now kind }
+    {
+        match kind {
+            Kind::Halt => 0x00,
+            Kind::PushW => 0x01,
+            Kind::PushB => 0x02,
+            Kind::GetS => 0x03,
+            Kind::SetS => 0x04,
+            Kind::GetP => 0x05,
+            Kind::SetP => 0x06,
+            Kind::Add => 0x07,
+            Kind::Sub => 0x08,
+            Kind::Mul => 0x09,
+            Kind::Div => 0x0a,
+            Kind::Mod => 0x0b,
+            Kind::Neg => 0x0c,
+            Kind::Not => 0x0d,
+            Kind::And => 0x0e,
+            Kind::Or => 0x0f,
+            Kind::Eq => 0x10,
+            Kind::Ne => 0x11,
+            Kind::Lt => 0x12,
+            Kind::Gt => 0x13,
+            Kind::Le => 0x14,
+            Kind::Ge => 0x15,
+            Kind::Jz => 0x16,
+            Kind::Jmp => 0x17,
+            Kind::Back => 0x18,
+            Kind::Drop => 0x19,
+            Kind::MsgGet => 0x1a,
+            Kind::MsgSize => 0x1b,
+            Kind::BGet => 0x1c,
+            Kind::BSet => 0x1d,
+            Kind::BAdd => 0x1e,
+            Kind::BTake => 0x1f,
+            Kind::BSize => 0x20,
+            Kind::BClear => 0x21,
+            Kind::Fun(fun) => self.first_function() + fun.0,
+            Kind::FunBuf(fun) => self.first_function() + fun.0,
+        }
+    }
+
+    // The kind of a function, where the machine has it.
+    fn function_kind(&self, fun: u8) -> Option<Kind>
+        ensures { result ≡ option_map (function_kind fun) (slice_get self.now.sends fun) }
+    {
+        match self.sends.get(fun as usize) {
+            Some(true) => Some(Kind::FunBuf(FunId(fun))),
+            Some(false) => Some(Kind::Fun(FunId(fun))),
+            None => None,
+        }
+    }
+
+    // The opcode of the first function.
+    fn first_function(&self) -> u8
+        ensures value { result ≡ first_function self.now }
+        ensures least { 28 ≤ result }
+        ensures most { result + length self.now.sends ≤ 66 }
+    {
+        prove!(self.sends.len() <= 32);
+        if self.buffer { 34 } else { 28 }
+    }
+}
