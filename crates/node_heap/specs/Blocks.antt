@@ -1,0 +1,16 @@
+-- One block of values: 16 shared variables, and then room for 10 values in each buffer.
+use Rattle.std.specs.Prelude.{ℕ, ◌+◌, ◌*◌, ℤ, List, [], ◌∷◌, take, drop, slice_index}
+use Rattle.arrayvec.specs.ArrayVec.{ArrayVec}
+
+-- where the values of a buffer begin
+abbrev pub start_of : ℕ → ℕ
+start_of buf = 16 + buf * 10
+
+-- the values of a buffer
+abbrev pub values_of : List ℤ → List ℕ → ℕ → List ℤ
+values_of values lengths buf = take (slice_index lengths buf) (drop (start_of buf) values)
+
+-- the buffers with these lengths, each with its values at the front of 10 places
+abbrev pub rows : List ℕ → List ℤ → List (ArrayVec ℤ)
+rows [] values = []
+rows (n ∷ lengths) values = record { items = take n values } ∷ rows lengths (drop 10 values)

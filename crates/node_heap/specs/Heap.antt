@@ -1,0 +1,20 @@
+-- What contracts see of a heap: its store.
+use Rattle.std.specs.Prelude.{◌≤◌, take, drop}
+use Rattle.std.specs.List.{All}
+use Rattle.node_heap.specs.Blocks.{rows}
+use Rattle.node_heap.specs.declared.heap.Heap.TheInside.{Inside}
+use Rattle.mate_num.specs.declared.store.Store.{Store}
+
+-- the store that the block and the lengths stand for
+abbrev pub store_of : Inside → Store
+store_of h =
+    record {
+      shared = record { items = take h.shared h.values };
+      buffers = record { items = rows (take h.buffers h.lengths) (drop 16 h.values) };
+    }
+
+-- the numbers of variables and buffers, and each buffer's length, are in range
+pub record IsHeap (h : Inside) : Type 0 where
+  pub shared_fits : h.shared ≤ 16
+  pub buffers_fit : h.buffers ≤ 8
+  pub lengths_fit : All (λ n. n ≤ 10) h.lengths

@@ -1,0 +1,206 @@
+//! Shared variables and buffers, kept in one array of values and one of lengths.
+
+ghost use Rattle.std.specs.Prelude.{◌≡◌, ℕ, ◌+◌, ◌*◌, ◌<◌, ◌≤◌, ℤ, pos, [], length, take, drop, slice_index, slice_index_or, Err, MatchOption, ◌↔◌};
+ghost use Rattle.mate_num.specs.Store.{payload, zero_store, value_at, buffer_at, set_value, set_buffer, item_of, item_set, appended, last_of, without_last};
+ghost use Rattle.node_heap.specs.Changes.{Changes};
+ghost use Rattle.node_heap.specs.Blocks.{start_of, values_of};
+
+use arrayvec::ArrayVec;
+use mate_num::{BufId, FaultKind, Payload, Store, VarId};
+use std::marker::Model;
+
+/// Where the buffers' values begin: after 16 shared variables.
+const SHARED: usize = 16;
+
+/// How many values a buffer has room for.
+const ROOM: usize = 10;
+
+/// The shared variables and buffers of a node. Contracts see its store.
+///
+/// The block has 16 shared variables, and then 10 places for each of 8 buffers. A buffer has its values
+/// at the front of its places, as many as its length says.
+#[derive(Drop)]
+pub struct Heap {
+    shared: u8,
+    buffers: u8,
+    values: [i16; 96],
+    lengths: [u8; 8],
+}
+
+impl Model for Heap {
+    ghost use Rattle.mate_num.specs.declared.store.Store.{Store};
+
+    ghost Value = { Store };
+
+    ghost use Rattle.node_heap.specs.Heap.{store_of, IsHeap};
+
+    ghost view = { store_of };
+
+    ghost invariant = { IsHeap };
+}
+
+/// Where the values of a buffer begin.
+fn start_of(buf: BufId) -> usize
+    requires { buf.0 < 8 }
+    ensures { result ≡ start_of buf.0 }
+{
+    SHARED + usize::from(buf.0) * ROOM
+}
+
+impl Heap {
+    /// A heap of `shared` variables that hold 0, and `buffers` empty buffers.
+    pub fn new(shared: u8, buffers: u8) -> Heap
+        requires shared_fits { shared ≤ 16 }
+        requires buffers_fit { buffers ≤ 8 }
+        ensures { result ≡ zero_store shared buffers }
+    {
+        Heap {
+            shared,
+            buffers,
+            values: [0; 96],
+            lengths: [0; 8],
+        }
+    }
+
+    /// The value of a shared variable.
+    pub fn get(&self, var: VarId) -> i16
+        requires { var.0 < length self.now.shared.items }
+        ensures { result ≡ value_at self.now var.0 }
+    {
+        self.shared_values()[usize::from(var.0)]
+    }
+
+    /// Sets a shared variable.
+    pub fn put(&mut self, var: VarId, value: i16)
+        requires { var.0 < length self.old.shared.items }
+        ensures { self.new ≡ set_value self.old var.0 value }
+    {
+        self.values[usize::from(var.0)] = value;
+    }
+
+    /// The value at an index of a buffer, from 0; the fault Index exactly outside the buffer's values.
+    pub fn item(&self, buf: BufId, index: i16) -> Result<i16, FaultKind>
+        requires { buf.0 < length self.now.buffers.items }
+        ensures { result ≡ item_of (buffer_at self.now buf.0) index }
+    {
+        let values = self.buffer_values(buf);
+        match usize::try_from(index) {
+            Ok(i) if i < values.len() => Ok(values[i]),
+            _ => Err(FaultKind::Index),
+        }
+    }
+
+    /// Changes the value at an index of a buffer, from 0; the fault Index exactly outside the buffer's values.
+    pub fn set_item(&mut self, buf: BufId, index: i16, value: i16) -> Result<(), FaultKind>
+        requires { buf.0 < length self.old.buffers.items }
+        ensures { Changes self.old buf.0 (item_set (buffer_at self.old buf.0) index value) result self.new }
+    {
+        let size = self.buffer_values(buf).len();
+        match usize::try_from(index) {
+            Ok(i) if i < size => {
+                self.values[start_of(buf) + i] = value;
+                Ok(())
+            }
+            _ => Err(FaultKind::Index),
+        }
+    }
+
+    /// Appends a value to a buffer; the fault BufferFull exactly where it holds 10.
+    pub fn append(&mut self, buf: BufId, value: i16) -> Result<(), FaultKind>
+        requires { buf.0 < length self.old.buffers.items }
+        ensures { Changes self.old buf.0 (appended (buffer_at self.old buf.0) value) result self.new }
+    {
+        let size = self.buffer_values(buf).len();
+        if size >= ROOM {
+            return Err(FaultKind::BufferFull);
+        }
+        self.values[start_of(buf) + size] = value;
+        self.lengths[usize::from(buf.0)] = size as u8 + 1;
+        Ok(())
+    }
+
+    /// Takes the last value out of a buffer; the fault BufferEmpty exactly where it holds none.
+    pub fn take(&mut self, buf: BufId) -> Result<i16, FaultKind>
+        requires { buf.0 < length self.old.buffers.items }
+        ensures value { result ≡ last_of (buffer_at self.old buf.0) }
+        ensures rest { self.new ≡ set_buffer self.old buf.0 (without_last (buffer_at self.old buf.0)) }
+    {
+        let values = self.buffer_values(buf);
+        let size = values.len();
+        if size == 0 {
+            return Err(FaultKind::BufferEmpty);
+        }
+        let last = values[size - 1];
+        self.lengths[usize::from(buf.0)] = size as u8 - 1;
+        Ok(last)
+    }
+
+    /// Empties a buffer.
+    pub fn clear(&mut self, buf: BufId)
+        requires { buf.0 < length self.old.buffers.items }
+        ensures { self.new ≡ set_buffer self.old buf.0 [] }
+    {
+        self.lengths[usize::from(buf.0)] = 0;
+    }
+
+    /// How many values are in a buffer, from 0 to 10.
+    pub fn size(&self, buf: BufId) -> i16
+        requires { buf.0 < length self.now.buffers.items }
+        ensures { result ≡ pos (length (buffer_at self.now buf.0)) }
+    {
+        self.buffer_values(buf).len() as i16
+    }
+
+    /// The values in a buffer.
+    pub fn payload(&self, buf: BufId) -> Payload
+        requires { buf.0 < length self.now.buffers.items }
+        ensures { result ≡ payload (buffer_at self.now buf.0) }
+    {
+        let Ok(values) = ArrayVec::try_from(self.buffer_values(buf)) else {
+            unreachable!()
+        };
+        values
+    }
+
+    /// The values of all shared variables and buffers.
+    pub fn store(&self) -> Store
+        ensures { result ≡ self.now }
+    {
+        let Ok(shared) = ArrayVec::try_from(self.shared_values()) else {
+            unreachable!()
+        };
+        let mut buffers: ArrayVec<Payload, 8> = ArrayVec::new();
+        for buf in 0..self.buffer_count() {
+            buffers.push(self.payload(BufId(buf)));
+        }
+        Store { shared, buffers }
+    }
+
+    /// How many buffers there are.
+    fn buffer_count(&self) -> u8
+        ensures value { result ≡ length self.now.buffers.items }
+        ensures fits { result ≤ 8 }
+    {
+        self.buffers
+    }
+
+    /// The values of the shared variables.
+    fn shared_values(&self) -> &[i16]
+        ensures value { result.now ≡ self.now.shared.items }
+        ensures fits { length result.now ≤ 16 }
+    {
+        &self.values[..usize::from(self.shared)]
+    }
+
+    /// The values in a buffer.
+    fn buffer_values(&self, buf: BufId) -> &[i16]
+        requires { buf.0 < length self.now.buffers.items }
+        ensures value { result.now ≡ buffer_at self.now buf.0 }
+        ensures fits { length result.now ≤ 10 }
+        ensures in_range { buf.0 < 8 }
+    {
+        let size = usize::from(self.lengths[usize::from(buf.0)]);
+        let start = start_of(buf);
+        &self.values[start..start + size]
+    }
+}
