@@ -1,0 +1,5 @@
+use Rattle.capsule_codec.proofs.ImageLemmas.{capsule_is}
+use Rattle.capsule_codec.proofs.laws.one_image.Goals as goal
+
+pub returns-clause-only : goal.returns-clause-only
+returns-clause-only c = capsule_is

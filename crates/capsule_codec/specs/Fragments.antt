@@ -1,0 +1,27 @@
+-- The pieces in which an image is sent.
+use Rattle.std.specs.Prelude.{◌≡◌, ℕ, ◌≤◌, nat_le, if◌then◌else◌, List, [], ◌∷◌, length, map}
+use Rattle.std.specs.Fork.{slice_chunk}
+use Rattle.std.specs.Int.{div_ceil}
+use Rattle.std.specs.List.{range_with_len}
+
+-- a piece of an image of so many bytes has 24 bytes, or 48 where there are more than 528
+abbrev pub piece_len : ℕ → ℕ
+piece_len len = if nat_le len 528 then 24 else 48
+
+-- how many pieces an image has
+abbrev pub count_of : List ℕ → ℕ
+count_of image = div_ceil (length image) (piece_len (length image))
+
+-- the piece of this number, from 0; the last one is the rest
+abbrev pub piece_at : List ℕ → ℕ → List ℕ
+piece_at image index = slice_chunk image (piece_len (length image)) index
+
+-- the pieces of an image, in order
+abbrev pub pieces_of : List ℕ → List (List ℕ)
+pieces_of image = map (piece_at image) (range_with_len 0 (count_of image))
+
+-- each piece has this length, but the last one, which has 1 byte at least and no more
+abbrev pub AreCut : ℕ → List (List ℕ) → Type 0
+AreCut len [] = Unit {0}
+AreCut len (last ∷ []) = (1 ≤ length last) × (length last ≤ len)
+AreCut len (piece ∷ next ∷ pieces) = (length piece ≡ len) × AreCut len (next ∷ pieces)

@@ -1,0 +1,50 @@
+-- A capsule's image: the bytes in which it is stored and sent. Numbers stand with the highest byte first.
+use Rattle.std.specs.Prelude.{◌≡◌, ℕ, ◌<◌, ◌≤◌, ◌^◌, nat_le, if◌then◌else◌, List, [], ◌∷◌, ◌++◌, length}
+use Rattle.std.specs.Int.{w16, w32, to_be_bytes}
+pub use Rattle.hex.specs.Hex.{IsBytes}
+use Rattle.vm_desc.specs.declared.description.Description.{Description}
+use Rattle.capsule_codec.specs.declared.capsule.Capsule.{Capsule}
+
+-- a capsule's fields, as numbers and a list
+pub record CapsuleParts : Type 0 where
+  pub vm_id : ℕ
+  pub handler : ℕ
+  pub version : ℕ
+  pub code : List ℕ
+
+abbrev pub capsule_parts : Capsule → CapsuleParts
+capsule_parts c = record { vm_id = c.vm_id; handler = c.handler.0; version = c.version; code = c.code.items }
+
+-- the four bytes with which every image begins: `MATE`
+abbrev pub magic : List ℕ
+magic = 0x4d ∷ 0x41 ∷ 0x54 ∷ 0x45 ∷ []
+
+-- format 1 is for code of 1 to 512 bytes, format 2 for code of 513 to 1,040
+abbrev pub format_of : ℕ → ℕ
+format_of size = if nat_le size 512 then 1 else 2
+
+-- the magic, the format, the handler, the machine, the version, the code's length, and the code
+abbrev pub image_of : CapsuleParts → List ℕ
+image_of c =
+    magic
+    ++ (format_of (length c.code) ∷ [])
+    ++ (c.handler ∷ [])
+    ++ to_be_bytes w32 c.vm_id
+    ++ to_be_bytes w32 c.version
+    ++ to_be_bytes w16 (length c.code)
+    ++ c.code
+
+-- what has an image: every capsule's parts do
+pub record IsCapsule (c : CapsuleParts) : Type 0 where
+  pub vm_id : c.vm_id < 2 ^ 32
+  pub handler : c.handler < 256
+  pub version_low : 1 ≤ c.version
+  pub version_high : c.version < 2 ^ 32
+  pub code_low : 1 ≤ length c.code
+  pub code_high : length c.code ≤ 1040
+  pub code : IsBytes c.code
+
+-- a capsule of this machine, for one of its handlers
+pub record IsOfMachine (d : Description) (c : CapsuleParts) : Type 0 where
+  pub vm_id : c.vm_id ≡ d.vm_id
+  pub handler : c.handler < length d.handlers.items

@@ -1,0 +1,4 @@
+pub mod Image
+pub mod Reading
+pub mod Fragments
+pub mod HexText

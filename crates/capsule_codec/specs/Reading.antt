@@ -1,0 +1,59 @@
+-- What bytes are to a machine: one of its capsules, or the first fault.
+use Rattle.std.specs.Prelude.{◌≡◌, ℕ, ◌+◌, nat_lt, nat_le, nat_eq, ◌==◌, Bool, not, ◌&&◌, ◌||◌, if◌then◌else◌, List, [], ◌∷◌, length, drop, slice_index, Result, Ok, Err}
+use Rattle.std.specs.Int.{w16, w32, from_be_bytes, is_in_range}
+use Rattle.std.specs.List.{starts_with}
+use Rattle.vm_desc.specs.declared.description.Description.{Description}
+use Rattle.capsule_codec.specs.declared.decoding.CapsuleFault.{CapsuleFault}
+use Rattle.capsule_codec.specs.declared.decoding.CapsuleFault.TheVariants.{BadMagic, BadFormat, OtherVm, BadHandler, BadLength, BadVersion}
+use Rattle.capsule_codec.specs.declared.capsule.Capsule.{Capsule}
+use Rattle.capsule_codec.specs.Image.{CapsuleParts, capsule_parts, magic}
+
+-- the number in the two bytes from a place on
+abbrev pub u16_at : List ℕ → ℕ → ℕ
+u16_at bytes place = from_be_bytes w16 (slice_index bytes place ∷ slice_index bytes (place + 1) ∷ [])
+
+-- the number in the four bytes from a place on
+abbrev pub u32_at : List ℕ → ℕ → ℕ
+u32_at bytes place =
+    from_be_bytes w32 (slice_index bytes place ∷ slice_index bytes (place + 1) ∷ slice_index bytes (place + 2) ∷ slice_index bytes (place + 3) ∷ [])
+
+-- the fields of an image's first 16 bytes
+abbrev pub format_in : List ℕ → ℕ
+format_in bytes = slice_index bytes 4
+
+abbrev pub handler_in : List ℕ → ℕ
+handler_in bytes = slice_index bytes 5
+
+abbrev pub vm_id_in : List ℕ → ℕ
+vm_id_in bytes = u32_at bytes 6
+
+abbrev pub version_in : List ℕ → ℕ
+version_in bytes = u32_at bytes 10
+
+abbrev pub size_in : List ℕ → ℕ
+size_in bytes = u16_at bytes 14
+
+-- there are formats 1 and 2
+abbrev pub is_format : ℕ → Bool
+is_format format = format == 1 || format == 2
+
+-- format 1 has 1 to 512 bytes of code, format 2 has 513 to 1,040
+abbrev pub is_size : ℕ → ℕ → Bool
+is_size format size = if format == 1 then is_in_range 1 512 size else is_in_range 513 1040 size
+
+-- the capsule of this machine whose image the bytes are, or the first fault
+abbrev pub capsule_in : Description → List ℕ → Result CapsuleParts CapsuleFault
+capsule_in d bytes =
+    if not (starts_with nat_eq bytes magic) then Err BadMagic
+    else if nat_lt (length bytes) 16 then Err BadLength
+    else if not (is_format (format_in bytes)) then Err BadFormat
+    else if not (vm_id_in bytes == d.vm_id) then Err (OtherVm (vm_id_in bytes))
+    else if not (nat_lt (handler_in bytes) (length d.handlers.items)) then Err BadHandler
+    else if version_in bytes == 0 then Err BadVersion
+    else if not (is_size (format_in bytes) (size_in bytes) && (size_in bytes + 16 == length bytes)) then Err BadLength
+    else Ok (record { vm_id = vm_id_in bytes; handler = handler_in bytes; version = version_in bytes; code = drop 16 bytes })
+
+-- what was answered is what was read
+abbrev pub Gives : Result Capsule CapsuleFault → Result CapsuleParts CapsuleFault → Type 0
+Gives (Ok c) read = read ≡ Ok (capsule_parts c)
+Gives (Err e) read = read ≡ Err e

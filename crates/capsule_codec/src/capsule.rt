@@ -1,0 +1,19 @@
+//! A capsule.
+
+ghost use Rattle.std.specs.Prelude.{◌≤◌, length};
+
+use mate_num::{Code, HandlerId};
+
+/// Code for one handler of one machine, with its version.
+#[derive(PartialEq, Eq, Debug, Drop)]
+pub struct Capsule {
+    /// The machine's number.
+    pub vm_id: u32,
+    pub handler: HandlerId,
+    /// From 1 on. A node takes only newer versions than the one it holds.
+    pub version: u32,
+    /// 1 to 1,040 bytes.
+    pub code: Code,
+    pub ghost numbered: { 1 ≤ version },
+    pub ghost filled: { 1 ≤ length code.items },
+}

@@ -1,0 +1,115 @@
+//! From images to capsules.
+
+ghost use Rattle.std.specs.Prelude.{◌≡◌, ◌+◌, ◌≤◌, length, IfOk, Ok};
+ghost use Rattle.capsule_codec.specs.declared.capsule.Capsule.{Capsule};
+ghost use Rattle.capsule_codec.specs.Image.{capsule_parts, image_of, IsCapsule, IsOfMachine};
+ghost use Rattle.capsule_codec.specs.Reading.{capsule_in, Gives, u16_at, u32_at, is_size};
+
+use crate::capsule::Capsule;
+use crate::encoding::{HEAD, MAGIC};
+use mate_num::{Code, HandlerId};
+use vm_desc::Description;
+
+/// Why bytes are no capsule of the machine.
+#[derive(Clone, Copy, PartialEq, Eq, Debug)]
+pub enum CapsuleFault {
+    /// The first four bytes aren't there, or differ.
+    BadMagic,
+    /// The format is neither 1 nor 2.
+    BadFormat,
+    /// The capsule is for the machine with this number.
+    OtherVm { id: u32 },
+    /// The machine has no such handler.
+    BadHandler,
+    /// There are fewer than 16 bytes, or the code's length isn't one of the format, or isn't that of the
+    /// bytes behind the first 16.
+    BadLength,
+    /// The version is 0.
+    BadVersion,
+}
+
+/// The capsule of the machine whose image the bytes are, or the first fault, in this order: `BadMagic`,
+/// `BadLength` for fewer than 16 bytes, `BadFormat`, `OtherVm`, `BadHandler`, `BadVersion`, `BadLength`.
+pub fn decode(desc: &Description, bytes: &[u8]) -> Result<Capsule, CapsuleFault>
+    ensures value { Gives result (capsule_in desc.now bytes.now) }
+
+    // The bytes are the capsule's one image.
+    ensures image { IfOk result (λ c. (bytes.now ≡ image_of (capsule_parts c)) × IsOfMachine desc.now (capsule_parts c)) }
+    // The image of a capsule that is for the machine decodes to this capsule.
+    ensures only { (c : Capsule) → IsCapsule (capsule_parts c) → IsOfMachine desc.now (capsule_parts c)
+        → bytes.now ≡ image_of (capsule_parts c) → result ≡ Ok c }
+{
+    read(desc, bytes)
+}
+
+fn read(desc: &Description, bytes: &[u8]) -> Result<Capsule, CapsuleFault>
+    ensures { Gives result (capsule_in desc.now bytes.now) }
+{
+    if !bytes.starts_with(&MAGIC) {
+        return Err(CapsuleFault::BadMagic);
+    }
+    if bytes.len() < HEAD {
+        return Err(CapsuleFault::BadLength);
+    }
+    let format = bytes[4];
+    if format != 1 && format != 2 {
+        return Err(CapsuleFault::BadFormat);
+    }
+    let id = u32_at(bytes, 6);
+    if id != desc.vm_id {
+        return Err(CapsuleFault::OtherVm { id });
+    }
+    let handler = HandlerId(bytes[5]);
+    if usize::from(handler.0) >= desc.handlers.len() {
+        return Err(CapsuleFault::BadHandler);
+    }
+    let version = u32_at(bytes, 10);
+    if version == 0 {
+        return Err(CapsuleFault::BadVersion);
+    }
+    let size = u16_at(bytes, 14);
+    if !is_size(format, size) || usize::from(size) + HEAD != bytes.len() {
+        return Err(CapsuleFault::BadLength);
+    }
+    let Ok(code) = Code::try_from(&bytes[HEAD..]) else {
+        unreachable!()
+    };
+    Ok(Capsule {
+        vm_id: id,
+        handler,
+        version,
+        code,
+    })
+}
+
+// Whether code of this size has this format, 1 or 2.
+fn is_size(format: u8, size: u16) -> bool
+    ensures { result ≡ is_size format size }
+{
+    if format == 1 {
+        1 <= size && size <= 512
+    } else {
+        513 <= size && size <= 1040
+    }
+}
+
+// The number in the two bytes from `place` on.
+fn u16_at(bytes: &[u8], place: usize) -> u16
+    requires { place + 2 ≤ length bytes.now }
+    ensures { result ≡ u16_at bytes.now place }
+{
+    u16::from_be_bytes([bytes[place], bytes[place + 1]])
+}
+
+// The number in the four bytes from `place` on.
+fn u32_at(bytes: &[u8], place: usize) -> u32
+    requires { place + 4 ≤ length bytes.now }
+    ensures { result ≡ u32_at bytes.now place }
+{
+    u32::from_be_bytes([
+        bytes[place],
+        bytes[place + 1],
+        bytes[place + 2],
+        bytes[place + 3],
+    ])
+}

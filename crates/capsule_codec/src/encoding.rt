@@ -1,0 +1,50 @@
+//! From capsules to images.
+
+ghost use Rattle.std.specs.Prelude.{◌≡◌, ◌+◌, ◌≤◌, ◌++◌, length, Ok};
+ghost use Rattle.vm_desc.specs.declared.description.Description.{Description};
+ghost use Rattle.hex.specs.Hex.{IsBytes};
+ghost use Rattle.capsule_codec.specs.Image.{capsule_parts, image_of, format_of, IsCapsule, IsOfMachine};
+ghost use Rattle.capsule_codec.specs.Reading.{capsule_in};
+
+use crate::capsule::Capsule;
+use mate_num::{IMAGE_MAX, Image};
+
+/// The bytes with which every image begins.
+pub(crate) const MAGIC: [u8; 4] = *b"MATE";
+
+/// The length of what stands before the code, in bytes.
+pub(crate) const HEAD: usize = 16;
+
+/// The longest code of format 1, in bytes.
+const SHORT_CODE: usize = 512;
+
+/// The capsule's one image: the bytes in which it is stored and sent.
+pub fn encode(capsule: &Capsule) -> Image
+    ensures bytes { result.items ≡ image_of (capsule_parts capsule.now) }
+    ensures fits { IsCapsule (capsule_parts capsule.now) }
+
+    // A machine that it is for decodes it to this capsule.
+    ensures again { (d : Description) → IsOfMachine d (capsule_parts capsule.now) → capsule_in d result.items ≡ Ok (capsule_parts capsule.now) }
+{
+    let size = capsule.code.len();
+    let format = if size <= SHORT_CODE { 1 } else { 2 };
+    let mut image = Image::new();
+    put(&mut image, &MAGIC);
+    put(&mut image, &[format, capsule.handler.0]);
+    put(&mut image, &capsule.vm_id.to_be_bytes());
+    put(&mut image, &capsule.version.to_be_bytes());
+    put(&mut image, &(size as u16).to_be_bytes());
+    put(&mut image, capsule.code.as_slice());
+    image
+}
+
+// Appends the bytes, for which there is room.
+fn put(image: &mut Image, bytes: &[u8])
+    requires { length image.old.items + length bytes.now ≤ IMAGE_MAX }
+    ensures appended { image.new.items ≡ image.old.items ++ bytes.now }
+    ensures fits { IsBytes bytes.now }
+{
+    let Ok(()) = image.try_extend_from_slice(bytes) else {
+        unreachable!()
+    };
+}

@@ -1,0 +1,47 @@
+//! The pieces in which an image is sent.
+
+ghost use Rattle.std.specs.Prelude.{◌≡◌, ◌<◌, ◌≤◌, length};
+ghost use Rattle.std.specs.Option.{SomeIff};
+ghost use Rattle.capsule_codec.specs.Fragments.{piece_len, count_of, piece_at};
+
+use arrayvec::ArrayVec;
+use mate_num::Image;
+
+/// A piece of an image: at most 48 bytes.
+pub type Piece = ArrayVec<u8, 48>;
+
+/// The longest image that is sent in pieces of 24 bytes.
+const SHORT_IMAGE: usize = 528;
+
+/// How many pieces the image has: 22 at most.
+pub fn count(image: &Image) -> u8
+    ensures value { result ≡ count_of image.now.items }
+    ensures high { result ≤ 22 }
+{
+    image.len().div_ceil(piece_len(image)) as u8
+}
+
+/// The piece of the image at `index`, from 0. None exactly from `count` on.
+///
+/// A piece has 24 bytes where the image has at most 528, and else 48. The last one is the rest.
+pub fn fragment(image: &Image, index: u8) -> Option<Piece>
+    ensures { SomeIff result (index < count_of image.now.items) (record { items = piece_at image.now.items index }) }
+{
+    let size = piece_len(image);
+    let from = usize::from(index) * size;
+    if from >= image.len() {
+        return None;
+    }
+    let rest = &image.as_slice()[from..];
+    let Ok(piece) = Piece::try_from(&rest[..size.min(rest.len())]) else {
+        unreachable!()
+    };
+    Some(piece)
+}
+
+// The length of the image's pieces but the last one, in bytes.
+fn piece_len(image: &Image) -> usize
+    ensures { result ≡ piece_len (length image.now.items) }
+{
+    if image.len() <= SHORT_IMAGE { 24 } else { 48 }
+}

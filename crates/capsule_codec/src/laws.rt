@@ -1,0 +1,27 @@
+//! Laws of images and of their pieces. Each is the contract of a call that does nothing.
+
+ghost use Rattle.std.specs.Prelude.{◌≡◌, ℕ, ◌<◌, ◌≤◌, List, length, Ok};
+ghost use Rattle.std.specs.List.{concat};
+ghost use Rattle.hex.specs.Hex.{IsBytes};
+ghost use Rattle.vm_desc.specs.declared.description.Description.{Description};
+ghost use Rattle.capsule_codec.specs.Image.{CapsuleParts, image_of, IsCapsule, IsOfMachine};
+ghost use Rattle.capsule_codec.specs.Reading.{capsule_in};
+ghost use Rattle.capsule_codec.specs.Fragments.{piece_len, pieces_of, AreCut};
+
+/// A machine reads the image of one of its capsules as that capsule; and bytes that it reads as a
+/// capsule are this capsule's one image.
+pub fn one_image()
+    ensures again { (d : Description) (c : CapsuleParts) → IsCapsule c → IsOfMachine d c → capsule_in d (image_of c) ≡ Ok c }
+    ensures only { (d : Description) (bytes : List ℕ) (c : CapsuleParts) → IsBytes bytes → capsule_in d bytes ≡ Ok c
+        → (bytes ≡ image_of c) × IsCapsule c × IsOfMachine d c }
+{}
+
+/// The pieces of an image, put together in order, are the image. So a list of pieces is one image's at
+/// most; and a list of pieces of right lengths is that of the image that they make.
+pub fn pieces_make_the_image()
+    ensures whole { (image : List ℕ) → concat (pieces_of image) ≡ image }
+    ensures cut { (image : List ℕ) → AreCut (piece_len (length image)) (pieces_of image) }
+    ensures one { (a b : List ℕ) → pieces_of a ≡ pieces_of b → a ≡ b }
+    ensures short { (pieces : List (List ℕ)) → AreCut 24 pieces → length pieces ≤ 22 → pieces_of (concat pieces) ≡ pieces }
+    ensures long { (pieces : List (List ℕ)) → AreCut 48 pieces → 528 < length (concat pieces) → pieces_of (concat pieces) ≡ pieces }
+{}

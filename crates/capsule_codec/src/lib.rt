@@ -1,0 +1,19 @@
+//! Capsules: a handler's code with its version, as bytes, as fragments to send, and as hexadecimal text.
+#![tactic(auto)]
+
+pub mod capsule;
+pub mod decoding;
+pub mod encoding;
+pub mod fragments;
+pub mod hex_text;
+pub mod laws;
+
+pub use capsule::Capsule;
+pub use decoding::{CapsuleFault, decode};
+pub use encoding::encode;
+pub use fragments::{Piece, count, fragment};
+pub use hex_text::{HexFault, from_hex, to_hex};
+pub use laws::{one_image, pieces_make_the_image};
+
+#[cfg(test)]
+mod tests;
