@@ -1,0 +1,3 @@
+pub mod Packet
+pub mod Bytes
+pub mod Reading
