@@ -1,0 +1,79 @@
+//! The pending call of each context.
+
+ghost use Rattle.std.specs.Prelude.{◌≡◌, ◌<◌, MatchResult, OnOk, OnErr};
+ghost use Rattle.split_phase.specs.Calls.{call_at, AreNone, IsOf, Becomes};
+
+use mate_num::{ContextId, FunId, Payload, copy_of};
+use std::marker::Model;
+
+/// The context waits for no answer.
+#[derive(Clone, Copy, PartialEq, Eq, Debug)]
+pub struct NotWaiting;
+
+/// The calls that wait for an answer. Contracts see a list of 16 places, one for each context: the function
+/// that it called and the call's arguments, or None.
+#[derive(Drop)]
+pub struct Pending {
+    calls: [Option<(FunId, Payload)>; 16],
+}
+
+impl Model for Pending {
+    ghost use Rattle.std.specs.Prelude.{List, Option};
+    ghost use Rattle.split_phase.specs.Calls.{Asked};
+
+    ghost Value = { List (Option Asked) };
+
+    ghost view = { λ p. p.calls };
+}
+
+impl Pending {
+    /// No context waits.
+    pub fn new() -> Pending
+        ensures { AreNone result }
+    {
+        Pending {
+            calls: Default::default(),
+        }
+    }
+
+    /// The call of `fun` with `args` begins: `ctx` waits for its answer.
+    pub fn ask(&mut self, ctx: ContextId, fun: FunId, args: Payload)
+        requires context { ctx.0 < 16 }
+        requires free { call_at self.old ctx ≡ None }
+        ensures { Becomes self.old self.new ctx (Some (fun, args)) }
+    {
+        self.calls[ctx.0 as usize] = Some((fun, args));
+    }
+
+    /// The answer to the call of `ctx` has come: it gives the function that was called, and `ctx` waits no more.
+    /// `NotWaiting` comes exactly where it doesn't wait.
+    pub fn answer(&mut self, ctx: ContextId) -> Result<FunId, NotWaiting>
+        requires { ctx.0 < 16 }
+        ensures answered { MatchResult result (λ fun. IsOf (call_at self.old ctx) fun) (λ _. call_at self.old ctx ≡ None) }
+        ensures ok { OnOk result (Becomes self.old self.new ctx None) }
+        ensures err { OnErr result (self.new ≡ self.old) }
+    {
+        match self.calls[ctx.0 as usize].take() {
+            Some((fun, _)) => Ok(fun),
+            None => Err(NotWaiting),
+        }
+    }
+
+    /// The function that `ctx` called and a copy of the arguments; None exactly where it doesn't wait.
+    pub fn asked(&self, ctx: ContextId) -> Option<(FunId, Payload)>
+        requires { ctx.0 < 16 }
+        ensures { result ≡ call_at self.now ctx }
+    {
+        match &self.calls[ctx.0 as usize] {
+            Some((fun, args)) => Some((*fun, copy_of(args))),
+            None => None,
+        }
+    }
+
+    /// All calls are dropped: no context waits.
+    pub fn cancel(&mut self)
+        ensures { AreNone self.new }
+    {
+        self.calls = Default::default();
+    }
+}
