@@ -1,0 +1,266 @@
+-- The journal of one install, one post and one run of an invocation that ends: it owes nothing.
+use Rattle.std.proofs.Common.{◌≡◌, ◌≤◌, ◌<◌, ℕ, zero, suc, ◌+◌, Bool, true, false, IsTrue, List, [], ◌∷◌, ◌++◌, ℤ, length, map, Option, Some, None, refl, sym, ◌∙◌, ap, subst, arith, ◌⊎◌, inl, inr, ◌≢◌, lit<, lit≤}
+use Rattle.std.proofs.lemmas.Bool.Decides.{eqb_tells}
+use Rattle.std.proofs.lemmas.List.Elements.{All-from_recursion}
+use Rattle.arrayvec.specs.ArrayVec.{ArrayVec}
+use Rattle.mate_num.specs.declared.call.Call.{Call}
+use Rattle.mate_num.specs.declared.call.End.TheVariants as end
+use Rattle.mate_num.specs.declared.id.FunId.{FunId}
+use Rattle.mate_num.specs.declared.call.Stamp.{Stamp}
+use Rattle.mate_num.specs.declared.id.HandlerId.{HandlerId}
+use Rattle.mate_num.specs.declared.id.ContextId.{ContextId}
+use Rattle.mate_num.specs.declared.store.Store.{Store}
+use Rattle.mate_journal.specs.Machine.{Machine, HeldProgram, Outcome, IsContextOf}
+use Rattle.mate_journal.specs.Journal.{Phase, Ready, Waiting, Over, told_by, Told, Posted, Started, Ended, Installed, Seen, Event, Reading, nothing_heard, heard, heard_all, is_live, is_started, Queued, changed, Invocation}
+use Rattle.mate_journal.specs.WellFormed.{IsWellFormed, Closes, NotBefore}
+use Rattle.mate_journal.specs.Serial.{IsSerial, RunsSoFar}
+use Rattle.mate_journal.specs.Stores.{ShowsStores, IsShown}
+use Rattle.mate_journal.specs.Grants.{GrantsInOrder, AllHeldBack, MayStart}
+use Rattle.mate_journal.specs.NodeScript.{Step, Install, Post, Run, IsRunOf, AreOfEvent, Installs, Posts, Settles, IsOfRun, IsStart}
+
+abbrev empty : ArrayVec ℤ
+empty = record { items = [] }
+
+abbrev main : HandlerId
+main = record { 0 = 0 }
+
+abbrev first : ContextId
+first = record { 0 = 0 }
+
+-- a program for the first handler
+abbrev pub for_main : ℕ → ArrayVec ℕ → HeldProgram
+for_main version image = record { handler = main; version = version; image = image }
+
+abbrev pub at : ℕ → Told → Event
+at k told = record { stamp = record { event = k; time = 0 }; told = told }
+
+-- the run of the program at the beginning of an era
+abbrev pub first_run : Machine → HeldProgram → Outcome
+first_run m p = m.meaning.run p m.zero_store empty [] m.turns
+
+-- the journal: the program is installed, an event is posted to its handler, and the invocation runs to its end
+abbrev pub one_run : Machine → HeldProgram → List Event
+one_run m p =
+    at 1 (Seen m.zero_store) ∷ at 1 (Installed p) ∷ at 2 (Posted 1 main first empty) ∷ at 2 (Started 1)
+    ∷ at 3 (Ended 1 (first_run m p).end) ∷ at 4 (Seen (first_run m p).store) ∷ []
+
+-- the script of such a run
+abbrev pub one_script : HeldProgram → List Step
+one_script p = Install p ∷ Post main empty ∷ Run ∷ []
+
+-- what is asked of the machine and the program
+pub record RunsToEnd (m : Machine) (p : HeldProgram) : Type 0 where
+  pub context : IsContextOf m main first
+  pub not_once : m.runs_once main ≡ false
+  pub version : 0 < p.version
+  pub closes : Closes (first_run m p).end
+  pub calls : (first_run m p).calls ≡ []
+  pub variables : length (first_run m p).store.shared.items ≡ length m.zero_store.shared.items
+  pub buffers : length (first_run m p).store.buffers.items ≡ length m.zero_store.buffers.items
+
+-- ---- one changed value
+
+-- a fact of each value, with one changed
+at_changed : {A : Type 0} (P : ℕ → A → Type 0) (f : ℕ → A) (n : ℕ) (value : A) → P n value
+    → ((k : ℕ) → k ≢ n → P k (f k)) → (k : ℕ) → P k (changed f n value k)
+at_changed P f n value here there k =
+    elim (eqb_tells k n) [ inl t ↦ rw t.0 (subst (λ j. P j value) (sym t.1) here) | inr u ↦ rw u.0 (there k u.1) ]
+
+-- the others are as they were
+past_changed : {A : Type 0} (P : ℕ → A → Type 0) (f : ℕ → A) (n : ℕ) (value : A) (k : ℕ) → k ≢ n → P k (f k) → P k (changed f n value k)
+past_changed P f n value k other h =
+    elim (eqb_tells k n) [ inl t ↦ absurd (other t.1) | inr u ↦ rw u.0 h ]
+
+untrue : (b : Bool) → IsTrue b → b ≡ false → ⊥
+untrue b holds fails = cc
+
+in_order : (a b : ℕ) → a ≤ b → NotBefore (record { event = a; time = 0 }) (record { event = b; time = 0 })
+in_order a b h = record { event = h; time = omega arith; same = λ _. refl }
+
+module _ (m : Machine) (version : ℕ) (image : ArrayVec ℕ) where
+  abbrev p : HeldProgram
+  p = for_main version image
+
+  -- what was heard after the install, the post, the start and the end
+  abbrev installed : Reading
+  installed = heard m (nothing_heard m) (Installed p)
+
+  abbrev posted : Reading
+  posted = heard m installed (Posted 1 main first empty)
+
+  abbrev started : Reading
+  started = heard m posted (Started 1)
+
+  abbrev ended : Reading
+  ended = heard m started (Ended 1 (first_run m p).end)
+
+  -- the invocation, once posted, started and ended
+  abbrev one : Phase → Invocation
+  one phase = record { handler = main; context = first; program = p; payload = empty; calls = []; phase = phase }
+
+  abbrev before : ℕ → Invocation
+  before = installed.invocations
+
+  -- a fact of each invocation at these places
+  each_posted : (P : ℕ → Invocation → Type 0) → P 1 (one Queued) → ((k : ℕ) → k ≢ 1 → P k (before k))
+      → (k : ℕ) → P k (posted.invocations k)
+  each_posted P here there = at_changed P before 1 (one Queued) here there
+
+  each_started : (P : ℕ → Invocation → Type 0) → P 1 (one Ready) → ((k : ℕ) → k ≢ 1 → P k (before k))
+      → (k : ℕ) → P k (started.invocations k)
+  each_started P here there =
+      at_changed P posted.invocations 1 (one Ready) here (λ k other. past_changed P before 1 (one Queued) k other (there k other))
+
+  each_ended : (P : ℕ → Invocation → Type 0) → P 1 (one Over) → ((k : ℕ) → k ≢ 1 → P k (before k))
+      → (k : ℕ) → P k (ended.invocations k)
+  each_ended P here there =
+      at_changed P started.invocations 1 (one Over) here (λ k other.
+      past_changed P posted.invocations 1 (one Ready) k other (past_changed P before 1 (one Queued) k other (there k other)))
+
+  abbrev IsQuiet : ℕ → Invocation → Type 0
+  IsQuiet k i = is_started i.phase ≡ false
+
+  abbrev NotQueued : ℕ → Invocation → Type 0
+  NotQueued k i = i.phase ≡ Queued → ⊥
+
+  -- where no invocation is started, none has run so far
+  quiet : (r : Reading) → ((k : ℕ) → is_started (r.invocations k).phase ≡ false) → RunsSoFar m r
+  quiet r q = record {
+    calls = λ n s. absurd (untrue (is_started (r.invocations n).phase) s (q n));
+    wants = λ n f args w. absurd (untrue (is_started (r.invocations n).phase) (ap is_started w) (q n));
+  }
+
+  none_queued : (r : Reading) → ((k : ℕ) → (r.invocations k).phase ≡ Queued → ⊥) → AllHeldBack m r
+  none_queued r q = λ n e. absurd (q n e)
+
+  pub one_run-well_formed : RunsToEnd m p → IsWellFormed m (nothing_heard m) (one_run m p)
+  one_run-well_formed h = record {
+    in_time = (in_order 0 1 (lit≤ tt), (in_order 1 1 (lit≤ tt), (in_order 1 2 (lit≤ tt), (in_order 2 2 (lit≤ tt), (in_order 2 3 (lit≤ tt), (in_order 3 4 (lit≤ tt), tt))))));
+    follow = (tt, (tt, ((refl, refl, h.context, λ n live same. untrue false live refl), (refl, ((refl, h.closes), (tt, tt))))));
+  }
+
+  pub one_run-serial : RunsToEnd m p → IsSerial m (nothing_heard m) (one_run m p)
+  one_run-serial h = record {
+    ends = (tt, (tt, (tt, (tt, ((refl, h.calls), (tt, tt))))));
+    so_far = (
+      quiet (nothing_heard m) (λ k. refl),
+      (
+        quiet (nothing_heard m) (λ k. refl),
+        (
+          quiet installed (λ k. refl),
+          (quiet posted (each_posted IsQuiet refl (λ k _. refl)), (running, (over, over))),
+        ),
+      ),
+    );
+  } where
+    running : RunsSoFar m started
+    running = record {
+      calls = each_started (λ k i. IsTrue (is_started i.phase) → (m.meaning.run i.program m.zero_store i.payload (map (λ (call : Call). call.result) i.calls) m.turns).calls ≡ i.calls)
+          (λ _. h.calls) (λ k _ live. absurd (untrue false live refl));
+      wants = each_started (λ k i. (f : FunId) (args : ArrayVec ℤ) → i.phase ≡ Waiting f args
+          → (m.meaning.run i.program m.zero_store i.payload (map (λ (call : Call). call.result) i.calls) m.turns).end ≡ end.Wants f args)
+          (λ f args w. cc) (λ k _ f args w. cc);
+    }
+
+    over : RunsSoFar m ended
+    over = quiet ended (each_ended IsQuiet refl (λ k _. refl))
+
+  pub one_run-stores : RunsToEnd m p → ShowsStores m (nothing_heard m) (one_run m p)
+  one_run-stores h = record {
+    shown = (at_start, (tt, (tt, (tt, (tt, (at_end, tt))))));
+    before_eras = (tt, (refl, (tt, (tt, (tt, (tt, tt))))));
+  } where
+    at_start : IsShown m (nothing_heard m) m.zero_store
+    at_start = record { variables = refl; buffers = refl; unwritten = λ r _. refl; waiting = λ r n w waits. absurd (untrue false w.started refl) }
+
+    at_end : IsShown m ended (first_run m p).store
+    at_end = record {
+      variables = h.variables;
+      buffers = h.buffers;
+      unwritten = λ r _. refl;
+      waiting = λ r n w waits. absurd (untrue (is_started (ended.invocations n).phase) w.started (each_ended IsQuiet refl (λ k _. refl) n));
+    }
+
+  pub one_run-grants : RunsToEnd m p → GrantsInOrder m (nothing_heard m) 0 (one_run m p)
+  one_run-grants h = (
+    none_queued (nothing_heard m) (λ k e. cc),
+    (
+      none_queued (nothing_heard m) (λ k e. cc),
+      (
+        none_queued installed (λ k e. cc),
+        ((may_start, lit< tt), (none_queued started (each_started NotQueued (λ e. cc) (λ k _ e. cc)), (after, after))),
+      ),
+    ),
+  ) where
+    after : AllHeldBack m ended
+    after = none_queued ended (each_ended NotQueued (λ e. cc) (λ k _ e. cc))
+
+    may_start : MayStart m posted 1
+    may_start = λ k ahead conflict.
+        elim ahead [
+          | inl live ↦ untrue (is_started (posted.invocations k).phase) live (each_posted IsQuiet refl (λ k _. refl) k)
+          | inr earlier ↦ past_changed NotQueued before 1 (one Queued) k (λ e. let below : k < 1 = earlier.0 in omega arith) (λ e. cc) earlier.1
+        ]
+
+  pub one_run-events : RunsToEnd m p → IsRunOf m true 0 1 (nothing_heard m) (one_script p) (one_run m p)
+  one_run-events h =
+      inr (
+        lit< tt,
+        at 1 (Seen m.zero_store) ∷ at 1 (Installed p) ∷ [],
+        at 2 (Posted 1 main first empty) ∷ at 2 (Started 1) ∷ rest,
+        refl,
+        of_event 1 (Seen m.zero_store) (Installed p),
+        inl installs,
+        from_post,
+      ) where
+        rest : List Event
+        rest = at 3 (Ended 1 (first_run m p).end) ∷ at 4 (Seen (first_run m p).store) ∷ []
+
+        of_event : (k : ℕ) (a b : Told) → AreOfEvent k (at k a ∷ at k b ∷ [])
+        of_event k a b = All-from_recursion (λ (e : Event). e.stamp ≡ record { event = k; time = 0 }) (at k a ∷ at k b ∷ []) (refl, (refl, tt))
+
+        alone : (k : ℕ) (a : Told) → AreOfEvent k (at k a ∷ [])
+        alone k a = All-from_recursion (λ (e : Event). e.stamp ≡ record { event = k; time = 0 }) (at k a ∷ []) (refl, tt)
+
+        installs : Installs m (nothing_heard m) p (told_by (at 1 (Seen m.zero_store) ∷ at 1 (Installed p) ∷ []))
+        installs = record { seen = m.zero_store; rest = []; newer = h.version; made = refl; once = λ once. absurd (untrue (m.runs_once main) once h.not_once); else = λ _. refl }
+
+        posts : Posts m installed main empty (told_by (at 2 (Posted 1 main first empty) ∷ at 2 (Started 1) ∷ []))
+        posts = record {
+          context = first;
+          starts = Started 1 ∷ [];
+          code = refl;
+          first_idle = record { context = h.context; idle = λ n live same. untrue false live refl; lowest = λ k _ below. absurd (omega arith) };
+          are_starts = All-from_recursion IsStart (Started 1 ∷ []) (tt, tt);
+          made = refl;
+        }
+
+        settles : Settles m started (at 3 (Ended 1 (first_run m p).end) ∷ [])
+        settles = record { made = All-from_recursion IsOfRun (Ended 1 (first_run m p).end ∷ []) (tt, tt); settled = each_ended (λ k i. i.phase ≡ Ready → ⊥) (λ e. cc) (λ k _ e. cc) }
+
+        at_last : IsRunOf m true 5 4 ended [] (at 4 (Seen (first_run m p).store) ∷ [])
+        at_last = (record { seen = (first_run m p).store; made = refl }, alone 4 (Seen (first_run m p).store))
+
+        from_run : IsRunOf m true 4 3 started (Run ∷ []) rest
+        from_run =
+            inr (
+              lit< tt,
+              at 3 (Ended 1 (first_run m p).end) ∷ [],
+              at 4 (Seen (first_run m p).store) ∷ [],
+              refl,
+              alone 3 (Ended 1 (first_run m p).end),
+              settles,
+              at_last,
+            )
+
+        from_post : IsRunOf m true 2 2 installed (Post main empty ∷ Run ∷ []) (at 2 (Posted 1 main first empty) ∷ at 2 (Started 1) ∷ rest)
+        from_post =
+            inr (
+              lit< tt,
+              at 2 (Posted 1 main first empty) ∷ at 2 (Started 1) ∷ [],
+              rest,
+              refl,
+              of_event 2 (Posted 1 main first empty) (Started 1),
+              inr (inr posts),
+              from_run,
+            )

@@ -1,0 +1,37 @@
+-- The machine of a description.
+use Rattle.std.specs.Prelude.{ℕ, Bool, true, false, List, length, Option, Some, None, slice_get}
+use Rattle.mate_num.specs.Store.{zero_store}
+use Rattle.mate_num.specs.declared.id.HandlerId.{HandlerId}
+use Rattle.vm_desc.specs.Contexts.{first_context}
+use Rattle.vm_desc.specs.declared.description.Description.{Description}
+use Rattle.vm_desc.specs.declared.handler.Handler.{Handler}
+use Rattle.vm_desc.specs.declared.handler.HandlerKind.{HandlerKind}
+use Rattle.vm_desc.specs.declared.handler.HandlerKind.TheVariants as kind
+use Rattle.mate_journal.specs.Machine.{Machine, Meaning}
+
+-- how many contexts a handler has
+abbrev pub contexts_of : Option Handler → ℕ
+contexts_of None = 0
+contexts_of (Some h) = h.contexts
+
+-- a handler of this kind runs once at each of its installs
+abbrev pub is_once : HandlerKind → Bool
+is_once kind.Plain = false
+is_once (kind.Timer period) = false
+is_once kind.Receive = false
+is_once kind.Once = true
+
+abbrev pub runs_once : Option Handler → Bool
+runs_once None = false
+runs_once (Some h) = is_once h.kind
+
+-- a description's machine, with what its programs mean
+abbrev pub machine_of : Description → Meaning → Machine
+machine_of d meaning = record {
+  zero_store = zero_store (length d.shared.items) (length d.buffers.items);
+  turns = d.turns;
+  first_context = λ h. first_context d.handlers.items h.0;
+  contexts = λ h. contexts_of (slice_get d.handlers.items h.0);
+  runs_once = λ h. runs_once (slice_get d.handlers.items h.0);
+  meaning = meaning;
+}

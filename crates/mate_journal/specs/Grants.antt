@@ -1,0 +1,59 @@
+-- The grant rule: an invocation waits to start only for conflicting ones, which are started or were posted earlier.
+use Rattle.std.specs.Prelude.{◌≡◌, ◌<◌, ℕ, IsTrue, List, [], ◌∷◌, ◌⊎◌}
+use Rattle.mate_num.specs.Uses.{Conflicts}
+use Rattle.mate_journal.specs.Machine.{Machine}
+use Rattle.mate_journal.specs.Journal.{Told, Posted, Dropped, Started, Asked, Answered, Ended, Installed, Reset, Seen, Void, Event, Queued, is_started, Reading, heard}
+
+-- k comes before the queued invocation n: it is started and live, or it was posted earlier and is queued
+abbrev pub IsAhead : Reading → ℕ → ℕ → Type 0
+IsAhead r n k = IsTrue (is_started (r.invocations k).phase) ⊎ ((k < n) × ((r.invocations k).phase ≡ Queued))
+
+-- the programs of two invocations conflict: one writes a resource that the other uses
+abbrev pub AreConflicting : Machine → Reading → ℕ → ℕ → Type 0
+AreConflicting m r n k = Conflicts (m.meaning.uses (r.invocations n).program) (m.meaning.uses (r.invocations k).program)
+
+-- some invocation ahead of n conflicts with it
+pub record IsHeldBack (m : Machine) (r : Reading) (n : ℕ) : Type 0 where
+  pub by : ℕ
+  pub ahead : IsAhead r n by
+  pub conflict : AreConflicting m r n by
+
+-- each queued invocation is held back
+abbrev pub AllHeldBack : Machine → Reading → Type 0
+AllHeldBack m r = (n : ℕ) → (r.invocations n).phase ≡ Queued → IsHeldBack m r n
+
+-- nothing ahead of n conflicts with it
+abbrev pub MayStart : Machine → Reading → ℕ → Type 0
+MayStart m r n = (k : ℕ) → IsAhead r n k → AreConflicting m r n k → ⊥
+
+-- before an entry: a start is of an invocation that nothing holds back, with a greater number than a start directly
+-- before it (`last`, 0 for none); before any other entry all queued invocations are held back
+abbrev pub IsGranted : Machine → Reading → ℕ → Told → Type 0
+IsGranted m r last (Posted n h c payload) = AllHeldBack m r
+IsGranted m r last (Dropped h cause) = AllHeldBack m r
+IsGranted m r last (Started n) = MayStart m r n × (last < n)
+IsGranted m r last (Asked n f args) = AllHeldBack m r
+IsGranted m r last (Answered n value) = AllHeldBack m r
+IsGranted m r last (Ended n how) = AllHeldBack m r
+IsGranted m r last (Installed p) = AllHeldBack m r
+IsGranted m r last Reset = AllHeldBack m r
+IsGranted m r last (Seen store) = AllHeldBack m r
+IsGranted m r last (Void cause) = AllHeldBack m r
+
+-- the number of the invocation that an entry starts, 0 for none
+abbrev pub start_of : Told → ℕ
+start_of (Posted n h c payload) = 0
+start_of (Dropped h cause) = 0
+start_of (Started n) = n
+start_of (Asked n f args) = 0
+start_of (Answered n value) = 0
+start_of (Ended n how) = 0
+start_of (Installed p) = 0
+start_of Reset = 0
+start_of (Seen store) = 0
+start_of (Void cause) = 0
+
+-- the rule along a journal; `last` is the number of the invocation that the entry before it started, 0 for none
+abbrev pub GrantsInOrder : Machine → Reading → ℕ → List Event → Type 0
+GrantsInOrder m r last [] = AllHeldBack m r
+GrantsInOrder m r last (e ∷ es) = IsGranted m r last e.told × GrantsInOrder m (heard m r e.told) (start_of e.told) es

@@ -1,0 +1,190 @@
+-- A node's journal, and what was heard up to a place in it.
+use Rattle.std.specs.Prelude.{◌≡◌, ℕ, suc, ◌==◌, Bool, true, false, IsTrue, List, [], ◌∷◌, ◌++◌, map, ℤ, Option, Some, None, unwrap_or, slice_index_or, if◌then◌else◌}
+use Rattle.arrayvec.specs.ArrayVec.{ArrayVec}
+use Rattle.mate_num.specs.declared.call.Call.{Call}
+use Rattle.mate_num.specs.declared.call.End.{End}
+use Rattle.mate_num.specs.declared.call.End.TheVariants as end
+use Rattle.mate_num.specs.declared.call.Stamp.{Stamp}
+use Rattle.mate_num.specs.declared.id.HandlerId.{HandlerId}
+use Rattle.mate_num.specs.declared.id.ContextId.{ContextId}
+use Rattle.mate_num.specs.declared.id.FunId.{FunId}
+use Rattle.mate_num.specs.declared.store.Store.{Store}
+use Rattle.mate_journal.specs.Log.{Log}
+use Rattle.mate_journal.specs.Machine.{Machine, HeldProgram, Outcome}
+use Rattle.mate_journal.specs.declared.entry.DropCause.{DropCause}
+use Rattle.mate_journal.specs.declared.entry.VoidCause.{VoidCause}
+use Rattle.mate_journal.specs.declared.entry.Entry.{Entry}
+use Rattle.mate_journal.specs.declared.entry.Entry.TheVariants as entry
+use Rattle.mate_journal.specs.declared.entry.Stamped.{Stamped}
+
+-- what an entry tells, with the image or the store that it names
+pub data Told : Type 0 where
+  Posted : (n : ℕ) (handler : HandlerId) (context : ContextId) (payload : ArrayVec ℤ) → Told
+  Dropped : (handler : HandlerId) (cause : DropCause) → Told
+  Started : (n : ℕ) → Told
+  Asked : (n : ℕ) (fun : FunId) (args : ArrayVec ℤ) → Told
+  Answered : (n : ℕ) (value : ℤ) → Told
+  Ended : (n : ℕ) (how : End) → Told
+  Installed : (program : HeldProgram) → Told
+  Reset : Told
+  Seen : (store : Store) → Told
+  Void : (cause : VoidCause) → Told
+
+-- something told, and when
+pub record Event : Type 0 where
+  pub stamp : Stamp
+  pub told : Told
+
+-- what a list of events tells
+abbrev pub told_by : List Event → List Told
+told_by es = map (λ e. e.told) es
+
+abbrev no_image : ArrayVec ℕ
+no_image = record { items = [] }
+
+abbrev no_store : Store
+no_store = record { shared = record { items = [] }; buffers = record { items = [] } }
+
+abbrev pub told_of : Log → Entry → Told
+told_of l (entry.Post n h c payload) = Posted n h c payload
+told_of l (entry.Dropped h cause) = Dropped h cause
+told_of l (entry.Start n) = Started n
+told_of l (entry.Ask n f args) = Asked n f args
+told_of l (entry.Answer n value) = Answered n value
+told_of l (entry.Halt n) = Ended n end.Halt
+told_of l (entry.Fault n kind) = Ended n (end.Fault kind)
+told_of l (entry.Install h version image) =
+    Installed (record { handler = h; version = version; image = slice_index_or l.images image no_image })
+told_of l entry.Reset = Reset
+told_of l (entry.Seen store) = Seen (slice_index_or l.stores store no_store)
+told_of l (entry.Void cause) = Void cause
+
+-- the journal of a log
+abbrev pub journal_of : Log → List Event
+journal_of l = map (λ e. record { stamp = e.stamp; told = told_of l e.entry }) l.entries
+
+-- where an invocation stands: not yet posted, queued for its locks, ready to run, waiting for an answer, or over
+pub data Phase : Type 0 where
+  Unposted : Phase
+  Queued : Phase
+  Ready : Phase
+  Waiting : (fun : FunId) (args : ArrayVec ℤ) → Phase
+  Over : Phase
+
+-- posted, and not over
+abbrev pub is_live : Phase → Bool
+is_live Unposted = false
+is_live Queued = true
+is_live Ready = true
+is_live (Waiting f args) = true
+is_live Over = false
+
+-- live, and its locks were granted
+abbrev pub is_started : Phase → Bool
+is_started Unposted = false
+is_started Queued = false
+is_started Ready = true
+is_started (Waiting f args) = true
+is_started Over = false
+
+pub record Invocation : Type 0 where
+  pub handler : HandlerId
+  pub context : ContextId
+  pub program : HeldProgram
+  pub payload : ArrayVec ℤ
+  pub calls : List Call
+  pub phase : Phase
+
+-- what was heard up to a place: the serial store, how many invocations were posted, what is installed for
+-- each handler, and each invocation by its number
+pub record Reading : Type 0 where
+  pub serial : Store
+  pub posts : ℕ
+  pub installed : HandlerId → Option HeldProgram
+  pub invocations : ℕ → Invocation
+
+abbrev no_program : HeldProgram
+no_program = record { handler = record { 0 = 0 }; version = 0; image = no_image }
+
+-- an invocation that was not posted yet
+abbrev unposted : Invocation
+unposted = record { handler = record { 0 = 0 }; context = record { 0 = 0 }; program = no_program; payload = record { items = [] }; calls = []; phase = Unposted }
+
+-- before anything was heard
+abbrev pub nothing_heard : Machine → Reading
+nothing_heard m = record { serial = m.zero_store; posts = 0; installed = λ _. None; invocations = λ _. unposted }
+
+-- the version that the node holds of a handler, 0 for none
+abbrev pub held : Reading → HandlerId → ℕ
+held r h = version_of (r.installed h) where
+  version_of : Option HeldProgram → ℕ
+  version_of None = 0
+  version_of (Some p) = p.version
+
+-- f, with one value changed
+abbrev pub changed : {A : Type 0} → (ℕ → A) → ℕ → A → ℕ → A
+changed f n value k = if k == n then value else f k
+
+-- the same invocation in another phase
+abbrev pub in_phase : Phase → Invocation → Invocation
+in_phase phase i = record i { phase = phase }
+
+-- the whole run of an invocation on the serial store, with the answers that it got
+abbrev pub whole_run : Machine → Reading → ℕ → Outcome
+whole_run m r n =
+    let i = r.invocations n in
+    m.meaning.run i.program r.serial i.payload (map (λ (call : Call). call.result) i.calls) m.turns
+
+-- the function and arguments that the invocation waits for
+abbrev answered : Phase → ℤ → List Call → List Call
+answered Unposted value calls = calls
+answered Queued value calls = calls
+answered Ready value calls = calls
+answered (Waiting f args) value calls = calls ++ record { fun = f; args = args; result = value } ∷ []
+answered Over value calls = calls
+
+-- an invocation after an era's end: a live one is cut
+abbrev pub cut : Invocation → Invocation
+cut i = in_phase (if is_live i.phase then Over else i.phase) i
+
+-- what is heard with one more entry
+abbrev pub heard : Machine → Reading → Told → Reading
+heard m r (Posted n h c payload) =
+    record r {
+      posts = n;
+      invocations = changed r.invocations n
+          (record { handler = h; context = c; program = unwrap_or (r.installed h) no_program; payload = payload; calls = []; phase = Queued });
+    }
+heard m r (Dropped h cause) = r
+heard m r (Started n) = record r { invocations = changed r.invocations n (in_phase Ready (r.invocations n)) }
+heard m r (Asked n f args) = record r { invocations = changed r.invocations n (in_phase (Waiting f args) (r.invocations n)) }
+heard m r (Answered n value) =
+    let i = r.invocations n in
+    record r { invocations = changed r.invocations n (record i { calls = answered i.phase value i.calls; phase = Ready }) }
+heard m r (Ended n how) =
+    record r { serial = (whole_run m r n).store; invocations = changed r.invocations n (in_phase Over (r.invocations n)) }
+heard m r (Installed p) =
+    record {
+      serial = m.zero_store;
+      posts = r.posts;
+      installed = λ h. if h.0 == p.handler.0 then Some p else r.installed h;
+      invocations = λ n. cut (r.invocations n);
+    }
+heard m r Reset = record r { serial = m.zero_store; invocations = λ n. cut (r.invocations n) }
+heard m r (Seen store) = r
+heard m r (Void cause) = r
+
+-- what is heard with a list of entries
+abbrev pub heard_all : Machine → Reading → List Event → Reading
+heard_all m r [] = r
+heard_all m r (e ∷ es) = heard_all m (heard m r e.told) es
+
+-- a rule for each entry, at what was heard before it
+abbrev pub AtEachEntry : (Reading → Told → Type 0) → Machine → Reading → List Event → Type 0
+AtEachEntry Rule m r [] = Unit {0}
+AtEachEntry Rule m r (e ∷ es) = Rule r e.told × AtEachEntry Rule m (heard m r e.told) es
+
+-- a fact at each place of the journal, and at its end
+abbrev pub AtEachPlace : (Reading → Type 0) → Machine → Reading → List Event → Type 0
+AtEachPlace Fact m r [] = Fact r
+AtEachPlace Fact m r (e ∷ es) = Fact r × AtEachPlace Fact m (heard m r e.told) es

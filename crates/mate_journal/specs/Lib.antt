@@ -1,0 +1,10 @@
+pub mod Log
+pub mod Machine
+pub mod Journal
+pub mod WellFormed
+pub mod Serial
+pub mod Stores
+pub mod Grants
+pub mod NodeScript
+pub mod Described
+pub mod NodeRun

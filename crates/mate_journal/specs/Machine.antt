@@ -1,0 +1,42 @@
+-- What a journal is read against: a machine, and what its installed programs mean.
+use Rattle.std.specs.Prelude.{ℕ, ◌+◌, ◌<◌, ◌≤◌, Bool, List, ℤ, []}
+use Rattle.arrayvec.specs.ArrayVec.{ArrayVec}
+use Rattle.mate_num.specs.Uses.{Uses}
+use Rattle.mate_num.specs.declared.call.Call.{Call}
+use Rattle.mate_num.specs.declared.call.End.{End}
+use Rattle.mate_num.specs.declared.id.HandlerId.{HandlerId}
+use Rattle.mate_num.specs.declared.id.ContextId.{ContextId}
+use Rattle.mate_num.specs.declared.store.Store.{Store}
+
+-- a program as a node holds it: the handler it is for, its version and its image
+pub record HeldProgram : Type 0 where
+  pub handler : HandlerId
+  pub version : ℕ
+  pub image : ArrayVec ℕ
+
+-- what a run of a program gives: how far it came, the store that it left, and the calls that were answered
+pub record Outcome : Type 0 where
+  pub end : End
+  pub store : Store
+  pub calls : List Call
+
+-- what programs mean: the run of one on a store, a payload, the answers to its calls and a number of turns,
+-- and the resources that it may read and write
+pub record Meaning : Type 0 where
+  pub run : HeldProgram → Store → ArrayVec ℤ → List ℤ → ℕ → Outcome
+  pub uses : HeldProgram → Uses
+
+-- a machine: its store at the beginning of an era, the turns of an invocation, the first context of each handler
+-- and how many it has, the handlers that run once at each of their installs, and what programs mean
+pub record Machine : Type 0 where
+  pub zero_store : Store
+  pub turns : ℕ
+  pub first_context : HandlerId → ℕ
+  pub contexts : HandlerId → ℕ
+  pub runs_once : HandlerId → Bool
+  pub meaning : Meaning
+
+-- the context is one of the handler's
+pub record IsContextOf (m : Machine) (h : HandlerId) (c : ContextId) : Type 0 where
+  pub from : m.first_context h ≤ c.0
+  pub below : c.0 < m.first_context h + m.contexts h

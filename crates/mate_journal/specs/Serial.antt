@@ -1,0 +1,31 @@
+-- Serial replay: the invocations, run whole and one at a time in the order of their ends, give what the journal tells.
+use Rattle.std.specs.Prelude.{ℤ, ◌≡◌, ℕ, List, IsTrue}
+use Rattle.arrayvec.specs.ArrayVec.{ArrayVec}
+use Rattle.mate_num.specs.declared.call.End.TheVariants as end
+use Rattle.mate_num.specs.declared.id.FunId.{FunId}
+use Rattle.mate_journal.specs.Machine.{Machine}
+use Rattle.mate_journal.specs.Journal.{Told, Posted, Dropped, Started, Asked, Answered, Ended, Installed, Reset, Seen, Void, Event, Phase, Waiting, is_started, Reading, whole_run, AtEachEntry, AtEachPlace}
+
+-- where an invocation ends, its whole run on the serial store ends so, with the calls that were recorded.
+-- (The store that the run leaves is the next serial store.)
+abbrev pub EndsAsRun : Machine → Reading → Told → Type 0
+EndsAsRun m r (Posted n h c payload) = Unit {0}
+EndsAsRun m r (Dropped h cause) = Unit {0}
+EndsAsRun m r (Started n) = Unit {0}
+EndsAsRun m r (Asked n f args) = Unit {0}
+EndsAsRun m r (Answered n value) = Unit {0}
+EndsAsRun m r (Ended n how) = ((whole_run m r n).end ≡ how) × ((whole_run m r n).calls ≡ (r.invocations n).calls)
+EndsAsRun m r (Installed p) = Unit {0}
+EndsAsRun m r Reset = Unit {0}
+EndsAsRun m r (Seen store) = Unit {0}
+EndsAsRun m r (Void cause) = Unit {0}
+
+-- the whole run of each started live invocation gives exactly the calls that it made so far, and where it waits,
+-- the run wants that call's answer
+pub record RunsSoFar (m : Machine) (r : Reading) : Type 0 where
+  pub calls : (n : ℕ) → IsTrue (is_started (r.invocations n).phase) → (whole_run m r n).calls ≡ (r.invocations n).calls
+  pub wants : (n : ℕ) (f : FunId) (args : ArrayVec ℤ) → (r.invocations n).phase ≡ Waiting f args → (whole_run m r n).end ≡ end.Wants f args
+
+pub record IsSerial (m : Machine) (r : Reading) (es : List Event) : Type 0 where
+  pub ends : AtEachEntry (EndsAsRun m) m r es
+  pub so_far : AtEachPlace (RunsSoFar m) m r es

@@ -1,0 +1,66 @@
+-- Well-formed journals: how the entries of an invocation follow one another.
+use Rattle.std.specs.Prelude.{ℤ, ◌≡◌, ◌≤◌, ℕ, suc, List, [], ◌∷◌, IsTrue, IsSome, ◌⊎◌}
+use Rattle.arrayvec.specs.ArrayVec.{ArrayVec}
+use Rattle.mate_num.specs.declared.call.End.{End}
+use Rattle.mate_num.specs.declared.call.End.TheVariants as end
+use Rattle.mate_num.specs.declared.call.Stamp.{Stamp}
+use Rattle.mate_num.specs.declared.id.ContextId.{ContextId}
+use Rattle.mate_num.specs.declared.id.FunId.{FunId}
+use Rattle.mate_journal.specs.Machine.{Machine, IsContextOf}
+use Rattle.mate_journal.specs.Journal.{Told, Posted, Dropped, Started, Asked, Answered, Ended, Installed, Reset, Seen, Void, Event, Phase, Unposted, Queued, Ready, Waiting, Over, is_live, Reading, AtEachEntry}
+
+-- no live invocation has the context
+abbrev pub IsIdle : Reading → ContextId → Type 0
+IsIdle r c = (n : ℕ) → IsTrue (is_live (r.invocations n).phase) → (r.invocations n).context ≡ c → ⊥
+
+-- a live invocation has the context
+pub record IsBusy (r : Reading) (c : ContextId) : Type 0 where
+  pub invocation : ℕ
+  pub live : IsTrue (is_live (r.invocations invocation).phase)
+  pub context : (r.invocations invocation).context ≡ c
+
+-- the invocation waits for the answer to a call
+pub record IsWaiting (r : Reading) (n : ℕ) : Type 0 where
+  pub fun : FunId
+  pub args : ArrayVec ℤ
+  pub waits : (r.invocations n).phase ≡ Waiting fun args
+
+-- an end that closes an invocation: it halted or faulted
+abbrev pub Closes : End → Type 0
+Closes end.Halt = Unit {0}
+Closes (end.Fault kind) = Unit {0}
+Closes (end.Wants fun args) = ⊥
+
+-- Posts are numbered from 1, go to a handler for which something is installed, and take a context of it that no
+-- live invocation has. A queued invocation starts once; a started one asks, is answered, and so on in turn; it
+-- ends while it isn't waiting. After its end, or its era's, nothing more is told of an invocation.
+abbrev pub MayFollow : Machine → Reading → Told → Type 0
+MayFollow m r (Posted n h c payload) = (n ≡ suc r.posts) × IsSome (r.installed h) × IsContextOf m h c × IsIdle r c
+MayFollow m r (Dropped h cause) = Unit {0}
+MayFollow m r (Started n) = (r.invocations n).phase ≡ Queued
+MayFollow m r (Asked n f args) = (r.invocations n).phase ≡ Ready
+MayFollow m r (Answered n value) = IsWaiting r n
+MayFollow m r (Ended n how) = ((r.invocations n).phase ≡ Ready) × Closes how
+MayFollow m r (Installed p) = Unit {0}
+MayFollow m r Reset = Unit {0}
+MayFollow m r (Seen store) = Unit {0}
+MayFollow m r (Void cause) = Unit {0}
+
+-- neither the number nor the time of the event falls, and one event has one time
+pub record NotBefore (old new : Stamp) : Type 0 where
+  pub event : old.event ≤ new.event
+  pub time : old.time ≤ new.time
+  pub same : old.event ≡ new.event → old.time ≡ new.time
+
+-- stamps never fall along the journal
+abbrev pub IsInTime : Stamp → List Event → Type 0
+IsInTime last [] = Unit {0}
+IsInTime last (e ∷ es) = NotBefore last e.stamp × IsInTime e.stamp es
+
+-- the beginning of time
+abbrev pub start : Stamp
+start = record { event = 0; time = 0 }
+
+pub record IsWellFormed (m : Machine) (r : Reading) (es : List Event) : Type 0 where
+  pub in_time : IsInTime start es
+  pub follow : AtEachEntry (MayFollow m) m r es

@@ -1,0 +1,17 @@
+//! What a node's run is told by: entries, logs and reports, and what a right journal is.
+#![tactic(auto)]
+
+pub mod air;
+pub mod entry;
+pub mod node_log;
+pub mod program;
+pub mod report;
+
+pub use air::{Air, Aired, Airs};
+pub use entry::{DropCause, Entry, Stamped, VoidCause};
+pub use node_log::NodeLog;
+pub use program::{Program, Programs};
+pub use report::{NodeLogs, Report, RunFault};
+
+#[cfg(test)]
+mod tests;

@@ -1,0 +1,140 @@
+//! A node's log: its entries, with the images and stores that they name.
+
+ghost use Rattle.std.specs.Prelude.{◌≡◌, ◌≤◌, ◌<◌, ◌+◌, ◌∷◌, ◌++◌, [], length, take, OnOk};
+ghost use Rattle.mate_journal.specs.Log.{Log, IsSameLog};
+
+use crate::entry::Stamped;
+use mate_num::{Image, NoMemory, Store};
+use std::alloc::Global;
+use std::marker::Model;
+
+/// What happened on one node, in order. After a `reserve` it is written without memory.
+#[derive(Drop)]
+pub struct NodeLog {
+    entries: Vec<Stamped>,
+    images: Vec<Image>,
+    stores: Vec<Store>,
+}
+
+impl Model for NodeLog {
+    ghost use Rattle.std.specs.Prelude.{◌-◌, min, vec_len, vec_capacity};
+    ghost use Rattle.mate_journal.specs.Log.{Log};
+
+    ghost Value = { Log };
+
+    ghost view = { λ l. record { entries = l.entries.items; images = l.images.items; stores = l.stores.items; spare = min (vec_capacity l.entries - vec_len l.entries) (min (vec_capacity l.images - vec_len l.images) (vec_capacity l.stores - vec_len l.stores)) } };
+}
+
+impl NodeLog {
+    /// The empty log. It takes no memory.
+    pub fn new(alloc: Global) -> NodeLog
+        ensures entries { result.entries ≡ [] }
+        ensures images { result.images ≡ [] }
+        ensures stores { result.stores ≡ [] }
+    {
+        NodeLog {
+            entries: Vec::new(alloc),
+            images: Vec::new(alloc),
+            stores: Vec::new(alloc),
+        }
+    }
+
+    /// The entries, in the order in which they were made.
+    pub fn entries(&self) -> &[Stamped]
+        ensures { result.now ≡ self.now.entries }
+    {
+        self.entries.as_slice()
+    }
+
+    /// The images that were installed.
+    pub fn images(&self) -> &[Image]
+        ensures { result.now ≡ self.now.images }
+    {
+        self.images.as_slice()
+    }
+
+    /// The stores that were seen.
+    pub fn stores(&self) -> &[Store]
+        ensures { result.now ≡ self.now.stores }
+    {
+        self.stores.as_slice()
+    }
+
+    /// How many more items each of the three lists takes without memory.
+    pub fn spare(&self) -> usize
+        ensures { result ≡ self.now.spare }
+    {
+        let entries = self.entries.capacity() - self.entries.len();
+        let images = self.images.capacity() - self.images.len();
+        let stores = self.stores.capacity() - self.stores.len();
+        entries.min(images.min(stores))
+    }
+
+    /// Makes room for `n` more items in each list. `NoMemory` leaves the three lists as they were.
+    pub fn reserve(&mut self, n: usize) -> Result<(), NoMemory>
+        ensures same { IsSameLog self.new self.old }
+        ensures kept { self.old.spare ≤ self.new.spare }
+        ensures room { OnOk result (n ≤ self.new.spare) }
+    {
+        self.entries.reserve(n)?;
+        self.images.reserve(n)?;
+        self.stores.reserve(n)?;
+        Ok(())
+    }
+
+    /// Appends an entry.
+    pub fn push(&mut self, stamped: Stamped)
+        requires { 1 ≤ self.old.spare }
+        ensures entries { self.new.entries ≡ self.old.entries ++ stamped ∷ [] }
+        ensures images { self.new.images ≡ self.old.images }
+        ensures stores { self.new.stores ≡ self.old.stores }
+        ensures spare { self.old.spare ≤ self.new.spare + 1 }
+    {
+        self.entries.push_reserved(stamped);
+    }
+
+    /// Appends a copy of an image, and answers its position.
+    pub fn add_image(&mut self, image: &Image) -> u32
+        requires room { 1 ≤ self.old.spare }
+        requires count { length self.old.images < 4100000000 }
+        ensures position { result ≡ length self.old.images }
+        ensures entries { self.new.entries ≡ self.old.entries }
+        ensures images { self.new.images ≡ self.old.images ++ image.now ∷ [] }
+        ensures stores { self.new.stores ≡ self.old.stores }
+        ensures spare { self.old.spare ≤ self.new.spare + 1 }
+    {
+        let Ok(copy) = Image::try_from(image.as_slice()) else {
+            unreachable!()
+        };
+        let position = self.images.len() as u32;
+        self.images.push_reserved(copy);
+        position
+    }
+
+    /// Appends a copy of a store, and answers its position.
+    pub fn add_store(&mut self, store: &Store) -> u32
+        requires room { 1 ≤ self.old.spare }
+        requires count { length self.old.stores < 4100000000 }
+        ensures position { result ≡ length self.old.stores }
+        ensures entries { self.new.entries ≡ self.old.entries }
+        ensures images { self.new.images ≡ self.old.images }
+        ensures stores { self.new.stores ≡ self.old.stores ++ store.now ∷ [] }
+        ensures spare { self.old.spare ≤ self.new.spare + 1 }
+    {
+        let position = self.stores.len() as u32;
+        self.stores.push_reserved(store.copy());
+        position
+    }
+
+    /// Keeps that many of each list from the front, or all where there are fewer.
+    pub fn cut(&mut self, entries: usize, images: usize, stores: usize)
+        ensures entries { self.new.entries ≡ take entries self.old.entries }
+        ensures images { self.new.images ≡ take images self.old.images }
+        ensures stores { self.new.stores ≡ take stores self.old.stores }
+        ensures spare { self.old.spare ≤ self.new.spare }
+    {
+        self.entries.truncate(entries);
+        self.images.truncate(images);
+        self.stores.truncate(stores);
+    }
+}

@@ -1,0 +1,18 @@
+//! The programs of a run.
+
+use mate_num::{HandlerId, Image, Items};
+use ts_syntax::Checked;
+
+/// A program: the image of a capsule for the handler, with its source where the program was compiled, and without
+/// one where the image was loaded.
+#[derive(Drop)]
+pub struct Program {
+    pub handler: HandlerId,
+    /// 1 to 4294967295.
+    pub version: u32,
+    pub source: Option<Checked>,
+    pub image: Image,
+}
+
+/// Programs, in the order of the lines that name their files.
+pub type Programs = Items<Program>;
