@@ -1,0 +1,8 @@
+pub mod WordLemmas
+pub mod PrintLemmas
+pub mod EventLemmas
+pub mod TextLemmas
+pub mod MergeLemmas
+pub mod BriefLemmas
+pub mod QuietReport
+pub mod PieceLemmas

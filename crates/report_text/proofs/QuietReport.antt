@@ -1,0 +1,111 @@
+-- A report that is tidy: two nodes whose first intervals begin, and which show their stores at the end.
+use Rattle.std.proofs.Common.{◌≡◌, ℕ, ◌<◌, ◌≤◌, Bool, true, false, List, ◌++◌, ◌∷◌, [], length, refl, ap, sym, subst, ◌∙◌, arith, inl, inr, ◌⊎◌}
+use Rattle.std.specs.Prelude.{All, replicate, pos, IsTrue}
+use Rattle.std.proofs.lemmas.List.{length-replicate}
+use Rattle.std.proofs.lemmas.List.Elements.{All-nil, All-cons, All-weaker, All-same}
+use Rattle.mate_num.specs.Store.{zero_store}
+use Rattle.mate_num.specs.declared.call.Stamp.{Stamp}
+use Rattle.mate_num.specs.declared.store.Store.{Store}
+use Rattle.vm_desc.specs.declared.description.Description.{Description}
+use Rattle.mate_journal.specs.Log.{Log}
+use Rattle.mate_journal.specs.declared.air.Aired.{Aired}
+use Rattle.mate_journal.specs.declared.air.Air.TheVariants as air
+use Rattle.mate_journal.specs.declared.entry.Stamped.{Stamped}
+use Rattle.mate_journal.specs.declared.entry.Entry.TheVariants as entry
+use Rattle.mate_journal.specs.declared.report.Report.{Report}
+use Rattle.report_text.specs.Tidy.{IsTidy, IsTidyLog, IsStoreOf, IsEntryInRange, IsAirInRange, AreNumbered, EntriesRise, AirRises, StampsRise, Mark, Agree, AreOfOneNode, IsLastSeen, start, marks}
+
+abbrev pub second : Stamp
+second = record { event = 1; time = 5000 }
+
+abbrev pub shown : Stamped
+shown = record { stamp = second; entry = entry.Seen 0 }
+
+abbrev pub begun : ℕ → Aired
+begun node = record { stamp = start; node = node; air = air.Interval 60000 }
+
+-- the log shows the store, and nothing else
+pub record IsQuiet (d : Description) (l : Log) : Type 0 where
+  pub entries : l.entries ≡ shown ∷ []
+  pub images : l.images ≡ []
+  pub stores : l.stores ≡ zero_store (length d.shared.items) (length d.buffers.items) ∷ []
+
+rises : StampsRise start second
+rises = record { event = omega arith; time = omega arith; same = λ e. absurd (omega (arith, e)) }
+
+still : StampsRise start start
+still = record { event = omega arith; time = omega arith; same = λ e. refl }
+
+tidy_log : (d : Description) (l : Log) → IsQuiet d l → IsTidyLog d l
+tidy_log d l quiet =
+    let store = zero_store (length d.shared.items) (length d.buffers.items) in record {
+      in_range = All-same (λ (e : Stamped). IsEntryInRange d e.entry) l.entries (shown ∷ []) quiet.entries
+          (All-cons (λ (e : Stamped). IsEntryInRange d e.entry) shown [] tt (All-nil (λ (e : Stamped). IsEntryInRange d e.entry)));
+      numbered = subst (AreNumbered 0 0 l) (sym quiet.entries) (refl, (ap length quiet.images, ap length quiet.stores));
+      stores = All-same (IsStoreOf d) l.stores (store ∷ []) quiet.stores
+          (All-cons (IsStoreOf d) store [] (record { shared = length-replicate (length d.shared.items) (pos 0); buffers = length-replicate (length d.buffers.items) (record { items = [] }) }) (All-nil (IsStoreOf d)));
+      rise = subst (EntriesRise start) (sym quiet.entries) (rises, tt);
+    }
+
+-- a mark of the first event, or one of the second that shows a store
+abbrev IsPlain : Mark → Type 0
+IsPlain m = (m.stamp ≡ start) ⊎ ((m.stamp ≡ second) × IsTrue m.is_seen)
+
+agree : (a b : Mark) → IsPlain a → IsPlain b → Agree a b
+agree a b (inl p) (inl q) =
+    let at = ap (λ (s : Stamp). s.time) (p ∙ sym q) in record { same = λ e. at; later = λ e. omega (arith, at) }
+agree a b (inl p) (inr q) =
+    let ea = ap (λ (s : Stamp). s.event) p in
+    let eb = ap (λ (s : Stamp). s.event) q.0 in
+    let ta = ap (λ (s : Stamp). s.time) p in record { same = λ e. absurd (omega (arith, e, ea, eb)); later = λ e. omega (arith, ta) }
+agree a b (inr p) (inl q) =
+    let ea = ap (λ (s : Stamp). s.event) p.0 in
+    let eb = ap (λ (s : Stamp). s.event) q in record { same = λ e. absurd (omega (arith, e, ea, eb)); later = λ e. absurd (omega (arith, e, ea, eb)) }
+agree a b (inr p) (inr q) =
+    let at = ap (λ (s : Stamp). s.time) (p.0 ∙ sym q.0) in record { same = λ e. at; later = λ e. omega (arith, at) }
+
+last_seen : (ms : List Mark) (event : ℕ) → event ≡ 1 → All IsPlain ms → IsLastSeen ms event
+last_seen ms event at all =
+    All-weaker IsPlain (λ (m : Mark). (m.stamp.event ≤ event) × (m.stamp.event ≡ event → IsTrue m.is_seen)) (seen_at event at) ms all where
+      seen_at : (event : ℕ) → event ≡ 1 → (m : Mark) → IsPlain m → (m.stamp.event ≤ event) × (m.stamp.event ≡ event → IsTrue m.is_seen)
+      seen_at event at m (inl p) =
+          let em = ap (λ (s : Stamp). s.event) p in (omega (arith, em), λ e. absurd (omega (arith, e, em, at)))
+      seen_at event at m (inr p) =
+          let em = ap (λ (s : Stamp). s.event) p.0 in (omega (arith, em, at), λ e. p.1)
+
+one_node : (ms : List Mark) (a b : Mark) → All IsPlain ms → IsPlain a → AreOfOneNode ms a b
+one_node ms a b all (inl p) = λ e. inr (inl (ap (λ (s : Stamp). s.event) p))
+one_node ms a b all (inr p) = λ e. inr (inr (last_seen ms a.stamp.event (ap (λ (s : Stamp). s.event) p.0) all))
+
+abbrev begins : ℕ → Mark
+begins node = record { stamp = start; node = node; is_seen = false }
+
+abbrev shows : ℕ → Mark
+shows node = record { stamp = second; node = node; is_seen = true }
+
+abbrev four : List Mark
+four = begins 0 ∷ begins 1 ∷ shows 0 ∷ shows 1 ∷ []
+
+all_plain : All IsPlain four
+all_plain =
+    All-cons IsPlain (begins 0) (begins 1 ∷ shows 0 ∷ shows 1 ∷ []) (inl refl)
+    (All-cons IsPlain (begins 1) (shows 0 ∷ shows 1 ∷ []) (inl refl)
+    (All-cons IsPlain (shows 0) (shows 1 ∷ []) (inr (refl, refl)) (All-cons IsPlain (shows 1) [] (inr (refl, refl)) (All-nil IsPlain))))
+
+pub quiet_is_tidy : (d : Description) (r : Report) (l0 l1 : Log) → r.nodes ≡ l0 ∷ l1 ∷ [] → r.air ≡ begun 0 ∷ begun 1 ∷ [] → IsQuiet d l0 → IsQuiet d l1 → IsTidy d r
+quiet_is_tidy d r l0 l1 nodes on_air quiet0 quiet1 =
+    let count : length r.nodes ≡ 2 = ap length nodes in
+    let same : marks r ≡ four = rw (nodes, on_air, quiet0.entries, quiet1.entries) refl in record {
+      nodes_low = omega (arith, count);
+      nodes_high = omega (arith, count);
+      logs = All-same (IsTidyLog d) r.nodes (l0 ∷ l1 ∷ []) nodes
+          (All-cons (IsTidyLog d) l0 (l1 ∷ []) (tidy_log d l0 quiet0) (All-cons (IsTidyLog d) l1 [] (tidy_log d l1 quiet1) (All-nil (IsTidyLog d))));
+      air_in_range =
+          let P : Aired → Type 0 = λ (a : Aired). (a.node < length r.nodes) × IsAirInRange (length r.nodes) a.air in
+          All-same P r.air (begun 0 ∷ begun 1 ∷ []) on_air (All-cons P (begun 0) (begun 1 ∷ []) (omega (arith, count), tt) (All-cons P (begun 1) [] (omega (arith, count), tt) (All-nil P)));
+      air_rises = subst (AirRises start 0) (sym on_air) (still, (λ e. omega arith), (still, (λ e. omega arith), tt));
+      in_time = subst (λ (ms : List Mark). All (λ (a : Mark). All (Agree a) ms) ms) (sym same)
+          (All-weaker IsPlain (λ (a : Mark). All (Agree a) four) (λ a p. All-weaker IsPlain (Agree a) (λ b q. agree a b p q) four all_plain) four all_plain);
+      one_node = subst (λ (ms : List Mark). All (λ (a : Mark). All (AreOfOneNode ms a) ms) ms) (sym same)
+          (All-weaker IsPlain (λ (a : Mark). All (AreOfOneNode four a) four) (λ a p. All-weaker IsPlain (AreOfOneNode four a) (λ b q. one_node four a b all_plain p) four all_plain) four all_plain);
+    }

@@ -1,0 +1,31 @@
+use Rattle.std.proofs.Common.{ap, sym, ◌∙◌, rules, FitsSigned}
+use Rattle.std.specs.Int.{w16}
+use Rattle.mate_files.proofs.PenLemmas.{◌⟫◌, Prints-by}
+use Rattle.report_text.specs.Words.{word, entry_words}
+use Rattle.report_text.proofs.WordLemmas.{Prints-value}
+use Rattle.report_text.proofs.entry_line.entry_words.Goals as goal
+
+pub returns-in-Dropped : goal.returns-in-Dropped
+returns-in-Dropped g c =
+    Prints-by (sym (ap (entry_words c.args.desc.now c.args.log.now) c.in-Dropped.is))
+    (c.text.ensures ⟫ Prints-by (ap word c.handler_name-in-Dropped.ensures) c.word.ensures
+    ⟫ Prints-by (ap word (c.as_bytes.ensures.value ∙ c.drop_word.ensures)) c.word-in-Dropped.ensures)
+
+pub returns-in-Answer : goal.returns-in-Answer
+returns-in-Answer g c =
+    let fits : FitsSigned w16 c.in-Answer.answer = search rules in
+    Prints-by (sym (ap (entry_words c.args.desc.now c.args.log.now) c.in-Answer.is))
+    (c.invocation-in-Answer.ensures ⟫ Prints-value c.in-Answer.answer fits c.value.ensures)
+
+pub returns-in-Fault : goal.returns-in-Fault
+returns-in-Fault g c =
+    Prints-by (sym (ap (entry_words c.args.desc.now c.args.log.now) c.in-Fault.is))
+    (c.invocation-in-Fault.ensures ⟫ Prints-by (ap word (c.as_bytes-in-Fault.ensures.value ∙ c.fault_word.ensures)) c.word-in-Fault.ensures)
+
+pub returns-in-Seen : goal.returns-in-Seen
+returns-in-Seen g c =
+    Prints-by (sym (ap (entry_words c.args.desc.now c.args.log.now) c.in-Seen.is)) (c.text-in-Seen.ensures ⟫ c.seen_words.ensures)
+
+pub returns-in-Void : goal.returns-in-Void
+returns-in-Void g c =
+    Prints-by (sym (ap (entry_words c.args.desc.now c.args.log.now) c.in-Void.is)) (c.text-in-Void.ensures ⟫ c.void_words.ensures)

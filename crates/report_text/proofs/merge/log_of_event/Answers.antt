@@ -1,0 +1,43 @@
+use Rattle.std.proofs.Common.{◌≡◌, ◌<◌, List, length, get_or, ap, subst, ◌∙◌, arith}
+use Rattle.std.specs.Prelude.{flat_map}
+use Rattle.mate_files.proofs.PenLemmas.{Prints-by}
+use Rattle.mate_journal.specs.declared.entry.Stamped.{Stamped}
+use Rattle.report_text.specs.Text.{entry_line}
+use Rattle.report_text.specs.Progress.{entry_event, at_event}
+use Rattle.report_text.proofs.PrintLemmas.{Prints-push, Prints-none}
+use Rattle.report_text.proofs.EventLemmas.{Runs-start, Runs-next, at_event-start, at_event-next, at_event-cut, at_event-end, IsCut-stop, IsCut-end}
+use Rattle.report_text.proofs.merge.log_of_event.Goals as goal
+
+pub loop-next-init : goal.loop-next-init
+loop-next-init g c = record {
+  runs = Runs-start entry_event c.args.event c.args.log.now.entries c.args.from c.requires.cut;
+  prints = Prints-none (entry_line c.args.desc.now c.args.log.now c.args.node) _ (at_event-start entry_event c.args.event c.args.log.now.entries c.args.from c.requires.cut);
+}
+
+pub loop-next-preserved : goal.loop-next-preserved
+loop-next-preserved g c =
+    let entries = c.args.log.now.entries in
+    let item = c.index-entries-next.result in
+    let within : c.loop-next.next < length entries = omega (arith, c.loop-next-test.true, ap length c.entries-entries.ensures) in
+    let is : item ≡ get_or entries c.loop-next.next item = c.index-entries-next.is ∙ ap (λ (es : List Stamped). get_or es c.loop-next.next item) c.entries-entries.ensures in record {
+      runs = Runs-next entry_event c.args.event entries c.loop-next.next item c.loop-next.invariant.runs within is c.if-stamped-event.false;
+      prints = Prints-push (entry_line c.args.desc.now c.args.log.now c.args.node) _ _ item (at_event-next entry_event c.args.event entries c.loop-next.next item within is c.if-stamped-event.false)
+          c.loop-next.invariant.prints c.entry_line.ensures;
+    }
+
+pub returns-then-stamped-event-clause-cut : goal.returns-then-stamped-event-clause-cut
+returns-then-stamped-event-clause-cut g c =
+    let entries = c.args.log.now.entries in
+    let item = c.index-entries-next.result in
+    let within : c.loop-next.next < length entries = omega (arith, c.loop-next-test.true, ap length c.entries-entries.ensures) in
+    let is : item ≡ get_or entries c.loop-next.next item = c.index-entries-next.is ∙ ap (λ (es : List Stamped). get_or es c.loop-next.next item) c.entries-entries.ensures in
+    IsCut-stop entry_event c.args.event entries c.loop-next.next item c.requires.ordered c.loop-next.invariant.runs within is c.if-stamped-event.true
+
+pub returns-then-stamped-event-clause-prints : goal.returns-then-stamped-event-clause-prints
+returns-then-stamped-event-clause-prints g c =
+    let entries = c.args.log.now.entries in
+    let item = c.index-entries-next.result in
+    let within : c.loop-next.next < length entries = omega (arith, c.loop-next-test.true, ap length c.entries-entries.ensures) in
+    let is : item ≡ get_or entries c.loop-next.next item = c.index-entries-next.is ∙ ap (λ (es : List Stamped). get_or es c.loop-next.next item) c.entries-entries.ensures in
+    let cut = IsCut-stop entry_event c.args.event entries c.loop-next.next item c.requires.ordered c.loop-next.invariant.runs within is c.if-stamped-event.true in
+    Prints-by (ap (flat_map (entry_line c.args.desc.now c.args.log.now c.args.node)) (at_event-cut entry_event c.args.event entries c.loop-next.next cut)) c.loop-next.invariant.prints

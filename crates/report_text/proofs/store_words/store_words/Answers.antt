@@ -1,0 +1,15 @@
+use Rattle.std.proofs.Common.{◌≡◌, ℕ, List, ap, ◌∙◌}
+use Rattle.std.specs.Prelude.{flat_map, ℤ}
+use Rattle.std.specs.List.{zip}
+use Rattle.arrayvec.specs.ArrayVec.{ArrayVec}
+use Rattle.mate_files.proofs.PenLemmas.{◌⟫◌, Prints-by}
+use Rattle.report_text.specs.Words.{shared_word, buffer_word}
+use Rattle.report_text.proofs.store_words.store_words.Goals as goal
+
+zip-same : {A B : Type 0} (xs xs' : List A) (ys ys' : List B) (piece : A × B → List ℕ) → xs ≡ xs' → ys ≡ ys' → flat_map piece (zip xs ys) ≡ flat_map piece (zip xs' ys')
+zip-same xs xs' ys ys' piece p q = cc
+
+pub returns : goal.returns
+returns g c =
+    Prints-by (zip-same _ _ _ _ shared_word c.as_slice.ensures.value c.as_slice-2.ensures.value) c.shared_words.ensures
+    ⟫ Prints-by (zip-same _ _ _ _ buffer_word c.as_slice-3.ensures.value c.as_slice-4.ensures.value) c.buffer_words.ensures

@@ -1,0 +1,6 @@
+pub mod Words
+pub mod Text
+pub mod Tidy
+pub mod Progress
+pub mod Brief
+pub mod Pieces

@@ -1,0 +1,16 @@
+//! The text of a report, line by line.
+#![tactic(auto)]
+
+mod air_line;
+mod entry_line;
+mod merge;
+mod store_words;
+pub mod summary;
+pub mod text;
+mod words;
+
+pub use summary::brief;
+pub use text::{write, write_end, write_event};
+
+#[cfg(test)]
+mod tests;

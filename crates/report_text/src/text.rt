@@ -1,0 +1,144 @@
+//! The text of a report.
+
+ghost use Rattle.std.specs.Prelude.{◌≡◌, ◌≤◌, ◌++◌, ◌*◌, ◌^◌, length, [], drop, flat_map, sum_by, IsTrue};
+ghost use Rattle.mate_files.specs.Pen.{Prints};
+ghost use Rattle.mate_files.specs.Sink.{Puts};
+ghost use Rattle.report_text.specs.Text.{air_line, event_piece, lines, entry_line, end_word, end_line, records, text};
+ghost use Rattle.report_text.specs.Tidy.{IsTidy};
+ghost use Rattle.report_text.specs.Pieces.{AddsPiece};
+ghost use Rattle.mate_journal.specs.declared.report.Report.{Report};
+
+use crate::air_line::air_line;
+use crate::entry_line::entry_line;
+use crate::merge::records;
+use crate::words::number;
+use mate_files::{Pen, Sink, SinkFault};
+use mate_journal::{Aired, NodeLog, Report, Stamped};
+use vm_desc::Description;
+
+// The most nodes that a tidy report has.
+const NODES_MAX: usize = 64;
+
+fn count_entries(logs: &[NodeLog]) -> u64
+    requires { length logs.now ≤ 64 }
+    ensures value { result ≡ sum_by (λ l. length l.entries) logs.now }
+    ensures fits { result ≤ length logs.now * 2 ^ 57 }
+{
+    let mut count = 0;
+    for log in logs {
+        count += log.entries().len() as u64;
+    }
+    count
+}
+
+pub fn count_records(report: &Report) -> u64
+    requires { length report.now.nodes ≤ 64 }
+    ensures { result ≡ records report.now }
+{
+    report.air().len() as u64 + count_entries(report.nodes())
+}
+
+/// The lines of entries of a node's log.
+fn entry_lines<S: Sink>(
+    pen: &mut Pen,
+    out: &mut S,
+    desc: &Description,
+    log: &NodeLog,
+    node: u8,
+    entries: &[Stamped],
+)
+    ensures { Prints (S.written out.old) (S.faults out.old) pen.old.result (S.written out.new) (S.faults out.new) pen.new.result
+        (flat_map (entry_line desc.now log.now node) entries.now) }
+{
+    for stamped in entries {
+        entry_line(pen, out, desc, log, node, stamped);
+    }
+}
+
+/// The lines of what happened on the air.
+fn air_lines<S: Sink>(pen: &mut Pen, out: &mut S, air: &[Aired])
+    ensures { Prints (S.written out.old) (S.faults out.old) pen.old.result (S.written out.new) (S.faults out.new) pen.new.result (flat_map air_line air.now) }
+{
+    for aired in air {
+        air_line(pen, out, aired);
+    }
+}
+
+pub fn end_word(whole: bool) -> &'static str
+    ensures { result.now ≡ end_word whole }
+{
+    if whole { "end" } else { "full" }
+}
+
+/// The last line of a report.
+fn end_line<S: Sink>(pen: &mut Pen, out: &mut S, records: u64, events: u64, nodes: u64, whole: bool)
+    ensures { Prints (S.written out.old) (S.faults out.old) pen.old.result (S.written out.new) (S.faults out.new) pen.new.result (end_line records events nodes whole) }
+{
+    pen.text(out, end_word(whole));
+    number(pen, out, records);
+    number(pen, out, events);
+    number(pen, out, nodes);
+    pen.text(out, "\n");
+}
+
+/// Writes the lines of what happened on the air, and then those of a log's entries from position `from`.
+///
+/// A part that the description or the log does not have is spelled by no bytes. Where a run's report is written
+/// piece by piece, each piece goes behind the lines so far, and `write_end` makes a text of them (`makes_up`).
+pub fn write_event<S: Sink>(
+    desc: &Description,
+    air: &[Aired],
+    log: &NodeLog,
+    from: usize,
+    node: u8,
+    out: &mut S,
+) -> Result<(), SinkFault>
+    requires { from ≤ length log.now.entries }
+    ensures writes { Puts (S.written out.old) (S.faults out.old) (S.written out.new) (S.faults out.new) result
+        (event_piece desc.now air.now log.now from node) }
+    ensures makes_up { (before after : Report) → AddsPiece before after air.now log.now from node
+        → lines desc.now after ≡ lines desc.now before ++ event_piece desc.now air.now log.now from node }
+{
+    let mut pen = Pen::new();
+    air_lines(&mut pen, out, air);
+    entry_lines(&mut pen, out, desc, log, node, &log.entries()[from..]);
+    pen.finish()
+}
+
+/// Writes the last line of a report: `end`, or `full` where the run is not whole, and the numbers of records, events
+/// and nodes.
+pub fn write_end<S: Sink>(
+    records: u64,
+    events: u64,
+    nodes: u8,
+    whole: bool,
+    out: &mut S,
+) -> Result<(), SinkFault>
+    ensures { Puts (S.written out.old) (S.faults out.old) (S.written out.new) (S.faults out.new) result (end_line records events nodes whole) }
+{
+    let mut pen = Pen::new();
+    end_line(&mut pen, out, records, events, nodes as u64, whole);
+    pen.finish()
+}
+
+/// Writes the text of a tidy report: a line per record, in the order of events, and the last line.
+///
+/// A fault is the sink's, which then holds a prefix of the text. It takes no memory.
+pub fn write<S: Sink>(desc: &Description, report: &Report, out: &mut S) -> Result<(), SinkFault>
+    requires { IsTidy desc.now report.now }
+    ensures { Puts (S.written out.old) (S.faults out.old) (S.written out.new) (S.faults out.new) result (text desc.now report.now) }
+{
+    let mut pen = Pen::new();
+    let nodes = report.nodes().len();
+    let mut cursors = [0; NODES_MAX];
+    records(&mut pen, out, desc, report, &mut cursors[..nodes]);
+    end_line(
+        &mut pen,
+        out,
+        count_records(report),
+        report.events(),
+        nodes as u64,
+        report.whole(),
+    );
+    pen.finish()
+}
