@@ -1,0 +1,4 @@
+pub mod FirstScript
+pub mod FirstRun
+pub mod Refusals
+pub mod Top

@@ -1,0 +1,50 @@
+-- The refusals of the program: their statuses and their lines.
+use Rattle.std.specs.Prelude.{◌≡◌, ℕ, List, ◌++◌, codes, Option, ◌⊎◌}
+use Rattle.mate_files.specs.Counts.{Rose}
+use Rattle.mate_files.specs.Sink.{Sent, SentPart}
+use Rattle.mate_cli.specs.declared.status.Status.{Status}
+use Rattle.mate_cli.specs.declared.status.Status.TheVariants as status
+use Rattle.mate_cli.specs.declared.refusal.Refusal.{Refusal}
+use Rattle.mate_cli.specs.declared.refusal.Refusal.TheVariants as refusal
+
+-- the exit status
+abbrev pub code_of : Status → ℕ
+code_of status.Ok = 0
+code_of status.Usage = 2
+code_of status.FileFault = 3
+code_of status.BadDescription = 4
+code_of status.BadSource = 5
+code_of status.BadScript = 6
+code_of status.BadCapsule = 7
+code_of status.LogFull = 8
+code_of status.SinkFault = 9
+code_of status.NoMemory = 10
+code_of status.Refuted = 11
+code_of status.BadStream = 12
+code_of status.Unbuilt = 13
+
+abbrev pub status_of : Refusal → Status
+status_of refusal.Usage = status.Usage
+status_of (refusal.FileFault name) = status.FileFault
+status_of (refusal.FileLarge name) = status.FileFault
+status_of (refusal.Unbuilt name) = status.Unbuilt
+status_of refusal.SinkFault = status.SinkFault
+status_of refusal.NoMemory = status.NoMemory
+
+-- the one line that tells of it
+abbrev pub line_of : Refusal → List ℕ
+line_of refusal.Usage = codes "usage\n"
+line_of (refusal.FileFault name) = codes "file fault " ++ name ++ codes "\n"
+line_of (refusal.FileLarge name) = codes "file large " ++ name ++ codes "\n"
+line_of (refusal.Unbuilt name) = codes "unbuilt " ++ name ++ codes "\n"
+line_of refusal.SinkFault = codes "sink fault\n"
+line_of refusal.NoMemory = codes "no memory\n"
+
+-- the line was appended, or a prefix of it where the sink's faults rose
+abbrev pub Tells : Option (List ℕ) → ℕ → Option (List ℕ) → ℕ → List ℕ → Type 0
+Tells written faults written' faults' line = Sent written written' line ⊎ (Rose faults faults' × SentPart written written' line)
+
+-- the refusal's status comes and its line is told, or want of memory comes and a prefix of the line is told
+abbrev pub Refuses : Option (List ℕ) → ℕ → Option (List ℕ) → ℕ → Refusal → Status → Type 0
+Refuses written faults written' faults' r s =
+    ((s ≡ status_of r) × Tells written faults written' faults' (line_of r)) ⊎ ((s ≡ status.NoMemory) × SentPart written written' (line_of r))
