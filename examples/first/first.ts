@@ -1,0 +1,3 @@
+! The product of two numbers, in the shared variable a.
+shared a;
+a = 7 * 6;
