@@ -1,0 +1,11 @@
+pub mod CodeLemmas
+pub mod CompleteExpr
+pub mod CompleteStmt
+pub mod Exact
+pub mod Finish
+pub mod MachineLemmas
+pub mod Past
+pub mod Placed
+pub mod Places
+pub mod Sound
+pub mod Turns
