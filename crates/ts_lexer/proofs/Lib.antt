@@ -1,0 +1,9 @@
+pub mod CutLemmas
+pub mod KindLemmas
+pub mod PlaceLemmas
+pub mod PrintedLemmas
+pub mod ScriptLemmas
+pub mod SignLemmas
+pub mod StepLemmas
+pub mod ValueLemmas
+pub mod WordLemmas

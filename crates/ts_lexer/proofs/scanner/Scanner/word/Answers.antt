@@ -1,0 +1,20 @@
+use Rattle.std.proofs.Common.{◌∙◌}
+use Rattle.ts_syntax.specs.Cut.{in_name}
+use Rattle.ts_lexer.proofs.StepLemmas.{fits_front, front_passes, word_steps, long_word_due}
+use Rattle.ts_lexer.proofs.WordLemmas.{passes-IsUtf8}
+use Rattle.ts_lexer.proofs.scanner.Scanner.word.Goals as goal
+
+pub returns-then-len-gt-MAX : goal.returns-then-len-gt-MAX
+returns-then-len-gt-MAX c = long_word_due c.args.self.now c.name_len-len.result c.requires c.name_len-len.ensures c.if-len-gt-MAX.true
+
+pub take-requires : goal.take-requires
+take-requires c = fits_front in_name c.args.self.now.rest.now c.name_len-len.result c.name_len-len.ensures
+
+pub unreachable-requires : goal.unreachable-requires
+unreachable-requires c =
+    c.in_default.ensures.cases.0 (passes-IsUtf8 c.take.result.now (front_passes in_name c.args.self.now.rest.now c.take.result.now c.name_len-len.result c.name_len-len.ensures c.take.ensures.bytes))
+
+pub returns : goal.returns
+returns c =
+    word_steps c.args.self.now c.take.new.self c.push.new.self c.name_len-len.result c.in-Ok.text.now c.word.result c.push.result c.requires c.name_len-len.ensures c.if-len-gt-MAX.false c.take.ensures.takes
+    (c.in-Ok.ensures.cases.0 ∙ c.take.ensures.bytes) c.word.ensures c.push.ensures

@@ -1,0 +1,5 @@
+pub mod Answers
+pub mod Bare
+pub mod Printed
+pub mod Scanner
+pub mod Spans

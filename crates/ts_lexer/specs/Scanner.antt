@@ -1,0 +1,35 @@
+-- What a scanner has still to answer, and what its steps leave of it.
+use Rattle.std.specs.Prelude.{◌≡◌, ◌<◌, ◌+◌, ℕ, List, [], ◌∷◌, ◌++◌, length, drop, Result, Ok, Err, ⊤}
+use Rattle.ts_syntax.specs.declared.token.Token.{Token}
+use Rattle.ts_syntax.specs.Cut.{CutFault, bad_byte, big_literal, between, with_front, cut_from}
+use Rattle.ts_lexer.specs.declared.fault.TokenFault.{TokenFault}
+use Rattle.ts_lexer.specs.declared.fault.TokenFault.TheVariants.{BadByte, BigLiteral, NoMemory}
+use Rattle.ts_lexer.specs.declared.scanner.Scanner.{Scanner}
+
+-- the tokens of the whole text, or its first fault: those that were read, and those of the rest
+abbrev pub due : Scanner → Result (List Token) CutFault
+due s = with_front s.tokens (cut_from s.place between s.rest.now)
+
+-- so many bytes were taken off the rest
+pub record Takes (old new : Scanner) (len : ℕ) : Type 0 where
+  pub rest : new.rest.now ≡ drop len old.rest.now
+  pub place : new.place ≡ old.place + len
+  pub tokens : new.tokens ≡ old.tokens
+
+-- the token was appended
+pub record Appends (old new : Scanner) (token : Token) : Type 0 where
+  pub rest : new.rest.now ≡ old.rest.now
+  pub place : new.place ≡ old.place
+  pub tokens : new.tokens ≡ old.tokens ++ token ∷ []
+
+-- the whole is the same, and less of it is left
+pub record Moves (old new : Scanner) : Type 0 where
+  pub same : due new ≡ due old
+  pub shorter : length new.rest.now < length old.rest.now
+
+-- a step of the scanner, or the first fault of the text
+abbrev pub Steps : Scanner → Scanner → Result (Unit {0}) TokenFault → Type 0
+Steps old new (Ok u) = Moves old new
+Steps old new (Err (BadByte place)) = due old ≡ Err (bad_byte place)
+Steps old new (Err (BigLiteral place)) = due old ≡ Err (big_literal place)
+Steps old new (Err NoMemory) = ⊤

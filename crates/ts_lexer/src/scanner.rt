@@ -1,0 +1,152 @@
+//! How a text is cut into tokens, from the left in one pass.
+
+ghost use Rattle.std.specs.Prelude.{◌≡◌, ◌≤◌, ◌+◌, length};
+ghost use Rattle.ts_lexer.specs.Answers.{Cuts};
+
+use crate::fault::TokenFault;
+use crate::spans::{
+    begins_with_letter, digits_len, is_blank, is_digit, is_letter, line_len, literal_value,
+    name_len, sign, word,
+};
+use mate_num::{Items, Name};
+use std::alloc::Global;
+use ts_syntax::{Token, TokenKind, Tokens};
+
+/// The tokens of a text, or its first fault. The text has at most 1,048,576 bytes.
+pub fn tokens(alloc: Global, bytes: &[u8]) -> Result<Tokens, TokenFault>
+    requires { length bytes.now ≤ 1048576 }
+    ensures { Cuts bytes.now result }
+{
+    let mut scanner = Scanner {
+        rest: bytes,
+        place: 0,
+        tokens: Items::new(alloc),
+    };
+    while let Some(first) = scanner.rest.first() {
+        scanner.step(*first)?;
+    }
+    Ok(scanner.tokens)
+}
+
+/// What is left of a text, and the tokens before it.
+#[derive(Drop)]
+struct Scanner<'a> {
+    rest: &'a [u8],
+    /// The place of the rest, in bytes from the start of the text.
+    place: u32,
+    tokens: Tokens,
+    ghost in_range: { place + length rest.now ≤ 1048576 },
+}
+
+impl<'a> Scanner<'a> {
+    ghost use Rattle.std.specs.Prelude.{◌≡◌, ◌≤◌, ◌==◌, length, Some, slice_get, take, MatchResult};
+    ghost use Rattle.ts_syntax.specs.Cut.{is_blank, begins_name, is_digit, token};
+    ghost use Rattle.ts_lexer.specs.Spans.{Begins, begins_sign};
+    ghost use Rattle.ts_lexer.specs.Scanner.{Takes, Appends, Moves, Steps};
+
+    /// Reads a blank, a comment or a token; `first` is its first byte.
+    fn step(&mut self, first: u8) -> Result<(), TokenFault>
+        requires { slice_get self.old.rest.now 0 ≡ Some first }
+        ensures { Steps self.old self.new result }
+    {
+        if is_blank(first) {
+            self.blank();
+            return Ok(());
+        }
+        if first == b'!' {
+            self.comment();
+            return Ok(());
+        }
+        if is_letter(first) {
+            return self.word();
+        }
+        if is_digit(first) {
+            return self.number();
+        }
+        self.sign()
+    }
+
+    /// Passes over a blank.
+    fn blank(&mut self)
+        requires { Begins is_blank self.old.rest.now }
+        ensures { Moves self.old self.new }
+    {
+        self.take(1);
+    }
+
+    /// Passes over a comment. The LF behind it stays, as a blank.
+    fn comment(&mut self)
+        requires { Begins (λ b. b == 33) self.old.rest.now }
+        ensures { Moves self.old self.new }
+    {
+        let len = line_len(self.rest);
+        self.take(len);
+    }
+
+    /// Reads a name or a keyword.
+    fn word(&mut self) -> Result<(), TokenFault>
+        requires { Begins begins_name self.old.rest.now }
+        ensures { Steps self.old self.new result }
+    {
+        let from = self.place;
+        let len = name_len(self.rest);
+        if len > Name::MAX {
+            let place = from + Name::MAX as u32;
+            return Err(TokenFault::BadByte { place });
+        }
+        let Ok(text) = str::from_utf8(self.take(len)) else {
+            unreachable!()
+        };
+        self.push(word(text), from)
+    }
+
+    /// Reads a literal.
+    fn number(&mut self) -> Result<(), TokenFault>
+        requires { Begins is_digit self.old.rest.now }
+        ensures { Steps self.old self.new result }
+    {
+        let from = self.place;
+        let len = digits_len(self.rest);
+        let Some(value) = literal_value(self.take(len)) else {
+            return Err(TokenFault::BigLiteral { place: from });
+        };
+        if begins_with_letter(self.rest) {
+            return Err(TokenFault::BadByte { place: self.place });
+        }
+        self.push(TokenKind::Num(value), from)
+    }
+
+    /// Reads a sign.
+    fn sign(&mut self) -> Result<(), TokenFault>
+        requires { Begins begins_sign self.old.rest.now }
+        ensures { Steps self.old self.new result }
+    {
+        let from = self.place;
+        let Some((kind, len)) = sign(self.rest) else {
+            return Err(TokenFault::BadByte { place: from });
+        };
+        self.take(len);
+        self.push(kind, from)
+    }
+
+    /// Takes so many bytes off the rest.
+    fn take(&mut self, len: usize) -> &'a [u8]
+        requires { len ≤ length self.old.rest.now }
+        ensures bytes { result.now ≡ take len self.old.rest.now }
+        ensures takes { Takes self.old self.new len }
+    {
+        let (taken, rest) = self.rest.split_at(len);
+        self.rest = rest;
+        self.place += len as u32;
+        taken
+    }
+
+    /// Appends the token that stands from `from` up to the rest.
+    fn push(&mut self, kind: TokenKind, from: u32) -> Result<(), TokenFault>
+        ensures { MatchResult result (λ _. Appends self.old self.new (token kind from self.old.place)) (λ e. e ≡ TokenFault.NoMemory) }
+    {
+        let to = self.place;
+        self.tokens.push(Token { kind, from, to })?;
+        Ok(())
+    }
+}

@@ -1,0 +1,149 @@
+//! What the first bytes of a text are: how long a name, a literal, a comment or a sign is, and what it says.
+
+ghost use Rattle.std.specs.Prelude.{◌≡◌, ◌≤◌, ◌==◌, not, length, nat_lt, if◌then◌else◌, Some, None};
+ghost use Rattle.std.specs.List.{prefix_len};
+ghost use Rattle.ts_syntax.specs.Cut.{is_blank, begins_name, in_name, is_digit, sign_of, word_kind};
+ghost use Rattle.ts_lexer.specs.Spans.{begins, Passes, value_of, sign_at};
+
+use mate_num::Name;
+use ts_syntax::TokenKind;
+
+/// Space, tab, CR and LF.
+pub fn is_blank(byte: u8) -> bool
+    ensures { result ≡ is_blank byte }
+{
+    matches!(byte, b' ' | b'\t' | b'\r' | b'\n')
+}
+
+/// A letter or `_`.
+pub fn is_letter(byte: u8) -> bool
+    ensures { result ≡ begins_name byte }
+{
+    matches!(byte, b'a'..=b'z' | b'A'..=b'Z' | b'_')
+}
+
+pub fn is_digit(byte: u8) -> bool
+    ensures { result ≡ is_digit byte }
+{
+    matches!(byte, b'0'..=b'9')
+}
+
+/// Whether the bytes begin with a letter or `_`.
+pub fn begins_with_letter(bytes: &[u8]) -> bool
+    ensures { result ≡ begins begins_name bytes.now }
+{
+    match bytes.first() {
+        Some(first) => is_letter(*first),
+        None => false,
+    }
+}
+
+/// How many of the first bytes can stand in a name.
+pub fn name_len(bytes: &[u8]) -> usize
+    ensures { result ≡ prefix_len in_name bytes.now }
+{
+    bytes
+        .iter()
+        .take_while(|byte| is_letter(**byte) || is_digit(**byte))
+        .count()
+}
+
+/// How many of the first bytes are digits.
+pub fn digits_len(bytes: &[u8]) -> usize
+    ensures { result ≡ prefix_len is_digit bytes.now }
+{
+    bytes.iter().take_while(|byte| is_digit(**byte)).count()
+}
+
+/// How many bytes stand before the first LF, or before the end where there is none.
+pub fn line_len(bytes: &[u8]) -> usize
+    ensures { result ≡ prefix_len (λ b. not (b == 10)) bytes.now }
+{
+    bytes.iter().take_while(|byte| **byte != b'\n').count()
+}
+
+/// The value of digits; None exactly where it is over 65535.
+pub fn literal_value(digits: &[u8]) -> Option<u16>
+    requires { Passes is_digit digits.now }
+    ensures { result ≡ (if nat_lt 65535 (value_of 0 digits.now) then None else Some (value_of 0 digits.now)) }
+{
+    let mut value = 0u16;
+    for byte in digits {
+        value = value.checked_mul(10)?.checked_add(u16::from(*byte - b'0'))?;
+    }
+    Some(value)
+}
+
+/// The keyword that a text spells, or else the name.
+pub fn word(text: &str) -> TokenKind
+    requires { length text.now ≤ 16 }
+    ensures { result ≡ word_kind text.now }
+{
+    match text {
+        "shared" => TokenKind::Shared,
+        "private" => TokenKind::Private,
+        "buffer" => TokenKind::Buffer,
+        "if" => TokenKind::If,
+        "then" => TokenKind::Then,
+        "else" => TokenKind::Else,
+        "end" => TokenKind::End,
+        "for" => TokenKind::For,
+        "to" => TokenKind::To,
+        "step" => TokenKind::Step,
+        "next" => TokenKind::Next,
+        "while" => TokenKind::While,
+        "and" => TokenKind::And,
+        "or" => TokenKind::Or,
+        "not" => TokenKind::Not,
+        "size" => TokenKind::Size,
+        "clear" => TokenKind::Clear,
+        "msg" => TokenKind::Msg,
+        _ => name(text),
+    }
+}
+
+fn name(text: &str) -> TokenKind
+    requires { length text.now ≤ 16 }
+    ensures { result ≡ TokenKind.Name text.now }
+{
+    let Some(name) = Name::new(text) else {
+        unreachable!()
+    };
+    TokenKind::Name(name)
+}
+
+/// The sign that bytes begin with, and its length: the longest that fits.
+pub fn sign(bytes: &[u8]) -> Option<(TokenKind, usize)>
+    ensures { result ≡ sign_at bytes.now }
+{
+    match bytes {
+        [b'<', b'=', ..] => Some((TokenKind::Le, 2)),
+        [b'<', b'>', ..] => Some((TokenKind::Ne, 2)),
+        [b'<', ..] => Some((TokenKind::Lt, 1)),
+        [b'>', b'=', ..] => Some((TokenKind::Ge, 2)),
+        [b'>', ..] => Some((TokenKind::Gt, 1)),
+        [first, ..] => Some((short_sign(*first)?, 1)),
+        [] => None,
+    }
+}
+
+/// The sign of one byte that no other byte lengthens.
+fn short_sign(byte: u8) -> Option<TokenKind>
+    ensures { result ≡ sign_of byte }
+{
+    match byte {
+        b';' => Some(TokenKind::Semi),
+        b',' => Some(TokenKind::Comma),
+        b'(' => Some(TokenKind::Open),
+        b')' => Some(TokenKind::Close),
+        b'[' => Some(TokenKind::OpenBox),
+        b']' => Some(TokenKind::CloseBox),
+        b'=' => Some(TokenKind::Eq),
+        b'+' => Some(TokenKind::Plus),
+        b'-' => Some(TokenKind::Minus),
+        b'*' => Some(TokenKind::Star),
+        b'/' => Some(TokenKind::Slash),
+        b'%' => Some(TokenKind::Percent),
+        _ => None,
+    }
+}
