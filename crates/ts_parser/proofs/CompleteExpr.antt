@@ -1,16 +1,16 @@
 -- The machine reads each derived expression to its end.
-use Rattle.std.proofs.Common.{◌≡◌, ℕ, Bool, true, false, nat_le, List, [], ◌∷◌, ◌++◌, refl, sym, ◌∙◌, ap, append_assoc}
+use Rattle.std.proofs.Common.{◌≡◌, ℕ, Bool, nat_le, List, [], ◌∷◌, ◌++◌, refl, sym, ◌∙◌, ap, append_assoc}
 use Rattle.ts_syntax.specs.declared.bin_op.BinOp.{BinOp}
 use Rattle.ts_syntax.specs.declared.bin_op.BinOp.TheVariants as op
 use Rattle.ts_syntax.specs.declared.word.Word.{Word}
 use Rattle.ts_syntax.specs.declared.token.TokenKind.{TokenKind}
 use Rattle.ts_syntax.specs.declared.token.TokenKind.TheVariants as kind
 use Rattle.ts_syntax.specs.Tree.{Tree, number, variable, item, size, message_item, message_size, call, negative, inverse, two, paren, Trees, no_trees, tree_then}
-use Rattle.ts_syntax.specs.Spelling.{sign, name, spelled, args_spelled, more_spelled}
+use Rattle.ts_syntax.specs.Spelling.{sign, spelled, args_spelled, more_spelled}
 use Rattle.ts_syntax.specs.Derived.{Level, at_or, at_and, at_not, at_compare, at_sum, at_product, at_sign, at_atom, rank, level, level_of, left_of, right_of, Holds, IsPart, Derived, ArgsDerived}
-use Rattle.ts_parser.specs.Machine.{Operand, in_negative, first_product, in_product, Product, first_sum, in_sum, Sum, first_compare, in_compare, Inverse, in_inverse, first_and, in_and, Conjunction, first_or, in_or, Whole, in_paren, in_item, in_message, in_args, State, want, want_inverse, named, opened, have_product, have_sum, have_inverse, have_and, have, with_tree, sum_due, inverse_due, due, expr_due, give, step, other_places, run}
+use Rattle.ts_parser.specs.Machine.{Operand, in_negative, first_product, in_product, Product, first_sum, in_sum, Sum, first_compare, in_compare, Inverse, in_inverse, first_and, in_and, Conjunction, first_or, in_or, Whole, in_paren, in_item, in_message, in_args, State, want, want_inverse, opened, have_product, have_sum, have_inverse, have_and, have, with_tree, sum_due, inverse_due, expr_due, give, other_places, run}
 use Rattle.ts_parser.proofs.Placed.{word_at, left, args_left, placed, args_placed}
-use Rattle.ts_parser.proofs.Turns.{after_operand, after_product, after_sum, after_inverse, after_and, inverse_follows_and, sum_follows_inverse, product_follows_sum, operand_follows_product, named_is_given, product_is_sum, sum_is_compared, inverse_is_read, inverse_is_first, inverse_is_next, and_is_joined, begins_operand, begins_expr, inverse_is_operand, opened_is_due}
+use Rattle.ts_parser.proofs.Turns.{after_operand, after_product, after_inverse, after_and, inverse_follows_and, sum_follows_inverse, product_follows_sum, operand_follows_product, named_is_given, product_is_sum, sum_is_compared, inverse_is_read, inverse_is_first, inverse_is_next, and_is_joined, begins_operand, begins_expr, inverse_is_operand, opened_is_due}
 
 -- what reading an expression leads to, at each level
 abbrev AtOperand : Tree → Type 0

@@ -1,6 +1,6 @@
 -- The machine reads each derived statement, block and script to its end.
 use Rattle.std.proofs.Common.{◌≡◌, ℕ, Bool, true, false, List, [], ◌∷◌, ◌++◌, Option, Some, None, refl, sym, ◌∙◌, ap, subst, append_assoc, append-nil}
-use Rattle.std.proofs.Common.{◌⊎◌, inl, inr, Result, Ok, Err}
+use Rattle.std.proofs.Common.{◌⊎◌, inl, inr, Ok}
 use Rattle.ts_syntax.specs.declared.bin_op.BinOp.{BinOp}
 use Rattle.ts_syntax.specs.declared.bin_op.BinOp.TheVariants as op
 use Rattle.ts_syntax.specs.declared.word.Word.{Word}
@@ -12,11 +12,11 @@ use Rattle.ts_syntax.specs.declared.token.TokenKind.{TokenKind}
 use Rattle.ts_syntax.specs.declared.token.TokenKind.TheVariants as kind
 use Rattle.ts_syntax.specs.Tree.{Tree, number, variable, item, size, message_item, message_size, call, negative, inverse, two, paren, Trees, no_trees, tree_then, Act, set, set_item, append, take_last, clear, call_alone, if_then, if_else, for_next, while_do, Acts, no_acts, act_then, Source}
 use Rattle.ts_syntax.specs.Spelling.{sign, name, spelled, args_spelled, more_spelled, minus_spelled, step_spelled, act_spelled, acts_spelled, decl_keyword, decl_start, decl_end, decls_gap, decls_spelled, source_spelled}
-use Rattle.ts_syntax.specs.Derived.{Holds, Derived, ArgsDerived, ActDerived, ActsDerived, NamesFollow, DeclsDerived, IsDerived}
-use Rattle.ts_parser.specs.Machine.{Frame, top, then_part, else_part, for_part, while_part, Whole, in_item, in_set, in_index, in_set_item, in_append, in_call, in_if, in_from, in_to, in_while, State, decls, decl_name, decl_more, named, have, block, set_to, set_named, set_boxed, boxed, call_opened, closed, stepped, with_act, due, expr_due, inverse_due, step, first_place, other_places, run, start}
-use Rattle.ts_parser.proofs.Placed.{word_at, left, args_left, step_left, act_left, acts_left, decls_left, source_left, placed, args_placed, step_placed, act_placed, acts_placed, decl_placed, decls_placed, source_placed}
+use Rattle.ts_syntax.specs.Derived.{Holds, Derived, ActDerived, ActsDerived, NamesFollow, DeclsDerived, IsDerived}
+use Rattle.ts_parser.specs.Machine.{Frame, top, then_part, else_part, for_part, while_part, Whole, in_item, in_set, in_index, in_set_item, in_append, in_call, in_if, in_from, in_to, in_while, decls, decl_name, decl_more, named, have, block, set_to, set_named, set_boxed, boxed, call_opened, closed, stepped, with_act, due, expr_due, inverse_due, step, first_place, other_places, run, start}
+use Rattle.ts_parser.proofs.Placed.{word_at, left, args_left, step_left, act_left, acts_left, decls_left, source_left, placed, args_placed, step_placed, act_placed, acts_placed, decls_placed, source_placed}
 use Rattle.ts_parser.proofs.Turns.{after_operand, after_and, turn_alike, begins_expr, call_is_due, boxed_is_due}
-use Rattle.ts_parser.proofs.CompleteExpr.{Starts, starts_more, starts_expr, AllAt, own_all, expr_read, first_read, with_trees, with_trees_one}
+use Rattle.ts_parser.proofs.CompleteExpr.{Starts, starts_more, starts_expr, AllAt, own_all, expr_read, first_read, with_trees_one}
 
 -- ---- `x =` before an expression that is no taking
 

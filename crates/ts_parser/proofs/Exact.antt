@@ -1,15 +1,15 @@
 -- What the machine answers: a whole script, or the first token that doesn't fit.
-use Rattle.std.proofs.Common.{◌≡◌, ℕ, Bool, List, [], ◌∷◌, ◌++◌, Option, Some, None, Result, Ok, Err, refl, sym, ◌∙◌, ap, subst, append_assoc, append-nil}
+use Rattle.std.proofs.Common.{◌≡◌, ℕ, List, [], ◌∷◌, ◌++◌, Option, Some, None, Ok, Err, refl, sym, ◌∙◌, ap, subst, append_assoc, append-nil}
 use Rattle.ts_syntax.specs.declared.token.TokenKind.{TokenKind}
-use Rattle.ts_syntax.specs.Tree.{no_acts, Source}
-use Rattle.ts_syntax.specs.Spelling.{decls_spelled, acts_spelled, source_spelled}
+use Rattle.ts_syntax.specs.Tree.{Source}
+use Rattle.ts_syntax.specs.Spelling.{decls_spelled, source_spelled}
 use Rattle.ts_syntax.specs.Derived.{IsDerived}
 use Rattle.ts_syntax.specs.Script.{IsScript, BeginsScript}
 use Rattle.ts_syntax.specs.Faults.{Stops}
-use Rattle.ts_parser.specs.Machine.{top, then_part, else_part, for_part, while_part, State, decls, block, step, takes, places_after, first_place, finish, Outcome, ending, going, run, start}
+use Rattle.ts_parser.specs.Machine.{top, State, decls, block, step, takes, places_after, first_place, finish, Outcome, ending, going, run, start}
 use Rattle.ts_parser.specs.Answers.{Refused}
 use Rattle.ts_parser.proofs.Past.{past, Fine}
-use Rattle.ts_parser.proofs.Sound.{Kept, Keeps, moves}
+use Rattle.ts_parser.proofs.Sound.{Keeps, moves}
 use Rattle.ts_parser.proofs.Finish.{Ends, ends}
 use Rattle.ts_parser.proofs.CompleteStmt.{source_read}
 

@@ -1,15 +1,14 @@
 -- The tokens that lead to a state, and which states the machine comes to.
-use Rattle.std.proofs.Common.{◌≡◌, ◌⊎◌, ℕ, Bool, true, false, List, [], ◌∷◌, ◌++◌, Option, Some, None, refl, sym, ◌∙◌, ap, append_assoc}
+use Rattle.std.proofs.Common.{◌≡◌, Bool, true, false, List, [], ◌∷◌, ◌++◌, refl, ◌∙◌, ap}
 use Rattle.ts_syntax.specs.declared.bin_op.BinOp.{BinOp}
 use Rattle.ts_syntax.specs.declared.bin_op.BinOp.TheVariants as op
-use Rattle.ts_syntax.specs.declared.word.Word.{Word}
 use Rattle.ts_syntax.specs.declared.script.Decl.{Decl}
 use Rattle.ts_syntax.specs.declared.script.DeclKind.{DeclKind}
 use Rattle.ts_syntax.specs.declared.token.TokenKind.{TokenKind}
 use Rattle.ts_syntax.specs.declared.token.TokenKind.TheVariants as kind
-use Rattle.ts_syntax.specs.Tree.{Tree, Trees, no_trees, tree_then, Act, Acts}
+use Rattle.ts_syntax.specs.Tree.{Trees, no_trees, tree_then, Acts}
 use Rattle.ts_syntax.specs.Spelling.{sign, name, spelled, step_spelled, act_spelled, acts_spelled, decl_keyword, decl_start, decl_end, decls_spelled}
-use Rattle.ts_syntax.specs.Derived.{at_or, at_and, at_not, at_compare, at_sum, at_product, at_sign, Holds, IsPart, Derived, ArgsDerived, ActDerived, ActsDerived, DeclsDerived}
+use Rattle.ts_syntax.specs.Derived.{at_and, at_not, at_sum, at_product, at_sign, Holds, IsPart, Derived, ArgsDerived, ActDerived, ActsDerived, DeclsDerived}
 use Rattle.ts_parser.specs.Machine.{Frame, top, then_part, else_part, for_part, while_part, Operand, in_negative, first_product, in_product, Product, first_sum, in_sum, Sum, first_compare, in_compare, Inverse, in_inverse, first_and, in_and, Conjunction, first_or, in_or, Whole, in_paren, in_item, in_message, in_args, in_set, in_index, in_set_item, in_append, in_call, in_if, in_from, in_to, in_while, State, decls, decl_name, decl_more, want, want_inverse, named, opened, sized, size_opened, size_named, message, have_product, have_sum, have_inverse, have_and, have, block, stmt_named, set_to, set_named, set_boxed, set_taken, boxed, append_to, item_indexed, call_opened, cleared, clear_opened, clear_named, closed, for_word, for_named, stepped, step_signed, nexted, if_ended, while_ended}
 
 -- ---- the tokens

@@ -1,20 +1,17 @@
 -- What the machine reads is derived, and spells the tokens that it read.
-use Rattle.std.proofs.Common.{◌≡◌, ◌⊎◌, inl, inr, ℕ, Bool, true, false, nat_le, List, [], ◌∷◌, ◌++◌, Option, Some, None, Result, Ok, Err, refl, sym, ◌∙◌, ap, subst, append_assoc, append-nil}
+use Rattle.std.proofs.Common.{◌≡◌, ◌⊎◌, inl, inr, ℕ, Bool, true, false, nat_le, List, [], ◌∷◌, ◌++◌, Option, Some, None, refl, sym, ◌∙◌, ap, subst, append_assoc, append-nil}
 use Rattle.ts_syntax.specs.declared.bin_op.BinOp.{BinOp}
 use Rattle.ts_syntax.specs.declared.bin_op.BinOp.TheVariants as op
 use Rattle.ts_syntax.specs.declared.word.Word.{Word}
-use Rattle.ts_syntax.specs.declared.stmt.Step.{Step}
 use Rattle.ts_syntax.specs.declared.script.Decl.{Decl}
 use Rattle.ts_syntax.specs.declared.script.DeclKind.{DeclKind}
-use Rattle.ts_syntax.specs.declared.script.DeclKind.TheVariants as decl
 use Rattle.ts_syntax.specs.declared.token.TokenKind.{TokenKind}
 use Rattle.ts_syntax.specs.declared.token.TokenKind.TheVariants as kind
-use Rattle.ts_syntax.specs.Tree.{Tree, number, variable, item, size, message_item, message_size, call, negative, inverse, two, paren, Trees, no_trees, tree_then, Act, set, set_item, append, take_last, clear, call_alone, if_then, if_else, for_next, while_do, Acts, no_acts, act_then, Source}
-use Rattle.ts_syntax.specs.Spelling.{sign, name, spelled, args_spelled, more_spelled, minus_spelled, step_spelled, act_spelled, acts_spelled, decl_keyword, decl_start, decl_end, decls_gap, decls_spelled, source_spelled}
-use Rattle.ts_syntax.specs.Derived.{Level, at_or, at_and, at_not, at_compare, at_sum, at_product, at_sign, at_atom, rank, level, level_of, Holds, IsPart, Derived, ArgsDerived, ActDerived, ActsDerived, NamesFollow, DeclsDerived, IsDerived}
-use Rattle.ts_syntax.specs.Script.{IsScript}
-use Rattle.ts_parser.specs.Machine.{Frame, top, then_part, else_part, for_part, while_part, Operand, in_negative, first_product, in_product, Product, first_sum, in_sum, Sum, first_compare, in_compare, Inverse, in_inverse, first_and, in_and, Conjunction, first_or, in_or, Whole, in_paren, in_item, in_message, in_args, in_set, in_index, in_set_item, in_append, in_call, in_if, in_from, in_to, in_while, State, decls, decl_name, decl_more, want, want_inverse, named, opened, sized, size_opened, size_named, message, have_product, have_sum, have_inverse, have_and, have, block, stmt_named, set_to, set_named, set_boxed, set_taken, boxed, append_to, item_indexed, call_opened, cleared, clear_opened, clear_named, closed, for_word, for_named, stepped, step_signed, nexted, if_ended, while_ended, with_tree, with_act, word, due, inverse_due, declared, give, step, step_frame, step_block, step_whole, step_have, give_and, step_and, give_inverse, step_compare, give_sum, step_sum, give_product, step_product, step_given, step_want, step_want_inverse, step_named, step_opened, step_size, step_eq, step_open, step_close, step_open_box, step_semi, step_if, step_while, step_name, step_stmt, step_set, step_set_named, step_set_boxed, step_boxed, step_call, step_signed_by, step_stepped, step_decls, step_decl_more, takes, places_after, first_place, finish, ending, going, run}
-use Rattle.ts_parser.proofs.Past.{past_frame, past_block, args_open, past_operand, past_product, past_sum, past_inverse, past_and, past_whole, names_open, decls_open, past_name, without_last, drops, past, multiplies, adds, compares, fine_frame, fine_block, fine_operand, fine_product, fine_sum, fine_inverse, fine_and, fine_whole, Last, fine_name, Lacks, Fine}
+use Rattle.ts_syntax.specs.Tree.{Tree, number, variable, item, message_item, call, negative, inverse, two, paren, Trees, no_trees, tree_then, Act, set, set_item, append, take_last, call_alone, if_then, if_else, for_next, while_do, Acts, no_acts, act_then}
+use Rattle.ts_syntax.specs.Spelling.{sign, name, spelled, args_spelled, more_spelled, minus_spelled, step_spelled, act_spelled, acts_spelled, decl_keyword, decl_start, decl_end, decls_gap, decls_spelled}
+use Rattle.ts_syntax.specs.Derived.{Level, at_or, at_and, at_not, at_compare, at_sum, at_product, at_sign, at_atom, rank, level, Holds, IsPart, Derived, ArgsDerived, ActDerived, ActsDerived, NamesFollow, DeclsDerived}
+use Rattle.ts_parser.specs.Machine.{Frame, top, then_part, else_part, for_part, while_part, Operand, in_negative, first_product, in_product, Product, first_sum, in_sum, Sum, first_compare, in_compare, Inverse, in_inverse, first_and, in_and, Conjunction, first_or, in_or, Whole, in_paren, in_item, in_message, in_args, in_set, in_index, in_set_item, in_append, in_call, in_if, in_from, in_to, in_while, State, decls, decl_name, decl_more, want, want_inverse, named, opened, sized, size_opened, size_named, message, have_product, have_sum, have_inverse, have_and, have, block, stmt_named, set_to, set_named, set_boxed, set_taken, boxed, append_to, item_indexed, call_opened, cleared, clear_opened, clear_named, closed, for_word, for_named, stepped, step_signed, nexted, if_ended, while_ended, with_tree, with_act, word, due, inverse_due, declared, give, step, step_frame, step_block, step_whole, step_have, give_and, step_and, give_inverse, step_compare, give_sum, step_sum, give_product, step_product, step_given, step_want, step_want_inverse, step_named, step_opened, step_size, step_eq, step_open, step_close, step_open_box, step_semi, step_if, step_while, step_name, step_stmt, step_set, step_set_named, step_set_boxed, step_boxed, step_call, step_signed_by, step_stepped, step_decls, step_decl_more}
+use Rattle.ts_parser.proofs.Past.{past_frame, past_block, args_open, past_operand, past_product, past_sum, past_inverse, past_and, past_whole, names_open, decls_open, past_name, without_last, drops, past, multiplies, adds, compares, fine_block, fine_operand, fine_product, fine_sum, fine_inverse, fine_and, fine_whole, Last, fine_name, Lacks, Fine}
 
 -- the state is one that the machine comes to, by these tokens
 pub record Kept (ms : List TokenKind) (q : State) : Type 0 where

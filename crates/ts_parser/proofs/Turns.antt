@@ -1,13 +1,12 @@
 -- Where the machine falls from one level of an expression to a looser one, and where an expression begins.
-use Rattle.std.proofs.Common.{◌≡◌, ℕ, Bool, true, false, List, [], ◌∷◌, ◌++◌, Option, Some, None, Result, Ok, Err, refl, sym, ◌∙◌, ap}
-use Rattle.ts_syntax.specs.declared.bin_op.BinOp.{BinOp}
+use Rattle.std.proofs.Common.{◌≡◌, ℕ, Bool, true, false, List, [], ◌∷◌, Option, Some, None, refl, sym, ◌∙◌, ap}
 use Rattle.ts_syntax.specs.declared.bin_op.BinOp.TheVariants as op
 use Rattle.ts_syntax.specs.declared.word.Word.{Word}
 use Rattle.ts_syntax.specs.declared.token.TokenKind.{TokenKind}
 use Rattle.ts_syntax.specs.declared.token.TokenKind.TheVariants as kind
-use Rattle.ts_syntax.specs.Tree.{Tree, variable, inverse, negative, two, Trees, no_trees, Acts, no_acts, Source}
+use Rattle.ts_syntax.specs.Tree.{Tree, variable, inverse, negative, two, no_trees, Acts}
 use Rattle.ts_syntax.specs.Derived.{Holds}
-use Rattle.ts_parser.specs.Machine.{Frame, for_part, while_part, Operand, in_negative, first_product, in_product, Product, first_sum, in_sum, Sum, first_compare, in_compare, Inverse, in_inverse, first_and, in_and, Conjunction, first_or, in_or, Whole, in_item, in_args, in_set, in_index, in_call, in_to, in_while, State, decls, want, want_inverse, named, opened, have_product, have_sum, have_inverse, have_and, have, block, set_to, set_named, set_boxed, boxed, call_opened, due, expr_due, inverse_due, give, step_given, step, wants_size, takes, places_after, first_place, finish, Outcome, ending, going, run}
+use Rattle.ts_parser.specs.Machine.{Frame, Operand, in_negative, first_product, in_product, Product, first_sum, in_sum, Sum, first_compare, in_compare, Inverse, in_inverse, first_and, in_and, Conjunction, first_or, in_or, in_args, in_index, in_call, State, want, want_inverse, named, opened, have_product, have_sum, have_inverse, have_and, have, boxed, call_opened, expr_due, inverse_due, give, step_given, step, wants_size, takes, places_after, first_place, finish, Outcome, ending, going, run}
 use Rattle.std.proofs.Common.{None}
 
 -- tokens that lengthen an operand, a product, a sum, an inverse and a conjunction

@@ -1,11 +1,31 @@
-//! TinyScript's grammar as a machine that reads tokens, with its laws, and the first parts of a parser on it.
+//! TinyScript's parser, on the grammar as a machine that reads tokens, with their laws.
 #![tactic(auto)]
 
 pub mod code;
+pub mod cutting;
+pub mod decls;
+pub mod depth;
 pub mod expect;
+pub mod expression;
+#[cfg(test)]
+mod expression_tests;
+pub mod fault;
 pub mod halt;
+pub mod head;
 pub mod machine;
 pub mod node;
+pub mod opening;
+pub mod parser;
+pub mod role;
+pub mod simple;
+pub mod stmt;
+#[cfg(test)]
+mod tests;
+pub mod verdict;
 
+pub use cutting::tokens;
+pub use fault::SourceFault;
 pub use halt::Halt;
 pub use machine::machine_law;
+pub use parser::parse;
+pub use verdict::verdict_law;

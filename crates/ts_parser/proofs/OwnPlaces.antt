@@ -1,0 +1,104 @@
+-- A tree that is given its own places is the same tree, and so tokens spell one script at most.
+use Rattle.std.proofs.Common.{◌≡◌, ℕ, List, [], ◌∷◌, ◌++◌, Option, Some, None, refl, sym, ◌∙◌, ap, append_assoc, append-nil}
+use Rattle.ts_syntax.specs.declared.word.Word.{Word}
+use Rattle.ts_syntax.specs.declared.stmt.Step.{Step}
+use Rattle.ts_syntax.specs.declared.script.Decl.{Decl}
+use Rattle.ts_syntax.specs.declared.token.Token.{Token}
+use Rattle.ts_syntax.specs.Tree.{Tree, number, variable, item, size, message_item, message_size, call, negative, inverse, two, paren, Trees, no_trees, tree_then, Act, set, set_item, append, take_last, clear, call_alone, if_then, if_else, for_next, while_do, Acts, no_acts, act_then, Source}
+use Rattle.ts_syntax.specs.Spelling.{places, args_places, step_places, act_places, acts_places, decls_places, source_places, noted}
+use Rattle.ts_syntax.specs.Faults.{Spells}
+use Rattle.ts_parser.specs.Machine.{other_places, run, start}
+use Rattle.ts_parser.proofs.Placed.{word_at, left, args_left, step_left, act_left, acts_left, decls_left, source_left, placed, args_placed, step_placed, act_placed, acts_placed, decl_placed, decls_placed, source_placed}
+use Rattle.ts_parser.proofs.CompleteStmt.{source_read}
+use Rattle.ts_parser.proofs.Exact.{whole, whole_same}
+
+-- what a part makes of its own places, and of those behind them
+record Own {T : Type 0} (made : List ℕ → T) (leaves : List ℕ → List ℕ) (its : List ℕ) (t : T) : Type 0 where
+  same : (qs : List ℕ) → made (its ++ qs) ≡ t
+  rest : (qs : List ℕ) → leaves (its ++ qs) ≡ qs
+
+none : {T : Type 0} (t : T) → Own (λ ps. t) (λ ps. ps) [] t
+none t = record { same = λ qs. refl; rest = λ qs. refl }
+
+of : {T V : Type 0} {m : List ℕ → T} {l : List ℕ → List ℕ} {x : List ℕ} {t : T} (make : T → V) → Own m l x t → Own (λ ps. make (m ps)) l x (make t)
+of make a = record { same = λ qs. ap make (a.same qs); rest = a.rest }
+
+both : {T U V : Type 0} {m : List ℕ → T} {l : List ℕ → List ℕ} {x : List ℕ} {t : T} {n : List ℕ → U} {k : List ℕ → List ℕ} {y : List ℕ} {u : U} (make : T → U → V) →
+    Own m l x t → Own n k y u → Own (λ ps. make (m ps) (n (l ps))) (λ ps. k (l ps)) (x ++ y) (make t u)
+both {m} {l} {x} {t} {n} {k} {y} {u} make a b = record {
+  same = λ qs. ap (λ z. make (m z) (n (l z))) (append_assoc x y qs) ∙ ap (λ z. make z (n (l (x ++ (y ++ qs))))) (a.same (y ++ qs)) ∙ ap (λ z. make t (n z)) (a.rest (y ++ qs)) ∙ ap (λ z. make t z) (b.same qs);
+  rest = λ qs. ap (λ z. k (l z)) (append_assoc x y qs) ∙ ap k (a.rest (y ++ qs)) ∙ b.rest qs;
+}
+
+abbrev pair : {A B : Type 0} → A → B → A × B
+pair a b = (a, b)
+
+own_word : (w : Word) → Own (word_at w) other_places (w.place ∷ []) w
+own_word w = record { same = λ qs. refl; rest = λ qs. refl }
+
+mutual
+  own : (e : Tree) → Own (placed e) (left e) (places e) e
+  own (number n) = none (number n)
+  own (variable w) = of variable (own_word w)
+  own (item w e) = both item (own_word w) (own e)
+  own (size w) = of size (own_word w)
+  own (message_item e) = of message_item (own e)
+  own message_size = none message_size
+  own (call w es) = both call (own_word w) (own_args es)
+  own (negative e) = of negative (own e)
+  own (inverse e) = of inverse (own e)
+  own (two o l r) = both (two o) (own l) (own r)
+  own (paren e) = of paren (own e)
+
+  own_args : (es : Trees) → Own (args_placed es) (args_left es) (args_places es) es
+  own_args no_trees = none no_trees
+  own_args (tree_then e es) = both tree_then (own e) (own_args es)
+
+own_step : (s : Option Step) → Own (step_placed s) (step_left s) (step_places s) s
+own_step None = none None
+own_step (Some s) = record { same = λ qs. refl; rest = λ qs. refl }
+
+mutual
+  own_act : (a : Act) → Own (act_placed a) (act_left a) (act_places a) a
+  own_act (set w e) = both set (own_word w) (own e)
+  own_act (set_item w i e) = both (λ (x : Word × Tree) (t : Tree). set_item x.0 x.1 t) (both pair (own_word w) (own i)) (own e)
+  own_act (append w e) = both append (own_word w) (own e)
+  own_act (take_last w b) = both take_last (own_word w) (own_word b)
+  own_act (clear w) = of clear (own_word w)
+  own_act (call_alone w es) = both call_alone (own_word w) (own_args es)
+  own_act (if_then e a) = both if_then (own e) (own_acts a)
+  own_act (if_else e a b) = both (λ (t : Tree) (x : Acts × Acts). if_else t x.0 x.1) (own e) (both pair (own_acts a) (own_acts b))
+  own_act (for_next w f t s a v) =
+      both (λ (x : Word × Tree) (y : Tree × (Option Step × (Acts × Word))). for_next x.0 x.1 y.0 y.1.0 y.1.1.0 y.1.1.1)
+      (both pair (own_word w) (own f)) (both pair (own t) (both pair (own_step s) (both pair (own_acts a) (own_word v))))
+  own_act (while_do e a) = both while_do (own e) (own_acts a)
+
+  own_acts : (more : Acts) → Own (acts_placed more) (acts_left more) (acts_places more) more
+  own_acts no_acts = none no_acts
+  own_acts (act_then a more) = both act_then (own_act a) (own_acts more)
+
+own_decl : (d : Decl) → Own (decl_placed d) other_places (d.word.place ∷ []) d
+own_decl d = record { same = λ qs. refl; rest = λ qs. refl }
+
+own_decls : (ds : List Decl) → Own (decls_placed ds) (decls_left ds) (decls_places ds) ds
+own_decls [] = none []
+own_decls (d ∷ ds) = both (λ (x : Decl) (xs : List Decl). x ∷ xs) (own_decl d) (own_decls ds)
+
+source : List Decl → Acts → Source
+source ds a = record { decls = ds; body = a }
+
+own_source : (s : Source) (qs : List ℕ) → source_placed s (source_places s ++ qs) ≡ s
+unfolding source
+own_source s qs = (both source (own_decls s.decls) (own_acts s.body)).same qs
+
+-- the machine reads the script from its tokens and places
+reads_own : (ts : List Token) (s : Source) → Spells ts s → source_placed s (noted ts) ≡ s
+reads_own ts s h = ap (source_placed s) (sym h.places ∙ sym (append-nil (source_places s))) ∙ own_source s []
+
+pub one_tree : (ts : List Token) (s t : Source) → Spells ts s → Spells ts t → s ≡ t
+one_tree ts s t h g =
+    let ps : List ℕ = noted ts in
+    let w : whole (source_placed s ps) (source_left s ps) ≡ whole (source_placed t ps) (source_left t ps) =
+    sym (source_read s h.derived ps) ∙ ap (λ z. run z ps start) (h.spells ∙ sym g.spells) ∙ source_read t g.derived ps
+    in
+    sym (reads_own ts s h) ∙ whole_same (source_placed s ps) (source_placed t ps) (source_left s ps) (source_left t ps) w ∙ reads_own ts t g

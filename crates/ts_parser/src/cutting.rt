@@ -1,0 +1,24 @@
+//! The tokens of a source, with its faults as those of a source.
+
+ghost use Rattle.std.specs.Prelude.{◌≤◌, length};
+ghost use Rattle.ts_parser.specs.Cutting.{Cuts};
+
+use crate::fault::SourceFault;
+use std::alloc::Global;
+use ts_lexer::TokenFault;
+use ts_syntax::Tokens;
+
+/// The tokens of a source of at most 1,048,576 bytes: the longest sign is taken, and blanks and comments (from `!` to the
+/// end of its line) are passed over. `BadByte` and `BigLiteral` come exactly where one of them is the first in the text.
+/// `NoMemory` comes for want of memory only.
+pub fn tokens(alloc: Global, bytes: &[u8]) -> Result<Tokens, SourceFault>
+    requires { length bytes.now ≤ 1048576 }
+    ensures { Cuts bytes.now result }
+{
+    match ts_lexer::tokens(alloc, bytes) {
+        Ok(tokens) => Ok(tokens),
+        Err(TokenFault::BadByte { place }) => Err(SourceFault::BadByte { place }),
+        Err(TokenFault::BigLiteral { place }) => Err(SourceFault::BigLiteral { place }),
+        Err(TokenFault::NoMemory) => Err(SourceFault::NoMemory),
+    }
+}

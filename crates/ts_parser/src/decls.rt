@@ -1,0 +1,68 @@
+//! Declarations.
+
+ghost use Rattle.std.specs.Prelude.{◌≡◌, ◌≤◌, ◌<◌, length, IfOk, [], true};
+ghost use Rattle.ts_parser.specs.Machine.{decls, decl_name};
+ghost use Rattle.ts_parser.specs.Parsing.{Gives, reads};
+ghost use Rattle.ts_parser.specs.Statements.{FindsDecl, LacksDecl, Passes, decl_kind};
+ghost use Rattle.ts_syntax.specs.Spelling.{kinds};
+
+use crate::expect::{after, expect, name};
+use crate::halt::Halt;
+use std::alloc::Global;
+use ts_syntax::{Decl, DeclKind, Decls, Token, TokenKind};
+
+fn kind_of(token: &TokenKind) -> Option<DeclKind>
+    ensures { result ≡ decl_kind token.now }
+{
+    match token {
+        TokenKind::Shared => Some(DeclKind::Shared),
+        TokenKind::Private => Some(DeclKind::Private),
+        TokenKind::Buffer => Some(DeclKind::Buffer),
+        _ => None,
+    }
+}
+
+/// What a declaration makes of its names, and what stands behind its keyword; None where the tokens begin none.
+fn after_keyword(tokens: &[Token]) -> Option<(DeclKind, &[Token])>
+    ensures { FindsDecl tokens.now result }
+{
+    let (first, rest) = tokens.split_first()?;
+    let kind = kind_of(&first.kind)?;
+    Some((kind, rest))
+}
+
+/// Reads declarations up to the first token that begins none: they, and the tokens from that one on.
+pub fn declarations<'a>(
+    alloc: Global,
+    tokens: &'a [Token],
+) -> Result<(Decls, &'a [Token]), Halt<'a>>
+    ensures reads { Gives result
+        (λ x. reads tokens.now (decls []) ≡ reads x.1.now (decls x.0))
+        (λ rest. reads tokens.now (decls []) ≡ Err (kinds rest)) }
+    ensures over { IfOk result (λ x. LacksDecl x.1.now) }
+{
+    let mut all = Decls::new(alloc);
+    let mut rest = tokens;
+    while let Some((kind, behind)) = after_keyword(rest) {
+        rest = names(&mut all, kind, behind)?;
+    }
+    Ok((all, rest))
+}
+
+/// Reads the names of a declaration and its `;`, from behind its keyword, and appends them: the tokens behind.
+fn names<'a>(all: &mut Decls, kind: DeclKind, tokens: &'a [Token]) -> Result<&'a [Token], Halt<'a>>
+    ensures reads { Passes tokens.now (decl_name kind true all.old) (decls all.new) result }
+    ensures shorter { IfOk result (λ rest. length rest.now < length tokens.now) }
+{
+    let mut first = true;
+    let mut rest = tokens;
+    loop {
+        let (word, behind) = name(rest)?;
+        all.push(Decl { kind, word, first })?;
+        let Some(next) = after(behind, &TokenKind::Comma) else {
+            return expect(behind, &TokenKind::Semi);
+        };
+        first = false;
+        rest = next;
+    }
+}

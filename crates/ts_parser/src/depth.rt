@@ -1,0 +1,129 @@
+//! How deep tokens lie: open blocks, and counted tokens since the last break.
+
+ghost use Rattle.std.specs.Prelude.{◌≡◌, ◌≤◌, ◌<◌, false, length, IfSome};
+ghost use Rattle.ts_parser.specs.Depths.{role_seen};
+ghost use Rattle.ts_syntax.specs.Depth.{shallow, is_deep, role_is_deep, blocks_after, counted_after, after, first_deep};
+ghost use Rattle.ts_syntax.specs.Spelling.{kinds};
+
+use crate::role::{Role, ends, role_of};
+use std::marker::Model;
+use ts_syntax::{Token, TokenKind};
+
+/// The depth before a token, which no token before it exceeds.
+#[derive(Drop)]
+struct Depth {
+    /// The open blocks.
+    blocks: u8,
+    /// The counted tokens since the last break, or since the start.
+    counted: u8,
+    /// Whether the token before it is `end`, behind which a keyword opens nothing.
+    ended: bool,
+}
+
+impl Model for Depth {
+    ghost use Rattle.std.specs.Prelude.{◌≤◌};
+    ghost use Rattle.ts_syntax.specs.Depth.{Depth as Seen};
+
+    ghost Value = { Seen };
+
+    ghost view = { λ d. record { blocks = d.blocks; counted = d.counted; ended = d.ended } };
+
+    ghost invariant = { λ d. (d.blocks ≤ 32) × (d.counted ≤ 64) };
+}
+
+impl Depth {
+    /// The greatest number of open blocks.
+    const BLOCKS: u8 = 32;
+
+    /// The greatest number of counted tokens.
+    const COUNTED: u8 = 64;
+
+    /// The depth at the start.
+    fn start() -> Depth
+        ensures { result ≡ shallow }
+    {
+        Depth {
+            blocks: 0,
+            counted: 0,
+            ended: false,
+        }
+    }
+
+    /// Whether a token of this role lies too deep.
+    fn is_deep(&self, role: Role) -> bool
+        ensures { result ≡ role_is_deep self.now (role_seen role) }
+    {
+        match role {
+            Role::Opener => !self.ended && self.blocks >= Depth::BLOCKS,
+            Role::Counter => self.counted >= Depth::COUNTED,
+            Role::Closer => false,
+            Role::Breaker => false,
+            Role::Bystander => false,
+        }
+    }
+
+    /// The open blocks behind a token that doesn't lie too deep.
+    fn blocks_after(&self, role: Role) -> u8
+        requires { role_is_deep self.now (role_seen role) ≡ false }
+        ensures value { result ≡ blocks_after self.now (role_seen role) }
+        ensures few { result ≤ 32 }
+    {
+        match role {
+            Role::Opener => {
+                if self.ended {
+                    self.blocks
+                } else {
+                    self.blocks + 1
+                }
+            }
+            Role::Closer => self.blocks.saturating_sub(1),
+            Role::Breaker => self.blocks,
+            Role::Counter => self.blocks,
+            Role::Bystander => self.blocks,
+        }
+    }
+
+    /// The counted tokens behind a token that doesn't lie too deep.
+    fn counted_after(&self, role: Role) -> u8
+        requires { role_is_deep self.now (role_seen role) ≡ false }
+        ensures value { result ≡ counted_after self.now (role_seen role) }
+        ensures few { result ≤ 64 }
+    {
+        match role {
+            Role::Opener => self.counted,
+            Role::Closer => 0,
+            Role::Breaker => 0,
+            Role::Counter => self.counted + 1,
+            Role::Bystander => self.counted,
+        }
+    }
+
+    /// The depth behind a token that doesn't lie too deep.
+    fn after(&self, kind: &TokenKind) -> Depth
+        requires { is_deep self.now kind.now ≡ false }
+        ensures { result ≡ after self.now kind.now }
+    {
+        let role = role_of(kind);
+        Depth {
+            blocks: self.blocks_after(role),
+            counted: self.counted_after(role),
+            ended: ends(kind),
+        }
+    }
+}
+
+/// The index of the first token that lies too deep: a keyword that opens a block inside 32 open ones, or the 65th
+/// counted token since the last `;`, `then`, `else`, `end`, `next` or the start.
+pub fn first_deep(tokens: &[Token]) -> Option<usize>
+    ensures first { result ≡ first_deep (kinds tokens.now) }
+    ensures within { IfSome result (λ i. i < length tokens.now) }
+{
+    let mut depth = Depth::start();
+    for (index, token) in tokens.iter().enumerate() {
+        if depth.is_deep(role_of(&token.kind)) {
+            return Some(index);
+        }
+        depth = depth.after(&token.kind);
+    }
+    None
+}

@@ -1,0 +1,88 @@
+//! From tokens to a script.
+
+ghost use Rattle.std.specs.Prelude.{◌≡◌, ◌<◌, ◌≤◌, ◌-◌, length, drop, Some, None, Err};
+ghost use Rattle.ts_parser.specs.Statements.{ReadsScript};
+ghost use Rattle.ts_parser.specs.Verdict.{Answers};
+ghost use Rattle.ts_syntax.specs.Depth.{first_deep};
+ghost use Rattle.ts_syntax.specs.Faults.{place_of};
+ghost use Rattle.ts_syntax.specs.Spelling.{kinds};
+
+use crate::decls::declarations;
+use crate::depth::first_deep;
+use crate::fault::SourceFault;
+use crate::halt::Halt;
+use crate::stmt::block;
+use std::alloc::Global;
+use ts_syntax::{Script, Token, Tokens};
+
+/// The script that the tokens of a source spell; `len` is the source's length in bytes.
+///
+/// `Unexpected` comes exactly where a token doesn't fit before one that lies too deep, and `TooDeep` exactly where the
+/// tokens up to the first such one fit. `NoMemory` comes for want of memory only.
+pub fn parse(alloc: Global, tokens: &Tokens, len: u32) -> Result<Script, SourceFault>
+    ensures { Answers tokens.now len result }
+{
+    let tokens = tokens.as_slice();
+    match first_deep(tokens) {
+        None => shallow(alloc, tokens, len),
+        Some(index) => Err(deep(alloc, tokens, index, len)),
+    }
+}
+
+/// Reads a whole script.
+fn script<'a>(alloc: Global, tokens: &'a [Token]) -> Result<Script, Halt<'a>>
+    ensures { ReadsScript tokens.now result }
+{
+    let (decls, rest) = declarations(alloc, tokens)?;
+    let (body, rest) = block(alloc, rest)?;
+    if !rest.is_empty() {
+        return Err(Halt::At(rest));
+    }
+    Ok(Script { decls, body })
+}
+
+/// The answer where no token lies too deep.
+fn shallow(alloc: Global, tokens: &[Token], len: u32) -> Result<Script, SourceFault>
+    requires { first_deep (kinds tokens.now) ≡ None }
+    ensures { Answers tokens.now len result }
+{
+    match script(alloc, tokens) {
+        Ok(script) => Ok(script),
+        Err(Halt::Memory) => Err(SourceFault::NoMemory),
+        Err(Halt::At(rest)) => Err(SourceFault::Unexpected {
+            place: place_before(tokens, rest.len(), len),
+        }),
+    }
+}
+
+/// The fault where the token at `index` is the first that lies too deep: those up to it may stop before.
+fn deep(alloc: Global, tokens: &[Token], index: usize, len: u32) -> SourceFault
+    requires within { index < length tokens.now }
+    requires first { first_deep (kinds tokens.now) ≡ Some index }
+    ensures { Answers tokens.now len (Err result) }
+{
+    let place = tokens[index].from;
+    let front = &tokens[..index + 1];
+    let rest = match script(alloc, front) {
+        Ok(_) => return SourceFault::TooDeep { place },
+        Err(Halt::Memory) => return SourceFault::NoMemory,
+        Err(Halt::At(rest)) => rest,
+    };
+    if rest.is_empty() {
+        return SourceFault::TooDeep { place };
+    }
+    SourceFault::Unexpected {
+        place: place_before(front, rest.len(), len),
+    }
+}
+
+/// The place of the token before which the last `count` tokens begin; `len` where there is none.
+fn place_before(tokens: &[Token], count: usize, len: u32) -> u32
+    requires { count ≤ length tokens.now }
+    ensures { result ≡ place_of len (drop (length tokens.now - count) tokens.now) }
+{
+    match tokens.get(tokens.len() - count) {
+        Some(token) => token.from,
+        None => len,
+    }
+}
