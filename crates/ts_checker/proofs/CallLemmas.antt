@@ -1,0 +1,52 @@
+-- A call whose function was found, case by case.
+use Rattle.std.proofs.Common.{◌≡◌, ℕ, suc, ◌==◌, Bool, true, false, List, [], ◌∷◌, length, Result, Ok, Err, refl, ap, sym, ◌∙◌, arith, ◌<◌}
+use Rattle.std.specs.Int.{w16, int_wrap, cast_signed}
+use Rattle.std.specs.Prelude.{ℤ, pos, ◌%◌}
+use Rattle.std.proofs.lemmas.Bool.Decides.{nat_tests}
+use Rattle.mate_num.specs.Number.{wrap}
+use Rattle.mate_num.specs.declared.id.FunId.{FunId}
+use Rattle.vm_desc.specs.Limits.{args_of}
+use Rattle.vm_desc.specs.Shapes.{is_send}
+use Rattle.vm_desc.specs.declared.function.FunKind.{FunKind}
+use Rattle.ts_syntax.specs.Expression.{Arguments}
+use Rattle.ts_syntax.specs.Tree.{Trees}
+use Rattle.ts_syntax.specs.Seen.{trees_of}
+use Rattle.ts_syntax.specs.declared.expr.Expr.{Expr}
+use Rattle.ts_syntax.specs.declared.word.Word.{Word}
+use Rattle.ts_checker.specs.declared.fault.CheckFault.{CheckFault}
+use Rattle.ts_checker.specs.declared.fault.CheckFault.TheVariants.{Arity}
+use Rattle.ts_checker.specs.Refusal.{◌>>=◌}
+use Rattle.ts_checker.specs.Names.{Names, function}
+use Rattle.ts_checker.specs.Checks.{calls, sent, tree_count, checked_call}
+
+-- a literal of at most 65535, read as a 16-bit number
+pub wrap-literal : (n : ℕ) → n < 65536 → cast_signed w16 n ≡ wrap (pos n)
+unfolding int_wrap
+wrap-literal n small = let e : n ≡ n % 65536 = omega arith in ap (cast_signed w16) e
+
+pub tree_count-trees_of : (es : List Expr) → tree_count (trees_of es) ≡ length es
+tree_count-trees_of [] = refl
+tree_count-trees_of (e ∷ es) = ap suc (tree_count-trees_of es)
+
+-- a call that isn't of one argument sends no buffer
+pub sent_other : (n : Names) (place : ℕ) (es : List Expr) → (length es ≡ 1 → ⊥) → Err (Arity place) ≡ sent n place (trees_of es)
+sent_other n place [] other = refl
+sent_other n place (e ∷ []) other = absurd (other refl)
+sent_other n place (e ∷ (d ∷ es)) other = refl
+
+-- the arguments of a function that sends no buffer are counted, and then checked
+pub call_counted : (n : Names) (allowed : Bool) (w : Word) (es : List Expr) (args : Result Arguments CheckFault) (f : FunId × FunKind)
+    → function n w ≡ Ok f → allowed ≡ true → is_send f.1 ≡ false → length es ≡ args_of f.1
+    → checked_call n allowed w (trees_of es) args ≡ (args >>= (λ checked. Ok (calls f.0 checked)))
+call_counted n allowed w es args f found here plain same =
+    let counted : (tree_count (trees_of es) == args_of f.1) ≡ true =
+    (let e : tree_count (trees_of es) ≡ args_of f.1 = tree_count-trees_of es ∙ same in grind (arith, nat_tests)) in
+    rw (found, here, plain, counted) refl
+
+pub call_miscounted : (n : Names) (allowed : Bool) (w : Word) (es : List Expr) (args : Result Arguments CheckFault) (f : FunId × FunKind)
+    → function n w ≡ Ok f → allowed ≡ true → is_send f.1 ≡ false → (length es ≡ args_of f.1 → ⊥)
+    → checked_call n allowed w (trees_of es) args ≡ Err (Arity w.place)
+call_miscounted n allowed w es args f found here plain other =
+    let counted : (tree_count (trees_of es) == args_of f.1) ≡ false =
+    (let e : tree_count (trees_of es) ≡ length es = tree_count-trees_of es in grind (arith, nat_tests)) in
+    rw (found, here, plain, counted) refl

@@ -1,0 +1,5 @@
+pub mod CheckLemmas
+pub mod CallLemmas
+pub mod RoomLemmas
+pub mod LoopLemmas
+pub mod RightLemmas

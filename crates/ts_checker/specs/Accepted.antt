@@ -1,0 +1,51 @@
+-- Which texts are scripts of a machine, with the tree that they mean, and which refusal comes first for the others.
+use Rattle.std.specs.Prelude.{◌≡◌, ℕ, List, length, Ok, Err}
+use Rattle.vm_desc.specs.declared.description.Description.{Description}
+use Rattle.ts_syntax.specs.declared.token.Token.{Token}
+use Rattle.ts_syntax.specs.Cut.{cut, CutFault}
+use Rattle.ts_syntax.specs.Tree.{Source}
+use Rattle.ts_syntax.specs.Faults.{Spells, IsUnexpected, IsTooDeep}
+use Rattle.ts_syntax.specs.Statement.{Block}
+use Rattle.ts_checker.specs.declared.fault.CheckFault.{CheckFault}
+use Rattle.ts_checker.specs.Checks.{checked_source}
+
+-- the bytes are cut into tokens, which spell a script, whose checks give the tree
+pub record IsAccepted (machine : Description) (bytes : List ℕ) (tree : Block) : Type 0 where
+  pub tokens : List Token
+  pub source : Source
+  pub cuts : cut bytes ≡ Ok tokens
+  pub spells : Spells tokens source
+  pub checks : checked_source machine source ≡ Ok tree
+
+-- why a text is refused: by its bytes, by its grammar, with a place, or by the checks of its script
+pub data Refusal : Type 0 where
+  by_bytes : CutFault → Refusal
+  unexpected : ℕ → Refusal
+  too_deep : ℕ → Refusal
+  by_check : CheckFault → Refusal
+
+-- the tokens are cut from the bytes, and the grammar stops at a place
+pub record IsMisspelled (bytes : List ℕ) (place : ℕ) : Type 0 where
+  pub tokens : List Token
+  pub cuts : cut bytes ≡ Ok tokens
+  pub stops : IsUnexpected tokens (length bytes) place
+
+pub record IsSpelledTooDeep (bytes : List ℕ) (place : ℕ) : Type 0 where
+  pub tokens : List Token
+  pub cuts : cut bytes ≡ Ok tokens
+  pub deep : IsTooDeep tokens place
+
+-- the tokens spell a script, whose checks refuse it
+pub record IsUnchecked (machine : Description) (bytes : List ℕ) (fault : CheckFault) : Type 0 where
+  pub tokens : List Token
+  pub source : Source
+  pub cuts : cut bytes ≡ Ok tokens
+  pub spells : Spells tokens source
+  pub checks : checked_source machine source ≡ Err fault
+
+-- the first refusal of a text: its bytes come before its grammar, and its grammar before its checks
+abbrev pub IsRefusedBy : Description → List ℕ → Refusal → Type 0
+IsRefusedBy machine bytes (by_bytes fault) = cut bytes ≡ Err fault
+IsRefusedBy machine bytes (unexpected place) = IsMisspelled bytes place
+IsRefusedBy machine bytes (too_deep place) = IsSpelledTooDeep bytes place
+IsRefusedBy machine bytes (by_check fault) = IsUnchecked machine bytes fault

@@ -1,0 +1,30 @@
+-- Checks one after another: the first refusal ends them.
+use Rattle.std.specs.Prelude.{◌≡◌, Bool, true, false, Result, Ok, Err, ⊤}
+use Rattle.ts_checker.specs.declared.fault.CheckFault.{CheckFault}
+use Rattle.ts_checker.specs.declared.fault.CheckFault.TheVariants.{Undeclared, NotInVm, Twice, Kind, Arity, TooManyPrivates, NoMemory}
+
+-- goes on with what a check gave, unless it refused
+infixl 10 ◌>>=◌
+abbrev pub ◌>>=◌ : {A B : Type 0} → Result A CheckFault → (A → Result B CheckFault) → Result B CheckFault
+(Ok x) >>= next = next x
+(Err e) >>= next = Err e
+
+-- the refusal, where a test doesn't hold
+abbrev pub demand : Bool → CheckFault → Result ⊤ CheckFault
+demand true e = Ok tt
+demand false e = Err e
+
+-- the check refuses with this fault; want of memory tells nothing of it
+abbrev pub Refuses : {B : Type 0} → CheckFault → Result B CheckFault → Type 0
+Refuses (Undeclared name place) check = check ≡ Err (Undeclared name place)
+Refuses (NotInVm name) check = check ≡ Err (NotInVm name)
+Refuses (Twice name) check = check ≡ Err (Twice name)
+Refuses (Kind place) check = check ≡ Err (Kind place)
+Refuses (Arity place) check = check ≡ Err (Arity place)
+Refuses TooManyPrivates check = check ≡ Err TooManyPrivates
+Refuses NoMemory check = ⊤
+
+-- an answer of the program, seen by view, is what the check gives
+abbrev pub Gives : {A B : Type 0} → (A → B) → Result A CheckFault → Result B CheckFault → Type 0
+Gives view (Ok x) check = check ≡ Ok (view x)
+Gives view (Err e) check = Refuses e check

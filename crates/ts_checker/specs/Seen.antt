@@ -1,0 +1,23 @@
+-- How the checker's own values are seen.
+use Rattle.ts_syntax.specs.Expression.{Arguments, arguments}
+use Rattle.ts_syntax.specs.TreeOf.{expr_tree, args_trees}
+use Rattle.ts_syntax.specs.declared.checked_expr.CArgs.{CArgs}
+use Rattle.ts_syntax.specs.declared.checked_stmt.CForHead.{CForHead}
+use Rattle.ts_checker.specs.declared.scope.Scope.{Scope}
+use Rattle.ts_checker.specs.declared.called.Called as of
+use Rattle.ts_checker.specs.declared.called.Called.TheVariants as variant
+use Rattle.ts_checker.specs.Names.{Names}
+use Rattle.ts_checker.specs.Checks.{Called, sends, calls, Head}
+
+abbrev pub names_of : Scope → Names
+names_of s = record { machine = s.desc.now; declared = s.names.items }
+
+abbrev pub arguments_of : CArgs → Arguments
+arguments_of args = arguments (args_trees args)
+
+abbrev pub call_of : of.Called → Called
+call_of (variant.Sends f p) = sends f p
+call_of (variant.Calls f es) = calls f (arguments_of es)
+
+abbrev pub head_of : CForHead → Head
+head_of h = record { var = h.var; from = expr_tree h.from; to = expr_tree h.to; step = h.step }

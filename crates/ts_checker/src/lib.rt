@@ -1,0 +1,14 @@
+//! The checks of a TinyScript script for a machine, and the checked tree that they give.
+#![tactic(auto)]
+
+mod called;
+pub mod checking;
+mod exprs;
+pub mod fault;
+mod scope;
+mod stmts;
+#[cfg(test)]
+mod tests;
+
+pub use checking::check;
+pub use fault::CheckFault;

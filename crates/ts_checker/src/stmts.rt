@@ -1,0 +1,103 @@
+//! The checks of statements.
+
+ghost use Rattle.std.specs.Prelude.{◌≡◌};
+ghost use Rattle.ts_syntax.specs.Seen.{tree_of, act_of, acts_of};
+ghost use Rattle.ts_syntax.specs.TreeOf.{stmt_tree, block_tree};
+ghost use Rattle.ts_checker.specs.Refusal.{Gives};
+ghost use Rattle.ts_checker.specs.Checks.{checked_step, checked_head, checked_stmt, checked_block};
+ghost use Rattle.ts_checker.specs.Seen.{names_of, head_of};
+
+use crate::exprs::{call, expression};
+use crate::fault::CheckFault;
+use crate::scope::Scope;
+use std::alloc::Global;
+use ts_syntax::{Block, CBlock, CForHead, CStmt, ForHead, Step, Stmt};
+
+/// Checks the statements of a block.
+#[cycle(block)]
+pub(crate) fn block(alloc: Global, scope: &Scope, stmts: &Block) -> Result<CBlock, CheckFault>
+    ensures { Gives block_tree result (checked_block (names_of scope.now) (acts_of stmts.now)) }
+{
+    let mut checked = CBlock::new(alloc);
+    for stmt in stmts.as_slice() {
+        checked.push(statement(alloc, scope, stmt)?)?;
+    }
+    Ok(checked)
+}
+
+#[cycle(block)]
+fn statement(alloc: Global, scope: &Scope, stmt: &Stmt) -> Result<CStmt, CheckFault>
+    ensures { Gives stmt_tree result (checked_stmt (names_of scope.now) (act_of stmt.now)) }
+{
+    match stmt {
+        Stmt::Set(word, value) => {
+            let variable = scope.variable(word)?;
+            Ok(CStmt::Set(variable, expression(alloc, scope, true, value)?))
+        }
+        Stmt::SetItem(word, index, value) => {
+            let buffer = scope.buffer(word)?;
+            let index = expression(alloc, scope, true, index)?;
+            let value = expression(alloc, scope, true, value)?;
+            Ok(CStmt::SetItem(buffer, index, value))
+        }
+        Stmt::Append(word, value) => {
+            let buffer = scope.buffer(word)?;
+            Ok(CStmt::Append(buffer, expression(alloc, scope, true, value)?))
+        }
+        Stmt::Take(word, from) => {
+            let variable = scope.variable(word)?;
+            Ok(CStmt::Take(variable, scope.buffer(from)?))
+        }
+        Stmt::Clear(word) => Ok(CStmt::Clear(scope.buffer(word)?)),
+        Stmt::Do(word, args) => Ok(call(alloc, scope, true, word, args)?.into_stmt()),
+        Stmt::If(test, body, other) => {
+            let test = expression(alloc, scope, true, test)?;
+            let body = block(alloc, scope, body)?;
+            let other = match other {
+                Some(other) => Some(block(alloc, scope, other)?),
+                None => None,
+            };
+            Ok(CStmt::If(test, body, other))
+        }
+        Stmt::For(head, body, next) => {
+            let checked = for_head(alloc, scope, head)?;
+            let body = block(alloc, scope, body)?;
+            scope.closes(&head.var, next)?;
+            Ok(CStmt::For(checked, body))
+        }
+        Stmt::While(test, body) => {
+            let test = expression(alloc, scope, true, test)?;
+            Ok(CStmt::While(test, block(alloc, scope, body)?))
+        }
+    }
+}
+
+fn for_head(alloc: Global, scope: &Scope, head: &ForHead) -> Result<CForHead, CheckFault>
+    ensures { let from = tree_of head.now.from in
+        Gives head_of result (checked_head (names_of scope.now) head.now.var from (tree_of head.now.to) head.now.step) }
+{
+    let var = scope.variable(&head.var)?;
+    let from = expression(alloc, scope, true, &head.from)?;
+    let to = expression(alloc, scope, false, &head.to)?;
+    let step = step_size(head.step)?;
+    Ok(CForHead {
+        var,
+        from,
+        to,
+        step,
+    })
+}
+
+// The step of a `for`: 1 where none is written, else from -32767 to 32767, and not 0.
+fn step_size(step: Option<Step>) -> Result<i16, CheckFault>
+    ensures { result ≡ checked_step step }
+{
+    let Some(step) = step else {
+        return Ok(1);
+    };
+    if step.size == 0 || step.size > 32767 {
+        return Err(CheckFault::Kind { place: step.place });
+    }
+    let size = step.size as i16;
+    Ok(if step.minus { -size } else { size })
+}
