@@ -1,0 +1,26 @@
+//! The whole way from bytes to a checked script.
+
+ghost use Rattle.std.specs.Prelude.{◌≡◌, ◌≤◌, length, IfOk};
+ghost use Rattle.vm_desc.specs.Shapes.{shape_of as shape_of_machine};
+ghost use Rattle.ts_syntax.specs.Checked.{shape_of};
+ghost use Rattle.ts_source.specs.Answers.{Tells};
+
+use crate::refusal::SourceRefusal;
+use std::alloc::Global;
+use ts_checker::check;
+use ts_parser::{parse, tokens};
+use ts_syntax::Checked;
+use vm_desc::Description;
+
+/// The checked script of a source of at most 1,048,576 bytes for the machine of `desc`, or the first refusal of it: of
+/// its tokens over the whole text, then of its grammar and depth, then of its checks. Want of memory may come in place of
+/// any answer.
+pub fn accept(alloc: Global, desc: &Description, bytes: &[u8]) -> Result<Checked, SourceRefusal>
+    requires { length bytes.now ≤ 1048576 }
+    ensures tells { Tells desc.now bytes.now result }
+    ensures shape { IfOk result (λ script. shape_of script ≡ shape_of_machine desc.now) }
+{
+    let tokens = tokens(alloc, bytes)?;
+    let script = parse(alloc, &tokens, bytes.len() as u32)?;
+    Ok(check(alloc, desc, &script)?)
+}
