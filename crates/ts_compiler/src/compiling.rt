@@ -1,0 +1,57 @@
+//! From a checked script to its bytes.
+
+ghost use Rattle.std.specs.Prelude.{◌≡◌, Ok, IfOk};
+ghost use Rattle.mate_code.specs.Code.{decoded};
+ghost use Rattle.mate_code.specs.Table.{table_of};
+ghost use Rattle.ts_syntax.specs.Checked.{shape_of, tree_of};
+ghost use Rattle.ts_translation.specs.Laws.{RunsAsItsScript, UsesAsItsScript};
+ghost use Rattle.ts_translation.specs.Translation.{code_of};
+ghost use Rattle.ts_compiler.specs.Compiled.{Compiles, AreAccepted};
+
+use crate::emitter::Emitter;
+use crate::extent::script_extent;
+use crate::fault::CompileFault;
+use mate_code::{Table, encode};
+use mate_num::{CODE_MAX, Code};
+use ts_syntax::Checked;
+use ts_translation::{
+    code_is_encodable, code_is_verified, code_runs_as_its_script, code_uses_as_its_script,
+};
+
+/// The stack of a machine has room for so many values.
+const STACK_MAX: u32 = 16;
+
+/// The code of a checked script, for the machine whose table it is. `StackDepth` comes exactly where the script
+/// needs a stack of more than 16 values, and `TooLong` exactly where it doesn't but its code takes more than
+/// `CODE_MAX` bytes. It takes no memory. One pass measures the script; only code that has room is written.
+pub fn compile(table: &Table, script: &Checked) -> Result<Code, CompileFault>
+    requires { table.now ≡ table_of (shape_of script.now) }
+    ensures gives { Compiles (shape_of script.now) (tree_of script.now) result }
+
+    // The bytes spell the instructions of the script's code, each at its place.
+    ensures decodes { IfOk result (λ code. decoded table.now code.items ≡ Ok (code_of (tree_of script.now))) }
+
+    // They are verified, with the depth of the stack at each place.
+    ensures verified { IfOk result (λ code. AreAccepted (shape_of script.now) (tree_of script.now) code) }
+
+    // The code runs as the script, and uses what the script uses.
+    ensures runs { IfOk result (λ _. RunsAsItsScript (shape_of script.now) (tree_of script.now)) }
+    ensures uses { UsesAsItsScript (shape_of script.now) (tree_of script.now) }
+{
+    code_is_encodable();
+    code_is_verified();
+    code_runs_as_its_script();
+    code_uses_as_its_script();
+    let extent = script_extent(script.body());
+    if extent.need > STACK_MAX {
+        return Err(CompileFault::StackDepth { need: extent.need });
+    }
+    if extent.size > CODE_MAX as u32 {
+        return Err(CompileFault::TooLong { size: extent.size });
+    }
+    let emitter = Emitter::of(script.body());
+    match encode(table, emitter.as_slice()) {
+        Ok(code) => Ok(code),
+        Err(_) => unreachable!(),
+    }
+}
