@@ -1,0 +1,4 @@
+pub mod SizeLemmas
+pub mod PlacedLemmas
+pub mod MarkLemmas
+pub mod PassLemmas

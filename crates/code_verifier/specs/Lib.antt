@@ -1,0 +1,6 @@
+pub mod Faults
+pub mod Flows
+pub mod Marks
+pub mod Pass
+pub mod Placed
+pub mod Verified

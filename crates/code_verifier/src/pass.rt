@@ -1,0 +1,140 @@
+//! The pass over decoded code, with a depth of the stack at each place.
+
+ghost use Rattle.std.specs.Prelude.{◌≡◌, ◌≤◌, ◌+◌, length, IsTrue};
+ghost use Rattle.mate_code.specs.Instr.{size_of};
+ghost use Rattle.mate_code.specs.Flow.{flow_of};
+ghost use Rattle.mate_code.specs.Run.{size_of_code};
+ghost use Rattle.mate_code.specs.Verification.{AreFrom, halts, has_target, has_direction, has_back_depth, marks_after};
+ghost use Rattle.mate_num.specs.declared.bounds.TheConstants.{CODE_MAX};
+ghost use Rattle.code_verifier.specs.Flows.{flow_in, IsTargetBelow};
+ghost use Rattle.code_verifier.specs.Marks.{marks_in};
+ghost use Rattle.code_verifier.specs.Pass.{PassGives, CheckGives};
+
+use crate::fault::VerifyFault;
+use crate::flow::{Flow, flow_of, is_in_range, pops, pushes};
+use crate::marks::{Mark, depth, first, give};
+use crate::placed::Placed;
+use mate_code::Instr;
+use mate_num::Shape;
+
+/// The room of a stack, in values.
+const ROOM: u16 = 16;
+
+/// Goes over the instructions by their places. Answers the first refusal.
+pub fn pass(shape: &Shape, code: &Placed, instrs: &[(u16, Instr)]) -> Result<(), VerifyFault>
+    requires same { instrs.now ≡ code.now }
+    requires from { AreFrom 0 code.now }
+    requires fits { size_of_code code.now ≤ CODE_MAX }
+    ensures { PassGives shape.now code.now result }
+{
+    let mut marks = first();
+    'instrs: for (place, instr) in instrs {
+        check_instr(shape, code, &mut marks, *place, *instr)?;
+    }
+    Ok(())
+}
+
+/// Whether the last instruction halts.
+pub fn halts(instrs: &[(u16, Instr)]) -> bool
+    ensures { result ≡ halts instrs.now }
+{
+    match instrs {
+        [.., (_, last)] => flow_of(*last).is_end(),
+        [] => false,
+    }
+}
+
+// Checks one instruction, and gives the depth after it to where it goes on.
+fn check_instr(
+    shape: &Shape,
+    code: &Placed,
+    marks: &mut [Mark],
+    place: u16,
+    instr: Instr,
+) -> Result<(), VerifyFault>
+    requires room { place + size_of instr ≤ CODE_MAX }
+    requires marks { length marks.old ≡ CODE_MAX + 1 }
+    ensures { CheckGives shape.now code.now place instr (marks_in marks.old) result (marks_in marks.new) }
+{
+    let at = u32::from(place);
+    let flow = flow_of(instr);
+    if matches!(marks[usize::from(place)], Mark::Clash) {
+        return Err(VerifyFault::DepthDiffers { place: at });
+    }
+    if !is_in_range(shape, instr) {
+        return Err(VerifyFault::BadIndex { place: at });
+    }
+    if !has_target(code, flow) {
+        return Err(VerifyFault::BadTarget { place: at });
+    }
+    if !has_direction(place, flow) {
+        return Err(VerifyFault::BackJump { place: at });
+    }
+    let before = depth(marks, usize::from(place));
+    let taken = pops(shape, instr);
+    if before < taken {
+        return Err(VerifyFault::Underflow { place: at });
+    }
+    let after = u16::from(before - taken) + u16::from(pushes(instr));
+    if after > ROOM {
+        return Err(VerifyFault::Overflow { place: at });
+    }
+    let after = after as u8;
+    if !has_back_depth(marks, after, flow) {
+        return Err(VerifyFault::DepthDiffers { place: at });
+    }
+    give_on(marks, flow, usize::from(place) + instr.size(), after);
+    Ok(())
+}
+
+// Whether the target, if there is one, is an instruction's start.
+fn has_target(code: &Placed, flow: Flow) -> bool
+    ensures value { result ≡ has_target code.now (flow_in flow) }
+    ensures below { IsTrue result → IsTargetBelow CODE_MAX flow }
+{
+    match flow {
+        Flow::Next | Flow::Ends => true,
+        Flow::Branches(target) | Flow::Jumps(target) | Flow::Returns(target) => code.is_start(
+            target,
+        ),
+    }
+}
+
+// Whether the target lies forward, or that of a going back doesn't.
+fn has_direction(place: u16, flow: Flow) -> bool
+    ensures { result ≡ has_direction place (flow_in flow) }
+{
+    match flow {
+        Flow::Next | Flow::Ends => true,
+        Flow::Branches(target) | Flow::Jumps(target) => place < target,
+        Flow::Returns(target) => target <= place,
+    }
+}
+
+// Whether the target of a going back has this depth.
+fn has_back_depth(marks: &[Mark], after: u8, flow: Flow) -> bool
+    ensures { result ≡ has_back_depth (marks_in marks.now) after (flow_in flow) }
+{
+    match flow {
+        Flow::Next | Flow::Ends | Flow::Branches(_) | Flow::Jumps(_) => true,
+        Flow::Returns(target) => depth(marks, usize::from(target)) == after,
+    }
+}
+
+// Gives the depth to the next place and to the target of a jump forward.
+fn give_on(marks: &mut [Mark], flow: Flow, next: usize, after: u8)
+    requires marks { length marks.old ≡ CODE_MAX + 1 }
+    requires target { IsTargetBelow CODE_MAX flow }
+    requires next { next ≤ CODE_MAX }
+    ensures { marks_in marks.new ≡ marks_after (flow_in flow) next after (marks_in marks.old) }
+{
+    match flow {
+        Flow::Next => give(marks, next, after),
+        Flow::Branches(target) => {
+            give(marks, usize::from(target), after);
+            give(marks, next, after);
+        }
+        Flow::Jumps(target) => give(marks, usize::from(target), after),
+        Flow::Ends | Flow::Returns(_) => {}
+    }
+}

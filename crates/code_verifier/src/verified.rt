@@ -1,0 +1,106 @@
+//! Code that was verified.
+
+ghost use Rattle.std.specs.Prelude.{◌≡◌, ◌+◌, ◌≤◌, IsTrue, Some};
+ghost use Rattle.mate_code.specs.Instr.{size_of};
+ghost use Rattle.mate_code.specs.Run.{fetch};
+ghost use Rattle.mate_code.specs.Table.{table_of};
+ghost use Rattle.mate_code.specs.Verification.{is_start, IsRight};
+ghost use Rattle.code_verifier.specs.Faults.{refusal_of};
+ghost use Rattle.code_verifier.specs.Verified.{depth_of, IsVerifiedCode, KeepsFitting, Verifies};
+
+use crate::fault::VerifyFault;
+use crate::pass::{halts, pass};
+use crate::placed::Placed;
+use mate_code::{Instr, Instrs, Table, decode};
+use mate_num::{CODE_MAX, Code, Shape};
+use std::marker::Model;
+
+/// Code that was verified for machines of a shape. Only verification makes one.
+///
+/// What runs it never misses an operand or a place, and never overruns its stack of 16 values.
+#[derive(Drop)]
+pub struct Verified {
+    shape: Shape,
+    bytes: Code,
+    instrs: Placed,
+}
+
+impl Model for Verified {
+    ghost use Rattle.code_verifier.specs.Verified.{VerifiedCode, IsVerifiedCode};
+
+    ghost Value = { VerifiedCode };
+
+    ghost view = { λ v. record { shape = v.shape; bytes = v.bytes.items; code = v.instrs } };
+
+    ghost invariant = { λ v. IsVerifiedCode record { shape = v.shape; bytes = v.bytes.items; code = v.instrs } };
+}
+
+impl Verified {
+    /// The shape by which the code was verified.
+    pub fn shape(&self) -> &Shape
+        ensures value { result.now ≡ self.now.shape }
+        ensures verified { IsVerifiedCode self.now }
+    {
+        &self.shape
+    }
+
+    /// The code's bytes.
+    pub fn code(&self) -> &Code
+        ensures value { result.now.items ≡ self.now.bytes }
+        ensures verified { IsVerifiedCode self.now }
+    {
+        &self.bytes
+    }
+
+    /// The instruction that starts at the place. It is found at once.
+    pub fn instr(&self, place: u16) -> Instr
+        requires { IsTrue (is_start self.now.code place) }
+        ensures value { fetch self.now.code place ≡ Some result }
+        ensures within { place + size_of result ≤ CODE_MAX }
+
+        // Its names are in range, its operands are there, and it goes on at an instruction.
+        ensures right { IsRight self.now.shape self.now.code (depth_of self.now) place result }
+        // What fits the code goes on fitting it.
+        ensures fits { KeepsFitting self.now place result }
+    {
+        let Some(instr) = self.instrs.get(place) else {
+            unreachable!()
+        };
+        instr
+    }
+
+    /// The pairs of place and instruction, in order.
+    pub fn instrs(&self) -> Instrs
+        ensures value { result ≡ self.now.code }
+        ensures verified { IsVerifiedCode self.now }
+    {
+        self.instrs.instrs()
+    }
+
+    // Verifies the bytes for machines of this shape.
+    pub(crate) fn new(table: &Table, shape: Shape, bytes: &[u8]) -> Result<Verified, VerifyFault>
+        requires { table.now ≡ table_of shape }
+        ensures { Verifies shape bytes.now result }
+    {
+        if bytes.len() > CODE_MAX {
+            return Err(VerifyFault::TooLong { len: bytes.len() });
+        }
+        let decoded = match decode(table, bytes) {
+            Ok(decoded) => decoded,
+            Err(fault) => return Err(VerifyFault::of_decode(fault)),
+        };
+        let instrs = Placed::of(&decoded);
+        pass(&shape, &instrs, decoded.as_slice())?;
+        if !halts(decoded.as_slice()) {
+            return Err(VerifyFault::NoHalt);
+        }
+        let Ok(bytes) = Code::try_from(bytes) else {
+            unreachable!()
+        };
+        Ok(Verified {
+            shape,
+            bytes,
+            instrs,
+        })
+    }
+}
