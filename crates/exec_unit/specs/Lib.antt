@@ -1,0 +1,4 @@
+pub mod Machine
+pub mod Follows
+pub mod Operands
+pub mod Step
