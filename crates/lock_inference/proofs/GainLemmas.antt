@@ -1,0 +1,200 @@
+-- What lock sets gain, and that verified code names resources that a machine can have.
+use Rattle.std.proofs.Common.{◌≡◌, ◌≢◌, ℕ, zero, suc, ◌+◌, ◌<◌, ◌≤◌, List, [], ◌∷◌, Bool, true, false, ◌||◌, eqb, Option, None, Some, length, take, get_or, IsTrue, ◌⊎◌, inl, inr, refl, sym, ◌∙◌, ap, subst, arith, rules}
+use Rattle.std.specs.Prelude.{nat_lt}
+use Rattle.std.specs.List.{list_any}
+use Rattle.std.proofs.lemmas.Bool.{eqb-true, eq-eqb, ne_eqb, ltb-true, lt-ltb, cases_Bool, and_parts}
+use Rattle.std.proofs.lemmas.List.{take_all}
+use Rattle.std.proofs.lemmas.List.Folds.{list_any_more}
+use Rattle.std.proofs.lemmas.Option.{slice_get-map, slice_get-get_or}
+use Rattle.std.specs.Option.{IfSome, option_map}
+use Rattle.mate_num.specs.declared.id.BufId.{BufId}
+use Rattle.mate_num.specs.declared.id.DeviceId.{DeviceId}
+use Rattle.mate_num.specs.declared.id.FunId.{FunId}
+use Rattle.mate_num.specs.declared.lock_set.LockSet.{LockSet}
+use Rattle.mate_num.specs.declared.resource.Resource.{Resource}
+use Rattle.mate_num.specs.declared.resource.Resource.TheVariants.{Shared, Buffer, Device}
+use Rattle.mate_num.specs.declared.shape.FunShape.{FunShape}
+use Rattle.mate_num.specs.declared.shape.Shape.{Shape}
+use Rattle.mate_num.specs.Uses.{Uses, Adds, IsSameUses, no_uses}
+use Rattle.mate_code.specs.declared.instr.Instr.{Instr}
+use Rattle.mate_code.specs.declared.instr.Instr.TheVariants.{GetS, SetS, BGet, BSet, BAdd, BTake, BSize, BClear, FunBuf}
+use Rattle.mate_code.specs.Cells.{is_same}
+use Rattle.mate_code.specs.CodeUses.{Use, Nothing, Gets, Changes, Calls, Sends, use_of, uses_of, reads_in, writes_in, is_device, is_device_of, function_of}
+use Rattle.mate_code.specs.Flow.{is_in_range}
+use Rattle.mate_code.specs.Instr.{size_of}
+use Rattle.mate_code.specs.Run.{Code, fetch}
+use Rattle.mate_code.specs.Verification.{AreFrom}
+use Rattle.mate_code.proofs.CellLemmas.{is_same-refl}
+use Rattle.mate_code.proofs.VerificationLemmas.{fetch-range}
+use Rattle.code_verifier.specs.Verified.{VerifiedCode, IsVerifiedCode}
+use Rattle.vm_desc.specs.declared.description.Description.{Description}
+use Rattle.vm_desc.specs.declared.function.Function.{Function}
+use Rattle.vm_desc.specs.Limits.{is_function, is_device as is_there}
+use Rattle.vm_desc.specs.Shapes.{fun_shape, shape_of}
+use Rattle.vm_desc.proofs.DescriptionLemmas.{bounds_of, function_at}
+use Rattle.lock_inference.specs.Locks.{held, AreLocksOf, device_in, names_resource, Gains}
+
+-- ---- one resource more
+
+is_same-true : (r q : Resource) → is_same r q ≡ true → r ≡ q
+is_same-true (Shared v) (Shared w) e = ap (λ (n : ℕ). Shared record { 0 = n }) (eqb-true v.0 w.0 e)
+is_same-true (Shared v) (Buffer c) e = cc
+is_same-true (Shared v) (Device d) e = cc
+is_same-true (Buffer b) (Shared w) e = cc
+is_same-true (Buffer b) (Buffer c) e = ap (λ (n : ℕ). Buffer record { 0 = n }) (eqb-true b.0 c.0 e)
+is_same-true (Buffer b) (Device d) e = cc
+is_same-true (Device b) (Shared w) e = cc
+is_same-true (Device b) (Buffer c) e = cc
+is_same-true (Device b) (Device d) e = ap (λ (n : ℕ). Device record { 0 = n }) (eqb-true b.0 d.0 e)
+
+or-false : (b : Bool) → (b || false) ≡ b
+or-false true = refl
+or-false false = refl
+
+or-true : (b : Bool) → (b || true) ≡ true
+or-true true = refl
+or-true false = refl
+
+-- a set with r has q where it had it, and where q is r
+adds-at : (before after : Resource → Bool) (r q : Resource) → Adds before after r → after q ≡ (before q || is_same r q)
+adds-at before after r q adds =
+    elim (cases_Bool (is_same r q)) [
+      | inl same ↦
+          let e : r ≡ q = is_same-true r q same in
+          ap after (sym e) ∙ adds.added ∙ sym (or-true (before q)) ∙ ap (λ (b : Bool). before q || b) (sym same)
+      | inr other ↦
+          let apart : q ≢ r = λ e. cc (sym other ∙ ap (λ (x : Resource). is_same r x) e ∙ is_same-refl r) in
+          adds.others q apart ∙ sym (or-false (before q)) ∙ ap (λ (b : Bool). before q || b) (sym other)
+    ]
+
+kept-at : (before after : Resource → Bool) (q : Resource) → after ≡ before → after q ≡ (before q || false)
+kept-at before after q e = ap (λ (f : Resource → Bool). f q) e ∙ sym (or-false (before q))
+
+pub Gains-nothing : (shape : Shape) (set : LockSet) → Gains shape set set Nothing
+Gains-nothing shape set = record {
+  reads = λ r. sym (or-false ((held set).reads r));
+  writes = λ r. sym (or-false ((held set).writes r));
+}
+
+pub Gains-gets : (shape : Shape) (old new : LockSet) (r : Resource) → Adds (held old).reads (held new).reads r → (held new).writes ≡ (held old).writes → Gains shape old new (Gets r)
+Gains-gets shape old new r adds same = record {
+  reads = λ q. adds-at (held old).reads (held new).reads r q adds;
+  writes = λ q. kept-at (held old).writes (held new).writes q same;
+}
+
+pub Gains-changes : (shape : Shape) (old new : LockSet) (r : Resource) → (held new).reads ≡ (held old).reads → Adds (held old).writes (held new).writes r → Gains shape old new (Changes r)
+Gains-changes shape old new r same adds = record {
+  reads = λ q. kept-at (held old).reads (held new).reads q same;
+  writes = λ q. adds-at (held old).writes (held new).writes r q adds;
+}
+
+-- the device of a called function is written
+device-at : (f : Option FunShape) (device : Option DeviceId) (r : Resource) → device ≡ device_in f → is_device_of f r ≡ is_device device r
+device-at None device r e = ap (λ (d : Option DeviceId). is_device d r) (sym e)
+device-at (Some f) device r e = ap (λ (d : Option DeviceId). is_device d r) (sym e)
+
+pub Gains-calls : (shape : Shape) (old new : LockSet) (fun : FunId) (d : DeviceId) → Some d ≡ device_in (function_of shape fun) → Gains shape old new (Changes (Device d)) → Gains shape old new (Calls fun)
+Gains-calls shape old new fun d e gains = record {
+  reads = gains.reads;
+  writes = λ r. gains.writes r ∙ ap (λ (b : Bool). (held old).writes r || b) (sym (device-at (function_of shape fun) (Some d) r e));
+}
+
+pub Gains-calls_none : (shape : Shape) (set : LockSet) (fun : FunId) → None ≡ device_in (function_of shape fun) → Gains shape set set (Calls fun)
+Gains-calls_none shape set fun e = record {
+  reads = λ r. sym (or-false ((held set).reads r));
+  writes = λ r. sym (or-false ((held set).writes r)) ∙ ap (λ (b : Bool). (held set).writes r || b) (sym (device-at (function_of shape fun) None r e));
+}
+
+-- a sent buffer is read, and then the function's device is written
+or-again : (a b : Bool) → ((a || b) || false) ≡ (a || b)
+or-again a b = or-false (a || b)
+
+pub Gains-sends : (shape : Shape) (old between new : LockSet) (fun : FunId) (buf : BufId) → Gains shape old between (Gets (Buffer buf)) → Gains shape between new (Calls fun) → Gains shape old new (Sends fun buf)
+Gains-sends shape old between new fun buf first second = record {
+  reads = λ r. second.reads r ∙ or-false ((held between).reads r) ∙ first.reads r;
+  writes = λ r. second.writes r ∙ ap (λ (b : Bool). b || is_device_of (function_of shape fun) r) (first.writes r ∙ or-false ((held old).writes r));
+}
+
+-- ---- the code's instructions
+
+-- the k-th instruction is found at its place
+fetch-at : (at : ℕ) (code : Code) (k : ℕ) (d : ℕ × Instr) → AreFrom at code → k < length code → fetch code (get_or code k d).0 ≡ Some (get_or code k d).1
+fetch-at at [] k d from lt = absurd (omega arith)
+fetch-at at (p ∷ code) zero d from lt = let e : eqb p.0 p.0 ≡ true = eq-eqb p.0 p.0 refl in rw e refl
+fetch-at at (p ∷ code) (suc k) d from lt =
+    let found = fetch-at (at + size_of p.1) code k d from.1 (omega arith) in
+    let range = fetch-range (at + size_of p.1) code (get_or code k d).0 (get_or code k d).1 from.1 found in
+    let first : p.0 ≡ at = from.0 in
+    let other : eqb p.0 (get_or code k d).0 ≡ false = ne_eqb p.0 (get_or code k d).0 (λ e. absurd (omega (arith, range.0))) in
+    rw other found
+
+below : (n limit most : ℕ) → limit ≤ most → IsTrue (nat_lt n limit) → IsTrue (nat_lt n most)
+below n limit most le h = let k : n < limit = ltb-true n limit h in lt-ltb n most (omega arith)
+
+-- what an instruction in range names is a resource that a machine can have
+names : (shape : Shape) (i : Instr) → shape.shared ≤ 16 → shape.buffers ≤ 8 → IsTrue (is_in_range shape i) → IsTrue (names_resource (use_of i))
+names shape (GetS v) shared buffers h = below v.0 shape.shared 16 shared h
+names shape (SetS v) shared buffers h = below v.0 shape.shared 16 shared h
+names shape (BGet b) shared buffers h = below b.0 shape.buffers 8 buffers h
+names shape (BSet b) shared buffers h = below b.0 shape.buffers 8 buffers h
+names shape (BAdd b) shared buffers h = below b.0 shape.buffers 8 buffers h
+names shape (BTake b) shared buffers h = below b.0 shape.buffers 8 buffers h
+names shape (BSize b) shared buffers h = below b.0 shape.buffers 8 buffers h
+names shape (BClear b) shared buffers h = below b.0 shape.buffers 8 buffers h
+names shape (FunBuf f b) shared buffers h = below b.0 shape.buffers 8 buffers h
+names shape _ shared buffers h = refl
+
+-- so in verified code
+pub verified-names : (d : Description) (v : VerifiedCode) (pairs : Code) (k : ℕ) (x : ℕ × Instr) (u : Use) → v.shape ≡ shape_of d → IsVerifiedCode v → pairs ≡ v.code → k < length pairs → u ≡ use_of (get_or pairs k x).1 → IsTrue (names_resource u)
+verified-names d v pairs k x u shape is same lt e =
+    let found = fetch-at 0 pairs k x (subst (AreFrom 0) (sym same) is.are_verified.is_verified.places) lt in
+    let there : fetch v.code (get_or pairs k x).0 ≡ Some (get_or pairs k x).1 = ap (λ (code : Code). fetch code (get_or pairs k x).0) (sym same) ∙ found in
+    let right = is.is_sound.each (get_or pairs k x).0 (get_or pairs k x).1 there in
+    let P : Use → Type 0 = λ w. IsTrue (names_resource w) in
+    let Q : Shape → Type 0 = λ s. IsTrue (is_in_range s (get_or pairs k x).1) in
+    subst P (sym e) (names (shape_of d) (get_or pairs k x).1 (bounds_of d).shared_high (bounds_of d).buffers_high (subst Q shape right.names))
+
+-- ---- the device of a function
+
+below_eight : (devices : ℕ) (device : Option DeviceId) → devices ≤ 8 → is_there devices device ≡ true → IfSome device (λ d. d.0 < 8)
+below_eight devices None few h = tt
+below_eight devices (Some d) few h = let k : d.0 < devices = ltb-true d.0 devices h in omega arith
+
+-- a description's function has its device, which is one of 8
+pub device-some : (d : Description) (functions : List Function) (n : ℕ) (fun : FunId) (f : Function) → functions ≡ d.functions.items → n ≡ fun.0 → n < length functions → f ≡ get_or functions n f
+    → (f.device ≡ device_in (function_of (shape_of d) fun)) × IfSome f.device (λ device. device.0 < 8)
+device-some d functions n fun f same at lt is =
+    let fs = d.functions.items in
+    let lt' : fun.0 < length fs = (let k : length functions ≡ length fs = ap length same in omega arith) in
+    let is' : f ≡ get_or fs fun.0 f = is ∙ ap (λ (xs : List Function). get_or xs n f) same ∙ ap (λ (k : ℕ). get_or fs k f) at in
+    let found : function_of (shape_of d) fun ≡ Some (fun_shape (get_or fs fun.0 f)) =
+    slice_get-map fun_shape fs fun.0 ∙ ap (option_map fun_shape) (slice_get-get_or fs fun.0 f lt') in
+    let rules : is_function (length d.devices.items) f ≡ true = ap (is_function (length d.devices.items)) is' ∙ function_at d fun.0 f lt' in
+    let there : is_there (length d.devices.items) f.device ≡ true = grind (arith, and_parts) in (
+      ap (λ (g : Function). g.device) is' ∙ sym (ap device_in found),
+      below_eight (length d.devices.items) f.device (bounds_of d).devices_high there,
+    )
+
+-- ---- the loop over them
+
+pub locks-none : (shape : Shape) (set : LockSet) → IsSameUses (held set) no_uses → AreLocksOf shape [] set
+locks-none shape set empty = record { reads = empty.reads; writes = empty.writes }
+
+pub locks-more : (shape : Shape) (code pairs : Code) (k : ℕ) (d : ℕ × Instr) (old new : LockSet) (u : Use) → pairs ≡ code → k < length pairs → u ≡ use_of (get_or pairs k d).1 → AreLocksOf shape (take k code) old → Gains shape old new u → AreLocksOf shape (take (k + 1) code) new
+locks-more shape code pairs k d old new u same lt e so_far gains =
+    let lt' : k < length code = (let n : length pairs ≡ length code = ap length same in omega arith) in
+    let e' : u ≡ use_of (get_or code k d).1 = e ∙ ap (λ (c : Code). use_of (get_or c k d).1) same in
+    let reader = λ (r : Resource) (p : ℕ × Instr). reads_in (use_of p.1) r in
+    let writer = λ (r : Resource) (p : ℕ × Instr). writes_in shape (use_of p.1) r in
+    record {
+      reads = λ r. gains.reads r ∙ ap (λ (b : Bool). b || reads_in u r) (so_far.reads r)
+          ∙ ap (λ (x : Use). list_any (reader r) (take k code) || reads_in x r) e' ∙ sym (list_any_more (reader r) code k d lt');
+      writes = λ r. gains.writes r ∙ ap (λ (b : Bool). b || writes_in shape u r) (so_far.writes r)
+          ∙ ap (λ (x : Use). list_any (writer r) (take k code) || writes_in shape x r) e' ∙ sym (list_any_more (writer r) code k d lt');
+    }
+
+pub locks-all : (shape : Shape) (code pairs : Code) (k : ℕ) (set : LockSet) → pairs ≡ code → length pairs ≤ k → AreLocksOf shape (take k code) set → AreLocksOf shape code set
+locks-all shape code pairs k set same le so_far =
+    let le' : length code ≤ k = (let n : length pairs ≡ length code = ap length same in omega arith) in
+    let P : Code → Type 0 = λ c. AreLocksOf shape c set in
+    subst P (take_all k code le') so_far

@@ -1,0 +1,62 @@
+//! The lock set of code, gathered over its instructions.
+
+ghost use Rattle.std.specs.Prelude.{◌≡◌, ◌<◌, IsTrue, IfSome};
+ghost use Rattle.mate_code.specs.CodeUses as code_uses;
+ghost use Rattle.vm_desc.specs.Shapes.{shape_of};
+ghost use Rattle.lock_inference.specs.Locks.{AreLocksOf, Gains, device_in, names_resource, use_in};
+
+use crate::uses::{Use, use_of};
+use code_verifier::Verified;
+use mate_num::{DeviceId, FunId, LockSet, Resource};
+use vm_desc::Description;
+
+/// The locks that a handler with this code takes: to read, exactly the shared variables and buffers that
+/// it reads, and to write, exactly the shared variables and buffers that it changes and the devices of
+/// the functions that it calls. The buffer of a call that sends one is read.
+pub fn locks(desc: &Description, code: &Verified) -> LockSet
+    requires { code.now.shape ≡ shape_of desc.now }
+    ensures { AreLocksOf (shape_of desc.now) code.now.code result }
+{
+    let mut set = LockSet::empty();
+    let instrs = code.instrs();
+    let pairs = instrs.as_slice();
+    'instrs: for (_, instr) in pairs {
+        set = with_use(set, desc, use_of(*instr));
+    }
+    set
+}
+
+// The set with what is read and written in this way.
+fn with_use(set: LockSet, desc: &Description, made: Use) -> LockSet
+    requires { IsTrue (names_resource (use_in made)) }
+    ensures { Gains (shape_of desc.now) set result (use_in made) }
+{
+    match made {
+        Use::Nothing => set,
+        Use::Gets(cell) => set.with_read(cell),
+        Use::Changes(cell) => set.with_write(cell),
+        Use::Calls(fun) => with_device(set, desc, fun),
+        Use::Sends(fun, buf) => with_device(set.with_read(Resource::Buffer(buf)), desc, fun),
+    }
+}
+
+// The set with the function's device, if it has one, to write.
+fn with_device(set: LockSet, desc: &Description, fun: FunId) -> LockSet
+    ensures { Gains (shape_of desc.now) set result (code_uses.Calls fun) }
+{
+    match device_of(desc, fun) {
+        Some(device) => set.with_write(Resource::Device(device)),
+        None => set,
+    }
+}
+
+// The device that the function speaks to, if there is such a function and it has one.
+fn device_of(desc: &Description, fun: FunId) -> Option<DeviceId>
+    ensures value { result ≡ device_in (code_uses.function_of (shape_of desc.now) fun) }
+    ensures below { IfSome result (λ device. device.0 < 8) }
+{
+    match desc.functions.get(usize::from(fun.0)) {
+        Some(function) => function.device,
+        None => None,
+    }
+}

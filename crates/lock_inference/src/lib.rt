@@ -1,0 +1,10 @@
+//! The locks of a handler: what its verified code reads and what it writes.
+#![tactic(auto)]
+
+mod inference;
+mod uses;
+
+pub use inference::locks;
+
+#[cfg(test)]
+mod tests;
