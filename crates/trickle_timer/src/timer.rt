@@ -1,0 +1,180 @@
+//! One node's timer: the interval that runs, its point, and what was heard in it.
+
+ghost use Rattle.std.specs.Prelude.{◌≡◌, ◌+◌, ◌/◌, ◌%◌, ◌^◌, ◌<◌, ◌≤◌, ◌&&◌, [], List, not, nat_lt, nat_le, IsTrue, if◌then◌else◌};
+ghost use Rattle.rand_pcg.specs.Pcg.{pcg32};
+ghost use Rattle.vm_desc.specs.Limits.{is_trickle, longest};
+ghost use Rattle.trickle_timer.specs.Intervals.{Reset, Again, Expired};
+
+use rand_core::utils::NextWord;
+use rand_pcg::Lcg64Xsh32;
+use std::marker::Model;
+use vm_desc::TrickleSet;
+
+/// What a node does at the point of its interval.
+#[derive(Clone, Copy, PartialEq, Eq, Debug)]
+pub enum Fire {
+    /// It sends the versions that it holds.
+    Send,
+    /// It is silent, since enough others sent the same.
+    Keep,
+}
+
+/// A running timer. Times are in ms, up to an hour.
+#[derive(Drop)]
+pub struct Trickle {
+    set: TrickleSet,
+    words: Lcg64Xsh32,
+    begin: u32,
+    length: u32,
+    point: u32,
+    heard: u16,
+}
+
+impl Model for Trickle {
+    ghost use Rattle.trickle_timer.specs.Timer.{Timer, IsRight};
+
+    ghost Value = { Timer };
+
+    ghost use Rattle.trickle_timer.specs.Fields.{timer_of};
+
+    ghost view = { timer_of };
+
+    ghost invariant = { λ t. IsRight (timer_of t) };
+}
+
+/// Draws the point of an interval of this length that begins now.
+fn draw(words: &mut Lcg64Xsh32, length: u32, now: u32) -> u32
+    requires two { 2 ≤ length }
+    requires room { now + length < 2 ^ 32 }
+    ensures value { result ≡ now + (length / 2 + (pcg32 words.old).0 % (length / 2)) }
+    ensures rest { words.new ≡ (pcg32 words.old).1 }
+{
+    let half = length / 2;
+    now + (half + words.next_word() % half)
+}
+
+impl Trickle {
+    ghost use Rattle.trickle_timer.specs.Intervals.{Start};
+    ghost use Rattle.trickle_timer.specs.Timer.{after, begun, started_timer, heard, Continues, IsTimerOf, IsRight, Decides};
+
+    /// The timer of a node: its first interval begins, with the shortest length. Each interval takes the next word of
+    /// the generator that begins at `random`, in the stream `2 * node`.
+    pub fn start(set: TrickleSet, random: u64, node: u8, now: u32) -> Trickle
+        requires settings { IsTrue (is_trickle set) }
+        requires node { node < 64 }
+        requires hour { now ≤ 3600000 }
+        ensures first { result ≡ started_timer (record { set = set; random = random; node = node; time = now }) }
+        ensures stands { IsTimerOf (record { set = set; random = random; node = node; time = now }) [] result }
+    {
+        let mut words = Lcg64Xsh32::new(random, 2 * u64::from(node));
+        let point = draw(&mut words, set.imin, now);
+        Trickle {
+            set,
+            words,
+            begin: now,
+            length: set.imin,
+            point,
+            heard: 0,
+        }
+    }
+
+    /// A packet is heard. A consistent one is counted, up to 65,535. Another one begins an interval of the shortest
+    /// length, unless the running one has that length. True exactly where an interval begins.
+    pub fn hear(&mut self, consistent: bool, now: u32) -> bool
+        requires hour { now ≤ 3600000 }
+        requires within { self.old.running.begin ≤ now }
+        ensures begun { result ≡ (not consistent && nat_lt self.old.set.imin self.old.running.length) }
+        ensures next { Continues self.old self.new (record { event = heard consistent; time = now }) }
+    {
+        if consistent {
+            self.heard = self.heard.saturating_add(1);
+            false
+        } else {
+            self.reset(now)
+        }
+    }
+
+    /// Begins an interval of the shortest length, unless the running one has that length. True exactly where one begins.
+    pub fn reset(&mut self, now: u32) -> bool
+        requires hour { now ≤ 3600000 }
+        requires within { self.old.running.begin ≤ now }
+        ensures begun { result ≡ nat_lt self.old.set.imin self.old.running.length }
+        ensures next { Continues self.old self.new (record { event = Reset; time = now }) }
+    {
+        if self.length > self.set.imin {
+            self.again(now);
+            true
+        } else {
+            false
+        }
+    }
+
+    /// What the node does at the point: it is silent exactly where `suppress` is true and the packets counted in the
+    /// interval are at least k.
+    pub fn fire(&mut self, suppress: bool) -> Fire
+        ensures rule { Decides self.old suppress result }
+        ensures same { self.new ≡ self.old }
+    {
+        if suppress && self.heard >= u16::from(self.set.k) {
+            Fire::Keep
+        } else {
+            Fire::Send
+        }
+    }
+
+    /// The interval ends, and one twice as long begins, or of the longest length.
+    pub fn expire(&mut self, now: u32)
+        requires hour { now ≤ 3600000 }
+        requires end { now ≡ self.old.running.begin + self.old.running.length }
+        ensures next { Continues self.old self.new (record { event = Expired; time = now }) }
+    {
+        let longest = self.set.longest();
+        self.begin_with((2 * self.length).min(longest), now);
+    }
+
+    /// Begins an interval of the shortest length.
+    pub fn again(&mut self, now: u32)
+        requires hour { now ≤ 3600000 }
+        requires within { self.old.running.begin ≤ now }
+        ensures next { Continues self.old self.new (record { event = Again; time = now }) }
+    {
+        self.begin_with(self.set.imin, now);
+    }
+
+    /// When the running interval began.
+    pub fn begin(&self) -> u32
+        ensures value { result ≡ self.now.running.begin }
+        ensures right { IsRight self.now }
+    {
+        self.begin
+    }
+
+    /// The length of the running interval, in ms: it ends so long after its beginning.
+    pub fn length(&self) -> u32
+        ensures value { result ≡ self.now.running.length }
+        ensures right { IsRight self.now }
+    {
+        self.length
+    }
+
+    /// The moment at which the node sends or is silent, in the second half of the running interval.
+    pub fn point(&self) -> u32
+        ensures value { result ≡ self.now.running.point }
+        ensures right { IsRight self.now }
+    {
+        self.point
+    }
+
+    /// Begins an interval of this length.
+    fn begin_with(&mut self, length: u32, now: u32)
+        requires hour { now ≤ 3600000 }
+        requires least { self.old.set.imin ≤ length }
+        requires most { length ≤ longest self.old.set }
+        ensures { self.new ≡ begun self.old.set self.old.words length now }
+    {
+        self.point = draw(&mut self.words, length, now);
+        self.begin = now;
+        self.length = length;
+        self.heard = 0;
+    }
+}
