@@ -1,0 +1,9 @@
+pub mod TableLemmas
+pub mod MaskLemmas
+pub mod SlotLemmas
+pub mod CollectLemmas
+pub mod StateLemmas
+pub mod SoundLemmas
+pub mod KnowledgeLemmas
+pub mod AnswerLemmas
+pub mod LawLemmas

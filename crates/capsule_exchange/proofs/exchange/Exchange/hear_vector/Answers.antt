@@ -1,0 +1,26 @@
+use Rattle.std.proofs.Common.{◌≡◌, ℕ, List, length, get_or, ap, ◌∙◌}
+use Rattle.std.specs.List.{refill}
+use Rattle.std.proofs.lemmas.List.Elements.{All-same}
+use Rattle.capsule_exchange.specs.declared.handler_state.HandlerState.{HandlerState}
+use Rattle.capsule_exchange.specs.Sound.{IsSound, AreSound}
+use Rattle.capsule_exchange.specs.Steps.{aimed, aimed_each}
+use Rattle.capsule_exchange.proofs.SoundLemmas.{changed_each, aimed_sound}
+use Rattle.capsule_exchange.proofs.exchange.Exchange.hear_vector.Goals as goal
+
+-- the states that `aim_each` leaves
+aimed_sound_all : (states lent after : List HandlerState) (versions told : List ℕ) → lent ≡ states → told ≡ versions → after ≡ aimed_each told lent → AreSound states → AreSound (refill (length states) states after)
+aimed_sound_all states lent after versions told same known is sound =
+    changed_each states after (λ h. aimed (get_or versions h 0)) (is ∙ ap (aimed_each told) same ∙ ap (λ (vs : List ℕ). aimed_each vs states) known) (λ h s. aimed_sound (get_or versions h 0) s) sound
+
+pub asks-requires-clause-sound : goal.asks-requires-clause-sound
+asks-requires-clause-sound c =
+    All-same IsSound c.as_slice-2.result.now (refill (length c.self.inside.handlers.items) c.self.inside.handlers.items c.aim_each.new.states) c.as_slice-2.ensures.value
+    (aimed_sound_all c.self.inside.handlers.items c.as_mut_slice.result.now c.aim_each.new.states c.args.versions.now.items c.as_slice.result.now c.as_mut_slice.ensures.value c.as_slice.ensures.value c.aim_each.ensures c.self.invariant)
+
+pub invariant_of-self : goal.invariant_of-self
+invariant_of-self c =
+    aimed_sound_all c.self.inside.handlers.items c.as_mut_slice.result.now c.aim_each.new.states c.args.versions.now.items c.as_slice.result.now c.as_mut_slice.ensures.value c.as_slice.ensures.value c.aim_each.ensures c.self.invariant
+
+pub returns-clause-sound : goal.returns-clause-sound
+returns-clause-sound c =
+    aimed_sound_all c.self.inside.handlers.items c.as_mut_slice.result.now c.aim_each.new.states c.args.versions.now.items c.as_slice.result.now c.as_mut_slice.ensures.value c.as_slice.ensures.value c.aim_each.ensures c.self.invariant

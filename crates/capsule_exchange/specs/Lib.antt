@@ -1,0 +1,6 @@
+pub mod Table
+pub mod Happenings
+pub mod Knowledge
+pub mod Steps
+pub mod Sound
+pub mod Laws

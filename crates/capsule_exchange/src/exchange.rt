@@ -1,0 +1,276 @@
+//! The exchange of one node.
+
+ghost use Rattle.std.specs.Prelude.{◌≡◌, ◌*◌, ◌/◌, ◌%◌, ◌<◌, ◌≤◌, ◌↔◌, [], length, map, IsTrue, IfSome, is_some, All};
+ghost use Rattle.std.specs.List.{list_any};
+ghost use Rattle.std.specs.Option.{option_map};
+ghost use Rattle.packet_codec.specs.declared.packet.Packet.TheVariants.{Vector};
+ghost use Rattle.packet_codec.specs.Packet.{IsRight};
+ghost use Rattle.capsule_exchange.specs.Happenings.{Hears, Installs, Forgets, asks_after, completed_by, held_version, held_versions, collected_image, IsOpen, is_marked_slot, slots_from, next_slot, fragment_for};
+ghost use Rattle.capsule_exchange.specs.Knowledge.{knowledge, held_of, with_state, Whatever, Learns, Judges, with_sent};
+ghost use Rattle.capsule_exchange.specs.Sound.{AreSound};
+ghost use Rattle.capsule_exchange.specs.Steps.{state_at, aimed_each, asks_upto, hears_status, hears_fragment, completes_in, sends, is_marked_in, fragment_in};
+
+use crate::handler_state::{Form, HandlerState};
+use crate::handlers::{aim_each, asks, first_marked, forget_each, held_versions, next_slot};
+use arrayvec::ArrayVec;
+use capsule_codec::Piece;
+use mate_num::{HandlerId, Image};
+use packet_codec::Packet;
+use std::marker::Model;
+
+/// What a node does about a packet that it heard.
+#[derive(PartialEq, Eq, Debug, Drop)]
+pub struct Heard {
+    /// Whether a Vector has exactly the versions that the node holds; None for other packets.
+    pub consistent: Option<bool>,
+    /// The packets that the node sends at once: one Status for each handler of which the Vector has a
+    /// greater version than the held one.
+    pub asks: ArrayVec<Packet, 8>,
+    /// The handler of a fragment with which the fragments of its target became complete.
+    pub complete: Option<HandlerId>,
+}
+
+impl Heard {
+    // What a packet calls for that is no Vector.
+    fn completing(complete: Option<HandlerId>) -> Heard
+        ensures consistent { result.consistent ≡ None }
+        ensures asks { result.asks.items ≡ [] }
+        ensures complete { result.complete ≡ complete }
+    {
+        Heard {
+            consistent: None,
+            asks: ArrayVec::new(),
+            complete,
+        }
+    }
+}
+
+/// The capsules that a node holds, what it collects of newer ones, and the fragments that it owes.
+///
+/// Contracts speak of the happenings that led here: they see what the node knows after them.
+#[derive(Drop)]
+pub struct Exchange {
+    handlers: ArrayVec<HandlerState, 8>,
+    last: Option<u8>,
+}
+
+impl Model for Exchange {
+    ghost use Rattle.capsule_exchange.specs.Knowledge.{Knowledge};
+    ghost use Rattle.capsule_exchange.specs.Sound.{AreSound};
+
+    ghost Value = { Knowledge };
+
+    ghost view = { λ e. record { handlers = e.handlers.items; last = e.last } };
+
+    ghost invariant = { λ e. AreSound e.handlers.items };
+}
+
+impl Exchange {
+    /// Nothing is held, collected or owed.
+    pub fn new(handlers: u8) -> Exchange
+        requires low { 1 ≤ handlers }
+        requires high { handlers ≤ 8 }
+        ensures { result ≡ knowledge handlers [] }
+    {
+        let mut states: ArrayVec<HandlerState, 8> = ArrayVec::new();
+        for _ in 0..handlers {
+            states.push(HandlerState::default());
+        }
+        Exchange {
+            handlers: states,
+            last: None,
+        }
+    }
+
+    /// How many handlers there are.
+    pub fn handlers(&self) -> usize
+        ensures { result ≡ length self.now.handlers }
+    {
+        self.handlers.len()
+    }
+
+    /// The version that the node holds of the handler, 0 for none.
+    pub fn held(&self, handler: HandlerId) -> u32
+        requires { handler.0 < length self.now.handlers }
+        ensures value { result ≡ held_of self.now handler }
+        ensures version { Whatever self.now (λ n hs. result ≡ held_version handler.0 hs) }
+    {
+        self.handlers[usize::from(handler.0)].held
+    }
+
+    /// A packet was heard. A Vector or a fragment tells of a version, which becomes the target where it is over
+    /// the held one and the target; a fragment of the target is collected; a Status marks the fragments that it
+    /// asks for of the held version.
+    pub fn hear(&mut self, packet: &Packet) -> Heard
+        requires { IsRight (length self.old.handlers) packet.now }
+        ensures learned { Learns self.old (Hears packet.now) self.new }
+        ensures handlers { length self.new.handlers ≡ length self.old.handlers }
+        ensures consistent { Whatever self.old (λ n before. Judges n packet.now before result.consistent) }
+        ensures asks { Whatever self.old (λ n before. result.asks.items ≡ asks_after n packet.now before) }
+        ensures complete { Whatever self.old (λ n before. result.complete ≡ completed_by packet.now before) }
+
+        // What is asked for is right, unless an image that is complete was not installed.
+        ensures right { Whatever self.old (λ n before. IsOpen n before → All (IsRight n) result.asks.items) }
+    {
+        match packet {
+            Packet::Vector { versions } => Heard {
+                consistent: Some(self.is_consistent(versions)),
+                asks: self.hear_vector(versions),
+                complete: None,
+            },
+            Packet::Status {
+                handler,
+                version,
+                missing,
+            } => {
+                self.hear_status(*handler, *version, *missing);
+                Heard::completing(None)
+            }
+            Packet::Fragment {
+                handler,
+                version,
+                index,
+                count,
+                large,
+                bytes,
+            } => {
+                let form = Form {
+                    count: *count,
+                    large: *large,
+                };
+                Heard::completing(self.hear_fragment(*handler, *version, *index, form, bytes))
+            }
+            Packet::App { .. } => Heard::completing(None),
+        }
+    }
+
+    // Whether the versions are those that are held.
+    fn is_consistent(&self, versions: &ArrayVec<u32, 8>) -> bool
+        ensures { IsTrue result ↔ (versions.now.items ≡ map (λ s. s.held) self.now.handlers) }
+    {
+        let held = held_versions(self.handlers.as_slice());
+        versions.as_slice() == held.as_slice()
+    }
+
+    // The versions of a Vector were heard of: what is asked for.
+    fn hear_vector(&mut self, versions: &ArrayVec<u32, 8>) -> ArrayVec<Packet, 8>
+        requires { length versions.now.items ≡ length self.old.handlers }
+        ensures aimed { self.new ≡ record self.old { handlers = aimed_each versions.now.items self.old.handlers } }
+        ensures asks { result.items ≡ asks_upto versions.now.items self.new.handlers (length self.new.handlers) }
+        ensures sound { AreSound self.new.handlers }
+    {
+        aim_each(self.handlers.as_mut_slice(), versions.as_slice());
+        asks(self.handlers.as_slice(), versions.as_slice())
+    }
+
+    // A Status of the handler was heard.
+    fn hear_status(&mut self, handler: HandlerId, version: u32, missing: u32)
+        requires { handler.0 < length self.old.handlers }
+        ensures { self.new ≡ with_state self.old handler.0 (hears_status version missing (state_at self.old.handlers handler.0)) }
+    {
+        let state = &mut self.handlers.as_mut_slice()[usize::from(handler.0)];
+        state.hear_status(version, missing);
+    }
+
+    // A fragment of the handler was heard: the handler, where its fragments became complete.
+    fn hear_fragment(
+        &mut self,
+        handler: HandlerId,
+        version: u32,
+        index: u8,
+        form: Form,
+        bytes: &Piece,
+    ) -> Option<HandlerId>
+        requires handler { handler.0 < length self.old.handlers }
+        requires index { index < 22 }
+        requires count { form.count ≤ 22 }
+        ensures state { self.new ≡ with_state self.old handler.0 (hears_fragment version index form bytes.now (state_at self.old.handlers handler.0)) }
+        ensures complete { result ≡ completes_in handler (state_at self.old.handlers handler.0) (state_at self.new.handlers handler.0) }
+        ensures sound_before { AreSound self.old.handlers }
+        ensures sound { AreSound self.new.handlers }
+    {
+        let state = &mut self.handlers.as_mut_slice()[usize::from(handler.0)];
+        let before = state.complete_version();
+        state.hear_fragment(version, index, form, bytes);
+        if before < state.complete_version() {
+            Some(handler)
+        } else {
+            None
+        }
+    }
+
+    /// The versions that the node holds.
+    pub fn vector(&self) -> Packet
+        ensures value { Whatever self.now (λ n hs. result ≡ Vector (record { items = held_versions n hs })) }
+        ensures right { IsRight (length self.now.handlers) result }
+    {
+        Packet::Vector {
+            versions: held_versions(self.handlers.as_slice()),
+        }
+    }
+
+    /// Whether a fragment is owed.
+    pub fn marked(&self) -> bool
+        ensures { Whatever self.now (λ n hs. result ≡ list_any (is_marked_slot hs) (slots_from n 0)) }
+    {
+        first_marked(self.handlers.as_slice(), 0).is_some()
+    }
+
+    /// Sends the fragment that is owed and comes next, in the order of the slots: the first after the last one
+    /// sent, and behind all the first of all. None comes exactly where nothing is marked.
+    pub fn pump(&mut self) -> Option<Packet>
+        ensures learned { Whatever self.old (λ n before. self.new ≡ knowledge n (with_sent (next_slot n before) before)) }
+        ensures packet { Whatever self.old (λ n before. result ≡ option_map (fragment_for before) (next_slot n before)) }
+        ensures handlers { length self.new.handlers ≡ length self.old.handlers }
+        ensures none { Whatever self.old (λ n before. is_some result ≡ list_any (is_marked_slot before) (slots_from n 0)) }
+        ensures right { IfSome result (IsRight (length self.old.handlers)) }
+    {
+        let slot = next_slot(self.handlers.as_slice(), self.last)?;
+        Some(self.send(slot))
+    }
+
+    // Sends the fragment of a marked slot.
+    fn send(&mut self, slot: usize) -> Packet
+        requires within { slot < 22 * length self.old.handlers }
+        requires marked { IsTrue (is_marked_in self.old.handlers slot) }
+        ensures state { self.new ≡ record (with_state self.old (slot / 22) (sends (slot % 22) (state_at self.old.handlers (slot / 22)))) { last = Some slot } }
+        ensures packet { result ≡ fragment_in self.old.handlers slot }
+        ensures right { IsRight (length self.old.handlers) result }
+    {
+        let handler = slot / 22;
+        let index = slot % 22;
+        let state = &mut self.handlers.as_mut_slice()[handler];
+        let packet = state.fragment(HandlerId(handler as u8), index as u8);
+        state.unmark(index);
+        self.last = Some(slot as u8);
+        packet
+    }
+
+    /// The image of the handler's target; None exactly where there is no target, or a fragment of it is missing.
+    pub fn complete(&self, handler: HandlerId) -> Option<Image>
+        requires { handler.0 < length self.now.handlers }
+        ensures { Whatever self.now (λ n hs. result ≡ collected_image handler.0 hs) }
+    {
+        self.handlers[usize::from(handler.0)].collected()
+    }
+
+    /// The image was installed: what was collected and owed of the handler is dropped.
+    pub fn installed(&mut self, handler: HandlerId, version: u32, image: &Image)
+        requires handler { handler.0 < length self.old.handlers }
+        requires newer { held_of self.old handler < version }
+        requires filled { 1 ≤ length image.now.items }
+        ensures learned { Learns self.old (Installs handler.0 version image.now.items) self.new }
+        ensures handlers { length self.new.handlers ≡ length self.old.handlers }
+    {
+        let state = &mut self.handlers.as_mut_slice()[usize::from(handler.0)];
+        state.install(version, image);
+    }
+
+    /// What is collected and owed is dropped.
+    pub fn forget(&mut self)
+        ensures learned { Learns self.old Forgets self.new }
+        ensures handlers { length self.new.handlers ≡ length self.old.handlers }
+    {
+        forget_each(self.handlers.as_mut_slice());
+    }
+}

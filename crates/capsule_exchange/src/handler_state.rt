@@ -1,0 +1,216 @@
+//! What a node holds of one handler, what it collects of a newer version, and which fragments it owes.
+
+ghost use Rattle.std.specs.Prelude.{◌≡◌, ℕ, ◌<◌, ◌≤◌, length, IfSome};
+ghost use Rattle.packet_codec.specs.Packet.{IsRight};
+ghost use Rattle.capsule_codec.specs.Fragments.{count_of};
+ghost use Rattle.capsule_exchange.specs.Happenings.{fragment_of};
+ghost use Rattle.capsule_exchange.specs.Steps.{no_state, aimed, takes, kept, hears_fragment, marked, hears_status, sends, installs, forgets, places_in, image_in, complete_in, ask_in};
+
+use crate::pieces::{copy_of, joined, missing_mask, no_marks, no_pieces};
+use capsule_codec::{Piece, count, fragment};
+use mate_num::{HandlerId, Image};
+use packet_codec::Packet;
+
+/// The longest image that is sent in small fragments.
+const SHORT_IMAGE: usize = 528;
+
+/// The count and the kind of an image's fragments.
+#[derive(Clone, Copy, PartialEq, Eq, Debug)]
+pub struct Form {
+    /// From 1 to 22.
+    pub count: u8,
+    pub large: bool,
+}
+
+/// What a node knows of one handler.
+#[derive(Drop)]
+pub struct HandlerState {
+    /// The version that is held, 0 for none.
+    pub(crate) held: u32,
+    /// The image that is held, without bytes for none.
+    pub(crate) image: Image,
+    /// The newer version that is collected, 0 for none.
+    pub(crate) target: u32,
+    /// Of the target's fragments, once one was heard.
+    pub(crate) form: Option<Form>,
+    /// The pieces of the target that are collected.
+    pub(crate) pieces: [Option<Piece>; 22],
+    /// The fragments of the held image that were asked for and not sent since.
+    pub(crate) marks: [bool; 22],
+}
+
+impl Default for HandlerState {
+    ghost is_default = { λ s. s ≡ no_state };
+
+    fn default() -> HandlerState {
+        HandlerState {
+            held: 0,
+            image: Image::new(),
+            target: 0,
+            form: None,
+            pieces: no_pieces(),
+            marks: no_marks(),
+        }
+    }
+}
+
+impl HandlerState {
+    /// The version becomes the target where it is over the held one and the target.
+    pub(crate) fn aim(&mut self, version: u32)
+        ensures { self.new ≡ aimed version self.old }
+    {
+        if version > self.held && version > self.target {
+            self.target = version;
+            self.form = None;
+            self.pieces = no_pieces();
+        }
+    }
+
+    /// A fragment of this version was heard.
+    pub(crate) fn hear_fragment(&mut self, version: u32, index: u8, form: Form, bytes: &Piece)
+        requires { index < 22 }
+        ensures { self.new ≡ hears_fragment version index form bytes.now self.old }
+    {
+        self.aim(version);
+        if version > self.held && version == self.target {
+            self.keep(index, form, bytes);
+        }
+    }
+
+    // Keeps a fragment of the target where it goes with the first one and none of its index is kept.
+    fn keep(&mut self, index: u8, form: Form, bytes: &Piece)
+        requires { index < 22 }
+        ensures { self.new ≡ kept index form bytes.now self.old }
+    {
+        let place = usize::from(index);
+        if self.takes(form) && self.pieces[place].is_none() {
+            self.form = Some(form);
+            self.pieces[place] = Some(copy_of(bytes));
+        }
+    }
+
+    // Whether fragments of this count and kind go with those that are collected.
+    fn takes(&self, form: Form) -> bool
+        ensures { result ≡ takes form self.now.form }
+    {
+        match self.form {
+            Some(first) => form.count == first.count && form.large == first.large,
+            None => true,
+        }
+    }
+
+    /// The fragments of this version that a bit of `missing` names were asked for.
+    pub(crate) fn hear_status(&mut self, version: u32, missing: u32)
+        ensures { self.new ≡ hears_status version missing self.old }
+    {
+        if version == self.held {
+            let count = count(&self.image);
+            mark(&mut self.marks, count, missing);
+        }
+    }
+
+    /// The fragment at `index` was sent.
+    pub(crate) fn unmark(&mut self, index: usize)
+        requires { index < 22 }
+        ensures { self.new ≡ sends index self.old }
+    {
+        self.marks[index] = false;
+    }
+
+    /// The image is held from now on.
+    pub(crate) fn install(&mut self, version: u32, image: &Image)
+        ensures { self.new ≡ installs version image.now self.old }
+    {
+        let Ok(image) = Image::try_from(image.as_slice()) else {
+            unreachable!()
+        };
+        self.held = version;
+        self.image = image;
+        self.forget();
+    }
+
+    /// What is collected and asked for is forgotten.
+    pub(crate) fn forget(&mut self)
+        ensures { self.new ≡ forgets self.old }
+    {
+        self.target = 0;
+        self.form = None;
+        self.pieces = no_pieces();
+        self.marks = no_marks();
+    }
+
+    // The places of the target's pieces, by index: all where no fragment was heard.
+    fn places(&self) -> &[Option<Piece>]
+        requires { IfSome self.now.form (λ form. form.count ≤ 22) }
+        ensures value { result.now ≡ places_in self.now }
+        ensures few { length result.now ≤ 22 }
+    {
+        match self.form {
+            Some(form) => &self.pieces[..usize::from(form.count)],
+            None => &self.pieces,
+        }
+    }
+
+    /// The target's image; None exactly where there is no target, or a fragment of it is missing.
+    pub(crate) fn collected(&self) -> Option<Image>
+        requires { IfSome self.now.form (λ form. form.count ≤ 22) }
+        ensures { result ≡ image_in self.now }
+    {
+        joined(self.places())
+    }
+
+    /// The target, where all its fragments are collected, and else 0.
+    pub(crate) fn complete_version(&self) -> u32
+        requires { IfSome self.now.form (λ form. form.count ≤ 22) }
+        ensures { result ≡ complete_in self.now }
+    {
+        if self.collected().is_some() {
+            self.target
+        } else {
+            0
+        }
+    }
+
+    /// The request for the target's fragments that are missing.
+    pub(crate) fn ask(&self, handler: HandlerId) -> Packet
+        requires { IfSome self.now.form (λ form. form.count ≤ 22) }
+        ensures { result ≡ ask_in handler self.now }
+    {
+        Packet::Status {
+            handler,
+            version: self.target,
+            missing: missing_mask(self.places()),
+        }
+    }
+
+    /// The fragment of the held image at `index`, as it is sent.
+    pub(crate) fn fragment(&self, handler: HandlerId, index: u8) -> Packet
+        requires { index < count_of self.now.image.items }
+        ensures value { result ≡ fragment_of handler.0 self.now.held self.now.image.items index }
+        ensures right { (n : ℕ) → handler.0 < n → 1 ≤ self.now.held → IsRight n result }
+    {
+        let Some(bytes) = fragment(&self.image, index) else {
+            unreachable!()
+        };
+        Packet::Fragment {
+            handler,
+            version: self.held,
+            index,
+            count: count(&self.image),
+            large: self.image.len() > SHORT_IMAGE,
+            bytes,
+        }
+    }
+}
+
+// Marks the places below the count that a bit of `missing` names.
+fn mark(marks: &mut [bool; 22], count: u8, missing: u32)
+    requires { count ≤ 22 }
+    ensures { marks.new ≡ marked count missing marks.old }
+{
+    for index in 0..usize::from(count) {
+        if missing >> index & 1 == 1 {
+            marks[index] = true;
+        }
+    }
+}

@@ -1,0 +1,97 @@
+//! The states of all handlers, in order.
+
+ghost use Rattle.std.specs.Prelude.{◌≡◌, ◌*◌, ◌<◌, ◌≤◌, length, map, slice_set, IfSome, IsTrue, find};
+ghost use Rattle.capsule_exchange.specs.Happenings.{next_place, slots_from};
+ghost use Rattle.capsule_exchange.specs.Sound.{AreSound};
+ghost use Rattle.capsule_exchange.specs.Steps.{state_at, hears_status, hears_fragment, sends, installs, forgets, aimed_each, asks_upto, is_marked_in, next_in};
+
+use crate::handler_state::{Form, HandlerState};
+use arrayvec::ArrayVec;
+use capsule_codec::Piece;
+use mate_num::{HandlerId, Image};
+use packet_codec::Packet;
+
+/// The versions that are held.
+pub(crate) fn held_versions(states: &[HandlerState]) -> ArrayVec<u32, 8>
+    requires { length states.now ≤ 8 }
+    ensures { result.items ≡ map (λ s. s.held) states.now }
+{
+    let mut versions: ArrayVec<u32, 8> = ArrayVec::new();
+    for state in states {
+        versions.push(state.held);
+    }
+    versions
+}
+
+/// Each handler's version was heard of.
+pub(crate) fn aim_each(states: &mut [HandlerState], versions: &[u32])
+    requires { length versions.now ≡ length states.old }
+    ensures { states.new ≡ aimed_each versions.now states.old }
+{
+    for h in 0..versions.len() {
+        states[h].aim(versions[h]);
+    }
+}
+
+/// The requests for the versions of which more than what is held was heard.
+pub(crate) fn asks(states: &[HandlerState], versions: &[u32]) -> ArrayVec<Packet, 8>
+    requires same_len { length versions.now ≡ length states.now }
+    requires few { length states.now ≤ 8 }
+    requires sound { AreSound states.now }
+    ensures { result.items ≡ asks_upto versions.now states.now (length states.now) }
+{
+    let mut asks: ArrayVec<Packet, 8> = ArrayVec::new();
+    for h in 0..versions.len() {
+        let state = &states[h];
+        if versions[h] > state.held {
+            asks.push(state.ask(HandlerId(h as u8)));
+        }
+    }
+    asks
+}
+
+/// What is collected and owed of each handler is forgotten.
+pub(crate) fn forget_each(states: &mut [HandlerState])
+    ensures { states.new ≡ map forgets states.old }
+{
+    for state in states {
+        state.forget();
+    }
+}
+
+/// The slot that is sent next: the first marked one after `last`, and else the first of all. None comes exactly
+/// where nothing is marked.
+pub(crate) fn next_slot(states: &[HandlerState], last: Option<u8>) -> Option<usize>
+    requires { length states.now ≤ 8 }
+    ensures value { result ≡ next_in states.now last }
+    ensures marked { IfSome result (λ slot. (slot < 22 * length states.now) × IsTrue (is_marked_in states.now slot)) }
+{
+    match first_marked(states, place_after(last)) {
+        Some(slot) => Some(slot),
+        None => first_marked(states, 0),
+    }
+}
+
+// Where the pump goes on.
+fn place_after(last: Option<u8>) -> usize
+    ensures { result ≡ next_place last }
+{
+    match last {
+        Some(slot) => usize::from(slot) + 1,
+        None => 0,
+    }
+}
+
+/// The first marked slot from there on.
+pub(crate) fn first_marked(states: &[HandlerState], first: usize) -> Option<usize>
+    requires { length states.now ≤ 8 }
+    ensures value { result ≡ find (is_marked_in states.now) (slots_from (length states.now) first) }
+    ensures marked { IfSome result (λ slot. (slot < 22 * length states.now) × IsTrue (is_marked_in states.now slot)) }
+{
+    for slot in first..22 * states.len() {
+        if states[slot / 22].marks[slot % 22] {
+            return Some(slot);
+        }
+    }
+    None
+}

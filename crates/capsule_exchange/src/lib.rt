@@ -1,0 +1,14 @@
+//! How a node learns of newer capsules, collects their fragments, and sends those that it is asked for.
+#![tactic(auto)]
+
+pub mod exchange;
+mod handler_state;
+mod handlers;
+pub mod laws;
+mod pieces;
+
+pub use exchange::{Exchange, Heard};
+pub use laws::{fragments_go_together, gaps_are_asked_for};
+
+#[cfg(test)]
+mod tests;

@@ -1,0 +1,92 @@
+//! The pieces of an image that are collected, by index.
+
+ghost use Rattle.std.specs.Prelude.{◌≡◌, ◌+◌, ◌≤◌, ◌++◌, length, false, is_some};
+ghost use Rattle.std.specs.List.{flat_map, list_all};
+ghost use Rattle.capsule_exchange.specs.Table.{table};
+ghost use Rattle.capsule_exchange.specs.Happenings.{gaps, mask_of, whole, piece_bytes};
+
+use capsule_codec::Piece;
+use mate_num::Image;
+
+/// The same bytes again.
+pub(crate) fn copy_of(piece: &Piece) -> Piece
+    ensures { result ≡ piece.now }
+{
+    let Ok(copy) = Piece::try_from(piece.as_slice()) else {
+        unreachable!()
+    };
+    copy
+}
+
+/// No piece at any index.
+pub(crate) fn no_pieces() -> [Option<Piece>; 22]
+    ensures { result ≡ table (λ _. None) }
+{
+    Default::default()
+}
+
+/// No mark at any index.
+pub(crate) fn no_marks() -> [bool; 22]
+    ensures { result ≡ table (λ _. false) }
+{
+    [false; 22]
+}
+
+/// Bit i for each index i at which no piece is there.
+pub(crate) fn missing_mask(places: &[Option<Piece>]) -> u32
+    requires { length places.now ≤ 22 }
+    ensures { result ≡ mask_of (gaps places.now) }
+{
+    let mut mask = 0;
+    for i in 0..places.len() {
+        if places[i].is_none() {
+            mask |= 1 << i;
+        }
+    }
+    mask
+}
+
+/// The pieces put together; None exactly where one is missing.
+pub(crate) fn joined(places: &[Option<Piece>]) -> Option<Image>
+    requires { length places.now ≤ 22 }
+    ensures { result ≡ whole places.now }
+{
+    if is_whole(places) {
+        Some(bytes_in(places))
+    } else {
+        None
+    }
+}
+
+// Whether no piece is missing.
+fn is_whole(places: &[Option<Piece>]) -> bool
+    ensures { result ≡ list_all is_some places.now }
+{
+    places.iter().all(|place| place.is_some())
+}
+
+// The bytes of the pieces that are there, in order.
+fn bytes_in(places: &[Option<Piece>]) -> Image
+    requires { length places.now ≤ 22 }
+    ensures { result.items ≡ flat_map piece_bytes places.now }
+{
+    let mut image = Image::new();
+    for place in places {
+        append(&mut image, place);
+    }
+    image
+}
+
+// Appends the bytes of the piece that is there, for which there is room.
+fn append(image: &mut Image, place: &Option<Piece>)
+    requires { length image.old.items + 48 ≤ 1056 }
+    ensures bytes { image.new.items ≡ image.old.items ++ piece_bytes place.now }
+    ensures high { length image.new.items ≤ length image.old.items + 48 }
+{
+    let Some(piece) = place else {
+        return;
+    };
+    let Ok(()) = image.try_extend_from_slice(piece.as_slice()) else {
+        unreachable!()
+    };
+}
