@@ -1,3 +1,6 @@
 pub mod FirstReport
 pub mod Stripped
 pub mod TopLemmas
+pub mod VersionLemmas
+pub mod CompilationLemmas
+mod NoWants

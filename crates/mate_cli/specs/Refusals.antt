@@ -1,7 +1,11 @@
 -- The refusals of the program: their statuses and their lines.
-use Rattle.std.specs.Prelude.{◌≡◌, ℕ, List, ◌++◌, codes, Option, ◌⊎◌}
+use Rattle.std.specs.Prelude.{◌≡◌, ℕ, List, ◌++◌, codes, decimal, Option, ◌⊎◌}
 use Rattle.mate_files.specs.Counts.{Rose}
 use Rattle.mate_files.specs.Sink.{Sent, SentPart}
+use Rattle.vm_desc.specs.Keys.{word_of}
+use Rattle.vm_desc.specs.declared.fault.DescFault.{DescFault}
+use Rattle.vm_desc.specs.declared.fault.DescFault.TheVariants as desc
+use Rattle.mate_cli.specs.SourceWords.{source_words, code_words}
 use Rattle.mate_cli.specs.declared.status.Status.{Status}
 use Rattle.mate_cli.specs.declared.status.Status.TheVariants as status
 use Rattle.mate_cli.specs.declared.refusal.Refusal.{Refusal}
@@ -27,15 +31,30 @@ abbrev pub status_of : Refusal → Status
 status_of refusal.Usage = status.Usage
 status_of (refusal.FileFault name) = status.FileFault
 status_of (refusal.FileLarge name) = status.FileFault
+status_of (refusal.BadDescription fault) = status.BadDescription
+status_of (refusal.BadSource name r) = status.BadSource
+status_of (refusal.BadCode name f) = status.BadSource
 status_of (refusal.Unbuilt name) = status.Unbuilt
 status_of refusal.SinkFault = status.SinkFault
 status_of refusal.NoMemory = status.NoMemory
+
+-- what is wrong with a description; no refusal is made for want of memory
+abbrev pub fault_words : DescFault → List ℕ
+fault_words desc.NotToml = codes "toml\n"
+fault_words (desc.BadField key) = codes "field " ++ word_of key ++ codes "\n"
+fault_words (desc.OverLimit key) = codes "limit " ++ word_of key ++ codes "\n"
+fault_words (desc.Duplicate name) = codes "duplicate " ++ name ++ codes "\n"
+fault_words (desc.SlowImax need have) = codes "slow " ++ decimal need ++ codes " " ++ decimal have ++ codes "\n"
+fault_words desc.NoMemory = codes "memory\n"
 
 -- the one line that tells of it
 abbrev pub line_of : Refusal → List ℕ
 line_of refusal.Usage = codes "usage\n"
 line_of (refusal.FileFault name) = codes "file fault " ++ name ++ codes "\n"
 line_of (refusal.FileLarge name) = codes "file large " ++ name ++ codes "\n"
+line_of (refusal.BadDescription fault) = codes "bad description " ++ fault_words fault
+line_of (refusal.BadSource name r) = codes "bad source " ++ name ++ codes " " ++ source_words r
+line_of (refusal.BadCode name f) = codes "bad source " ++ name ++ codes " " ++ code_words f
 line_of (refusal.Unbuilt name) = codes "unbuilt " ++ name ++ codes "\n"
 line_of refusal.SinkFault = codes "sink fault\n"
 line_of refusal.NoMemory = codes "no memory\n"

@@ -1,15 +1,21 @@
 //! The commands of the program `mate`: from words and files to what is written.
 #![tactic(auto)]
 
+pub mod command;
+pub mod compilation;
 mod first_run;
 mod first_script;
-mod first_source;
+mod output;
 pub mod refusal;
+mod source_code;
+mod source_words;
 pub mod status;
 pub mod top;
 
 pub use status::Status;
 pub use top::mate;
 
+#[cfg(test)]
+mod source_tests;
 #[cfg(test)]
 mod tests;

@@ -1,21 +1,33 @@
 //! The top call: from words and files to what is written.
 
-ghost use Rattle.std.specs.Prelude.{◌≡◌, ◌≤◌, ◌∷◌, [], codes, map, string_bytes, MatchOption};
-ghost use Rattle.mate_cli.specs.Top.{AreOther, node_words, Reports, ReadsOr, IsUnbuilt, Gives};
+ghost use Rattle.std.specs.Prelude.{◌≡◌, ◌≤◌, map, string_bytes};
+ghost use Rattle.mate_cli.specs.Commands.{seen, Node};
+ghost use Rattle.mate_cli.specs.declared.command.Command.TheVariants as command;
+ghost use Rattle.mate_cli.specs.Top.{Outputs, Does, FindsMachine, ReadsOr, IsUnbuilt, Gives};
 
+use crate::command::{Command, command_of};
+use crate::compilation::Compilation;
 use crate::first_run::first_run;
 use crate::first_script::first_script;
-use crate::first_source::{SourceFault, first_source};
+use crate::output::Output;
 use crate::refusal::Refusal;
+use crate::source_code::{bad_source, code_of, handler_of};
 use crate::status::Status;
+use capsule_codec::{Capsule, encode};
+use command_line::WordsFault;
 use mate_files::{Files, FilesFault, Sink, SinkFault};
-use mate_journal::Report;
 use mate_num::Text;
 use std::alloc::Global;
-use vm_desc::{Description, builtin, shape};
+use ts_source::accept;
+use vm_desc::{DescFault, Description, builtin};
 
-/// Runs the command that `words` give, without the program's own name: `node builtin SCRIPT` reads the script and the
-/// source that it names from `files`, runs the source once, and writes the report to `out`.
+/// Runs the command that `words` give, without the program's own name.
+///
+/// - `node builtin SCRIPT` reads the script and the source that it names from `files`, runs the source once on the
+///   built-in machine, and writes the report to `out`.
+/// - `table VM` writes the opcode table of the machine that the file `VM` describes, or of the built-in one where the
+///   word is `builtin`.
+/// - `compile VM HANDLER VERSION SOURCE` writes the image of the source's capsule, in hexadecimal digits.
 ///
 /// For any other status than `Ok` one line goes to `err`, and, but for a fault of `out` and want of memory, nothing to
 /// `out`. A failing `err` changes nothing.
@@ -30,8 +42,8 @@ pub fn mate<F: Files, S: Sink, E: Sink>(
         (record { out = S.written out.old; out_faults = S.faults out.old; err = E.written err.old; err_faults = E.faults err.old })
         (record { out = S.written out.new; out_faults = S.faults out.new; err = E.written err.new; err_faults = E.faults err.new }) result }
 {
-    match report_of(alloc, words, files) {
-        Ok((desc, report)) => match report_text::write(&desc, &report, out) {
+    match output_of(alloc, words, files) {
+        Ok(output) => match output.write(out) {
             Ok(()) => Status::Ok,
             Err(SinkFault::Failed) => Refusal::SinkFault.refuse(err),
             Err(SinkFault::NoMemory) => Refusal::NoMemory.refuse(err),
@@ -40,43 +52,102 @@ pub fn mate<F: Files, S: Sink, E: Sink>(
     }
 }
 
-/// The report of the command, with the machine that it is told of.
-fn report_of<F: Files>(
-    alloc: Global,
-    words: &Vec<String>,
-    files: &mut F,
-) -> Result<(Description, Report), Refusal>
-    ensures { Reports (F.contents files.old) (map string_bytes words.now.items) (F.faults files.old) (F.faults files.new) result }
+/// What the command of the words is to write.
+fn output_of<F: Files>(alloc: Global, words: &Vec<String>, files: &mut F) -> Result<Output, Refusal>
+    ensures { Outputs (F.contents files.old) (map string_bytes words.now.items) (F.faults files.old) (F.faults files.new) result }
 {
-    let Some(script) = script_name(words) else {
+    let line = match command_line::read(alloc, words.as_slice()) {
+        Ok(line) => line,
+        Err(WordsFault::NotTaken) => return Err(Refusal::Usage),
+        Err(WordsFault::NoMemory) => return Err(Refusal::NoMemory),
+    };
+    match command_of(&line) {
+        Some(command) => task_output(alloc, command, files),
+        None => Err(Refusal::Usage),
+    }
+}
+
+/// What a command is to write.
+fn task_output<F: Files>(
+    alloc: Global,
+    command: Command<'_>,
+    files: &mut F,
+) -> Result<Output, Refusal>
+    ensures { Does (F.contents files.old) (seen command.entry) (F.faults files.old) (F.faults files.new) result }
+{
+    match command {
+        Command::Node { script } => report_of(alloc, script, files),
+        Command::Table { machine } => {
+            let desc = machine_of(alloc, machine, files)?;
+            Ok(Output::OpcodeTable(desc))
+        }
+        Command::Compile(compilation) => capsule_of(alloc, compilation, files),
+    }
+}
+
+/// The image of a source's capsule.
+fn capsule_of<F: Files>(
+    alloc: Global,
+    compilation: Compilation<'_>,
+    files: &mut F,
+) -> Result<Output, Refusal>
+    ensures { Does (F.contents files.old) (seen (command.Compile compilation.entry)) (F.faults files.old) (F.faults files.new) result }
+{
+    let Compilation {
+        machine,
+        handler,
+        version,
+        source,
+    } = compilation;
+    let desc = machine_of(alloc, machine, files)?;
+    let Some(handler) = handler_of(&desc, handler) else {
         return Err(Refusal::Usage);
     };
+    let bytes = read(alloc, files, source)?;
+    let code = code_of(alloc, &desc, source, bytes.as_slice())?;
+    let capsule = Capsule {
+        vm_id: desc.vm_id,
+        handler,
+        version,
+        code,
+    };
+    Ok(Output::Capsule(encode(&capsule)))
+}
+
+/// The report of a script's run on the built-in machine.
+fn report_of<F: Files>(alloc: Global, script: &str, files: &mut F) -> Result<Output, Refusal>
+    ensures { Does (F.contents files.old) (Node script.now) (F.faults files.old) (F.faults files.new) result }
+{
     let bytes = read(alloc, files, script)?;
     let Some(first) = first_script(bytes.as_slice()) else {
         return Err(unbuilt(alloc, script));
     };
     let source = read(alloc, files, first.file)?;
     let desc = builtin();
-    let tree = match first_source(alloc, &shape(&desc), source.as_slice()) {
+    let tree = match accept(alloc, &desc, source.as_slice()) {
         Ok(tree) => tree,
-        Err(SourceFault::Unbuilt) => return Err(unbuilt(alloc, first.file)),
-        Err(SourceFault::NoMemory) => return Err(Refusal::NoMemory),
+        Err(refusal) => return Err(bad_source(alloc, first.file, refusal)),
     };
     match first_run(alloc, &desc, first.version, &tree) {
-        Ok(Some(report)) => Ok((desc, report)),
-        Ok(None) => Err(unbuilt(alloc, first.file)),
+        Ok(report) => Ok(Output::Report(desc, report)),
         Err(_) => Err(Refusal::NoMemory),
     }
 }
 
-/// The script that the words `node builtin SCRIPT` name; None exactly where they are others.
-fn script_name(words: &Vec<String>) -> Option<&str>
-    ensures { MatchOption result (AreOther (map string_bytes words.now.items)) (λ script. map string_bytes words.now.items ≡ node_words script.now) }
+/// The machine that a word names: the built-in one, or that of a description's file.
+fn machine_of<F: Files>(alloc: Global, word: &str, files: &mut F) -> Result<Description, Refusal>
+    ensures gives { FindsMachine (F.contents files.old) word.now (F.faults files.old) (F.faults files.new) result }
+    ensures same { F.contents files.new ≡ F.contents files.old }
+    ensures later { F.faults files.old ≤ F.faults files.new }
 {
-    match words.as_slice() {
-        [command, machine, script] if command.as_str() == "node" && machine.as_str() == "builtin" =>
-            Some(script.as_str()),
-        _ => None,
+    if word == "builtin" {
+        return Ok(builtin());
+    }
+    let bytes = read(alloc, files, word)?;
+    match vm_desc::read(alloc, bytes.as_slice()) {
+        Ok(desc) => Ok(desc),
+        Err(DescFault::NoMemory) => Err(Refusal::NoMemory),
+        Err(fault) => Err(Refusal::BadDescription(fault)),
     }
 }
 
