@@ -19,12 +19,11 @@ fn arithmetic_wraps(rt: HostRuntime) {
         (-7, 2, -5, -9, -14),
     ] {
         let (a, b) = (Num16(a), Num16(b));
-        assert_eq!(rt; a.add(b).0, sum, "{a:?} + {b:?}");
-        assert_eq!(rt; a.sub(b).0, difference, "{a:?} - {b:?}");
-        assert_eq!(rt; a.mul(b).0, product, "{a:?} * {b:?}");
+        let made = [a.add(b).0, a.sub(b).0, a.mul(b).0];
+        assert_eq!(rt; made, [sum, difference, product]);
     }
     for (a, negated) in [(0, 0), (5, -5), (32767, -32767), (-32768, -32768)] {
-        assert_eq!(rt; Num16(a).neg().0, negated, "-{a}");
+        assert_eq!(rt; Num16(a).neg().0, negated);
     }
 }
 
@@ -40,25 +39,29 @@ fn division_truncates(rt: HostRuntime) {
         (5, 0, None, None),
     ] {
         let (a, b) = (Num16(a), Num16(b));
-        assert_eq!(rt; a.div(b), quotient.map(|n: i16| Num16(n)), "{a:?} / {b:?}");
-        assert_eq!(rt; a.rem(b), remainder.map(|n: i16| Num16(n)), "{a:?} % {b:?}");
+        let made = [a.div(b).map(|n| n.0), a.rem(b).map(|n| n.0)];
+        assert_eq!(rt; made, [quotient, remainder]);
     }
 }
 
 #[test]
 fn tests_give_1_or_0(rt: HostRuntime) {
-    for (a, b, [eq, ne, lt, gt, le, ge]) in [
+    for (a, b, tests) in [
         (3, 3, [1, 0, 0, 0, 1, 1]),
         (-1, 1, [0, 1, 1, 0, 1, 0]),
         (32767, -32768, [0, 1, 0, 1, 0, 1]),
     ] {
         let (a, b) = (Num16(a), Num16(b));
-        assert_eq!(rt; a.eq(b).0, eq, "{a:?} == {b:?}");
-        assert_eq!(rt; a.ne(b).0, ne, "{a:?} != {b:?}");
-        assert_eq!(rt; a.lt(b).0, lt, "{a:?} < {b:?}");
-        assert_eq!(rt; a.gt(b).0, gt, "{a:?} > {b:?}");
-        assert_eq!(rt; a.le(b).0, le, "{a:?} <= {b:?}");
-        assert_eq!(rt; a.ge(b).0, ge, "{a:?} >= {b:?}");
+        // equal, not equal, less, greater, at most, at least
+        let made = [
+            a.eq(b).0,
+            a.ne(b).0,
+            a.lt(b).0,
+            a.gt(b).0,
+            a.le(b).0,
+            a.ge(b).0,
+        ];
+        assert_eq!(rt; made, tests);
     }
     for (a, b, and, or, not) in [
         (0, 0, 0, 0, 1),
@@ -67,9 +70,8 @@ fn tests_give_1_or_0(rt: HostRuntime) {
         (-32768, 1, 1, 1, 0),
     ] {
         let (a, b) = (Num16(a), Num16(b));
-        assert_eq!(rt; a.and(b).0, and, "{a:?} and {b:?}");
-        assert_eq!(rt; a.or(b).0, or, "{a:?} or {b:?}");
-        assert_eq!(rt; a.not().0, not, "not {a:?}");
+        let made = [a.and(b).0, a.or(b).0, a.not().0];
+        assert_eq!(rt; made, [and, or, not]);
     }
 }
 
@@ -94,8 +96,8 @@ fn lock_sets_conflict_on_a_write(rt: HostRuntime) {
         (asker, reader, true),
         (asker, writer, false),
     ] {
-        assert_eq!(rt; a.compatible(&b), compatible, "{a:?} beside {b:?}");
-        assert_eq!(rt; b.compatible(&a), compatible, "{b:?} beside {a:?}");
+        let made = [a.compatible(&b), b.compatible(&a)];
+        assert_eq!(rt; made, [compatible, compatible]);
     }
     assert!(rt; asker.reads(last_variable));
     assert!(rt; !asker.reads(first_device));
@@ -130,8 +132,11 @@ fn names_have_16_bytes_at_most(rt: HostRuntime) -> Result<(), Fail> {
         ("sixteen_letters_", true),
         ("seventeen_letters", false),
     ] {
-        assert_eq!(rt; Name::new(text).is_some(), fits, "{text}");
-        assert_eq!(rt; Name::of_bytes(text.as_bytes()).is_some(), fits, "{text}");
+        let made = [
+            Name::new(text).is_some(),
+            Name::of_bytes(text.as_bytes()).is_some(),
+        ];
+        assert_eq!(rt; made, [fits, fits]);
     }
     assert!(rt; Name::of_bytes(&[b'a', 0xff]).is_none());
     let name = named("count")?;
