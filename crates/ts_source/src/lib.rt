@@ -6,3 +6,6 @@ pub mod refusal;
 
 pub use accepting::accept;
 pub use refusal::SourceRefusal;
+
+#[cfg(test)]
+mod tests;
