@@ -1,7 +1,8 @@
 //! The machine: what an invocation of a handler has of its own.
 
-ghost use Rattle.std.specs.Prelude.{◌≡◌, ◌<◌, ◌≤◌, pos, length, drop, slice_index_or, slice_set};
+ghost use Rattle.std.specs.Prelude.{◌≡◌, ◌+◌, ◌<◌, ◌≤◌, pos, length, drop, slice_index_or, slice_set};
 ghost use Rattle.mate_num.specs.Store.{item_of};
+ghost use Rattle.mate_num.specs.declared.bounds.TheConstants.{CODE_MAX};
 ghost use Rattle.mate_code.specs.Effect.{push, with_stack, at_place, arguments};
 ghost use Rattle.code_verifier.specs.Verified.{VerifiedCode, IsVerifiedCode, Fits};
 
@@ -59,6 +60,16 @@ impl Machine {
         ensures { result ≡ self.now.pc }
     {
         self.pc
+    }
+
+    // Goes past an instruction of so many bytes.
+    pub(crate) fn past(&mut self, size: u16) -> &mut Machine
+        requires { self.old.pc + size ≤ CODE_MAX }
+        ensures same { result.ghost_name ≡ self.entry.ghost_name }
+        ensures value { result.now ≡ at_place (self.old.pc + size) self.old }
+    {
+        self.pc += size;
+        self
     }
 
     // Goes on at a place.

@@ -21,9 +21,7 @@ pub fn step(code: &Verified, machine: &mut Machine, heap: &mut Heap) -> StepEnd
     requires lengths { HasLengths code.now.shape heap.old }
     ensures { IsStep code.now machine.old heap.old result machine.new heap.new }
 {
-    let place = machine.place();
-    let instr = code.instr(place);
-    machine.go_to(place + instr.size() as u16);
+    let instr = code.instr(machine.place());
     act(code.shape(), instr, machine, heap)
 }
 
