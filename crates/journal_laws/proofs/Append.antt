@@ -1,0 +1,377 @@
+-- How a journal grows: what a rule owes at one more entry, at what was heard before it.
+use Rattle.std.proofs.Common.{◌≡◌, ◌<◌, ◌≤◌, ℕ, Bool, false, List, [], ◌∷◌, ◌++◌, length, map, refl, sym, ◌∙◌, ap, subst, arith, length-append}
+use Rattle.std.specs.Prelude.{slice_index_or}
+use Rattle.std.proofs.Math.ListN.{get_or-append}
+use Rattle.std.proofs.Math.Seq.{get_or-append_seam}
+use Rattle.std.proofs.lemmas.List.{map-append, append-nil}
+use Rattle.arrayvec.specs.ArrayVec.{ArrayVec}
+use Rattle.mate_num.specs.declared.call.Stamp.{Stamp}
+use Rattle.mate_num.specs.declared.id.HandlerId.{HandlerId}
+use Rattle.mate_num.specs.declared.store.Store.{Store}
+use Rattle.mate_journal.specs.Log.{Log, IsSameLog, IsEmpty}
+use Rattle.mate_journal.specs.Machine.{Machine}
+use Rattle.mate_journal.specs.Journal.{Told, Posted, Dropped, Started, Asked, Answered, Ended, Installed, Reset, Seen, Void, Event, told_of, journal_of, Reading, heard, heard_all, AtEachEntry, AtEachPlace}
+use Rattle.mate_journal.specs.WellFormed.{MayFollow, NotBefore, IsInTime, start, IsWellFormed}
+use Rattle.mate_journal.specs.Serial.{EndsAsRun, RunsSoFar, IsSerial}
+use Rattle.mate_journal.specs.Stores.{ShowsStore, SeenBeforeEras, ShowsStores}
+use Rattle.mate_journal.specs.Grants.{AllHeldBack, IsGranted, start_of, GrantsInOrder}
+use Rattle.journal_laws.specs.Growth.{event_of, IsNamedBelow, AreNamedBelow, NamesInLog, IsPushed, AddsImage, AddsStore, last_stamp, last_start, is_seen, last_is_seen, IsSeenBefore, BeforeEachEntry, GrantsBefore}
+use Rattle.mate_journal.specs.declared.entry.Entry.{Entry}
+use Rattle.mate_journal.specs.declared.entry.Entry.TheVariants as entry
+use Rattle.mate_journal.specs.declared.entry.Stamped.{Stamped}
+
+-- ---- what was heard
+
+pub heard_all-append : (m : Machine) (r : Reading) (es fs : List Event) → heard_all m r (es ++ fs) ≡ heard_all m (heard_all m r es) fs
+heard_all-append m r [] fs = refl
+heard_all-append m r (e ∷ es) fs = heard_all-append m (heard m r e.told) es fs
+
+pub heard_all-push : (m : Machine) (r : Reading) (es : List Event) (e : Event) → heard_all m r (es ++ e ∷ []) ≡ heard m (heard_all m r es) e.told
+heard_all-push m r es e = heard_all-append m r es (e ∷ [])
+
+-- ---- a rule for each entry
+
+pub AtEachEntry-append : (Rule : Reading → Told → Type 0) (m : Machine) (r : Reading) (es fs : List Event)
+    → AtEachEntry Rule m r es → AtEachEntry Rule m (heard_all m r es) fs → AtEachEntry Rule m r (es ++ fs)
+AtEachEntry-append Rule m r [] fs first then = then
+AtEachEntry-append Rule m r (e ∷ es) fs first then = (first.0, AtEachEntry-append Rule m (heard m r e.told) es fs first.1 then)
+
+pub AtEachEntry-push : (Rule : Reading → Told → Type 0) (m : Machine) (r : Reading) (es : List Event) (e : Event)
+    → AtEachEntry Rule m r es → Rule (heard_all m r es) e.told → AtEachEntry Rule m r (es ++ e ∷ [])
+AtEachEntry-push Rule m r es e first last = AtEachEntry-append Rule m r es (e ∷ []) first (last, tt)
+
+pub AtEachEntry-front : (Rule : Reading → Told → Type 0) (m : Machine) (r : Reading) (es fs : List Event) → AtEachEntry Rule m r (es ++ fs) → AtEachEntry Rule m r es
+AtEachEntry-front Rule m r [] fs all = tt
+AtEachEntry-front Rule m r (e ∷ es) fs all = (all.0, AtEachEntry-front Rule m (heard m r e.told) es fs all.1)
+
+pub AtEachEntry-back : (Rule : Reading → Told → Type 0) (m : Machine) (r : Reading) (es fs : List Event) → AtEachEntry Rule m r (es ++ fs) → AtEachEntry Rule m (heard_all m r es) fs
+AtEachEntry-back Rule m r [] fs all = all
+AtEachEntry-back Rule m r (e ∷ es) fs all = AtEachEntry-back Rule m (heard m r e.told) es fs all.1
+
+-- ---- a fact at each place
+
+pub AtEachPlace-last : (Fact : Reading → Type 0) (m : Machine) (r : Reading) (es : List Event) → AtEachPlace Fact m r es → Fact (heard_all m r es)
+AtEachPlace-last Fact m r [] all = all
+AtEachPlace-last Fact m r (e ∷ es) all = AtEachPlace-last Fact m (heard m r e.told) es all.1
+
+pub AtEachPlace-before : (Fact : Reading → Type 0) (m : Machine) (r : Reading) (es : List Event) → AtEachPlace Fact m r es → BeforeEachEntry Fact m r es
+AtEachPlace-before Fact m r [] all = tt
+AtEachPlace-before Fact m r (e ∷ es) all = (all.0, AtEachPlace-before Fact m (heard m r e.told) es all.1)
+
+pub AtEachPlace-join : (Fact : Reading → Type 0) (m : Machine) (r : Reading) (es : List Event) → BeforeEachEntry Fact m r es → Fact (heard_all m r es) → AtEachPlace Fact m r es
+AtEachPlace-join Fact m r [] before last = last
+AtEachPlace-join Fact m r (e ∷ es) before last = (before.0, AtEachPlace-join Fact m (heard m r e.told) es before.1 last)
+
+pub AtEachPlace-append : (Fact : Reading → Type 0) (m : Machine) (r : Reading) (es fs : List Event)
+    → AtEachPlace Fact m r es → AtEachPlace Fact m (heard_all m r es) fs → AtEachPlace Fact m r (es ++ fs)
+AtEachPlace-append Fact m r [] fs first then = then
+AtEachPlace-append Fact m r (e ∷ es) fs first then = (first.0, AtEachPlace-append Fact m (heard m r e.told) es fs first.1 then)
+
+pub AtEachPlace-push : (Fact : Reading → Type 0) (m : Machine) (r : Reading) (es : List Event) (e : Event)
+    → AtEachPlace Fact m r es → Fact (heard m (heard_all m r es) e.told) → AtEachPlace Fact m r (es ++ e ∷ [])
+AtEachPlace-push Fact m r es e first last = AtEachPlace-append Fact m r es (e ∷ []) first (AtEachPlace-last Fact m r es first, last)
+
+pub AtEachPlace-back : (Fact : Reading → Type 0) (m : Machine) (r : Reading) (es fs : List Event) → AtEachPlace Fact m r (es ++ fs) → AtEachPlace Fact m (heard_all m r es) fs
+AtEachPlace-back Fact m r [] fs all = all
+AtEachPlace-back Fact m r (e ∷ es) fs all = AtEachPlace-back Fact m (heard m r e.told) es fs all.1
+
+-- ---- stamps
+
+pub IsInTime-append : (before : Stamp) (es fs : List Event) → IsInTime before es → IsInTime (last_stamp before es) fs → IsInTime before (es ++ fs)
+IsInTime-append before [] fs first then = then
+IsInTime-append before (e ∷ es) fs first then = (first.0, IsInTime-append e.stamp es fs first.1 then)
+
+pub IsInTime-push : (before : Stamp) (es : List Event) (e : Event) → IsInTime before es → NotBefore (last_stamp before es) e.stamp → IsInTime before (es ++ e ∷ [])
+IsInTime-push before es e first last = IsInTime-append before es (e ∷ []) first (last, tt)
+
+pub last_stamp-append : (before : Stamp) (es fs : List Event) → last_stamp before (es ++ fs) ≡ last_stamp (last_stamp before es) fs
+last_stamp-append before [] fs = refl
+last_stamp-append before (e ∷ es) fs = last_stamp-append e.stamp es fs
+
+pub last_stamp-push : (before : Stamp) (es : List Event) (e : Event) → last_stamp before (es ++ e ∷ []) ≡ e.stamp
+last_stamp-push before es e = last_stamp-append before es (e ∷ [])
+
+-- ---- stores seen before eras
+
+-- one entry in front
+SeenBeforeEras-cons : (seen : Bool) (stamp : Stamp) (told : Told) (es : List Event) → IsSeenBefore seen told → SeenBeforeEras (is_seen told) es
+    → SeenBeforeEras seen (record { stamp = stamp; told = told } ∷ es)
+SeenBeforeEras-cons seen stamp (Posted n h c payload) es here then = (tt, then)
+SeenBeforeEras-cons seen stamp (Dropped h cause) es here then = (tt, then)
+SeenBeforeEras-cons seen stamp (Started n) es here then = (tt, then)
+SeenBeforeEras-cons seen stamp (Asked n f args) es here then = (tt, then)
+SeenBeforeEras-cons seen stamp (Answered n value) es here then = (tt, then)
+SeenBeforeEras-cons seen stamp (Ended n how) es here then = (tt, then)
+SeenBeforeEras-cons seen stamp (Installed p) es here then = (here, then)
+SeenBeforeEras-cons seen stamp Reset es here then = (here, then)
+SeenBeforeEras-cons seen stamp (Seen store) es here then = (tt, then)
+SeenBeforeEras-cons seen stamp (Void cause) es here then = (tt, then)
+
+SeenBeforeEras-first : (seen : Bool) (stamp : Stamp) (told : Told) (es : List Event)
+    → SeenBeforeEras seen (record { stamp = stamp; told = told } ∷ es) → IsSeenBefore seen told × SeenBeforeEras (is_seen told) es
+SeenBeforeEras-first seen stamp (Posted n h c payload) es all = (tt, all.1)
+SeenBeforeEras-first seen stamp (Dropped h cause) es all = (tt, all.1)
+SeenBeforeEras-first seen stamp (Started n) es all = (tt, all.1)
+SeenBeforeEras-first seen stamp (Asked n f args) es all = (tt, all.1)
+SeenBeforeEras-first seen stamp (Answered n value) es all = (tt, all.1)
+SeenBeforeEras-first seen stamp (Ended n how) es all = (tt, all.1)
+SeenBeforeEras-first seen stamp (Installed p) es all = (all.0, all.1)
+SeenBeforeEras-first seen stamp Reset es all = (all.0, all.1)
+SeenBeforeEras-first seen stamp (Seen store) es all = (tt, all.1)
+SeenBeforeEras-first seen stamp (Void cause) es all = (tt, all.1)
+
+pub SeenBeforeEras-append : (seen : Bool) (es fs : List Event) → SeenBeforeEras seen es → SeenBeforeEras (last_is_seen seen es) fs → SeenBeforeEras seen (es ++ fs)
+SeenBeforeEras-append seen [] fs first then = then
+SeenBeforeEras-append seen (e ∷ es) fs first then =
+    let parts = SeenBeforeEras-first seen e.stamp e.told es first in
+    SeenBeforeEras-cons seen e.stamp e.told (es ++ fs) parts.0 (SeenBeforeEras-append (is_seen e.told) es fs parts.1 then)
+
+pub SeenBeforeEras-push : (seen : Bool) (es : List Event) (e : Event) → SeenBeforeEras seen es → IsSeenBefore (last_is_seen seen es) e.told → SeenBeforeEras seen (es ++ e ∷ [])
+SeenBeforeEras-push seen es e first last =
+    SeenBeforeEras-append seen es (e ∷ []) first (SeenBeforeEras-cons (last_is_seen seen es) e.stamp e.told [] last tt)
+
+pub last_is_seen-append : (seen : Bool) (es fs : List Event) → last_is_seen seen (es ++ fs) ≡ last_is_seen (last_is_seen seen es) fs
+last_is_seen-append seen [] fs = refl
+last_is_seen-append seen (e ∷ es) fs = last_is_seen-append (is_seen e.told) es fs
+
+pub last_is_seen-push : (seen : Bool) (es : List Event) (e : Event) → last_is_seen seen (es ++ e ∷ []) ≡ is_seen e.told
+last_is_seen-push seen es e = last_is_seen-append seen es (e ∷ [])
+
+-- ---- grants
+
+pub GrantsBefore-append : (m : Machine) (r : Reading) (last : ℕ) (es fs : List Event)
+    → GrantsBefore m r last es → GrantsBefore m (heard_all m r es) (last_start last es) fs → GrantsBefore m r last (es ++ fs)
+GrantsBefore-append m r last [] fs first then = then
+GrantsBefore-append m r last (e ∷ es) fs first then = (first.0, GrantsBefore-append m (heard m r e.told) (start_of e.told) es fs first.1 then)
+
+pub GrantsBefore-push : (m : Machine) (r : Reading) (last : ℕ) (es : List Event) (e : Event)
+    → GrantsBefore m r last es → IsGranted m (heard_all m r es) (last_start last es) e.told → GrantsBefore m r last (es ++ e ∷ [])
+GrantsBefore-push m r last es e first here = GrantsBefore-append m r last es (e ∷ []) first (here, tt)
+
+-- the rule along a journal is the rule before each entry, and at the end
+pub GrantsInOrder-join : (m : Machine) (r : Reading) (last : ℕ) (es : List Event) → GrantsBefore m r last es → AllHeldBack m (heard_all m r es) → GrantsInOrder m r last es
+GrantsInOrder-join m r last [] before held = held
+GrantsInOrder-join m r last (e ∷ es) before held = (before.0, GrantsInOrder-join m (heard m r e.told) (start_of e.told) es before.1 held)
+
+pub GrantsInOrder-before : (m : Machine) (r : Reading) (last : ℕ) (es : List Event) → GrantsInOrder m r last es → GrantsBefore m r last es
+GrantsInOrder-before m r last [] all = tt
+GrantsInOrder-before m r last (e ∷ es) all = (all.0, GrantsInOrder-before m (heard m r e.told) (start_of e.told) es all.1)
+
+pub GrantsInOrder-last : (m : Machine) (r : Reading) (last : ℕ) (es : List Event) → GrantsInOrder m r last es → AllHeldBack m (heard_all m r es)
+GrantsInOrder-last m r last [] all = all
+GrantsInOrder-last m r last (e ∷ es) all = GrantsInOrder-last m (heard m r e.told) (start_of e.told) es all.1
+
+pub GrantsBefore-front : (m : Machine) (r : Reading) (last : ℕ) (es fs : List Event) → GrantsBefore m r last (es ++ fs) → GrantsBefore m r last es
+GrantsBefore-front m r last [] fs all = tt
+GrantsBefore-front m r last (e ∷ es) fs all = (all.0, GrantsBefore-front m (heard m r e.told) (start_of e.told) es fs all.1)
+
+pub GrantsBefore-back : (m : Machine) (r : Reading) (last : ℕ) (es fs : List Event) → GrantsBefore m r last (es ++ fs) → GrantsBefore m (heard_all m r es) (last_start last es) fs
+GrantsBefore-back m r last [] fs all = all
+GrantsBefore-back m r last (e ∷ es) fs all = GrantsBefore-back m (heard m r e.told) (start_of e.told) es fs all.1
+
+pub last_start-append : (last : ℕ) (es fs : List Event) → last_start last (es ++ fs) ≡ last_start (last_start last es) fs
+last_start-append last [] fs = refl
+last_start-append last (e ∷ es) fs = last_start-append (start_of e.told) es fs
+
+pub last_start-push : (last : ℕ) (es : List Event) (e : Event) → last_start last (es ++ e ∷ []) ≡ start_of e.told
+last_start-push last es e = last_start-append last es (e ∷ [])
+
+-- ---- whole journals
+
+pub IsWellFormed-push : (m : Machine) (r : Reading) (es : List Event) (e : Event)
+    → IsWellFormed m r es → NotBefore (last_stamp start es) e.stamp → MayFollow m (heard_all m r es) e.told → IsWellFormed m r (es ++ e ∷ [])
+IsWellFormed-push m r es e right time follows = record {
+  in_time = IsInTime-push start es e right.in_time time;
+  follow = AtEachEntry-push (MayFollow m) m r es e right.follow follows;
+}
+
+pub IsWellFormed-append : (m : Machine) (r : Reading) (es fs : List Event)
+    → IsWellFormed m r es → IsInTime (last_stamp start es) fs → AtEachEntry (MayFollow m) m (heard_all m r es) fs → IsWellFormed m r (es ++ fs)
+IsWellFormed-append m r es fs right time follows = record {
+  in_time = IsInTime-append start es fs right.in_time time;
+  follow = AtEachEntry-append (MayFollow m) m r es fs right.follow follows;
+}
+
+pub IsSerial-push : (m : Machine) (r : Reading) (es : List Event) (e : Event)
+    → IsSerial m r es → EndsAsRun m (heard_all m r es) e.told → RunsSoFar m (heard m (heard_all m r es) e.told) → IsSerial m r (es ++ e ∷ [])
+IsSerial-push m r es e serial ends runs = record {
+  ends = AtEachEntry-push (EndsAsRun m) m r es e serial.ends ends;
+  so_far = AtEachPlace-push (RunsSoFar m) m r es e serial.so_far runs;
+}
+
+pub IsSerial-append : (m : Machine) (r : Reading) (es fs : List Event) → IsSerial m r es → IsSerial m (heard_all m r es) fs → IsSerial m r (es ++ fs)
+IsSerial-append m r es fs first then = record {
+  ends = AtEachEntry-append (EndsAsRun m) m r es fs first.ends then.ends;
+  so_far = AtEachPlace-append (RunsSoFar m) m r es fs first.so_far then.so_far;
+}
+
+pub ShowsStores-push : (m : Machine) (r : Reading) (es : List Event) (e : Event)
+    → ShowsStores m r es → ShowsStore m (heard_all m r es) e.told → IsSeenBefore (last_is_seen false es) e.told → ShowsStores m r (es ++ e ∷ [])
+ShowsStores-push m r es e shows shown before = record {
+  shown = AtEachEntry-push (ShowsStore m) m r es e shows.shown shown;
+  before_eras = SeenBeforeEras-push false es e shows.before_eras before;
+}
+
+-- ---- the journal of a log
+
+abbrev events_of : Log → List Stamped → List Event
+events_of l entries = map (λ s. event_of l s) entries
+
+-- the images and stores of a log stand in front of those of another
+record IsLonger (l after : Log) : Type 0 where
+  images : List (ArrayVec ℕ)
+  stores : List Store
+  images_are : after.images ≡ l.images ++ images
+  stores_are : after.stores ≡ l.stores ++ stores
+
+at_longer : {A : Type 0} (xs ys more : List A) (d : A) (n : ℕ) → ys ≡ xs ++ more → n < length xs → slice_index_or ys n d ≡ slice_index_or xs n d
+at_longer {A} xs ys more d n is below = subst (λ (zs : List A). slice_index_or zs n d ≡ slice_index_or xs n d) (sym is) (get_or-append xs more d n below)
+
+told_of-longer : (l after : Log) (e : Entry) → IsLonger l after → IsNamedBelow (length l.images) (length l.stores) e → told_of after e ≡ told_of l e
+told_of-longer l after (entry.Post n h c payload) longer named = refl
+told_of-longer l after (entry.Dropped h cause) longer named = refl
+told_of-longer l after (entry.Start n) longer named = refl
+told_of-longer l after (entry.Ask n f args) longer named = refl
+told_of-longer l after (entry.Answer n value) longer named = refl
+told_of-longer l after (entry.Halt n) longer named = refl
+told_of-longer l after (entry.Fault n kind) longer named = refl
+told_of-longer l after (entry.Install h version image) longer named =
+    ap (λ (i : ArrayVec ℕ). Installed (record { handler = h; version = version; image = i }))
+    (at_longer l.images after.images longer.images (record { items = [] }) image longer.images_are named)
+told_of-longer l after entry.Reset longer named = refl
+told_of-longer l after (entry.Seen store) longer named =
+    ap Seen (at_longer l.stores after.stores longer.stores (record { shared = record { items = [] }; buffers = record { items = [] } }) store longer.stores_are named)
+told_of-longer l after (entry.Void cause) longer named = refl
+
+events_of-longer : (l after : Log) (entries : List Stamped) → IsLonger l after → AreNamedBelow (length l.images) (length l.stores) entries → events_of after entries ≡ events_of l entries
+events_of-longer l after [] longer named = refl
+events_of-longer l after (s ∷ entries) longer named =
+    ap (λ (told : Told). record { stamp = s.stamp; told = told } ∷ events_of after entries) (told_of-longer l after s.entry longer named.0)
+    ∙ ap (λ (es : List Event). event_of l s ∷ es) (events_of-longer l after entries longer named.1)
+
+-- a log that has the same images and stores tells the same of each entry
+told_of-same : (l after : Log) (e : Entry) → after.images ≡ l.images → after.stores ≡ l.stores → told_of after e ≡ told_of l e
+told_of-same l after (entry.Post n h c payload) images stores = refl
+told_of-same l after (entry.Dropped h cause) images stores = refl
+told_of-same l after (entry.Start n) images stores = refl
+told_of-same l after (entry.Ask n f args) images stores = refl
+told_of-same l after (entry.Answer n value) images stores = refl
+told_of-same l after (entry.Halt n) images stores = refl
+told_of-same l after (entry.Fault n kind) images stores = refl
+told_of-same l after (entry.Install h version image) images stores =
+    ap (λ (all : List (ArrayVec ℕ)). Installed (record { handler = h; version = version; image = slice_index_or all image (record { items = [] }) })) images
+told_of-same l after entry.Reset images stores = refl
+told_of-same l after (entry.Seen store) images stores =
+    ap (λ (all : List Store). Seen (slice_index_or all store (record { shared = record { items = [] }; buffers = record { items = [] } }))) stores
+told_of-same l after (entry.Void cause) images stores = refl
+
+events_of-same : (l after : Log) (entries : List Stamped) → after.images ≡ l.images → after.stores ≡ l.stores → events_of after entries ≡ events_of l entries
+events_of-same l after [] images stores = refl
+events_of-same l after (s ∷ entries) images stores =
+    ap (λ (told : Told). record { stamp = s.stamp; told = told } ∷ events_of after entries) (told_of-same l after s.entry images stores)
+    ∙ ap (λ (es : List Event). event_of l s ∷ es) (events_of-same l after entries images stores)
+
+-- one more entry tells one more event
+pub journal_of-push : (l : Log) (s : Stamped) (after : Log) → IsPushed l s after → journal_of after ≡ journal_of l ++ event_of l s ∷ []
+journal_of-push l s after pushed =
+    ap (λ (entries : List Stamped). events_of after entries) pushed.entries
+    ∙ events_of-same l after (l.entries ++ s ∷ []) pushed.images pushed.stores
+    ∙ map-append (λ s. event_of l s) l.entries (s ∷ [])
+
+-- one more image, or store, changes nothing of what was told
+pub journal_of-add_image : (l : Log) (image : ArrayVec ℕ) (after : Log) → NamesInLog l → AddsImage l image after → journal_of after ≡ journal_of l
+journal_of-add_image l image after names adds =
+    ap (λ (entries : List Stamped). events_of after entries) adds.entries
+    ∙ events_of-longer l after l.entries
+    (record { images = image ∷ []; stores = []; images_are = adds.images; stores_are = adds.stores ∙ sym (append-nil l.stores) })
+    names.named
+
+pub journal_of-add_store : (l : Log) (store : Store) (after : Log) → NamesInLog l → AddsStore l store after → journal_of after ≡ journal_of l
+journal_of-add_store l store after names adds =
+    ap (λ (entries : List Stamped). events_of after entries) adds.entries
+    ∙ events_of-longer l after l.entries
+    (record { images = []; stores = store ∷ []; images_are = adds.images ∙ sym (append-nil l.images); stores_are = adds.stores })
+    names.named
+
+pub journal_of-same : (l after : Log) → IsSameLog after l → journal_of after ≡ journal_of l
+journal_of-same l after same =
+    ap (λ (entries : List Stamped). events_of after entries) same.entries ∙ events_of-same l after l.entries same.images same.stores
+
+pub journal_of-empty : (l : Log) → IsEmpty l → journal_of l ≡ []
+journal_of-empty l nothing = ap (λ (entries : List Stamped). events_of l entries) nothing.entries
+
+-- the image that was added last, and the store, is the one that an entry with the next position names
+pub event_of-install : (l after : Log) (image : ArrayVec ℕ) (stamp : Stamp) (h : HandlerId) (version : ℕ) → AddsImage l image after
+    → event_of after (record { stamp = stamp; entry = entry.Install h version (length l.images) })
+    ≡ record { stamp = stamp; told = Installed (record { handler = h; version = version; image = image }) }
+event_of-install l after image stamp h version adds =
+    ap (λ (i : ArrayVec ℕ). record { stamp = stamp; told = Installed (record { handler = h; version = version; image = i }) })
+    (ap (λ (all : List (ArrayVec ℕ)). slice_index_or all (length l.images) (record { items = [] })) adds.images
+    ∙ get_or-append_seam l.images image [] (record { items = [] }))
+
+pub event_of-seen : (l after : Log) (store : Store) (stamp : Stamp) → AddsStore l store after
+    → event_of after (record { stamp = stamp; entry = entry.Seen (length l.stores) }) ≡ record { stamp = stamp; told = Seen store }
+event_of-seen l after store stamp adds =
+    ap (λ (s : Store). record { stamp = stamp; told = Seen s })
+    (ap (λ (all : List Store). slice_index_or all (length l.stores) (record { shared = record { items = [] }; buffers = record { items = [] } })) adds.stores
+    ∙ get_or-append_seam l.stores store [] (record { shared = record { items = [] }; buffers = record { items = [] } }))
+
+-- ---- the images and stores that are named are in the log
+
+IsNamedBelow-more : (i j k n : ℕ) (e : Entry) → i ≤ j → k ≤ n → IsNamedBelow i k e → IsNamedBelow j n e
+IsNamedBelow-more i j k n (entry.Post m h c payload) images stores named = tt
+IsNamedBelow-more i j k n (entry.Dropped h cause) images stores named = tt
+IsNamedBelow-more i j k n (entry.Start m) images stores named = tt
+IsNamedBelow-more i j k n (entry.Ask m f args) images stores named = tt
+IsNamedBelow-more i j k n (entry.Answer m value) images stores named = tt
+IsNamedBelow-more i j k n (entry.Halt m) images stores named = tt
+IsNamedBelow-more i j k n (entry.Fault m kind) images stores named = tt
+IsNamedBelow-more i j k n (entry.Install h version image) images stores named = omega arith
+IsNamedBelow-more i j k n entry.Reset images stores named = tt
+IsNamedBelow-more i j k n (entry.Seen store) images stores named = omega arith
+IsNamedBelow-more i j k n (entry.Void cause) images stores named = tt
+
+AreNamedBelow-more : (i j k n : ℕ) (entries : List Stamped) → i ≤ j → k ≤ n → AreNamedBelow i k entries → AreNamedBelow j n entries
+AreNamedBelow-more i j k n [] images stores named = tt
+AreNamedBelow-more i j k n (s ∷ entries) images stores named =
+    (IsNamedBelow-more i j k n s.entry images stores named.0, AreNamedBelow-more i j k n entries images stores named.1)
+
+AreNamedBelow-push : (i k : ℕ) (entries : List Stamped) (s : Stamped) → AreNamedBelow i k entries → IsNamedBelow i k s.entry → AreNamedBelow i k (entries ++ s ∷ [])
+AreNamedBelow-push i k [] s named last = (last, tt)
+AreNamedBelow-push i k (first ∷ entries) s named last = (named.0, AreNamedBelow-push i k entries s named.1 last)
+
+pub NamesInLog-push : (l : Log) (s : Stamped) (after : Log) → NamesInLog l → IsNamedBelow (length l.images) (length l.stores) s.entry → IsPushed l s after → NamesInLog after
+NamesInLog-push l s after names last pushed = record {
+  named =
+      subst (λ (entries : List Stamped). AreNamedBelow (length after.images) (length after.stores) entries) (sym pushed.entries)
+      (AreNamedBelow-more (length l.images) (length after.images) (length l.stores) (length after.stores) (l.entries ++ s ∷ [])
+      (omega (arith, ap length pushed.images)) (omega (arith, ap length pushed.stores))
+      (AreNamedBelow-push (length l.images) (length l.stores) l.entries s names.named last));
+}
+
+pub NamesInLog-add_image : (l : Log) (image : ArrayVec ℕ) (after : Log) → NamesInLog l → AddsImage l image after → NamesInLog after
+NamesInLog-add_image l image after names adds = record {
+  named =
+      subst (λ (entries : List Stamped). AreNamedBelow (length after.images) (length after.stores) entries) (sym adds.entries)
+      (AreNamedBelow-more (length l.images) (length after.images) (length l.stores) (length after.stores) l.entries
+      (omega (arith, ap length adds.images, length-append l.images (image ∷ []))) (omega (arith, ap length adds.stores)) names.named);
+}
+
+pub NamesInLog-add_store : (l : Log) (store : Store) (after : Log) → NamesInLog l → AddsStore l store after → NamesInLog after
+NamesInLog-add_store l store after names adds = record {
+  named =
+      subst (λ (entries : List Stamped). AreNamedBelow (length after.images) (length after.stores) entries) (sym adds.entries)
+      (AreNamedBelow-more (length l.images) (length after.images) (length l.stores) (length after.stores) l.entries
+      (omega (arith, ap length adds.images)) (omega (arith, ap length adds.stores, length-append l.stores (store ∷ []))) names.named);
+}
+
+pub NamesInLog-same : (l after : Log) → NamesInLog l → IsSameLog after l → NamesInLog after
+NamesInLog-same l after names same = record {
+  named =
+      subst (λ (entries : List Stamped). AreNamedBelow (length after.images) (length after.stores) entries) (sym same.entries)
+      (AreNamedBelow-more (length l.images) (length after.images) (length l.stores) (length after.stores) l.entries
+      (omega (arith, ap length same.images)) (omega (arith, ap length same.stores)) names.named);
+}
+
+pub NamesInLog-empty : (l : Log) → IsEmpty l → NamesInLog l
+NamesInLog-empty l nothing = record { named = subst (λ (entries : List Stamped). AreNamedBelow (length l.images) (length l.stores) entries) (sym nothing.entries) tt }

@@ -1,0 +1,9 @@
+pub mod Changed
+pub mod Append
+pub mod Moves
+pub mod Apart
+pub mod Order
+pub mod Devices
+pub mod Progress
+pub mod Fresh
+pub mod ScriptRuns

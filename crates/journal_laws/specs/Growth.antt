@@ -1,0 +1,112 @@
+-- A journal as it grows: what was told last, and the rules of its entries apart from what holds at its end.
+use Rattle.std.specs.Prelude.{◌≡◌, ◌<◌, ℕ, Bool, true, false, List, [], ◌∷◌, ◌++◌, length}
+use Rattle.arrayvec.specs.ArrayVec.{ArrayVec}
+use Rattle.mate_num.specs.declared.call.Stamp.{Stamp}
+use Rattle.mate_num.specs.declared.store.Store.{Store}
+use Rattle.mate_journal.specs.Log.{Log}
+use Rattle.mate_journal.specs.Machine.{Machine}
+use Rattle.mate_journal.specs.Journal.{Told, Posted, Dropped, Started, Asked, Answered, Ended, Installed, Reset, Seen, Void, Event, told_of, Reading, heard, AtEachEntry}
+use Rattle.mate_journal.specs.Grants.{IsGranted, start_of}
+use Rattle.mate_journal.specs.declared.entry.Entry.{Entry}
+use Rattle.mate_journal.specs.declared.entry.Entry.TheVariants as entry
+use Rattle.mate_journal.specs.declared.entry.Stamped.{Stamped}
+
+-- ---- the log
+
+-- an entry of a log tells this event
+abbrev pub event_of : Log → Stamped → Event
+event_of l s = record { stamp = s.stamp; told = told_of l s.entry }
+
+-- the image or the store that an entry names is one of so many
+abbrev pub IsNamedBelow : ℕ → ℕ → Entry → Type 0
+IsNamedBelow images stores (entry.Post n h c payload) = Unit {0}
+IsNamedBelow images stores (entry.Dropped h cause) = Unit {0}
+IsNamedBelow images stores (entry.Start n) = Unit {0}
+IsNamedBelow images stores (entry.Ask n f args) = Unit {0}
+IsNamedBelow images stores (entry.Answer n value) = Unit {0}
+IsNamedBelow images stores (entry.Halt n) = Unit {0}
+IsNamedBelow images stores (entry.Fault n kind) = Unit {0}
+IsNamedBelow images stores (entry.Install h version image) = image < images
+IsNamedBelow images stores entry.Reset = Unit {0}
+IsNamedBelow images stores (entry.Seen store) = store < stores
+IsNamedBelow images stores (entry.Void cause) = Unit {0}
+
+abbrev pub AreNamedBelow : ℕ → ℕ → List Stamped → Type 0
+AreNamedBelow images stores [] = Unit {0}
+AreNamedBelow images stores (s ∷ entries) = IsNamedBelow images stores s.entry × AreNamedBelow images stores entries
+
+-- each image and store that an entry names is in the log
+pub record NamesInLog (l : Log) : Type 0 where
+  pub named : AreNamedBelow (length l.images) (length l.stores) l.entries
+
+-- the log with one more entry
+pub record IsPushed (l : Log) (s : Stamped) (after : Log) : Type 0 where
+  pub entries : after.entries ≡ l.entries ++ s ∷ []
+  pub images : after.images ≡ l.images
+  pub stores : after.stores ≡ l.stores
+
+-- the log with one more image
+pub record AddsImage (l : Log) (image : ArrayVec ℕ) (after : Log) : Type 0 where
+  pub entries : after.entries ≡ l.entries
+  pub images : after.images ≡ l.images ++ image ∷ []
+  pub stores : after.stores ≡ l.stores
+
+-- the log with one more store
+pub record AddsStore (l : Log) (store : Store) (after : Log) : Type 0 where
+  pub entries : after.entries ≡ l.entries
+  pub images : after.images ≡ l.images
+  pub stores : after.stores ≡ l.stores ++ store ∷ []
+
+-- ---- what was told last
+
+-- the stamp of the last event, `before` where there is none
+abbrev pub last_stamp : Stamp → List Event → Stamp
+last_stamp before [] = before
+last_stamp before (e ∷ es) = last_stamp e.stamp es
+
+-- the number of the invocation that the last event starts, 0 where it starts none, `before` where there is no event
+abbrev pub last_start : ℕ → List Event → ℕ
+last_start before [] = before
+last_start before (e ∷ es) = last_start (start_of e.told) es
+
+-- the entry shows a store
+abbrev pub is_seen : Told → Bool
+is_seen (Posted n h c payload) = false
+is_seen (Dropped h cause) = false
+is_seen (Started n) = false
+is_seen (Asked n f args) = false
+is_seen (Answered n value) = false
+is_seen (Ended n how) = false
+is_seen (Installed p) = false
+is_seen Reset = false
+is_seen (Seen store) = true
+is_seen (Void cause) = false
+
+-- the last event shows a store, `before` where there is no event
+abbrev pub last_is_seen : Bool → List Event → Bool
+last_is_seen before [] = before
+last_is_seen before (e ∷ es) = last_is_seen (is_seen e.told) es
+
+-- the entry begins an era: then a store was seen directly before
+abbrev pub IsSeenBefore : Bool → Told → Type 0
+IsSeenBefore seen (Posted n h c payload) = Unit {0}
+IsSeenBefore seen (Dropped h cause) = Unit {0}
+IsSeenBefore seen (Started n) = Unit {0}
+IsSeenBefore seen (Asked n f args) = Unit {0}
+IsSeenBefore seen (Answered n value) = Unit {0}
+IsSeenBefore seen (Ended n how) = Unit {0}
+IsSeenBefore seen (Installed p) = seen ≡ true
+IsSeenBefore seen Reset = seen ≡ true
+IsSeenBefore seen (Seen store) = Unit {0}
+IsSeenBefore seen (Void cause) = Unit {0}
+
+-- ---- the rules of the entries, without what holds at the end
+
+-- a fact before each entry
+abbrev pub BeforeEachEntry : (Reading → Type 0) → Machine → Reading → List Event → Type 0
+BeforeEachEntry Fact m r es = AtEachEntry (λ r told. Fact r) m r es
+
+-- the grant rule before each entry
+abbrev pub GrantsBefore : Machine → Reading → ℕ → List Event → Type 0
+GrantsBefore m r last [] = Unit {0}
+GrantsBefore m r last (e ∷ es) = IsGranted m r last e.told × GrantsBefore m (heard m r e.told) (start_of e.told) es
