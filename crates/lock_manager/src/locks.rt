@@ -82,7 +82,8 @@ impl Locks {
     /// Starts the first waiter that conflicts neither with a started context nor with an earlier waiter. None comes
     /// exactly where there is no such waiter.
     pub fn grant(&mut self) -> Option<ContextId>
-        ensures { MatchOption result (GrantsNone self.old self.new) (Grants self.old self.new) }
+        ensures granted { MatchOption result (GrantsNone self.old self.new) (Grants self.old self.new) }
+        ensures contexts { AreOnce (self.old.started ++ self.old.waiting) }
     {
         let place = first_free(self.waiting.as_slice())?;
         let claim = self.waiting.remove(place).claim;

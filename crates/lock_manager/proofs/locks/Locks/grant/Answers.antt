@@ -8,8 +8,8 @@ use Rattle.lock_manager.specs.Claims.{Claims, Grants, GrantsNone}
 use Rattle.lock_manager.proofs.LockLemmas.{seen, room_to_start, IsFirstFree-from_position, AreLocks-grant, Grants-from, GrantsNone-from}
 use Rattle.lock_manager.proofs.locks.Locks.grant.Goals as goal
 
-pub returns-in_err-place : goal.returns-in_err-place
-returns-in_err-place c =
+pub returns-in_err-place-clause-granted : goal.returns-in_err-place-clause-granted
+returns-in_err-place-clause-granted c =
     let now = c.args.self.now in
     let none : position (λ (w : Waiter). eqb w.blocked 0) c.self.inside.waiting.items ≡ None =
     ap (position (λ (w : Waiter). eqb w.blocked 0)) (sym c.as_slice.ensures.value) ∙ sym c.first_free.ensures ∙ c.in_err-place.was in
@@ -32,8 +32,8 @@ invariant_of-self c =
     AreLocks-grant ws c.remove.new.self.items (take p ws) (drop (suc p) ws) w c.self.inside.started.items c.push.new.self.items
     (IsFirstFree-from_position ws p w found c.remove.ensures.value) c.remove.ensures.items c.push.ensures.items c.self.invariant
 
-pub returns : goal.returns
-returns c =
+pub returns-clause-granted : goal.returns-clause-granted
+returns-clause-granted c =
     let ws = c.self.inside.waiting.items in
     let p = c.in_ok-place.place in
     let w = c.remove.result in
