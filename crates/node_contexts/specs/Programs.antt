@@ -1,0 +1,16 @@
+-- What is held for each handler.
+use Rattle.std.specs.Prelude.{ℕ, List, Option, Some, None, slice_index_or}
+use Rattle.mate_num.specs.declared.id.HandlerId.{HandlerId}
+use Rattle.node_contexts.specs.declared.handlers.Held.{Held}
+
+abbrev pub Programs : Type 0
+Programs = HandlerId → Option Held
+
+-- the program that is held for a handler
+abbrev pub held_at : List (Option Held) → Programs
+held_at programs h = slice_index_or programs h.0 None
+
+-- the version that is held, 0 for none
+abbrev pub version_in : Option Held → ℕ
+version_in None = 0
+version_in (Some x) = x.version

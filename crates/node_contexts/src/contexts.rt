@@ -1,0 +1,111 @@
+//! The contexts of a node: the invocation in each, the locks that it waits for or holds, whether it is ready,
+//! and the call that it waits with.
+
+ghost use Rattle.std.specs.Prelude.{◌≡◌, ◌<◌, ◌++◌, ◌∷◌, [], Some, None, IfOk, MatchBool, MatchOption, IsSome};
+ghost use Rattle.std.specs.Option.{option_copied};
+ghost use Rattle.mate_num.specs.declared.id.ContextId.{ContextId as Context};
+ghost use Rattle.lock_manager.specs.Claims.{Enqueues, Grants, GrantsNone, Releases};
+ghost use Rattle.context_sched.specs.Ready.{without};
+
+use crate::seat::Seat;
+use context_sched::Ring;
+use lock_manager::Locks;
+use mate_num::{ContextId, FunId, LockSet, NoMemory, Payload};
+use split_phase::Pending;
+use std::alloc::Global;
+
+/// The contexts of a node.
+#[derive(Drop)]
+pub struct Contexts {
+    pub seats: [Option<Seat>; 16],
+    pub locks: Locks,
+    pub ring: Ring,
+    pub pending: Pending,
+}
+
+impl Contexts {
+    ghost use Rattle.node_contexts.specs.At.{at, idle, queued, ready, waiting, seat_at, Becomes, AreIdle, CanStart, Starts, Asks, Ends};
+
+    /// All contexts are idle. No other call takes memory.
+    pub fn new(alloc: Global) -> Result<Contexts, NoMemory>
+        ensures { IfOk result AreIdle }
+    {
+        let ring = Ring::new(alloc)?;
+        Ok(Contexts {
+            seats: Default::default(),
+            locks: Locks::new(),
+            ring,
+            pending: Pending::new(),
+        })
+    }
+
+    /// Whether no invocation has the context.
+    pub fn is_idle(&self, ctx: ContextId) -> bool
+        requires { ctx.0 < 16 }
+        ensures { MatchBool result ((at self.now ctx).seat ≡ None) (IsSome (at self.now ctx).seat) }
+    {
+        self.seats[usize::from(ctx.0)].is_none()
+    }
+
+    /// The invocation in the context.
+    pub fn seat(&self, ctx: ContextId) -> Option<&Seat>
+        requires { ctx.0 < 16 }
+        ensures { option_copied result ≡ (at self.now ctx).seat }
+    {
+        self.seats[usize::from(ctx.0)].as_ref()
+    }
+
+    /// An invocation takes the idle context, and waits for its locks.
+    pub fn post(&mut self, ctx: ContextId, seat: Seat, set: LockSet)
+        requires context { ctx.0 < 16 }
+        requires free { at self.old ctx ≡ idle }
+        ensures becomes { Becomes self.old self.new ctx (queued seat set) }
+        ensures locks { Enqueues self.old.locks self.new.locks ctx set }
+        ensures ring { self.new.ring ≡ self.old.ring }
+    {
+        self.seats[usize::from(ctx.0)] = Some(seat);
+        self.locks.enqueue(ctx, set);
+    }
+
+    /// The first invocation that nothing holds back gets its locks, and is ready. None comes exactly where each is
+    /// held back.
+    pub fn grant(&mut self) -> Option<ContextId>
+        requires { CanStart self.old }
+        ensures { MatchOption result (GrantsNone self.old.locks self.new.locks × (self.new ≡ self.old)) (Starts self.old self.new) }
+    {
+        let ctx = self.locks.grant()?;
+        self.ring.ready(ctx);
+        Some(ctx)
+    }
+
+    /// The ready invocation of the context waits for the answer to a call.
+    pub fn ask(&mut self, ctx: ContextId, fun: FunId, args: Payload)
+        requires context { ctx.0 < 16 }
+        requires free { (at self.old ctx).call ≡ None }
+        ensures { Asks self.old self.new ctx (fun, args) }
+    {
+        self.pending.ask(ctx, fun, args);
+        self.ring.remove(ctx);
+    }
+
+    /// The ready invocation of the context is over: the context is idle.
+    pub fn finish(&mut self, ctx: ContextId)
+        requires context { ctx.0 < 16 }
+        requires started { IsSome (at self.old ctx).holds }
+        ensures { Ends self.old self.new ctx }
+    {
+        self.seats[usize::from(ctx.0)] = None;
+        self.locks.release(ctx);
+        self.ring.remove(ctx);
+    }
+
+    /// All contexts are idle.
+    pub fn clear(&mut self)
+        ensures { AreIdle self.new }
+    {
+        self.seats = Default::default();
+        self.locks.clear();
+        self.ring.clear();
+        self.pending.cancel();
+    }
+}

@@ -1,0 +1,63 @@
+//! What is installed for each handler.
+
+ghost use Rattle.std.specs.Prelude.{◌≡◌, ◌<◌, Some, slice_set};
+ghost use Rattle.std.specs.Option.{option_copied};
+ghost use Rattle.mate_num.specs.declared.id.HandlerId.{HandlerId as Handler};
+
+use code_verifier::Verified;
+use mate_num::{HandlerId, Image, LockSet};
+
+/// A program as it is installed: its version and image, its verified code, and the locks that it takes.
+#[derive(Drop)]
+pub struct Held {
+    pub version: u32,
+    pub image: Image,
+    pub code: Verified,
+    pub locks: LockSet,
+}
+
+/// The program of each handler.
+#[derive(Drop)]
+pub struct Handlers {
+    pub programs: [Option<Held>; 8],
+}
+
+impl Handlers {
+    ghost use Rattle.node_contexts.specs.Programs.{held_at, version_in};
+
+    /// Nothing is installed.
+    pub fn new() -> Handlers
+        ensures { (h : Handler) → held_at result.programs h ≡ None }
+    {
+        Handlers {
+            programs: Default::default(),
+        }
+    }
+
+    /// What is installed for the handler.
+    pub fn get(&self, handler: HandlerId) -> Option<&Held>
+        requires { handler.0 < 8 }
+        ensures { option_copied result ≡ held_at self.now.programs handler }
+    {
+        self.programs[usize::from(handler.0)].as_ref()
+    }
+
+    /// The program is installed in place of what was.
+    pub fn install(&mut self, handler: HandlerId, held: Held)
+        requires { handler.0 < 8 }
+        ensures { self.new.programs ≡ slice_set self.old.programs handler.0 (Some held) }
+    {
+        self.programs[usize::from(handler.0)] = Some(held);
+    }
+
+    /// The version that is installed for the handler, 0 for none.
+    pub fn version(&self, handler: HandlerId) -> u32
+        requires { handler.0 < 8 }
+        ensures { result ≡ version_in (held_at self.now.programs handler) }
+    {
+        match self.get(handler) {
+            Some(held) => held.version,
+            None => 0,
+        }
+    }
+}
