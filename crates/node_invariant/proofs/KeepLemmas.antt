@@ -1,0 +1,154 @@
+-- The parts of a node go on keeping what they keep, entry by entry.
+use Rattle.std.proofs.Common.{◌≡◌, ℕ, ◌+◌, ◌≤◌, false, List, [], ◌∷◌, ◌++◌, length, map, refl, sym, ◌∙◌, ap, subst, arith, length-append, append_assoc}
+use Rattle.std.proofs.lemmas.List.{map-append, append-nil}
+use Rattle.mate_num.specs.declared.call.Stamp.{Stamp}
+use Rattle.mate_journal.specs.declared.entry.Entry.{Entry}
+use Rattle.mate_journal.specs.declared.entry.Stamped.{Stamped}
+use Rattle.mate_journal.specs.Log.{Log}
+use Rattle.mate_journal.specs.Machine.{Machine}
+use Rattle.mate_journal.specs.Journal.{Told, told_of, Event, journal_of, Reading, heard, heard_all, nothing_heard}
+use Rattle.journal_laws.specs.Growth.{event_of, NamesInLog, IsNamedBelow, IsPushed, IsSeenBefore, last_stamp, last_is_seen}
+use Rattle.mate_journal.specs.WellFormed.{MayFollow, NotBefore, IsWellFormed, start}
+use Rattle.mate_journal.specs.Serial.{EndsAsRun, RunsSoFar, IsSerial}
+use Rattle.mate_journal.specs.Stores.{ShowsStore, ShowsStores}
+use Rattle.journal_laws.proofs.Append.{heard_all-push, journal_of-push, last_stamp-push, IsWellFormed-push, IsSerial-push, ShowsStores-push, NamesInLog-push}
+use Rattle.node_contexts.specs.Programs.{held_at}
+use Rattle.node_invariant.proofs.SerialLemmas.{stands}
+use Rattle.vm_desc.specs.declared.description.Description.{Description}
+use Rattle.node_invariant.specs.declared.parts.Parts.{Parts}
+use Rattle.node_invariant.specs.Meaning.{machine_in}
+use Rattle.node_invariant.specs.Keeps.{reading, Keeps, IsTimely, event_at, Grows}
+use Rattle.node_invariant.specs.Continues.{IsPrepared, FitsAfter, Continues}
+
+pub NotBefore-same : (at : Stamp) → NotBefore at at
+NotBefore-same at = record { event = omega arith; time = omega arith; same = λ _. refl }
+
+-- ---- growing logs
+
+pub Grows-none : (l : Log) (at : Stamp) → IsTimely at l → Grows l l at []
+Grows-none l at timely = record { journal = sym (append-nil (journal_of l)); count = omega arith; spare = omega arith; timely = timely }
+
+pub Grows-then : (a b c : Log) (at : Stamp) (first then : List Told) → Grows a b at first → Grows b c at then → Grows a c at (first ++ then)
+Grows-then a b c at first then f g =
+    record {
+      journal =
+          g.journal ∙ ap (λ (es : List Event). es ++ map (event_at at) then) f.journal
+          ∙ append_assoc (journal_of a) (map (event_at at) first) (map (event_at at) then)
+          ∙ ap (λ (es : List Event). journal_of a ++ es) (sym (map-append (event_at at) first then));
+      count = let m = f.count in let n = g.count in omega (arith, length-append first then);
+      spare = let m = f.spare in let n = g.spare in omega (arith, length-append first then);
+      timely = g.timely;
+    }
+
+-- ---- one more entry
+
+module _ (d : Description) (old new : Parts) (before : Log) (at : Stamp) (e : Entry) (told : Told) (keeps : Keeps d old) (next : Continues d old new before at e told) where
+  abbrev m : Machine
+  m = machine_in d
+
+  abbrev s : Stamped
+  s = record { stamp = at; entry = e }
+
+  journal-new : journal_of new.log ≡ journal_of old.log ++ event_at at told ∷ []
+  journal-new =
+      journal_of-push before s new.log next.pushed
+      ∙ ap (λ (es : List Event). es ++ event_of before s ∷ []) next.prepared.journal
+      ∙ ap (λ (t : Told). journal_of old.log ++ event_at at t ∷ []) next.tells
+
+  reading-new : reading d new.log ≡ heard m (reading d old.log) told
+  unfolding reading
+  reading-new = ap (heard_all m (nothing_heard m)) journal-new ∙ heard_all-push m (nothing_heard m) (journal_of old.log) (event_at at told)
+
+  well_formed-new : IsWellFormed m (nothing_heard m) (journal_of new.log)
+  unfolding reading
+  well_formed-new =
+      let P : List Event → Type 0 = λ es. IsWellFormed m (nothing_heard m) es in
+      subst P (sym journal-new) (IsWellFormed-push m (nothing_heard m) (journal_of old.log) (event_at at told) keeps.well_formed next.timely.after_last next.follows)
+
+  entries-new : length new.log.entries ≡ length old.log.entries + 1
+  entries-new =
+      let n = ap length next.pushed.entries in
+      let k = length-append before.entries (s ∷ []) in
+      let j = next.prepared.entries in
+      omega arith
+
+  timely-new : IsTimely at new.log
+  timely-new =
+      let P : List Event → Type 0 = λ es. NotBefore (last_stamp start es) at in
+      let Q : Stamp → Type 0 = λ last. NotBefore last at in
+      record { after_last = subst P (sym journal-new) (subst Q (sym (last_stamp-push start (journal_of old.log) (event_at at told))) (NotBefore-same at)) }
+
+  after-new : FitsAfter d (reading d new.log) new
+  after-new = let P : Reading → Type 0 = λ r. FitsAfter d r new in subst P (sym reading-new) next.after
+
+  serial-new : IsSerial m (nothing_heard m) (journal_of new.log)
+  unfolding reading
+  serial-new =
+      let P : List Event → Type 0 = λ es. IsSerial m (nothing_heard m) es in
+      let x = next.after in
+      let runs : RunsSoFar m (heard m (reading d old.log) told) =
+      stands d (heard m (reading d old.log) told) new.contexts (held_at new.handlers.programs) new.heap x.fits x.installed.each x.agrees in
+      subst P (sym journal-new) (IsSerial-push m (nothing_heard m) (journal_of old.log) (event_at at told) keeps.serial next.ends runs)
+
+  shows-new : ShowsStores m (nothing_heard m) (journal_of new.log)
+  unfolding reading
+  shows-new =
+      let P : List Event → Type 0 = λ es. ShowsStores m (nothing_heard m) es in
+      subst P (sym journal-new) (ShowsStores-push m (nothing_heard m) (journal_of old.log) (event_at at told) keeps.shows next.shown next.before_era)
+
+  pub Keeps-push : Keeps d new
+  Keeps-push =
+      let images = ap length next.pushed.images in
+      let stores = ap length next.pushed.stores in
+      let entries = entries-new in
+      let few_images = next.prepared.images in
+      let few_stores = next.prepared.stores in
+      let as_many = next.prepared.entries in
+      let numbers = next.numbers in
+      record {
+        names = NamesInLog-push before s new.log next.prepared.names next.named next.pushed;
+        images = omega arith;
+        stores = omega arith;
+        numbers = omega arith;
+        well_formed = well_formed-new;
+        posts = after-new.posts;
+        installed = after-new.installed;
+        fits = after-new.fits;
+        lengths = after-new.lengths;
+        agrees = after-new.agrees;
+        serial = serial-new;
+        shows = shows-new;
+      }
+
+  pub Grows-push : old.log.spare ≤ new.log.spare + 1 → Grows old.log new.log at (told ∷ [])
+  Grows-push room = record { journal = journal-new; count = entries-new; spare = room; timely = timely-new }
+
+-- where nothing was prepared
+pub IsPrepared-same : (d : Description) (old : Parts) → Keeps d old → IsPrepared old.log old.log
+IsPrepared-same d old keeps =
+    let i = keeps.images in let s = keeps.stores in
+    record { journal = refl; entries = refl; names = keeps.names; images = omega arith; stores = omega arith }
+
+-- an entry that changes nothing of the parts
+pub Continues-same : (d : Description) (old : Parts) (log : Log) (at : Stamp) (e : Entry) (told : Told) → Keeps d old → IsTimely at old.log → IsPushed old.log record { stamp = at; entry = e } log
+    → told_of old.log e ≡ told → IsNamedBelow (length old.log.images) (length old.log.stores) e → MayFollow (machine_in d) (reading d old.log) told
+    → EndsAsRun (machine_in d) (reading d old.log) told → ShowsStore (machine_in d) (reading d old.log) told → IsSeenBefore (last_is_seen false (journal_of old.log)) told
+    → heard (machine_in d) (reading d old.log) told ≡ reading d old.log
+    → Continues d old (record old { log = log }) old.log at e told
+Continues-same d old log at e told keeps timely pushed tells named follows ends shown before_era same =
+    let n = keeps.numbers in
+    let after : FitsAfter d (reading d old.log) (record old { log = log }) = record { posts = keeps.posts; installed = keeps.installed; fits = keeps.fits; lengths = keeps.lengths; agrees = keeps.agrees } in
+    let P : Reading → Type 0 = λ r. FitsAfter d r (record old { log = log }) in
+    record {
+      prepared = IsPrepared-same d old keeps;
+      pushed = pushed;
+      tells = tells;
+      named = named;
+      timely = timely;
+      follows = follows;
+      ends = ends;
+      shown = shown;
+      before_era = before_era;
+      numbers = omega arith;
+      after = subst P (sym same) after;
+    }

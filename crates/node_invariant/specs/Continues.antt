@@ -1,0 +1,49 @@
+-- What one more entry of a node's log asks of the parts that come with it.
+use Rattle.std.specs.Prelude.{◌≡◌, ℕ, ◌+◌, ◌≤◌, false, length}
+use Rattle.mate_num.specs.declared.call.Stamp.{Stamp}
+use Rattle.mate_journal.specs.declared.entry.Entry.{Entry}
+use Rattle.mate_journal.specs.Log.{Log}
+use Rattle.mate_journal.specs.Journal.{Told, told_of, journal_of, Reading, heard}
+use Rattle.journal_laws.specs.Growth.{NamesInLog, IsNamedBelow, IsPushed, IsSeenBefore, last_is_seen}
+use Rattle.mate_journal.specs.Serial.{EndsAsRun}
+use Rattle.mate_journal.specs.Stores.{ShowsStore}
+use Rattle.mate_journal.specs.WellFormed.{MayFollow}
+use Rattle.exec_unit.specs.Step.{HasLengths}
+use Rattle.vm_desc.specs.declared.description.Description.{Description}
+use Rattle.vm_desc.specs.Shapes.{shape_of}
+use Rattle.node_invariant.specs.declared.parts.Parts.{Parts}
+use Rattle.node_invariant.specs.Meaning.{machine_in}
+use Rattle.node_contexts.specs.Programs.{held_at}
+use Rattle.node_invariant.specs.Fits.{AreInstalled, Fits}
+use Rattle.node_invariant.specs.Agrees.{Agrees}
+use Rattle.node_invariant.specs.Keeps.{reading, IsTimely}
+
+-- the log tells the same as before, and has room for one more entry; it may have an image or a store that no entry names yet
+pub record IsPrepared (old before : Log) : Type 0 where
+  pub journal : journal_of before ≡ journal_of old
+  pub entries : length before.entries ≡ length old.entries
+  pub names : NamesInLog before
+  pub images : length before.images ≤ length before.entries + 1
+  pub stores : length before.stores ≤ length before.entries + 1
+
+-- the parts agree with what is heard after the entry
+pub record FitsAfter (d : Description) (r : Reading) (new : Parts) : Type 0 where
+  pub posts : r.posts ≡ new.posts
+  pub installed : AreInstalled d r.installed (held_at new.handlers.programs)
+  pub fits : Fits (held_at new.handlers.programs) r new.contexts
+  pub lengths : HasLengths (shape_of d) new.heap
+  pub agrees : Agrees d r new.contexts new.heap
+
+-- the entry may follow
+pub record Continues (d : Description) (old new : Parts) (before : Log) (at : Stamp) (e : Entry) (told : Told) : Type 0 where
+  pub prepared : IsPrepared old.log before
+  pub pushed : IsPushed before record { stamp = at; entry = e } new.log
+  pub tells : told_of before e ≡ told
+  pub named : IsNamedBelow (length before.images) (length before.stores) e
+  pub timely : IsTimely at old.log
+  pub follows : MayFollow (machine_in d) (reading d old.log) told
+  pub ends : EndsAsRun (machine_in d) (reading d old.log) told
+  pub shown : ShowsStore (machine_in d) (reading d old.log) told
+  pub before_era : IsSeenBefore (last_is_seen false (journal_of old.log)) told
+  pub numbers : new.posts ≤ length old.log.entries + 1
+  pub after : FitsAfter d (heard (machine_in d) (reading d old.log) told) new

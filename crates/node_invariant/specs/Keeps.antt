@@ -1,0 +1,57 @@
+-- What the parts of a node keep: its journal is well formed, is serial and shows stores as they are, and the parts agree with
+-- what was heard.
+use Rattle.std.specs.Prelude.{◌≡◌, ℕ, ◌+◌, ◌≤◌, List, length, map, ◌++◌}
+use Rattle.mate_num.specs.declared.call.Stamp.{Stamp}
+use Rattle.mate_journal.specs.Log.{Log}
+use Rattle.mate_journal.specs.Journal.{Told, Event, journal_of, Reading, nothing_heard, heard_all}
+use Rattle.journal_laws.specs.Growth.{NamesInLog, last_stamp}
+use Rattle.mate_journal.specs.WellFormed.{IsWellFormed, NotBefore, start}
+use Rattle.mate_journal.specs.Serial.{IsSerial}
+use Rattle.mate_journal.specs.Stores.{ShowsStores}
+use Rattle.exec_unit.specs.Step.{HasLengths}
+use Rattle.vm_desc.specs.declared.description.Description.{Description}
+use Rattle.vm_desc.specs.Shapes.{shape_of}
+use Rattle.node_invariant.specs.declared.parts.Parts.{Parts}
+use Rattle.node_invariant.specs.Meaning.{machine_in}
+use Rattle.node_contexts.specs.Programs.{held_at}
+use Rattle.node_invariant.specs.Fits.{AreInstalled, Fits}
+use Rattle.node_invariant.specs.Agrees.{Agrees}
+
+-- what was heard of a node by its log
+unfoldable pub reading : Description → Log → Reading
+reading d l = heard_all (machine_in d) (nothing_heard (machine_in d)) (journal_of l)
+
+pub record Keeps (d : Description) (s : Parts) : Type 0 where
+  pub names : NamesInLog s.log
+  pub images : length s.log.images ≤ length s.log.entries
+  pub stores : length s.log.stores ≤ length s.log.entries
+  pub numbers : s.posts ≤ length s.log.entries
+  pub well_formed : IsWellFormed (machine_in d) (nothing_heard (machine_in d)) (journal_of s.log)
+  pub posts : (reading d s.log).posts ≡ s.posts
+  pub installed : AreInstalled d (reading d s.log).installed (held_at s.handlers.programs)
+  pub fits : Fits (held_at s.handlers.programs) (reading d s.log) s.contexts
+  pub lengths : HasLengths (shape_of d) s.heap
+  pub agrees : Agrees d (reading d s.log) s.contexts s.heap
+  pub serial : IsSerial (machine_in d) (nothing_heard (machine_in d)) (journal_of s.log)
+  pub shows : ShowsStores (machine_in d) (nothing_heard (machine_in d)) (journal_of s.log)
+
+-- an entry of this stamp may come next
+pub record IsTimely (at : Stamp) (l : Log) : Type 0 where
+  pub after_last : NotBefore (last_stamp start (journal_of l)) at
+
+-- an event of this stamp
+abbrev pub event_at : Stamp → Told → Event
+event_at at told = record { stamp = at; told = told }
+
+-- the log tells this more, with this stamp
+pub record Grows (old new : Log) (at : Stamp) (told : List Told) : Type 0 where
+  pub journal : journal_of new ≡ journal_of old ++ map (event_at at) told
+  pub count : length new.entries ≡ length old.entries + length told
+  pub spare : old.spare ≤ new.spare + length told
+  pub timely : IsTimely at new
+
+-- the log tells more that meets the rule
+pub record Adds (old new : Log) (at : Stamp) (Rule : List Told → Type 0) : Type 0 where
+  pub told : List Told
+  pub grows : Grows old new at told
+  pub made : Rule told

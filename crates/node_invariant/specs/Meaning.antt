@@ -1,0 +1,36 @@
+-- What the programs of a node mean: the runs of their images' code.
+use Rattle.std.specs.Prelude.{ℕ, ℤ, List, [], Result, Ok, Err, drop}
+use Rattle.arrayvec.specs.ArrayVec.{ArrayVec}
+use Rattle.mate_num.specs.declared.shape.Shape.{Shape}
+use Rattle.mate_code.specs.declared.decoding.DecodeFault.{DecodeFault}
+use Rattle.mate_code.specs.Code.{decoded}
+use Rattle.mate_code.specs.CodeUses.{uses_of}
+use Rattle.mate_code.specs.Run as run
+use Rattle.mate_code.specs.Run.{Code, code_run}
+use Rattle.mate_code.specs.Table.{table_of}
+use Rattle.mate_journal.specs.Described.{machine_of}
+use Rattle.mate_journal.specs.Machine.{Machine, Meaning, HeldProgram, Outcome}
+use Rattle.vm_desc.specs.declared.description.Description.{Description}
+use Rattle.vm_desc.specs.Shapes.{shape_of}
+
+abbrev pub code_in : Result Code DecodeFault → Code
+code_in (Ok code) = code
+code_in (Err fault) = []
+
+-- the code of an image, which stands behind the first 16 bytes
+unfoldable pub code_of : Shape → ArrayVec ℕ → Code
+code_of shape image = code_in (decoded (table_of shape) (drop 16 image.items))
+
+abbrev pub outcome_in : run.Outcome → Outcome
+outcome_in o = record { end = o.end; store = o.store; calls = o.calls }
+
+-- a program's run is that of its code, and it uses what its code uses
+abbrev pub meaning_of : Shape → Meaning
+meaning_of shape = record {
+  run = λ p store payload answers turns. outcome_in (code_run shape (code_of shape p.image) store payload answers turns);
+  uses = λ p. uses_of shape (code_of shape p.image);
+}
+
+-- the machine of a node
+abbrev pub machine_in : Description → Machine
+machine_in d = machine_of d (meaning_of (shape_of d))
