@@ -1,0 +1,6 @@
+pub mod SplitLemmas
+pub mod NumberLemmas
+pub mod PayloadLemmas
+pub mod StepLemmas
+pub mod LineLemmas
+pub mod NodeLemmas

@@ -1,0 +1,79 @@
+-- A line of a node script, and its end.
+use Rattle.std.proofs.Common.{◌≡◌, ℕ, ◌+◌, ◌<◌, ◌≤◌, Bool, true, false, cond, List, [], ◌∷◌, length, replicate, Result, Ok, Err, OnOk, IfOk, IfErr, lit<, refl, sym, ◌∙◌, ap, subst, arith}
+use Rattle.vm_desc.specs.declared.description.Description.{Description}
+use Rattle.script_reader.specs.declared.fault.Cause.{Cause}
+use Rattle.script_reader.specs.declared.fault.ScriptFault.{ScriptFault}
+use Rattle.script_reader.specs.declared.fault.ScriptFault.TheVariants.{BadLine, NoMemory}
+use Rattle.script_reader.specs.Lines.{lines, words_of, is_skipped}
+use Rattle.script_reader.specs.Script.{Follows}
+use Rattle.script_reader.specs.Words.{Taken}
+use Rattle.script_reader.specs.Steps.{IsRightSteps}
+use Rattle.script_reader.specs.NodeScript.{Said, Progress, a_line, with_said, when_said, after_line, nothing_yet, node_script_in}
+use Rattle.script_reader.specs.declared.node.Said.{Said as Line}
+use Rattle.script_reader.specs.NodeReader.{said_of, files_after, IsRightSaid, Keeps}
+use Rattle.script_reader.proofs.LineLemmas.{IsAt, goes_on}
+use Rattle.script_reader.proofs.StepLemmas.{keeps_more, keeps_nothing, length-with_file, few_files}
+
+-- what a line's end leaves
+pub record IsLineEnd (d : Description) (n : ℕ) (old new : Progress) (words : List (List ℕ)) (r : Result (Unit {0}) ScriptFault) : Type 0 where
+  pub value : Follows (after_line d old words) n r new
+  pub files : OnOk r (length new.script.files ≤ n)
+  pub keeps : OnOk r (Keeps d new)
+
+pub line_added : (d : Description) (n : ℕ) (old new : Progress) (words rest : List (List ℕ)) (said : Said) (r : Result (Unit {0}) ScriptFault) → length old.script.files < n → Keeps d old
+    → is_skipped words ≡ false → a_line d old.newest (length old.script.files) words ≡ Ok (record { value = said; rest = rest }) → IsRightSaid d old.newest (length old.script.files) said
+    → OnOk r (new ≡ with_said old said) → IfErr r (λ fault. fault ≡ NoMemory) → IsLineEnd d n old new words r
+unfolding after_line
+line_added d n old new words rest said (Ok u) few k skip read right adds refused =
+    let P : Progress → Type 0 = λ p. Keeps d p in
+    let len : length new.script.files ≡ files_after (length old.script.files) said.file = ap (λ (p : Progress). length p.script.files) adds ∙ length-with_file old.script.files said.file in
+    record {
+      value = rw skip (ap (when_said old) read ∙ ap (λ p. Ok p) (sym adds));
+      files = omega (arith, len, few_files (length old.script.files) said.file);
+      keeps = subst P (sym adds) (keeps_more d old said k right);
+    }
+line_added d n old new words rest said (Err (BadLine line cause)) few k skip read right adds refused = absurd (let e : BadLine line cause ≡ NoMemory = refused in cc)
+line_added d n old new words rest said (Err NoMemory) few k skip read right adds refused = record { value = tt; files = tt; keeps = tt }
+
+-- the state before the first line
+same_start : (p : Progress) → p.script.steps ≡ [] → p.script.files ≡ [] → p.newest ≡ replicate 8 0 → p ≡ nothing_yet
+same_start p steps files newest =
+    ap (λ s. record { script = record { steps = s; files = p.script.files }; newest = p.newest }) steps
+    ∙ ap (λ f. record { script = record { steps = []; files = f }; newest = p.newest }) files
+    ∙ ap (λ n. record { script = record { steps = []; files = [] }; newest = n }) newest
+
+-- where the reader of a node script is
+pub record IsAtLine (d : Description) (bytes : List ℕ) (number : ℕ) (p : Progress) (rest : List ℕ) : Type 0 where
+  pub at : IsAt (after_line d) (λ number p. Ok p.script) (node_script_in d bytes) number p rest
+  pub files : length p.script.files < number
+  pub keeps : Keeps d p
+
+pub at_start : (d : Description) (bytes : List ℕ) (p : Progress) → p.script.steps ≡ [] → p.script.files ≡ [] → p.newest ≡ replicate 8 0 → length bytes ≤ 1048576 → IsAtLine d bytes 1 p bytes
+unfolding node_script_in
+at_start d bytes p steps files newest small =
+    let P : Progress → Type 0 = λ p. IsAtLine d bytes 1 p bytes in
+    let begun : IsAtLine d bytes 1 nothing_yet bytes = record { at = record { whole_is = refl; count = omega arith }; files = lit< tt; keeps = keeps_nothing d } in
+    subst P (sym (same_start p steps files newest)) begun
+
+pub at_next : (d : Description) (bytes : List ℕ) (n : ℕ) (p after : Progress) (line rest new : List ℕ) → IsAtLine d bytes n p rest → lines rest ≡ line ∷ lines new → length new < length rest
+    → Follows (after_line d p (words_of line)) n (Ok tt) after → length after.script.files ≤ n → Keeps d after → IsAtLine d bytes (n + 1) after new
+at_next d bytes n p after line rest new at next shorter ended few keeps = record {
+  at = goes_on (after_line d) (λ number p. Ok p.script) (node_script_in d bytes) n p after line rest new at.at next shorter ended;
+  files = omega arith;
+  keeps = keeps;
+}
+
+pub right_at : (d : Description) (p : Progress) → Keeps d p → IsRightSteps d p.script
+right_at d p keeps = record { each = keeps.each; rising = keeps.rising }
+
+-- ---- what a line says, where the newest versions and the number of files play no part
+
+pub right_with : (d : Description) (r : Result Line Cause) (newest : List ℕ) (files : ℕ) → IfOk r (λ said. (newest : List ℕ) (files : ℕ) → IsRightSaid d newest files (said_of said))
+    → IfOk r (λ said. IsRightSaid d newest files (said_of said))
+right_with d (Ok said) newest files h = h newest files
+right_with d (Err cause) newest files h = tt
+
+pub right_load : (d : Description) (r : Result Line Cause) (newest : List ℕ) (files : ℕ) → IfOk r (λ said. (d : Description) (newest : List ℕ) → IsRightSaid d newest files (said_of said))
+    → IfOk r (λ said. IsRightSaid d newest files (said_of said))
+right_load d (Ok said) newest files h = h d newest
+right_load d (Err cause) newest files h = tt

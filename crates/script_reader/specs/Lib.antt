@@ -1,0 +1,6 @@
+pub mod Lines
+pub mod Words
+pub mod Script
+pub mod Steps
+pub mod NodeScript
+pub mod NodeReader

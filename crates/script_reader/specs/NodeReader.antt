@@ -1,0 +1,53 @@
+-- What the reader of a node script has read, and what a line adds to it.
+use Rattle.std.specs.Prelude.{◌≡◌, ℕ, ◌+◌, ◌<◌, ◌≤◌, List, length, slice_index, All, AllPairs, Option, Some, None, option_map}
+use Rattle.script_reader.specs.declared.node.Reader.{Reader}
+use Rattle.script_reader.specs.declared.node.Said.{Said as Line}
+use Rattle.script_reader.specs.declared.steps.Step.{Step}
+use Rattle.script_reader.specs.declared.steps.Step.TheVariants as step
+use Rattle.vm_desc.specs.declared.description.Description.{Description}
+use Rattle.script_reader.specs.Steps.{IsRightStep, Rises}
+use Rattle.script_reader.specs.NodeScript.{Said, Progress}
+
+abbrev pub progress_of : Reader → Progress
+progress_of r = record { script = r.steps; newest = r.newest }
+
+abbrev pub said_of : Line → Said
+said_of line = record { step = line.step; file = option_map (λ file. file.now) line.file }
+
+abbrev pub files_after : ℕ → Option (List ℕ) → ℕ
+files_after files None = files
+files_after files (Some file) = files + 1
+
+-- an install is newer than the newest version of its handler
+abbrev pub IsNewer : List ℕ → Step → Type 0
+IsNewer newest (step.Install handler version program) = slice_index newest handler.0 < version
+IsNewer newest (step.Load program) = Unit {0}
+IsNewer newest (step.Post handler payload) = Unit {0}
+IsNewer newest (step.Step ctx n) = Unit {0}
+IsNewer newest step.Run = Unit {0}
+IsNewer newest (step.Answer ctx value) = Unit {0}
+IsNewer newest step.Show = Unit {0}
+IsNewer newest step.Reset = Unit {0}
+
+-- what a line says is right behind so many files and those versions
+pub record IsRightSaid (d : Description) (newest : List ℕ) (files : ℕ) (said : Said) : Type 0 where
+  pub right : IsRightStep d (files_after files said.file) said.step
+  pub newer : IsNewer newest said.step
+
+-- an install's version is at most the newest one of its handler
+abbrev pub IsNoted : List ℕ → Step → Type 0
+IsNoted newest (step.Install handler version program) = version ≤ slice_index newest handler.0
+IsNoted newest (step.Load program) = Unit {0}
+IsNoted newest (step.Post handler payload) = Unit {0}
+IsNoted newest (step.Step ctx n) = Unit {0}
+IsNoted newest step.Run = Unit {0}
+IsNoted newest (step.Answer ctx value) = Unit {0}
+IsNoted newest step.Show = Unit {0}
+IsNoted newest step.Reset = Unit {0}
+
+-- what is right of every progress
+pub record Keeps (d : Description) (p : Progress) : Type 0 where
+  pub each : All (IsRightStep d (length p.script.files)) p.script.steps
+  pub rising : AllPairs Rises p.script.steps
+  pub places : length p.newest ≡ 8
+  pub noted : All (IsNoted p.newest) p.script.steps

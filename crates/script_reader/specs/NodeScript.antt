@@ -1,0 +1,120 @@
+-- The node script in bytes, line by line; where a line is refused, the first such line and its first cause.
+use Rattle.std.specs.Prelude.{ℕ, if◌then◌else◌, List, [], ◌∷◌, ◌++◌, length, codes, slice_index, slice_set, replicate, Option, Some, None, Result, Ok, Err}
+use Rattle.std.specs.Str.{bytes_eq}
+use Rattle.vm_desc.specs.declared.description.Description.{Description}
+use Rattle.script_reader.specs.declared.fault.Cause.{Cause}
+use Rattle.script_reader.specs.declared.fault.Cause.TheVariants.{Word, Range}
+use Rattle.script_reader.specs.declared.fault.ScriptFault.{ScriptFault}
+use Rattle.script_reader.specs.declared.steps.Step.{Step}
+use Rattle.script_reader.specs.declared.steps.Step.TheVariants as step
+use Rattle.script_reader.specs.Lines.{lines, is_skipped}
+use Rattle.script_reader.specs.Script.{script_from}
+use Rattle.script_reader.specs.Words.{Taken, Reading, ◌>>=◌, give, found, a_word, nothing_more, a_number, a_value, a_payload, a_handler, a_version, a_context}
+use Rattle.script_reader.specs.Steps.{NodeScript}
+
+-- what a line says: a step, and the name of its file
+pub record Said : Type 0 where
+  pub step : Step
+  pub file : Option (List ℕ)
+
+-- `install HANDLER VERSION FILE`, with the newest version of each handler and the number of files before the line
+unfoldable pub an_install : Description → List ℕ → ℕ → Reading Said
+an_install d newest files = do
+  handler ← a_handler d
+  version ← a_version (slice_index newest handler.0)
+  file ← a_word
+  give (record { step = step.Install handler version files; file = Some file })
+
+-- `load FILE`
+unfoldable pub a_load : ℕ → Reading Said
+a_load files = do
+  file ← a_word
+  give (record { step = step.Load files; file = Some file })
+
+-- `post HANDLER V ..`
+unfoldable pub a_post : Description → Reading Said
+a_post d = do
+  handler ← a_handler d
+  payload ← a_payload
+  give (record { step = step.Post handler payload; file = None })
+
+-- `step CTX N`
+unfoldable pub a_step : Description → Reading Said
+a_step d = do
+  ctx ← a_context d
+  n ← a_number 1 1000000 Range
+  give (record { step = step.Step ctx n; file = None })
+
+-- `answer CTX V`
+unfoldable pub an_answer : Description → Reading Said
+an_answer d = do
+  ctx ← a_context d
+  value ← a_value
+  give (record { step = step.Answer ctx value; file = None })
+
+-- `run`, `show` and `reset`
+abbrev pub alone : Step → Reading Said
+alone s = give (record { step = s; file = None })
+
+-- what stands behind a line's first word
+unfoldable pub behind : Description → List ℕ → ℕ → List ℕ → Reading Said
+behind d newest files verb =
+    if bytes_eq verb (codes "install") then an_install d newest files
+    else if bytes_eq verb (codes "load") then a_load files
+    else if bytes_eq verb (codes "post") then a_post d
+    else if bytes_eq verb (codes "step") then a_step d
+    else if bytes_eq verb (codes "run") then alone step.Run
+    else if bytes_eq verb (codes "answer") then an_answer d
+    else if bytes_eq verb (codes "show") then alone step.Show
+    else if bytes_eq verb (codes "reset") then alone step.Reset
+    else found (Err Word)
+
+-- a whole line
+unfoldable pub a_line : Description → List ℕ → ℕ → Reading Said
+a_line d newest files = do
+  verb ← a_word
+  said ← behind d newest files verb
+  ends ← nothing_more
+  give said
+
+-- the script so far, and the newest version of each handler, 0 for none
+pub record Progress : Type 0 where
+  pub script : NodeScript
+  pub newest : List ℕ
+
+abbrev pub with_file : List (List ℕ) → Option (List ℕ) → List (List ℕ)
+with_file files None = files
+with_file files (Some file) = files ++ file ∷ []
+
+abbrev pub newest_after : List ℕ → Step → List ℕ
+newest_after newest (step.Install handler version program) = slice_set newest handler.0 version
+newest_after newest (step.Load program) = newest
+newest_after newest (step.Post handler payload) = newest
+newest_after newest (step.Step ctx n) = newest
+newest_after newest step.Run = newest
+newest_after newest (step.Answer ctx value) = newest
+newest_after newest step.Show = newest
+newest_after newest step.Reset = newest
+
+abbrev pub with_said : Progress → Said → Progress
+with_said p said = record {
+  script = record { steps = p.script.steps ++ said.step ∷ []; files = with_file p.script.files said.file };
+  newest = newest_after p.newest said.step;
+}
+
+abbrev pub when_said : Progress → Result (Taken Said) Cause → Result Progress Cause
+when_said p (Ok t) = Ok (with_said p t.value)
+when_said p (Err cause) = Err cause
+
+-- the progress after a line
+unfoldable pub after_line : Description → Progress → List (List ℕ) → Result Progress Cause
+after_line d p words =
+    if is_skipped words then Ok p
+    else when_said p (a_line d p.newest (length p.script.files) words)
+
+abbrev pub nothing_yet : Progress
+nothing_yet = record { script = record { steps = []; files = [] }; newest = replicate 8 0 }
+
+-- the script in the bytes
+unfoldable pub node_script_in : Description → List ℕ → Result NodeScript ScriptFault
+node_script_in d bytes = script_from (after_line d) (λ number p. Ok p.script) 1 nothing_yet (lines bytes)

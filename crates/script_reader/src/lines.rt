@@ -1,0 +1,55 @@
+//! The lines of a script.
+
+ghost use Rattle.std.specs.Prelude.{◌≡◌, ◌<◌, ◌≤◌, ◌∷◌, [], length, not, ◌==◌, MatchOption, IfSome};
+ghost use Rattle.std.specs.List.{prefix_len};
+ghost use Rattle.std.specs.Str.Lines.{lines, strip_carriage_return};
+
+/// The lines of a text that are still to be read.
+#[derive(Drop)]
+pub struct Lines<'a> {
+    rest: &'a [u8],
+}
+
+impl<'a> Lines<'a> {
+    pub fn of(text: &'a [u8]) -> Lines<'a>
+        ensures { result.rest.now ≡ text.now }
+    {
+        Lines { rest: text }
+    }
+
+    /// The next line.
+    pub fn next(&mut self) -> Option<&'a [u8]>
+        ensures line { MatchOption result (lines self.old.rest.now ≡ []) (λ line. lines self.old.rest.now ≡ line.now ∷ lines self.new.rest.now) }
+        ensures shorter { IfSome result (λ _. length self.new.rest.now < length self.old.rest.now) }
+    {
+        let (line, rest) = self.rest.split_at(line_len(self.rest));
+        match rest {
+            [_, after @ ..] => {
+                self.rest = after;
+                Some(without_return(line))
+            }
+            [] => {
+                self.rest = rest;
+                if line.is_empty() { None } else { Some(line) }
+            }
+        }
+    }
+}
+
+// How many bytes stand before the first LF, or before the end where there is none.
+fn line_len(text: &[u8]) -> usize
+    ensures value { result ≡ prefix_len (λ b. not (b == 10)) text.now }
+    ensures fits { result ≤ length text.now }
+{
+    text.iter().take_while(|byte| **byte != b'\n').count()
+}
+
+// The line without the one carriage return at its end, if it has one.
+fn without_return(line: &[u8]) -> &[u8]
+    ensures { result.now ≡ strip_carriage_return line.now }
+{
+    match line.last() {
+        Some(b'\r') => line.split_at(line.len() - 1).0,
+        _ => line,
+    }
+}

@@ -1,0 +1,262 @@
+//! The reader of node scripts.
+
+ghost use Rattle.std.specs.Prelude.{◌≡◌, ◌<◌, ◌≤◌, ◌^◌, ℕ, List, length, slice_index, slice_set, IfOk, IfErr, OnOk};
+ghost use Rattle.script_reader.specs.Lines.{words_of};
+ghost use Rattle.script_reader.specs.Words.{Reads};
+ghost use Rattle.script_reader.specs.Steps.{IsRightSteps};
+ghost use Rattle.script_reader.specs.NodeScript.{an_install, a_load, a_post, a_step, an_answer, behind, a_line, with_said, newest_after, after_line, node_script_in};
+ghost use Rattle.script_reader.specs.Script.{Answers, Follows};
+ghost use Rattle.script_reader.specs.NodeReader.{progress_of, said_of, IsRightSaid, Keeps};
+ghost use Rattle.vm_desc.specs.declared.description.Description.{Description};
+
+use crate::fault::{Cause, ScriptFault};
+use crate::lines::Lines;
+use crate::steps::{Step, Steps};
+use crate::words::Words;
+use mate_num::HandlerId;
+use std::alloc::Global;
+use vm_desc::Description;
+
+/// The steps that the script in `bytes`, of at most 1,048,576 bytes, asks for.
+///
+/// Each line that isn't empty and doesn't begin with `#` is one step: `install HANDLER VERSION FILE`,
+/// `load FILE`, `post HANDLER V ..`, `step CTX N`, `run`, `answer CTX V`, `show` or `reset`.
+pub fn node_script(alloc: Global, desc: &Description, bytes: &[u8]) -> Result<Steps, ScriptFault>
+    requires { length bytes.now ≤ 1048576 }
+    ensures value { Answers result (node_script_in desc.now bytes.now) }
+    ensures right { IfOk result (λ steps. IsRightSteps desc.now steps) }
+{
+    let mut reader = Reader {
+        steps: Steps::new(alloc),
+        newest: [0; 8],
+    };
+    let mut lines = Lines::of(bytes);
+    let mut number = 1;
+    'lines: while let Some(line) = lines.next() {
+        reader.line(desc, number, line)?;
+        number += 1;
+    }
+    Ok(reader.steps)
+}
+
+/// What the lines so far say.
+#[derive(Drop)]
+struct Reader {
+    steps: Steps,
+    /// The newest version of each handler, 0 for none.
+    newest: [u32; 8],
+}
+
+/// What one line says.
+#[derive(Drop)]
+struct Said<'a> {
+    step: Step,
+    file: Option<&'a str>,
+}
+
+impl Reader {
+    // Reads a line.
+    #[tactic(auto, unfolding(crate::specs::NodeScript::after_line))]
+    fn line(&mut self, desc: &Description, number: u32, line: &[u8]) -> Result<(), ScriptFault>
+        requires count { length self.old.steps.files < number }
+        requires small { number < 2 ^ 32 }
+        requires keeps { Keeps desc.now (progress_of self.old) }
+        ensures value { Follows (after_line desc.now (progress_of self.old) (words_of line.now)) number result (progress_of self.new) }
+        ensures files { OnOk result (length self.new.steps.files ≤ number) }
+        ensures keeps { OnOk result (Keeps desc.now (progress_of self.new)) }
+    {
+        let mut words = Words::of(line);
+        if words.is_skipped() {
+            return Ok(());
+        }
+        match line_in(
+            desc,
+            &self.newest,
+            self.steps.files().len() as u32,
+            &mut words,
+        ) {
+            Ok(said) => self.add(said),
+            Err(cause) => Err(ScriptFault::BadLine {
+                line: number,
+                cause,
+            }),
+        }
+    }
+
+    // Adds what a line says.
+    fn add(&mut self, said: Said<'_>) -> Result<(), ScriptFault>
+        ensures value { OnOk result (progress_of self.new ≡ with_said (progress_of self.old) (said_of said.entry)) }
+        ensures refused { IfErr result (λ fault. fault ≡ ScriptFault.NoMemory) }
+    {
+        if let Some(file) = said.file {
+            self.steps.name(file)?;
+        }
+        note_version(&mut self.newest, &said.step);
+        self.steps.push(said.step)?;
+        Ok(())
+    }
+}
+
+// Notes the version of an install.
+fn note_version(newest: &mut [u32; 8], step: &Step)
+    ensures { newest.new ≡ newest_after newest.old step.now }
+{
+    if let Step::Install {
+        handler,
+        version,
+        ..
+    } = step
+    {
+        put(newest, handler.0 as usize, *version);
+    }
+}
+
+fn put(newest: &mut [u32; 8], place: usize, version: u32)
+    ensures { newest.new ≡ slice_set newest.old place version }
+{
+    if place < newest.len() {
+        newest[place] = version;
+    }
+}
+
+// What a whole line says, where `files` files were named before it.
+#[tactic(auto, unfolding(crate::specs::NodeScript::a_line))]
+fn line_in<'a>(
+    desc: &Description,
+    newest: &[u32; 8],
+    files: u32,
+    words: &mut Words<'a>,
+) -> Result<Said<'a>, Cause>
+    ensures value { Reads said_of (a_line desc.now newest.now files) (words_of words.old.rest.now) result (words_of words.new.rest.now) }
+    ensures right { IfOk result (λ said. IsRightSaid desc.now newest.now files (said_of said)) }
+{
+    let verb = words.word()?;
+    match behind(desc, newest, files, verb, words) {
+        Ok(said) => match words.finish() {
+            Ok(()) => Ok(said),
+            Err(cause) => Err(cause),
+        },
+        Err(cause) => Err(cause),
+    }
+}
+
+// What the words behind a line's first word say.
+#[tactic(auto, unfolding(crate::specs::NodeScript::behind))]
+fn behind<'a>(
+    desc: &Description,
+    newest: &[u32; 8],
+    files: u32,
+    verb: &str,
+    words: &mut Words<'a>,
+) -> Result<Said<'a>, Cause>
+    ensures value { Reads said_of (behind desc.now newest.now files verb.now) (words_of words.old.rest.now) result (words_of words.new.rest.now) }
+    ensures right { IfOk result (λ said. IsRightSaid desc.now newest.now files (said_of said)) }
+{
+    if verb == "install" {
+        install_in(desc, newest, files, words)
+    } else if verb == "load" {
+        load_in(files, words)
+    } else if verb == "post" {
+        post_in(desc, words)
+    } else if verb == "step" {
+        step_in(desc, words)
+    } else if verb == "run" {
+        Ok(Said {
+            step: Step::Run,
+            file: None,
+        })
+    } else if verb == "answer" {
+        answer_in(desc, words)
+    } else if verb == "show" {
+        Ok(Said {
+            step: Step::Show,
+            file: None,
+        })
+    } else if verb == "reset" {
+        Ok(Said {
+            step: Step::Reset,
+            file: None,
+        })
+    } else {
+        Err(Cause::Word)
+    }
+}
+
+#[tactic(auto, unfolding(crate::specs::NodeScript::an_install))]
+fn install_in<'a>(
+    desc: &Description,
+    newest: &[u32; 8],
+    files: u32,
+    words: &mut Words<'a>,
+) -> Result<Said<'a>, Cause>
+    ensures value { Reads said_of (an_install desc.now newest.now files) (words_of words.old.rest.now) result (words_of words.new.rest.now) }
+    ensures right { IfOk result (λ said. IsRightSaid desc.now newest.now files (said_of said)) }
+{
+    let handler = words.handler(desc)?;
+    let version = words.version(newest_of(newest, handler))?;
+    let file = words.word()?;
+    let step = Step::Install {
+        handler,
+        version,
+        program: files,
+    };
+    Ok(Said {
+        step,
+        file: Some(file),
+    })
+}
+
+// The newest version of a handler.
+fn newest_of(newest: &[u32; 8], handler: HandlerId) -> u32
+    ensures { result ≡ slice_index newest.now handler.0 }
+{
+    match newest.get(handler.0 as usize) {
+        Some(version) => *version,
+        None => 0,
+    }
+}
+
+#[tactic(auto, unfolding(crate::specs::NodeScript::a_load))]
+fn load_in<'a>(files: u32, words: &mut Words<'a>) -> Result<Said<'a>, Cause>
+    ensures value { Reads said_of (a_load files) (words_of words.old.rest.now) result (words_of words.new.rest.now) }
+    ensures right { IfOk result (λ said. (d : Description) (newest : List ℕ) → IsRightSaid d newest files (said_of said)) }
+{
+    let file = words.word()?;
+    Ok(Said {
+        step: Step::Load { program: files },
+        file: Some(file),
+    })
+}
+
+#[tactic(auto, unfolding(crate::specs::NodeScript::a_post))]
+fn post_in<'a>(desc: &Description, words: &mut Words<'a>) -> Result<Said<'a>, Cause>
+    ensures value { Reads said_of (a_post desc.now) (words_of words.old.rest.now) result (words_of words.new.rest.now) }
+    ensures right { IfOk result (λ said. (newest : List ℕ) (files : ℕ) → IsRightSaid desc.now newest files (said_of said)) }
+{
+    let handler = words.handler(desc)?;
+    let payload = words.payload()?;
+    let step = Step::Post { handler, payload };
+    Ok(Said { step, file: None })
+}
+
+#[tactic(auto, unfolding(crate::specs::NodeScript::a_step))]
+fn step_in<'a>(desc: &Description, words: &mut Words<'a>) -> Result<Said<'a>, Cause>
+    ensures value { Reads said_of (a_step desc.now) (words_of words.old.rest.now) result (words_of words.new.rest.now) }
+    ensures right { IfOk result (λ said. (newest : List ℕ) (files : ℕ) → IsRightSaid desc.now newest files (said_of said)) }
+{
+    let ctx = words.context(desc)?;
+    let n = words.number(1, 1_000_000, Cause::Range)?;
+    let step = Step::Step { ctx, n: n as u32 };
+    Ok(Said { step, file: None })
+}
+
+#[tactic(auto, unfolding(crate::specs::NodeScript::an_answer))]
+fn answer_in<'a>(desc: &Description, words: &mut Words<'a>) -> Result<Said<'a>, Cause>
+    ensures value { Reads said_of (an_answer desc.now) (words_of words.old.rest.now) result (words_of words.new.rest.now) }
+    ensures right { IfOk result (λ said. (newest : List ℕ) (files : ℕ) → IsRightSaid desc.now newest files (said_of said)) }
+{
+    let ctx = words.context(desc)?;
+    let value = words.value()?;
+    let step = Step::Answer { ctx, value };
+    Ok(Said { step, file: None })
+}

@@ -1,0 +1,284 @@
+//! The words of a line, read from left to right.
+
+ghost use Rattle.std.specs.Prelude.{◌≡◌, ◌<◌, ◌≤◌, ◌+◌, ◌^◌, ◌∷◌, [], length, true, not, ◌==◌, IfOk, MatchOption, MatchResult, pos, neg_ℤ, Ok, Err};
+ghost use Rattle.std.specs.List.{prefix_len, list_all};
+ghost use Rattle.std.specs.Char.{is_ascii_digit};
+ghost use Rattle.std.specs.Str.Parse.{digits_value};
+ghost use Rattle.vm_desc.specs.Whole.{context_count};
+ghost use Rattle.script_reader.specs.Lines.{is_blank, words_of, is_skipped};
+ghost use Rattle.script_reader.specs.Words.{Reads, is_printable, printed, a_word, nothing_more, is_numeral, number_of, within, a_number, signed, value_of, a_value, a_payload, handler_of, a_handler, newer, a_version, a_context};
+
+use crate::fault::Cause;
+use mate_num::{ContextId, HandlerId, Payload};
+use vm_desc::Description;
+
+/// The words of a line that are still to be read.
+#[derive(Drop)]
+pub struct Words<'a> {
+    rest: &'a [u8],
+}
+
+impl<'a> Words<'a> {
+    pub fn of(line: &'a [u8]) -> Words<'a>
+        ensures { result.rest.now ≡ line.now }
+    {
+        Words { rest: line }
+    }
+
+    /// The next word, whatever its bytes are.
+    fn next(&mut self) -> Option<&'a [u8]>
+        ensures { MatchOption result ((words_of self.old.rest.now ≡ []) × (words_of self.new.rest.now ≡ [])) (λ w. words_of self.old.rest.now ≡ w.now ∷ words_of self.new.rest.now) }
+    {
+        let (_, rest) = self.rest.split_at(blanks_len(self.rest));
+        let (word, rest) = rest.split_at(word_len(rest));
+        self.rest = rest;
+        if word.is_empty() { None } else { Some(word) }
+    }
+
+    /// Whether no word is left.
+    pub fn is_done(&self) -> bool
+        ensures { result ≡ (length (words_of self.now.rest.now) == 0) }
+    {
+        let mut ahead = Words { rest: self.rest };
+        match ahead.next() {
+            Some(_) => false,
+            None => true,
+        }
+    }
+
+    /// Whether the line says nothing: it has no word, or its first word begins with `#`.
+    pub fn is_skipped(&self) -> bool
+        ensures { result ≡ is_skipped (words_of self.now.rest.now) }
+    {
+        let mut ahead = Words { rest: self.rest };
+        match ahead.next() {
+            Some(word) => begins_comment(word),
+            None => true,
+        }
+    }
+
+    /// The next word, of printable characters.
+    pub fn word(&mut self) -> Result<&'a str, Cause>
+        ensures { Reads (λ w. w.now) a_word (words_of self.old.rest.now) result (words_of self.new.rest.now) }
+    {
+        match self.next() {
+            Some(word) => printed(word),
+            None => Err(Cause::Word),
+        }
+    }
+
+    /// Refuses a word that is left.
+    pub fn finish(&mut self) -> Result<(), Cause>
+        ensures { Reads (λ u. u) nothing_more (words_of self.old.rest.now) result (words_of self.new.rest.now) }
+    {
+        match self.next() {
+            Some(_) => Err(Cause::Word),
+            None => Ok(()),
+        }
+    }
+
+    /// A number from `low` to `high`; one that is outside is refused with `outside`.
+    #[tactic(auto, unfolding(crate::specs::Words::a_number))]
+    pub fn number(&mut self, low: u64, high: u64, outside: Cause) -> Result<u64, Cause>
+        ensures value { Reads (λ n. n) (a_number low high outside) (words_of self.old.rest.now) result (words_of self.new.rest.now) }
+        ensures low { IfOk result (λ n. low ≤ n) }
+        ensures high { IfOk result (λ n. n ≤ high) }
+    {
+        let word = self.word()?;
+        number_in(word, low, high, outside)
+    }
+
+    /// A value of a script.
+    #[tactic(auto, unfolding(crate::specs::Words::a_value))]
+    pub fn value(&mut self) -> Result<i16, Cause>
+        ensures { Reads (λ v. v) a_value (words_of self.old.rest.now) result (words_of self.new.rest.now) }
+    {
+        let word = self.word()?;
+        value_in(word)
+    }
+
+    /// The values of the words that are left, but of no more than ten.
+    pub fn payload(&mut self) -> Result<Payload, Cause>
+        ensures value { Reads (λ p. p) a_payload (words_of self.old.rest.now) result (words_of self.new.rest.now) }
+        ensures few { IfOk result (λ p. length p.items ≤ 10) }
+    {
+        let mut values = Payload::new();
+        'values: while values.len() < 10 && !self.is_done() {
+            let value = self.value()?;
+            values.push(value);
+        }
+        Ok(values)
+    }
+
+    /// A handler of the machine, by its name.
+    #[tactic(auto, unfolding(crate::specs::Words::a_handler))]
+    pub fn handler(&mut self, desc: &Description) -> Result<HandlerId, Cause>
+        ensures value { Reads (λ h. h) (a_handler desc.now) (words_of self.old.rest.now) result (words_of self.new.rest.now) }
+        ensures below { IfOk result (λ h. h.0 < length desc.now.handlers.items) }
+    {
+        let word = self.word()?;
+        handler_of(desc, word)
+    }
+
+    /// A version that is newer than `newest`.
+    #[tactic(auto, unfolding(crate::specs::Words::a_version))]
+    pub fn version(&mut self, newest: u32) -> Result<u32, Cause>
+        ensures value { Reads (λ v. v) (a_version newest) (words_of self.old.rest.now) result (words_of self.new.rest.now) }
+        ensures low { IfOk result (λ v. 1 ≤ v) }
+        ensures high { IfOk result (λ v. v ≤ 4294967295) }
+        ensures newer { IfOk result (λ v. newest < v) }
+    {
+        let version = self.number(1, 4_294_967_295, Cause::Range)?;
+        newer(newest, version as u32)
+    }
+
+    /// The number of a context of the machine.
+    #[tactic(auto, unfolding(crate::specs::Words::a_context))]
+    pub fn context(&mut self, desc: &Description) -> Result<ContextId, Cause>
+        ensures value { Reads (λ c. c) (a_context desc.now) (words_of self.old.rest.now) result (words_of self.new.rest.now) }
+        ensures below { IfOk result (λ c. c.0 < context_count desc.now) }
+    {
+        let last = u64::from(desc.contexts() - 1);
+        let context = self.number(0, last, Cause::Range)?;
+        Ok(ContextId(context as u8))
+    }
+}
+
+// A space or a tab.
+fn is_blank(byte: u8) -> bool
+    ensures { result ≡ is_blank byte }
+{
+    byte == b' ' || byte == b'\t'
+}
+
+fn blanks_len(bytes: &[u8]) -> usize
+    ensures value { result ≡ prefix_len is_blank bytes.now }
+    ensures fits { result ≤ length bytes.now }
+{
+    bytes.iter().take_while(|byte| is_blank(**byte)).count()
+}
+
+fn word_len(bytes: &[u8]) -> usize
+    ensures value { result ≡ prefix_len (λ b. not (is_blank b)) bytes.now }
+    ensures fits { result ≤ length bytes.now }
+{
+    bytes.iter().take_while(|byte| !is_blank(**byte)).count()
+}
+
+fn begins_comment(word: &[u8]) -> bool
+    ensures { result ≡ is_skipped (word.now ∷ []) }
+{
+    match word {
+        [first, ..] => *first == b'#',
+        [] => false,
+    }
+}
+
+fn is_printable(byte: u8) -> bool
+    ensures { result ≡ is_printable byte }
+{
+    33 <= byte && byte <= 126
+}
+
+fn are_printable(word: &[u8]) -> bool
+    ensures { result ≡ list_all is_printable word.now }
+{
+    word.iter().all(|byte| is_printable(*byte))
+}
+
+// The word as text, where its characters are printable.
+fn printed(word: &[u8]) -> Result<&str, Cause>
+    ensures { MatchResult result (λ text. printed word.now ≡ Ok text.now) (λ cause. printed word.now ≡ Err cause) }
+{
+    if !are_printable(word) {
+        return Err(Cause::Word);
+    }
+    let Ok(text) = str::from_utf8(word) else {
+        unreachable!()
+    };
+    Ok(text)
+}
+
+// One digit or more, and nothing else.
+fn is_numeral(word: &str) -> bool
+    ensures { result ≡ is_numeral word.now }
+{
+    !word.is_empty() && are_digits(word.as_bytes())
+}
+
+fn are_digits(word: &[u8]) -> bool
+    ensures { result ≡ list_all is_ascii_digit word.now }
+{
+    word.iter().all(|byte| byte.is_ascii_digit())
+}
+
+// The number that the digits spell; None where it has more than 64 bits.
+fn numeral(word: &str) -> Option<u64>
+    requires { is_numeral word.now ≡ true }
+    ensures { MatchOption result (2 ^ 64 ≤ digits_value 10 word.now) (λ n. n ≡ digits_value 10 word.now) }
+{
+    word.parse().ok()
+}
+
+// The number from `low` to `high` that the word spells.
+fn number_in(word: &str, low: u64, high: u64, outside: Cause) -> Result<u64, Cause>
+    ensures value { result ≡ within low high outside (number_of word.now) }
+    ensures low { IfOk result (λ n. low ≤ n) }
+    ensures high { IfOk result (λ n. n ≤ high) }
+{
+    if !is_numeral(word) {
+        return Err(Cause::Number);
+    }
+    let Some(number) = numeral(word) else {
+        return Err(outside);
+    };
+    if low <= number && number <= high {
+        Ok(number)
+    } else {
+        Err(outside)
+    }
+}
+
+fn value_in(word: &str) -> Result<i16, Cause>
+    ensures { result ≡ value_of word.now }
+{
+    match word.strip_prefix("-") {
+        Some(digits) => negative_in(digits),
+        None => {
+            let size = number_in(word, 0, 32_767, Cause::Range)?;
+            Ok(size as i16)
+        }
+    }
+}
+
+// What the word spells behind a minus.
+fn negative_in(digits: &str) -> Result<i16, Cause>
+    ensures { result ≡ signed (λ n. neg_ℤ (pos n)) (within 0 32768 Cause.Range (number_of digits.now)) }
+{
+    let size = number_in(digits, 0, 32_768, Cause::Range)?;
+    Ok((-(size as i32)) as i16)
+}
+
+fn handler_of(desc: &Description, word: &str) -> Result<HandlerId, Cause>
+    ensures value { result ≡ handler_of desc.now word.now }
+    ensures below { IfOk result (λ h. h.0 < length desc.now.handlers.items) }
+{
+    for (index, handler) in desc.handlers.as_slice().iter().enumerate() {
+        if handler.name.as_str() == word {
+            return Ok(HandlerId(index as u8));
+        }
+    }
+    Err(Cause::Name)
+}
+
+fn newer(newest: u32, version: u32) -> Result<u32, Cause>
+    ensures value { result ≡ newer newest version }
+    ensures same { IfOk result (λ v. v ≡ version) }
+    ensures newer { IfOk result (λ v. newest < v) }
+{
+    if newest < version {
+        Ok(version)
+    } else {
+        Err(Cause::OldVersion)
+    }
+}
