@@ -1,0 +1,10 @@
+pub mod OptionLemmas
+pub mod WordsLemmas
+pub mod NumberLemmas
+pub mod VerbLemmas
+pub mod HexLemmas
+pub mod FieldLemmas
+pub mod StoreLemmas
+pub mod LineLemmas
+pub mod LineOf
+pub mod ItemLemmas

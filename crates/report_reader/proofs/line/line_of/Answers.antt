@@ -1,0 +1,8 @@
+use Rattle.report_reader.proofs.LineOf.{form_of, right_of}
+use Rattle.report_reader.proofs.line.line_of.Goals as goal
+
+pub returns-clause-form : goal.returns-clause-form
+returns-clause-form c = form_of c.args.desc.now c.args.bytes.now c.read_line.result c.read_line.ensures
+
+pub returns-clause-right : goal.returns-clause-right
+returns-clause-right c = right_of c.args.desc.now c.args.bytes.now c.read_line.result c.read_line.ensures

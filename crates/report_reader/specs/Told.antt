@@ -1,0 +1,123 @@
+-- What a line of a report tells, and its text.
+use Rattle.std.specs.Prelude.{◌≡◌, ◌<◌, ◌≤◌, ◌^◌, ℕ, List, [], ◌∷◌, ◌++◌, codes, length, All, ℤ, FitsSigned, ⊤}
+use Rattle.std.specs.Int.{w16}
+use Rattle.arrayvec.specs.ArrayVec.{ArrayVec}
+use Rattle.mate_num.specs.declared.store.Store.{Store}
+use Rattle.mate_num.specs.declared.id.HandlerId.{HandlerId}
+use Rattle.vm_desc.specs.declared.description.Description.{Description}
+use Rattle.vm_desc.specs.Whole.{context_count}
+use Rattle.mate_journal.specs.Log.{Log}
+use Rattle.mate_journal.specs.declared.air.Air.{Air}
+use Rattle.mate_journal.specs.declared.air.Air.TheVariants as air
+use Rattle.mate_journal.specs.declared.entry.Entry.{Entry}
+use Rattle.mate_journal.specs.declared.entry.Entry.TheVariants as entry
+use Rattle.mate_journal.specs.declared.entry.VoidCause.{VoidCause}
+use Rattle.mate_journal.specs.declared.entry.VoidCause.TheVariants as void
+use Rattle.report_text.specs.Words.{stamp_words, air_words, entry_words}
+use Rattle.report_reader.specs.declared.line.Told.{Told}
+use Rattle.report_reader.specs.declared.line.Told.TheVariants as told
+use Rattle.report_reader.specs.declared.line.Line.{Line}
+
+-- a log that has these images and stores alone
+abbrev pub log_with : List (ArrayVec ℕ) → List Store → Log
+log_with images stores = record { entries = []; images = images; stores = stores; spare = 0 }
+
+-- the words of what a line tells, each after a space, as they are written
+abbrev pub told_words : Description → Told → List ℕ
+told_words d (told.OnAir a) = air_words a
+told_words d (told.Made e) = entry_words d (log_with [] []) e
+told_words d (told.Installed h version image) = entry_words d (log_with (image ∷ []) []) (entry.Install h version 0)
+told_words d (told.Shown s) = entry_words d (log_with [] (s ∷ [])) (entry.Seen 0)
+
+-- the text of a line, without the LF at its end
+abbrev pub line_words : Description → Line → List ℕ
+line_words d l = stamp_words l.stamp l.node ++ told_words d l.told
+
+-- the line's text
+abbrev pub line_text : Description → Line → List ℕ
+line_text d l = line_words d l ++ codes "\n"
+
+-- ---- which lines are right for a description
+
+-- what an entry names is there; an image and a store stand in the line itself
+abbrev pub IsRightEntry : Description → Entry → Type 0
+IsRightEntry d (entry.Post n h c payload) = (h.0 < length d.handlers.items) × (c.0 < context_count d)
+IsRightEntry d (entry.Dropped h cause) = h.0 < length d.handlers.items
+IsRightEntry d (entry.Start n) = ⊤
+IsRightEntry d (entry.Ask n f args) = f.0 < length d.functions.items
+IsRightEntry d (entry.Answer n v) = ⊤
+IsRightEntry d (entry.Halt n) = ⊤
+IsRightEntry d (entry.Fault n kind) = ⊤
+IsRightEntry d (entry.Install h version image) = ⊥
+IsRightEntry d entry.Reset = ⊤
+IsRightEntry d (entry.Seen store) = ⊥
+IsRightEntry d (entry.Void cause) = ⊤
+
+-- node numbers are below 64, and no packet is empty
+abbrev pub IsRightAir : Air → Type 0
+IsRightAir (air.Interval length) = ⊤
+IsRightAir air.Keep = ⊤
+IsRightAir (air.Sent n bytes) = 0 < length bytes.items
+IsRightAir (air.Lost n to) = to < 64
+IsRightAir (air.Got n from) = from < 64
+IsRightAir (air.Noise bytes) = 0 < length bytes.items
+
+-- each variable and each buffer of the description
+pub record IsStoreOf (d : Description) (s : Store) : Type 0 where
+  pub shared : length s.shared.items ≡ length d.shared.items
+  pub buffers : length s.buffers.items ≡ length d.buffers.items
+
+abbrev pub IsRightTold : Description → Told → Type 0
+IsRightTold d (told.OnAir a) = IsRightAir a
+IsRightTold d (told.Made e) = IsRightEntry d e
+IsRightTold d (told.Installed h version image) = (h.0 < length d.handlers.items) × (0 < length image.items)
+IsRightTold d (told.Shown s) = IsStoreOf d s
+
+pub record IsRight (d : Description) (l : Line) : Type 0 where
+  pub node : l.node < 64
+  pub told : IsRightTold d l.told
+
+-- ---- the numbers in a line are in the ranges of their types: every line's are
+
+abbrev pub IsByteList : List ℕ → Type 0
+IsByteList bytes = All (λ b. b < 256) bytes
+
+abbrev pub AreValues : List ℤ → Type 0
+AreValues vs = (length vs ≤ 10) × All (λ v. FitsSigned w16 v) vs
+
+abbrev pub HasVoidRanges : VoidCause → Type 0
+HasVoidRanges void.NotReady = ⊤
+HasVoidRanges void.NotWaiting = ⊤
+HasVoidRanges (void.NotNewer held) = held < 2 ^ 32
+
+abbrev pub HasEntryRanges : Entry → Type 0
+HasEntryRanges (entry.Post n h c payload) = (n < 2 ^ 32) × AreValues payload.items
+HasEntryRanges (entry.Dropped h cause) = ⊤
+HasEntryRanges (entry.Start n) = n < 2 ^ 32
+HasEntryRanges (entry.Ask n f args) = (n < 2 ^ 32) × AreValues args.items
+HasEntryRanges (entry.Answer n v) = (n < 2 ^ 32) × FitsSigned w16 v
+HasEntryRanges (entry.Halt n) = n < 2 ^ 32
+HasEntryRanges (entry.Fault n kind) = n < 2 ^ 32
+HasEntryRanges (entry.Install h version image) = ⊤
+HasEntryRanges entry.Reset = ⊤
+HasEntryRanges (entry.Seen store) = ⊤
+HasEntryRanges (entry.Void cause) = HasVoidRanges cause
+
+abbrev pub HasAirRanges : Air → Type 0
+HasAirRanges (air.Interval length) = length < 2 ^ 32
+HasAirRanges air.Keep = ⊤
+HasAirRanges (air.Sent n bytes) = (n < 2 ^ 32) × (length bytes.items ≤ 64) × IsByteList bytes.items
+HasAirRanges (air.Lost n to) = n < 2 ^ 32
+HasAirRanges (air.Got n from) = n < 2 ^ 32
+HasAirRanges (air.Noise bytes) = (length bytes.items ≤ 64) × IsByteList bytes.items
+
+abbrev pub HasToldRanges : Told → Type 0
+HasToldRanges (told.OnAir a) = HasAirRanges a
+HasToldRanges (told.Made e) = HasEntryRanges e
+HasToldRanges (told.Installed h version image) = (version < 2 ^ 32) × (length image.items ≤ 1056) × IsByteList image.items
+HasToldRanges (told.Shown s) = All (λ v. FitsSigned w16 v) s.shared.items × All (λ (b : ArrayVec ℤ). AreValues b.items) s.buffers.items
+
+pub record HasRanges (l : Line) : Type 0 where
+  pub event : l.stamp.event < 2 ^ 64
+  pub time : l.stamp.time < 2 ^ 32
+  pub told : HasToldRanges l.told

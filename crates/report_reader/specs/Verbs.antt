@@ -1,0 +1,39 @@
+-- The words that begin a record, and those of a small choice.
+use Rattle.std.specs.Prelude.{ℕ, List, [], ◌∷◌, codes, find, Option, if◌then◌else◌, None, Some}
+use Rattle.std.specs.Str.{bytes_eq}
+use Rattle.mate_num.specs.declared.call.FaultKind.{FaultKind}
+use Rattle.mate_num.specs.declared.call.FaultKind.TheVariants as fault
+use Rattle.report_reader.specs.declared.verb.Verb.{Verb}
+use Rattle.report_reader.specs.declared.verb.Verb.TheVariants as verb
+
+abbrev pub verb_word : Verb → List ℕ
+verb_word verb.Post = codes "post"
+verb_word verb.Drop = codes "drop"
+verb_word verb.Start = codes "start"
+verb_word verb.Ask = codes "ask"
+verb_word verb.Answer = codes "answer"
+verb_word verb.Halt = codes "halt"
+verb_word verb.Fault = codes "fault"
+verb_word verb.Install = codes "install"
+verb_word verb.Reset = codes "reset"
+verb_word verb.Seen = codes "seen"
+verb_word verb.Void = codes "void"
+verb_word verb.Interval = codes "interval"
+verb_word verb.Keep = codes "keep"
+verb_word verb.Sent = codes "sent"
+verb_word verb.Lost = codes "lost"
+verb_word verb.Got = codes "got"
+verb_word verb.Noise = codes "noise"
+
+abbrev pub verbs : List Verb
+verbs =
+    verb.Post ∷ verb.Drop ∷ verb.Start ∷ verb.Ask ∷ verb.Answer ∷ verb.Halt ∷ verb.Fault ∷ verb.Install ∷ verb.Reset ∷ verb.Seen ∷ verb.Void
+    ∷ verb.Interval ∷ verb.Keep ∷ verb.Sent ∷ verb.Lost ∷ verb.Got ∷ verb.Noise ∷ []
+
+-- the one of some choices that a word names
+abbrev pub named_among : {A : Type 0} → (A → List ℕ) → List A → List ℕ → Option A
+named_among word_of [] word = None
+named_among word_of (choice ∷ choices) word = if bytes_eq (word_of choice) word then Some choice else named_among word_of choices word
+
+unfoldable pub verb_of : List ℕ → Option Verb
+verb_of word = named_among verb_word verbs word
