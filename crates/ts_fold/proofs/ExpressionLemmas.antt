@@ -1,0 +1,277 @@
+-- A folded expression means what the expression does, uses nothing more, is right where it is, and takes no more room.
+use Rattle.std.proofs.Common.{◌≡◌, ℕ, zero, suc, ◌+◌, ◌≤◌, ℤ, pos, negsuc, Bool, true, false, List, [], ◌∷◌, ◌++◌, Option, Some, None, Result, Ok, Err, refl, ap, sym, ◌∙◌, arith}
+use Rattle.std.specs.Prelude.{neg_ℤ, not, ◌&&◌, ◌||◌, max, nat_lt, if◌then◌else◌}
+use Rattle.std.specs.Option.{option_map}
+use Rattle.std.specs.Result.{result_ok}
+use Rattle.std.proofs.lemmas.Bool.{or_parts, and_parts}
+use Rattle.arrayvec.specs.ArrayVec.{ArrayVec}
+use Rattle.mate_num.specs.Number.{wrap, is_truth, truth}
+use Rattle.mate_num.specs.Store.{buffer_at, item_of}
+use Rattle.mate_num.specs.declared.call.FaultKind.{FaultKind}
+use Rattle.mate_num.specs.declared.id.BufId.{BufId}
+use Rattle.mate_num.specs.declared.id.FunId.{FunId}
+use Rattle.mate_num.specs.declared.resource.Resource.{Resource}
+use Rattle.mate_num.specs.declared.shape.Shape.{Shape}
+use Rattle.mate_code.specs.declared.instr.Instr.{Instr}
+use Rattle.mate_code.specs.declared.instr.Instr.TheVariants as instr
+use Rattle.mate_code.specs.Instr.{size_of}
+use Rattle.ts_syntax.specs.Expression.{Expression, Arguments, no_arguments, argument, Num, Shared, Private, Item, Size, MsgItem, MsgSize, Call, SendBuf, Neg, Not, Two}
+use Rattle.ts_syntax.specs.Right.{is_buffer, is_call, argument_count, is_right_expr, are_right}
+use Rattle.ts_syntax.specs.declared.bin_op.BinOp.{BinOp}
+use Rattle.ts_meaning.specs.State.{State, Outcome, Done, Over, then_do, given, first_ten, asked}
+use Rattle.ts_meaning.specs.Meaning.{applied, test, value_of, values_of}
+use Rattle.ts_meaning.specs.Uses.{is_buffer as is_buffer_used, is_device_of, expr_reads, args_read, expr_writes, args_write}
+use Rattle.ts_translation.specs.Translation.{bytes_of, number_code, operator_code, expr_code, args_code, expr_need, args_need, expr_size}
+use Rattle.ts_translation.proofs.PlaceLemmas.{bytes_of-append, bytes_of-then, size_of-operator_code}
+use Rattle.ts_fold.specs.Folded.{number_of, negated, inverted, operated, value_or, negation, inverse, operation, folded_expr, folded_args}
+
+-- ---- tests
+
+-- what one test of two has, the other two have
+pub or_within : (a b c d : Bool) → (a ≡ false → c ≡ false) → (b ≡ false → d ≡ false) → (a || b) ≡ false → (c || d) ≡ false
+or_within a b c d first second none = both c d (first (or_parts a b none).0) (second (or_parts a b none).1) where
+  both : (c d : Bool) → c ≡ false → d ≡ false → (c || d) ≡ false
+  both c d e f = ap (λ x. x || d) e ∙ f
+
+pub and_within : (a b c d : Bool) → (a ≡ true → c ≡ true) → (b ≡ true → d ≡ true) → (a && b) ≡ true → (c && d) ≡ true
+and_within a b c d first second all = both c d (first (and_parts a b all).0) (second (and_parts a b all).1) where
+  both : (c d : Bool) → c ≡ true → d ≡ true → (c && d) ≡ true
+  both c d e f = ap (λ x. x && d) e ∙ f
+
+-- ---- what folding keeps of an expression
+
+pub record Keeps (old new : Expression) : Type 0 where
+  pub value : (s : State) → value_of new s ≡ value_of old s
+  pub reads : (r : Resource) → expr_reads old r ≡ false → expr_reads new r ≡ false
+  pub writes : (shape : Shape) (r : Resource) → expr_writes shape old r ≡ false → expr_writes shape new r ≡ false
+  pub right : (shape : Shape) (calls : Bool) → is_right_expr shape calls old ≡ true → is_right_expr shape calls new ≡ true
+  pub need : expr_need new ≤ expr_need old
+  pub size : expr_size new ≤ expr_size old
+
+pub record KeepsArgs (old new : Arguments) : Type 0 where
+  pub values : (s : State) → values_of new s ≡ values_of old s
+  pub reads : (r : Resource) → args_read old r ≡ false → args_read new r ≡ false
+  pub writes : (shape : Shape) (r : Resource) → args_write shape old r ≡ false → args_write shape new r ≡ false
+  pub right : (shape : Shape) (calls : Bool) → are_right shape calls old ≡ true → are_right shape calls new ≡ true
+  pub count : argument_count new ≡ argument_count old
+  pub need : (below : ℕ) → args_need below new ≤ args_need below old
+  pub size : bytes_of (args_code new) ≤ bytes_of (args_code old)
+
+keeps_same : (e : Expression) → Keeps e e
+keeps_same e =
+    record {
+      value = λ s. refl;
+      reads = λ r h. h;
+      writes = λ shape r h. h;
+      right = λ shape calls h. h;
+      need = omega arith;
+      size = omega arith;
+    }
+
+keeps_along : (a b c : Expression) → Keeps a b → Keeps b c → Keeps a c
+keeps_along a b c f g =
+    record {
+      value = λ s. g.value s ∙ f.value s;
+      reads = λ r h. g.reads r (f.reads r h);
+      writes = λ shape r h. g.writes shape r (f.writes shape r h);
+      right = λ shape calls h. g.right shape calls (f.right shape calls h);
+      need = omega arith;
+      size = omega arith;
+    }
+
+-- ---- parts in their places
+
+-- an instruction behind an expression
+size_push : (e : Expression) (i : Instr) → bytes_of (expr_code e ++ i ∷ []) ≡ expr_size e + size_of i
+size_push e i = let h = bytes_of-then e (i ∷ []) in omega arith
+
+keeps_item : (p : BufId) (e f : Expression) → Keeps e f → Keeps (Item p e) (Item p f)
+keeps_item p e f k =
+    record {
+      value = λ s. ap (λ (o : Outcome ℤ). then_do o (λ i s. given (item_of (buffer_at s.store p.0) i) s)) (k.value s);
+      reads = λ r h. or_within (is_buffer_used p r) (expr_reads e r) (is_buffer_used p r) (expr_reads f r) (λ g. g) (k.reads r) h;
+      writes = k.writes;
+      right = λ shape calls h.
+          and_within (is_buffer shape p) (is_right_expr shape calls e) (is_buffer shape p) (is_right_expr shape calls f) (λ g. g) (k.right shape calls) h;
+      need = k.need;
+      size = let a = size_push e (instr.BGet p) in let b = size_push f (instr.BGet p) in let c = k.size in omega arith;
+    }
+
+keeps_msg_item : (e f : Expression) → Keeps e f → Keeps (MsgItem e) (MsgItem f)
+keeps_msg_item e f k =
+    record {
+      value = λ s. ap (λ (o : Outcome ℤ). then_do o (λ i s. given (item_of s.msg i) s)) (k.value s);
+      reads = k.reads;
+      writes = k.writes;
+      right = k.right;
+      need = k.need;
+      size = let a = size_push e instr.MsgGet in let b = size_push f instr.MsgGet in let c = k.size in omega arith;
+    }
+
+keeps_neg : (e f : Expression) → Keeps e f → Keeps (Neg e) (Neg f)
+keeps_neg e f k =
+    record {
+      value = λ s. ap (λ (o : Outcome ℤ). then_do o (λ a s. Done (wrap (neg_ℤ a)) s)) (k.value s);
+      reads = k.reads;
+      writes = k.writes;
+      right = k.right;
+      need = k.need;
+      size = let a = size_push e instr.Neg in let b = size_push f instr.Neg in let c = k.size in omega arith;
+    }
+
+keeps_not : (e f : Expression) → Keeps e f → Keeps (Not e) (Not f)
+keeps_not e f k =
+    record {
+      value = λ s. ap (λ (o : Outcome ℤ). then_do o (λ a s. given (test (not (is_truth a))) s)) (k.value s);
+      reads = k.reads;
+      writes = k.writes;
+      right = k.right;
+      need = k.need;
+      size = let a = size_push e instr.Not in let b = size_push f instr.Not in let c = k.size in omega arith;
+    }
+
+then_each : {A B : Type 0} (o : Outcome A) (f g : A → State → Outcome B) → ((a : A) (s : State) → f a s ≡ g a s) → then_do o f ≡ then_do o g
+then_each (Done a s) f g h = h a s
+then_each (Over end s) f g h = refl
+
+-- two parts, one after the other, each by another that does the same
+pub then_same : {A B : Type 0} (o p : Outcome A) (f g : A → State → Outcome B) → o ≡ p → ((a : A) (s : State) → f a s ≡ g a s) → then_do o f ≡ then_do p g
+then_same o p f g e h = ap (λ q. then_do q f) e ∙ then_each p f g h
+
+size_two : (op : BinOp) (l r : Expression) → expr_size (Two op l r) ≡ expr_size l + expr_size r + 1
+size_two op l r =
+    let a = bytes_of-then l (expr_code r ++ operator_code op ∷ []) in
+    let b = size_push r (operator_code op) in
+    let c = size_of-operator_code op in
+    omega arith
+
+keeps_two : (op : BinOp) (l m r n : Expression) → Keeps l m → Keeps r n → Keeps (Two op l r) (Two op m n)
+keeps_two op l m r n k q =
+    record {
+      value = λ s.
+          then_same (value_of m s) (value_of l s) (λ a s. then_do (value_of n s) (λ b s. given (applied op a b) s))
+          (λ a s. then_do (value_of r s) (λ b s. given (applied op a b) s)) (k.value s)
+          (λ a s. ap (λ (o : Outcome ℤ). then_do o (λ b s. given (applied op a b) s)) (q.value s));
+      reads = λ z h. or_within (expr_reads l z) (expr_reads r z) (expr_reads m z) (expr_reads n z) (k.reads z) (q.reads z) h;
+      writes = λ shape z h.
+          or_within (expr_writes shape l z) (expr_writes shape r z) (expr_writes shape m z) (expr_writes shape n z) (k.writes shape z) (q.writes shape z) h;
+      right = λ shape calls h.
+          and_within (is_right_expr shape calls l) (is_right_expr shape calls r) (is_right_expr shape calls m) (is_right_expr shape calls n)
+          (k.right shape calls) (q.right shape calls) h;
+      need = let a = k.need in let b = q.need in omega arith;
+      size = let a = k.size in let b = q.size in let c = size_two op l r in let d = size_two op m n in omega arith;
+    }
+
+pub keeps_call : (f : FunId) (es fs : Arguments) → KeepsArgs es fs → Keeps (Call f es) (Call f fs)
+keeps_call f es fs k =
+    record {
+      value = λ s. ap (λ (o : Outcome (List ℤ)). then_do o (λ values s. asked f (first_ten values) s)) (k.values s);
+      reads = k.reads;
+      writes = λ shape r h.
+          or_within (is_device_of shape f r) (args_write shape es r) (is_device_of shape f r) (args_write shape fs r) (λ g. g) (k.writes shape r) h;
+      right = λ shape calls h.
+          and_within (calls && is_call shape f (argument_count es)) (are_right shape calls es) (calls && is_call shape f (argument_count fs)) (are_right shape calls fs)
+          (λ g. ap (λ n. calls && is_call shape f n) k.count ∙ g) (k.right shape calls) h;
+      need = let a = k.need 0 in omega arith;
+      size = let a = bytes_of-append (args_code es) (instr.Fun f ∷ []) in let b = bytes_of-append (args_code fs) (instr.Fun f ∷ []) in let c = k.size in omega arith;
+    }
+
+keeps_argument : (e f : Expression) (es fs : Arguments) → Keeps e f → KeepsArgs es fs → KeepsArgs (argument e es) (argument f fs)
+keeps_argument e f es fs k q =
+    record {
+      values = λ s.
+          then_same (value_of f s) (value_of e s) (λ a s. then_do (values_of fs s) (λ values s. Done (a ∷ values) s))
+          (λ a s. then_do (values_of es s) (λ values s. Done (a ∷ values) s)) (k.value s)
+          (λ a s. ap (λ (o : Outcome (List ℤ)). then_do o (λ values s. Done (a ∷ values) s)) (q.values s));
+      reads = λ r h. or_within (expr_reads e r) (args_read es r) (expr_reads f r) (args_read fs r) (k.reads r) (q.reads r) h;
+      writes = λ shape r h. or_within (expr_writes shape e r) (args_write shape es r) (expr_writes shape f r) (args_write shape fs r) (k.writes shape r) (q.writes shape r) h;
+      right = λ shape calls h.
+          and_within (is_right_expr shape calls e) (are_right shape calls es) (is_right_expr shape calls f) (are_right shape calls fs) (k.right shape calls) (q.right shape calls) h;
+      count = ap suc q.count;
+      need = λ below. let a = k.need in let b = q.need (suc below) in omega arith;
+      size = let a = bytes_of-then e (args_code es) in let b = bytes_of-then f (args_code fs) in let c = k.size in let d = q.size in omega arith;
+    }
+
+-- ---- an operation's value in its place
+
+number_size : (n : ℤ) → (2 ≤ size_of (number_code n)) × (size_of (number_code n) ≤ 3)
+number_size (pos n) = by (nat_lt n 256) where
+  by : (b : Bool) → (2 ≤ size_of (if b then instr.PushB n else instr.PushW (pos n))) × (size_of (if b then instr.PushB n else instr.PushW (pos n)) ≤ 3)
+  by true = (omega arith, omega arith)
+  by false = (omega arith, omega arith)
+number_size (negsuc n) = (omega arith, omega arith)
+
+keeps_number : (e : Expression) (n : ℤ) → ((s : State) → value_of e s ≡ Done n s) → 1 ≤ expr_need e → 3 ≤ expr_size e → Keeps e (Num n)
+keeps_number e n value need size =
+    record {
+      value = λ s. sym (value s);
+      reads = λ r h. refl;
+      writes = λ shape r h. refl;
+      right = λ shape calls h. refl;
+      need = need;
+      size = let a = number_size n in omega (arith, a.1);
+    }
+
+number_bytes : (n : ℤ) → 2 ≤ expr_size (Num n)
+number_bytes n = let a = number_size n in omega (arith, a.0)
+
+keeps_negation : (e : Expression) → Keeps (Neg e) (negation e)
+keeps_negation (Num n) =
+    keeps_number (Neg (Num n)) (wrap (neg_ℤ n)) (λ s. refl) (omega arith)
+    (let a = number_bytes n in let b = size_push (Num n) instr.Neg in omega arith)
+keeps_negation e = keeps_same (Neg e)
+
+keeps_inverse : (e : Expression) → Keeps (Not e) (inverse e)
+keeps_inverse (Num n) =
+    keeps_number (Not (Num n)) (truth (not (is_truth n))).0 (λ s. refl) (omega arith)
+    (let a = number_bytes n in let b = size_push (Num n) instr.Not in omega arith)
+keeps_inverse e = keeps_same (Not e)
+
+keeps_result : (op : BinOp) (a b : ℤ) (result : Result ℤ FaultKind) → applied op a b ≡ result
+    → Keeps (Two op (Num a) (Num b)) (value_or (result_ok result) (Two op (Num a) (Num b)))
+keeps_result op a b (Ok n) e =
+    keeps_number (Two op (Num a) (Num b)) n (λ s. ap (λ r. given r s) e) (omega arith)
+    (let c = number_bytes a in let d = number_bytes b in let f = size_two op (Num a) (Num b) in omega arith)
+keeps_result op a b (Err kind) e = keeps_same (Two op (Num a) (Num b))
+
+keeps_right : (op : BinOp) (a : ℤ) (r : Expression) → Keeps (Two op (Num a) r) (operation op (Num a) r)
+keeps_right op a (Num b) = keeps_result op a b (applied op a b) refl
+keeps_right op a r = keeps_same (Two op (Num a) r)
+
+keeps_operation : (op : BinOp) (l r : Expression) → Keeps (Two op l r) (operation op l r)
+keeps_operation op (Num a) r = keeps_right op a r
+keeps_operation op l r = keeps_same (Two op l r)
+
+-- ---- folding keeps all this
+
+mutual
+  pub keeps_expr : (e : Expression) → Keeps e (folded_expr e)
+  keeps_expr (Num n) = keeps_same (Num n)
+  keeps_expr (Shared v) = keeps_same (Shared v)
+  keeps_expr (Private i) = keeps_same (Private i)
+  keeps_expr (Item p e) = keeps_item p e (folded_expr e) (keeps_expr e)
+  keeps_expr (Size p) = keeps_same (Size p)
+  keeps_expr (MsgItem e) = keeps_msg_item e (folded_expr e) (keeps_expr e)
+  keeps_expr MsgSize = keeps_same MsgSize
+  keeps_expr (Call f args) = keeps_call f args (folded_args args) (keeps_args args)
+  keeps_expr (SendBuf f p) = keeps_same (SendBuf f p)
+  keeps_expr (Neg e) =
+      keeps_along (Neg e) (Neg (folded_expr e)) (negation (folded_expr e)) (keeps_neg e (folded_expr e) (keeps_expr e)) (keeps_negation (folded_expr e))
+  keeps_expr (Not e) =
+      keeps_along (Not e) (Not (folded_expr e)) (inverse (folded_expr e)) (keeps_not e (folded_expr e) (keeps_expr e)) (keeps_inverse (folded_expr e))
+  keeps_expr (Two op l r) =
+      keeps_along (Two op l r) (Two op (folded_expr l) (folded_expr r)) (operation op (folded_expr l) (folded_expr r))
+      (keeps_two op l (folded_expr l) r (folded_expr r) (keeps_expr l) (keeps_expr r)) (keeps_operation op (folded_expr l) (folded_expr r))
+
+  pub keeps_args : (es : Arguments) → KeepsArgs es (folded_args es)
+  keeps_args no_arguments =
+      record {
+        values = λ s. refl;
+        reads = λ r h. h;
+        writes = λ shape r h. h;
+        right = λ shape calls h. h;
+        count = refl;
+        need = λ below. omega arith;
+        size = omega arith;
+      }
+  keeps_args (argument e es) = keeps_argument e (folded_expr e) es (folded_args es) (keeps_expr e) (keeps_args es)

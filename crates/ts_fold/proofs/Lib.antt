@@ -1,0 +1,3 @@
+pub mod ExpressionLemmas
+pub mod StatementLemmas
+pub mod LoopLemmas

@@ -1,0 +1,439 @@
+-- A folded block runs as the block, uses nothing more, is right where it is, and takes no more room.
+use Rattle.std.proofs.Common.{◌≡◌, ℕ, ◌+◌, ◌≤◌, ℤ, Bool, true, false, List, [], ◌∷◌, ◌++◌, Option, Some, None, refl, ap, sym, ◌∙◌, arith}
+use Rattle.std.specs.Prelude.{⊤, ◌&&◌, ◌||◌, max, IsTrue}
+use Rattle.std.proofs.lemmas.Bool.{or_parts, and_parts}
+use Rattle.std.proofs.Math.Bool.{or-false, and-true}
+use Rattle.mate_num.specs.Number.{is_truth}
+use Rattle.mate_num.specs.Store.{buffer_at, item_set, appended}
+use Rattle.mate_num.specs.declared.id.BufId.{BufId}
+use Rattle.mate_num.specs.declared.id.FunId.{FunId}
+use Rattle.mate_num.specs.declared.resource.Resource.{Resource}
+use Rattle.mate_num.specs.declared.shape.Shape.{Shape}
+use Rattle.mate_code.specs.Instr.{size_of}
+use Rattle.ts_syntax.specs.Expression.{Expression, Arguments, Num, Shared, Private, Item, Size, MsgItem, MsgSize, Call, SendBuf, Neg, Not, Two}
+use Rattle.ts_syntax.specs.Right.{is_shape, is_buffer, is_variable, is_call, argument_count, is_step, is_right_expr, are_right, is_head, is_right_stmt, is_right_block, is_right}
+use Rattle.ts_syntax.specs.Statement.{Statement, Block, no_statements, statement, block, Set, SetItem, Append, Take, Clear, Do, DoSend, If, IfElse, For, While}
+use Rattle.ts_syntax.specs.declared.checked_stmt.CVar.{CVar}
+use Rattle.ts_meaning.specs.State.{State, Outcome, Done, Over, then_do, with_variable, changed, dropped, loop_does, choose, round_if, begun}
+use Rattle.ts_meaning.specs.Meaning.{value_of, while_round, for_round, run_stmt, run_block, played}
+use Rattle.ts_meaning.specs.Uses.{is_variable as is_variable_used, is_buffer as is_buffer_used, is_device_of, expr_reads, args_read, expr_writes, args_write, stmt_reads, block_reads, stmt_writes, block_writes}
+use Rattle.ts_meaning.proofs.LoopLemmas.{loop_ends, while_wins_none}
+use Rattle.ts_translation.specs.Translation.{number_code, expr_need, expr_size, stmt_need, block_need, stmt_size, block_size, script_need, script_size}
+use Rattle.ts_fold.specs.Folded.{decision, left_of, if_left, if_else_left, while_left, folded_expr, folded_args, folded_stmt, folded_stmts, folded}
+use Rattle.ts_fold.specs.Laws.{RunsAs, UsesNoMore, TakesNoMore}
+use Rattle.ts_fold.proofs.ExpressionLemmas.{or_within, and_within, then_same, Keeps, KeepsArgs, keeps_call, keeps_expr, keeps_args}
+
+-- ---- what folding keeps of a statement in its place, of one that becomes statements, and of a block
+
+record KeepsOne (old new : Statement) : Type 0 where
+  run : (s : State) → run_stmt new s ≡ run_stmt old s
+  reads : (r : Resource) → stmt_reads old r ≡ false → stmt_reads new r ≡ false
+  writes : (shape : Shape) (r : Resource) → stmt_writes shape old r ≡ false → stmt_writes shape new r ≡ false
+  right : (shape : Shape) → is_right_stmt shape old ≡ true → is_right_stmt shape new ≡ true
+  need : stmt_need new ≤ stmt_need old
+  size : stmt_size new ≤ stmt_size old
+
+record KeepsStmt (old : Statement) (new : List Statement) : Type 0 where
+  run : (s : State) → run_block (block new) s ≡ run_stmt old s
+  reads : (r : Resource) → stmt_reads old r ≡ false → block_reads (block new) r ≡ false
+  writes : (shape : Shape) (r : Resource) → stmt_writes shape old r ≡ false → block_writes shape (block new) r ≡ false
+  right : (shape : Shape) → is_right_stmt shape old ≡ true → is_right_block shape (block new) ≡ true
+  need : block_need (block new) ≤ stmt_need old
+  size : block_size (block new) ≤ stmt_size old
+
+pub record KeepsBlock (old : Block) (new : List Statement) : Type 0 where
+  pub run : (s : State) → run_block (block new) s ≡ run_block old s
+  pub reads : (r : Resource) → block_reads old r ≡ false → block_reads (block new) r ≡ false
+  pub writes : (shape : Shape) (r : Resource) → block_writes shape old r ≡ false → block_writes shape (block new) r ≡ false
+  pub right : (shape : Shape) → is_right_block shape old ≡ true → is_right_block shape (block new) ≡ true
+  pub need : block_need (block new) ≤ block_need old
+  pub size : block_size (block new) ≤ block_size old
+
+same : (x : Statement) → KeepsOne x x
+same x =
+    record {
+      run = λ s. refl;
+      reads = λ r h. h;
+      writes = λ shape r h. h;
+      right = λ shape h. h;
+      need = omega arith;
+      size = omega arith;
+    }
+
+-- nothing follows
+then_nothing : (o : Outcome ⊤) → then_do o (λ _ s. Done (tt {0}) s) ≡ o
+then_nothing (Done a s) = refl
+then_nothing (Over end s) = refl
+
+alone : (x y : Statement) → KeepsOne x y → KeepsStmt x (y ∷ [])
+alone x y k =
+    record {
+      run = λ s. then_nothing (run_stmt y s) ∙ k.run s;
+      reads = λ r h. or-false (stmt_reads y r) ∙ k.reads r h;
+      writes = λ shape r h. or-false (stmt_writes shape y r) ∙ k.writes shape r h;
+      right = λ shape h. and-true (is_right_stmt shape y) ∙ k.right shape h;
+      need = let a = k.need in omega arith;
+      size = let a = k.size in omega arith;
+    }
+
+along : (x y : Statement) (new : List Statement) → KeepsOne x y → KeepsStmt y new → KeepsStmt x new
+along x y new k q =
+    record {
+      run = λ s. q.run s ∙ k.run s;
+      reads = λ r h. q.reads r (k.reads r h);
+      writes = λ shape r h. q.writes shape r (k.writes shape r h);
+      right = λ shape h. q.right shape (k.right shape h);
+      need = let a = k.need in let b = q.need in omega arith;
+      size = let a = k.size in let b = q.size in omega arith;
+    }
+
+-- ---- statements with their parts folded
+
+same_function : {A : Type 0} (f g : State → Outcome A) → ((s : State) → f s ≡ g s) → f ≡ g
+same_function f g h = λ i. λ s. h s i
+
+choose_same : (b : Bool) (f g p q : State → Outcome ⊤) (s : State) → f s ≡ g s → p s ≡ q s → choose b f p s ≡ choose b g q s
+choose_same true f g p q s first second = first
+choose_same false f g p q s first second = second
+
+keeps_set : (x : CVar) (e f : Expression) → Keeps e f → KeepsOne (Set x e) (Set x f)
+keeps_set x e f k =
+    record {
+      run = λ s. ap (λ (o : Outcome ℤ). then_do o (λ a s. Done (tt {0}) (with_variable x a s))) (k.value s);
+      reads = k.reads;
+      writes = λ shape r h.
+          or_within (is_variable_used x r) (expr_writes shape e r) (is_variable_used x r) (expr_writes shape f r) (λ g. g) (k.writes shape r) h;
+      right = λ shape h.
+          and_within (is_variable shape x) (is_right_expr shape true e) (is_variable shape x) (is_right_expr shape true f) (λ g. g) (k.right shape true) h;
+      need = k.need;
+      size = let a = k.size in omega arith;
+    }
+
+keeps_set_item : (p : BufId) (i j e f : Expression) → Keeps i j → Keeps e f → KeepsOne (SetItem p i e) (SetItem p j f)
+keeps_set_item p i j e f k q =
+    record {
+      run = λ s.
+          then_same (value_of j s) (value_of i s)
+          (λ i s. then_do (value_of f s) (λ a s. changed p (item_set (buffer_at s.store p.0) i a) s))
+          (λ i s. then_do (value_of e s) (λ a s. changed p (item_set (buffer_at s.store p.0) i a) s)) (k.value s)
+          (λ i s. ap (λ (o : Outcome ℤ). then_do o (λ a s. changed p (item_set (buffer_at s.store p.0) i a) s)) (q.value s));
+      reads = λ r h. or_within (expr_reads i r) (expr_reads e r) (expr_reads j r) (expr_reads f r) (k.reads r) (q.reads r) h;
+      writes = λ shape r h.
+          or_within (is_buffer_used p r || expr_writes shape i r) (expr_writes shape e r) (is_buffer_used p r || expr_writes shape j r) (expr_writes shape f r)
+          (λ g. or_within (is_buffer_used p r) (expr_writes shape i r) (is_buffer_used p r) (expr_writes shape j r) (λ g. g) (k.writes shape r) g)
+          (q.writes shape r) h;
+      right = λ shape h.
+          and_within (is_buffer shape p && is_right_expr shape true i) (is_right_expr shape true e) (is_buffer shape p && is_right_expr shape true j) (is_right_expr shape true f)
+          (λ g. and_within (is_buffer shape p) (is_right_expr shape true i) (is_buffer shape p) (is_right_expr shape true j) (λ g. g) (k.right shape true) g)
+          (q.right shape true) h;
+      need = let a = k.need in let b = q.need in omega arith;
+      size = let a = k.size in let b = q.size in omega arith;
+    }
+
+keeps_append : (p : BufId) (e f : Expression) → Keeps e f → KeepsOne (Append p e) (Append p f)
+keeps_append p e f k =
+    record {
+      run = λ s. ap (λ (o : Outcome ℤ). then_do o (λ a s. changed p (appended (buffer_at s.store p.0) a) s)) (k.value s);
+      reads = k.reads;
+      writes = λ shape r h. or_within (is_buffer_used p r) (expr_writes shape e r) (is_buffer_used p r) (expr_writes shape f r) (λ g. g) (k.writes shape r) h;
+      right = λ shape h. and_within (is_buffer shape p) (is_right_expr shape true e) (is_buffer shape p) (is_right_expr shape true f) (λ g. g) (k.right shape true) h;
+      need = k.need;
+      size = let a = k.size in omega arith;
+    }
+
+keeps_do : (f : FunId) (es fs : Arguments) → KeepsArgs es fs → KeepsOne (Do f es) (Do f fs)
+keeps_do f es fs k =
+    record {
+      run = λ s. ap (λ (o : Outcome ℤ). then_do o dropped) ((keeps_call f es fs k).value s);
+      reads = k.reads;
+      writes = (keeps_call f es fs k).writes;
+      right = λ shape h.
+          and_within (is_call shape f (argument_count es)) (are_right shape true es) (is_call shape f (argument_count fs)) (are_right shape true fs)
+          (λ g. ap (λ n. is_call shape f n) k.count ∙ g) (k.right shape true) h;
+      need = (keeps_call f es fs k).need;
+      size = let a = (keeps_call f es fs k).size in omega arith;
+    }
+
+keeps_if : (e f : Expression) (a : Block) (c : List Statement) → Keeps e f → KeepsBlock a c → KeepsOne (If e a) (If f (block c))
+keeps_if e f a c k q =
+    record {
+      run = λ s.
+          then_same (value_of f s) (value_of e s) (λ v s. choose (is_truth v) (run_block (block c)) (Done (tt {0})) s)
+          (λ v s. choose (is_truth v) (run_block a) (Done (tt {0})) s) (k.value s)
+          (λ v s. choose_same (is_truth v) (run_block (block c)) (run_block a) (Done (tt {0})) (Done (tt {0})) s (q.run s) refl);
+      reads = λ r h. or_within (expr_reads e r) (block_reads a r) (expr_reads f r) (block_reads (block c) r) (k.reads r) (q.reads r) h;
+      writes = λ shape r h. or_within (expr_writes shape e r) (block_writes shape a r) (expr_writes shape f r) (block_writes shape (block c) r) (k.writes shape r) (q.writes shape r) h;
+      right = λ shape h. and_within (is_right_expr shape true e) (is_right_block shape a) (is_right_expr shape true f) (is_right_block shape (block c)) (k.right shape true) (q.right shape) h;
+      need = let a = k.need in let b = q.need in omega arith;
+      size = let a = k.size in let b = q.size in omega arith;
+    }
+
+keeps_if_else : (e f : Expression) (a b : Block) (c d : List Statement) → Keeps e f → KeepsBlock a c → KeepsBlock b d
+    → KeepsOne (IfElse e a b) (IfElse f (block c) (block d))
+keeps_if_else e f a b c d k q o =
+    record {
+      run = λ s.
+          then_same (value_of f s) (value_of e s) (λ v s. choose (is_truth v) (run_block (block c)) (run_block (block d)) s)
+          (λ v s. choose (is_truth v) (run_block a) (run_block b) s) (k.value s)
+          (λ v s. choose_same (is_truth v) (run_block (block c)) (run_block a) (run_block (block d)) (run_block b) s (q.run s) (o.run s));
+      reads = λ r h.
+          or_within (expr_reads e r || block_reads a r) (block_reads b r) (expr_reads f r || block_reads (block c) r) (block_reads (block d) r)
+          (λ g. or_within (expr_reads e r) (block_reads a r) (expr_reads f r) (block_reads (block c) r) (k.reads r) (q.reads r) g) (o.reads r) h;
+      writes = λ shape r h.
+          or_within (expr_writes shape e r || block_writes shape a r) (block_writes shape b r) (expr_writes shape f r || block_writes shape (block c) r) (block_writes shape (block d) r)
+          (λ g. or_within (expr_writes shape e r) (block_writes shape a r) (expr_writes shape f r) (block_writes shape (block c) r) (k.writes shape r) (q.writes shape r) g)
+          (o.writes shape r) h;
+      right = λ shape h.
+          and_within (is_right_expr shape true e && is_right_block shape a) (is_right_block shape b) (is_right_expr shape true f && is_right_block shape (block c)) (is_right_block shape (block d))
+          (λ g. and_within (is_right_expr shape true e) (is_right_block shape a) (is_right_expr shape true f) (is_right_block shape (block c)) (k.right shape true) (q.right shape) g)
+          (o.right shape) h;
+      need = let a = k.need in let b = q.need in let c = o.need in omega arith;
+      size = let a = k.size in let b = q.size in let c = o.size in omega arith;
+    }
+
+keeps_while : (e f : Expression) (a : Block) (c : List Statement) → Keeps e f → KeepsBlock a c → KeepsOne (While e a) (While f (block c))
+keeps_while e f a c k q =
+    record {
+      run = λ s.
+          ap (λ (value : State → Outcome ℤ). loop_does (while_round value (run_block (block c))) s) (same_function (value_of f) (value_of e) k.value)
+          ∙ ap (λ (body : State → Outcome ⊤). loop_does (while_round (value_of e) body) s) (same_function (run_block (block c)) (run_block a) q.run);
+      reads = λ r h. or_within (expr_reads e r) (block_reads a r) (expr_reads f r) (block_reads (block c) r) (k.reads r) (q.reads r) h;
+      writes = λ shape r h. or_within (expr_writes shape e r) (block_writes shape a r) (expr_writes shape f r) (block_writes shape (block c) r) (k.writes shape r) (q.writes shape r) h;
+      right = λ shape h. and_within (is_right_expr shape true e) (is_right_block shape a) (is_right_expr shape true f) (is_right_block shape (block c)) (k.right shape true) (q.right shape) h;
+      need = let a = k.need in let b = q.need in omega arith;
+      size = let a = k.size in let b = q.size in omega arith;
+    }
+
+-- the rounds of a `for` with its parts folded
+rounds_same : (x : CVar) (to limit : Expression) (step : ℤ) (a : Block) (c : List Statement) (s : State) → Keeps to limit → KeepsBlock a c
+    → loop_does (for_round x (value_of limit) step (run_block (block c))) s ≡ loop_does (for_round x (value_of to) step (run_block a)) s
+rounds_same x to limit step a c s k q =
+    ap (λ (value : State → Outcome ℤ). loop_does (for_round x value step (run_block (block c))) s) (same_function (value_of limit) (value_of to) k.value)
+    ∙ ap (λ (body : State → Outcome ⊤). loop_does (for_round x (value_of to) step body) s) (same_function (run_block (block c)) (run_block a) q.run)
+
+head_right : (shape : Shape) (x : CVar) (from first to limit : Expression) (step : ℤ) → Keeps from first → Keeps to limit
+    → is_head shape x from to step ≡ true → is_head shape x first limit step ≡ true
+head_right shape x from first to limit step k q h =
+    and_within (is_variable shape x && is_right_expr shape true from && is_right_expr shape false to) (is_step step)
+    (is_variable shape x && is_right_expr shape true first && is_right_expr shape false limit) (is_step step)
+    (λ g. and_within (is_variable shape x && is_right_expr shape true from) (is_right_expr shape false to) (is_variable shape x && is_right_expr shape true first) (is_right_expr shape false limit)
+    (λ g. and_within (is_variable shape x) (is_right_expr shape true from) (is_variable shape x) (is_right_expr shape true first) (λ g. g) (k.right shape true) g)
+    (q.right shape false) g)
+    (λ g. g) h
+
+keeps_for : (x : CVar) (from first to limit : Expression) (step : ℤ) (a : Block) (c : List Statement) → Keeps from first → Keeps to limit → KeepsBlock a c
+    → KeepsOne (For x from to step a) (For x first limit step (block c))
+keeps_for x from first to limit step a c k q o =
+    record {
+      run = λ s.
+          then_same (value_of first s) (value_of from s)
+          (λ v s. loop_does (for_round x (value_of limit) step (run_block (block c))) (with_variable x v s))
+          (λ v s. loop_does (for_round x (value_of to) step (run_block a)) (with_variable x v s)) (k.value s)
+          (λ v s. rounds_same x to limit step a c (with_variable x v s) q o);
+      reads = λ r h.
+          or_within (is_variable_used x r || expr_reads from r || expr_reads to r) (block_reads a r) (is_variable_used x r || expr_reads first r || expr_reads limit r) (block_reads (block c) r)
+          (λ g. or_within (is_variable_used x r || expr_reads from r) (expr_reads to r) (is_variable_used x r || expr_reads first r) (expr_reads limit r)
+          (λ g. or_within (is_variable_used x r) (expr_reads from r) (is_variable_used x r) (expr_reads first r) (λ g. g) (k.reads r) g) (q.reads r) g)
+          (o.reads r) h;
+      writes = λ shape r h.
+          or_within (is_variable_used x r || expr_writes shape from r || expr_writes shape to r) (block_writes shape a r)
+          (is_variable_used x r || expr_writes shape first r || expr_writes shape limit r) (block_writes shape (block c) r)
+          (λ g. or_within (is_variable_used x r || expr_writes shape from r) (expr_writes shape to r) (is_variable_used x r || expr_writes shape first r) (expr_writes shape limit r)
+          (λ g. or_within (is_variable_used x r) (expr_writes shape from r) (is_variable_used x r) (expr_writes shape first r) (λ g. g) (k.writes shape r) g) (q.writes shape r) g)
+          (o.writes shape r) h;
+      right = λ shape h.
+          and_within (is_head shape x from to step) (is_right_block shape a) (is_head shape x first limit step) (is_right_block shape (block c))
+          (head_right shape x from first to limit step k q) (o.right shape) h;
+      need = let a = k.need in let b = q.need in let c = o.need in omega arith;
+      size = let a = k.size in let b = q.size in let c = o.size in omega arith;
+    }
+
+-- ---- statements whose test is decided
+
+decided_if : (n : ℤ) (a : List Statement) (b : Bool) → is_truth n ≡ b → KeepsStmt (If (Num n) (block a)) (left_of (Some b) a [] (If (Num n) (block a)))
+decided_if n a true e =
+    record {
+      run = λ s. sym (ap (λ (b : Bool). choose b (run_block (block a)) (Done (tt {0})) s) e);
+      reads = λ r h. h;
+      writes = λ shape r h. h;
+      right = λ shape h. h;
+      need = omega arith;
+      size = omega arith;
+    }
+decided_if n a false e =
+    record {
+      run = λ s. sym (ap (λ (b : Bool). choose b (run_block (block a)) (Done (tt {0})) s) e);
+      reads = λ r h. refl;
+      writes = λ shape r h. refl;
+      right = λ shape h. refl;
+      need = omega arith;
+      size = omega arith;
+    }
+
+keeps_if_left : (e : Expression) (a : List Statement) → KeepsStmt (If e (block a)) (if_left e a)
+keeps_if_left (Num n) a = decided_if n a (is_truth n) refl
+keeps_if_left e a = alone (If e (block a)) (If e (block a)) (same (If e (block a)))
+
+decided_if_else : (n : ℤ) (a b : List Statement) (t : Bool) → is_truth n ≡ t
+    → KeepsStmt (IfElse (Num n) (block a) (block b)) (left_of (Some t) a b (IfElse (Num n) (block a) (block b)))
+decided_if_else n a b true e =
+    record {
+      run = λ s. sym (ap (λ (t : Bool). choose t (run_block (block a)) (run_block (block b)) s) e);
+      reads = λ r h. (or_parts (block_reads (block a) r) (block_reads (block b) r) h).0;
+      writes = λ shape r h. (or_parts (block_writes shape (block a) r) (block_writes shape (block b) r) h).0;
+      right = λ shape h. (and_parts (is_right_block shape (block a)) (is_right_block shape (block b)) h).0;
+      need = omega arith;
+      size = omega arith;
+    }
+decided_if_else n a b false e =
+    record {
+      run = λ s. sym (ap (λ (t : Bool). choose t (run_block (block a)) (run_block (block b)) s) e);
+      reads = λ r h. (or_parts (block_reads (block a) r) (block_reads (block b) r) h).1;
+      writes = λ shape r h. (or_parts (block_writes shape (block a) r) (block_writes shape (block b) r) h).1;
+      right = λ shape h. (and_parts (is_right_block shape (block a)) (is_right_block shape (block b)) h).1;
+      need = omega arith;
+      size = omega arith;
+    }
+
+keeps_if_else_left : (e : Expression) (a b : List Statement) → KeepsStmt (IfElse e (block a) (block b)) (if_else_left e a b)
+keeps_if_else_left (Num n) a b = decided_if_else n a b (is_truth n) refl
+keeps_if_else_left e a b = alone (IfElse e (block a) (block b)) (IfElse e (block a) (block b)) (same (IfElse e (block a) (block b)))
+
+decided_while : (n : ℤ) (a : List Statement) (b : Bool) → is_truth n ≡ b
+    → KeepsStmt (While (Num n) (block a)) (left_of (Some b) (While (Num n) (block a) ∷ []) [] (While (Num n) (block a)))
+decided_while n a true e = alone (While (Num n) (block a)) (While (Num n) (block a)) (same (While (Num n) (block a)))
+decided_while n a false e =
+    record {
+      run = λ s.
+          sym (loop_ends (while_round (value_of (Num n)) (run_block (block a))) (while_wins_none (Num n) (block a)) s s
+          (ap (λ (b : Bool). round_if b (run_block (block a)) s) e));
+      reads = λ r h. refl;
+      writes = λ shape r h. refl;
+      right = λ shape h. refl;
+      need = omega arith;
+      size = omega arith;
+    }
+
+keeps_while_left : (e : Expression) (a : List Statement) → KeepsStmt (While e (block a)) (while_left e a)
+keeps_while_left (Num n) a = decided_while n a (is_truth n) refl
+keeps_while_left e a = alone (While e (block a)) (While e (block a)) (same (While e (block a)))
+
+-- ---- statements behind others
+
+then_twice : (o : Outcome ⊤) (f g : ⊤ → State → Outcome ⊤) → then_do (then_do o f) g ≡ then_do o (λ a s. then_do (f a s) g)
+then_twice (Done a s) f g = refl
+then_twice (Over end s) f g = refl
+
+run-append : (xs ys : List Statement) (s : State) → run_block (block (xs ++ ys)) s ≡ then_do (run_block (block xs) s) (λ _ s. run_block (block ys) s)
+run-append [] ys s = refl
+run-append (x ∷ xs) ys s =
+    then_same (run_stmt x s) (run_stmt x s) (λ _ s. run_block (block (xs ++ ys)) s) (λ _ s. then_do (run_block (block xs) s) (λ _ s. run_block (block ys) s)) refl
+    (λ _ s. run-append xs ys s)
+    ∙ sym (then_twice (run_stmt x s) (λ _ s. run_block (block xs) s) (λ _ s. run_block (block ys) s))
+
+reads-append : (xs ys : List Statement) (r : Resource) → block_reads (block xs) r ≡ false → block_reads (block ys) r ≡ false → block_reads (block (xs ++ ys)) r ≡ false
+reads-append [] ys r first second = second
+reads-append (x ∷ xs) ys r first second =
+    or_within (stmt_reads x r) (block_reads (block xs) r) (stmt_reads x r) (block_reads (block (xs ++ ys)) r) (λ g. g) (λ g. reads-append xs ys r g second) first
+
+writes-append : (shape : Shape) (xs ys : List Statement) (r : Resource) → block_writes shape (block xs) r ≡ false → block_writes shape (block ys) r ≡ false
+    → block_writes shape (block (xs ++ ys)) r ≡ false
+writes-append shape [] ys r first second = second
+writes-append shape (x ∷ xs) ys r first second =
+    or_within (stmt_writes shape x r) (block_writes shape (block xs) r) (stmt_writes shape x r) (block_writes shape (block (xs ++ ys)) r) (λ g. g)
+    (λ g. writes-append shape xs ys r g second) first
+
+right-append : (shape : Shape) (xs ys : List Statement) → is_right_block shape (block xs) ≡ true → is_right_block shape (block ys) ≡ true
+    → is_right_block shape (block (xs ++ ys)) ≡ true
+right-append shape [] ys first second = second
+right-append shape (x ∷ xs) ys first second =
+    and_within (is_right_stmt shape x) (is_right_block shape (block xs)) (is_right_stmt shape x) (is_right_block shape (block (xs ++ ys))) (λ g. g)
+    (λ g. right-append shape xs ys g second) first
+
+need-append : (xs ys : List Statement) → block_need (block (xs ++ ys)) ≡ max (block_need (block xs)) (block_need (block ys))
+need-append [] ys = omega arith
+need-append (x ∷ xs) ys = let h = need-append xs ys in omega arith
+
+size-append : (xs ys : List Statement) → block_size (block (xs ++ ys)) ≡ block_size (block xs) + block_size (block ys)
+size-append [] ys = omega arith
+size-append (x ∷ xs) ys = let h = size-append xs ys in omega arith
+
+keeps_then : (x : Statement) (b : Block) (xs ys : List Statement) → KeepsStmt x xs → KeepsBlock b ys → KeepsBlock (statement x b) (xs ++ ys)
+keeps_then x b xs ys k q =
+    record {
+      run = λ s.
+          run-append xs ys s
+          ∙ then_same (run_block (block xs) s) (run_stmt x s) (λ _ s. run_block (block ys) s) (λ _ s. run_block b s) (k.run s) (λ _ s. q.run s);
+      reads = λ r h. let p = or_parts (stmt_reads x r) (block_reads b r) h in reads-append xs ys r (k.reads r p.0) (q.reads r p.1);
+      writes = λ shape r h.
+          let p = or_parts (stmt_writes shape x r) (block_writes shape b r) h in writes-append shape xs ys r (k.writes shape r p.0) (q.writes shape r p.1);
+      right = λ shape h.
+          let p = and_parts (is_right_stmt shape x) (is_right_block shape b) h in right-append shape xs ys (k.right shape p.0) (q.right shape p.1);
+      need = let a = k.need in let b = q.need in let c = need-append xs ys in omega arith;
+      size = let a = k.size in let b = q.size in let c = size-append xs ys in omega arith;
+    }
+
+-- ---- folding keeps all this
+
+mutual
+  keeps_stmt : (x : Statement) → KeepsStmt x (folded_stmt x)
+  keeps_stmt (Set x e) = alone (Set x e) (Set x (folded_expr e)) (keeps_set x e (folded_expr e) (keeps_expr e))
+  keeps_stmt (SetItem p i e) =
+      alone (SetItem p i e) (SetItem p (folded_expr i) (folded_expr e)) (keeps_set_item p i (folded_expr i) e (folded_expr e) (keeps_expr i) (keeps_expr e))
+  keeps_stmt (Append p e) = alone (Append p e) (Append p (folded_expr e)) (keeps_append p e (folded_expr e) (keeps_expr e))
+  keeps_stmt (Take x p) = alone (Take x p) (Take x p) (same (Take x p))
+  keeps_stmt (Clear p) = alone (Clear p) (Clear p) (same (Clear p))
+  keeps_stmt (Do f args) = alone (Do f args) (Do f (folded_args args)) (keeps_do f args (folded_args args) (keeps_args args))
+  keeps_stmt (DoSend f p) = alone (DoSend f p) (DoSend f p) (same (DoSend f p))
+  keeps_stmt (If e a) =
+      along (If e a) (If (folded_expr e) (block (folded_stmts a))) (if_left (folded_expr e) (folded_stmts a))
+      (keeps_if e (folded_expr e) a (folded_stmts a) (keeps_expr e) (keeps_stmts a)) (keeps_if_left (folded_expr e) (folded_stmts a))
+  keeps_stmt (IfElse e a b) =
+      along (IfElse e a b) (IfElse (folded_expr e) (block (folded_stmts a)) (block (folded_stmts b))) (if_else_left (folded_expr e) (folded_stmts a) (folded_stmts b))
+      (keeps_if_else e (folded_expr e) a b (folded_stmts a) (folded_stmts b) (keeps_expr e) (keeps_stmts a) (keeps_stmts b))
+      (keeps_if_else_left (folded_expr e) (folded_stmts a) (folded_stmts b))
+  keeps_stmt (For x from to step a) =
+      alone (For x from to step a) (For x (folded_expr from) (folded_expr to) step (block (folded_stmts a)))
+      (keeps_for x from (folded_expr from) to (folded_expr to) step a (folded_stmts a) (keeps_expr from) (keeps_expr to) (keeps_stmts a))
+  keeps_stmt (While e a) =
+      along (While e a) (While (folded_expr e) (block (folded_stmts a))) (while_left (folded_expr e) (folded_stmts a))
+      (keeps_while e (folded_expr e) a (folded_stmts a) (keeps_expr e) (keeps_stmts a)) (keeps_while_left (folded_expr e) (folded_stmts a))
+
+  keeps_stmts : (b : Block) → KeepsBlock b (folded_stmts b)
+  keeps_stmts no_statements =
+      record {
+        run = λ s. refl;
+        reads = λ r h. h;
+        writes = λ shape r h. h;
+        right = λ shape h. h;
+        need = omega arith;
+        size = omega arith;
+      }
+  keeps_stmts (statement x b) = keeps_then x b (folded_stmt x) (folded_stmts b) (keeps_stmt x) (keeps_stmts b)
+
+-- ---- the laws
+
+within : (old new : Bool) → (old ≡ false → new ≡ false) → IsTrue new → IsTrue old
+within true new h t = refl
+within false new h t = let f : new ≡ false = h refl in absurd (cc)
+
+pub RunsAs-folded : (tree : Block) → RunsAs tree (folded tree)
+RunsAs-folded tree store msg answers turns = ap played ((keeps_stmts tree).run (begun store msg answers turns))
+
+pub UsesNoMore-folded : (shape : Shape) (tree : Block) → UsesNoMore shape tree (folded tree)
+UsesNoMore-folded shape tree =
+    record {
+      reads = λ r. within (block_reads tree r) (block_reads (folded tree) r) ((keeps_stmts tree).reads r);
+      writes = λ r. within (block_writes shape tree r) (block_writes shape (folded tree) r) ((keeps_stmts tree).writes shape r);
+    }
+
+pub TakesNoMore-folded : (tree : Block) → TakesNoMore tree (folded tree)
+TakesNoMore-folded tree =
+    record {
+      need = (keeps_stmts tree).need;
+      size = let a = (keeps_stmts tree).size in omega arith;
+    }
+
+pub right-folded : (shape : Shape) (tree : Block) → IsTrue (is_right shape tree) → IsTrue (is_right shape (folded tree))
+right-folded shape tree h =
+    and_within (is_shape shape) (is_right_block shape tree) (is_shape shape) (is_right_block shape (folded tree)) (λ g. g) ((keeps_stmts tree).right shape) h

@@ -1,0 +1,41 @@
+use Rattle.std.proofs.Common.{◌≡◌, ◌∙◌, ap, sym, subst}
+use Rattle.std.specs.Prelude.{IsTrue}
+use Rattle.mate_num.specs.declared.shape.Shape.{Shape}
+use Rattle.ts_syntax.specs.Checked.{shape_of, tree_of}
+use Rattle.ts_syntax.specs.Right.{is_right}
+use Rattle.ts_syntax.specs.Statement.{Block, block}
+use Rattle.ts_syntax.specs.TreeOf.{block_tree}
+use Rattle.ts_fold.specs.Folded.{folded}
+use Rattle.ts_fold.specs.Laws.{RunsAs, UsesNoMore, TakesNoMore}
+use Rattle.ts_fold.proofs.StatementLemmas.{RunsAs-folded, UsesNoMore-folded, TakesNoMore-folded, right-folded}
+use Rattle.ts_fold.proofs.folding.fold.Goals as goal
+
+pub new-requires : goal.new-requires
+new-requires c =
+    let tree : Block = tree_of c.args.script.now in
+    let seen : block_tree c.in_ok-body.body ≡ folded tree = ap block c.in_ok-body.ensures ∙ ap folded c.body.ensures in
+    let shape : c.copy.result ≡ shape_of c.args.script.now = c.copy.ensures ∙ c.shape.ensures in
+    let P : Block → Type 0 = λ t. IsTrue (is_right c.copy.result t) in
+    let Q : Shape → Type 0 = λ s. IsTrue (is_right s (folded tree)) in
+    subst P (sym seen) (subst Q (sym shape) (right-folded (shape_of c.args.script.now) tree c.args.script.now.right))
+
+pub returns-clause-runs : goal.returns-clause-runs
+returns-clause-runs c =
+    let tree : Block = tree_of c.args.script.now in
+    let seen : tree_of c.new.result ≡ folded tree = c.new.ensures.body ∙ ap block c.in_ok-body.ensures ∙ ap folded c.body.ensures in
+    let P : Block → Type 0 = λ t. RunsAs tree t in
+    subst P (sym seen) (RunsAs-folded tree)
+
+pub returns-clause-uses : goal.returns-clause-uses
+returns-clause-uses c =
+    let tree : Block = tree_of c.args.script.now in
+    let seen : tree_of c.new.result ≡ folded tree = c.new.ensures.body ∙ ap block c.in_ok-body.ensures ∙ ap folded c.body.ensures in
+    let P : Block → Type 0 = λ t. UsesNoMore (shape_of c.args.script.now) tree t in
+    subst P (sym seen) (UsesNoMore-folded (shape_of c.args.script.now) tree)
+
+pub returns-clause-room : goal.returns-clause-room
+returns-clause-room c =
+    let tree : Block = tree_of c.args.script.now in
+    let seen : tree_of c.new.result ≡ folded tree = c.new.ensures.body ∙ ap block c.in_ok-body.ensures ∙ ap folded c.body.ensures in
+    let P : Block → Type 0 = λ t. TakesNoMore tree t in
+    subst P (sym seen) (TakesNoMore-folded tree)

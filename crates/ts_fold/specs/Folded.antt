@@ -1,0 +1,113 @@
+-- What folding makes of a script: an operation on numbers becomes its value, and a test that is a number is decided.
+use Rattle.std.specs.Prelude.{ℤ, neg_ℤ, Bool, true, false, not, List, [], ◌∷◌, ◌++◌, Option, Some, None}
+use Rattle.std.specs.Option.{option_map}
+use Rattle.std.specs.Result.{result_ok}
+use Rattle.mate_num.specs.Number.{wrap, is_truth, truth}
+use Rattle.ts_syntax.specs.Expression.{Expression, Arguments, no_arguments, argument, Num, Shared, Private, Item, Size, MsgItem, MsgSize, Call, SendBuf, Neg, Not, Two}
+use Rattle.ts_syntax.specs.Statement.{Statement, Block, no_statements, statement, block, Set, SetItem, Append, Take, Clear, Do, DoSend, If, IfElse, For, While}
+use Rattle.ts_syntax.specs.declared.bin_op.BinOp.{BinOp}
+use Rattle.ts_meaning.specs.Meaning.{applied}
+
+-- the number that an expression is
+abbrev pub number_of : Expression → Option ℤ
+number_of (Num n) = Some n
+number_of (Shared v) = None
+number_of (Private i) = None
+number_of (Item p e) = None
+number_of (Size p) = None
+number_of (MsgItem e) = None
+number_of MsgSize = None
+number_of (Call f args) = None
+number_of (SendBuf f p) = None
+number_of (Neg e) = None
+number_of (Not e) = None
+number_of (Two op l r) = None
+
+-- the values of the operations on numbers, as the meaning gives them; `/` and `%` by 0 give a fault, and no value
+abbrev pub negated : Option ℤ → Option ℤ
+negated o = option_map (λ a. wrap (neg_ℤ a)) o
+
+abbrev pub inverted : Option ℤ → Option ℤ
+inverted o = option_map (λ a. (truth (not (is_truth a))).0) o
+
+abbrev pub operated : BinOp → Option ℤ → Option ℤ → Option ℤ
+operated op None r = None
+operated op (Some a) None = None
+operated op (Some a) (Some b) = result_ok (applied op a b)
+
+-- the value, and where there is none the operation
+abbrev pub value_or : Option ℤ → Expression → Expression
+value_or None e = e
+value_or (Some n) e = Num n
+
+abbrev pub negation : Expression → Expression
+negation e = value_or (negated (number_of e)) (Neg e)
+
+abbrev pub inverse : Expression → Expression
+inverse e = value_or (inverted (number_of e)) (Not e)
+
+abbrev pub operation : BinOp → Expression → Expression → Expression
+operation op l r = value_or (operated op (number_of l) (number_of r)) (Two op l r)
+
+-- an expression and arguments, folded from the leaves; an item, a size and a call are no operations
+abbrev mutual
+  pub folded_expr : Expression → Expression
+  folded_expr (Num n) = Num n
+  folded_expr (Shared v) = Shared v
+  folded_expr (Private i) = Private i
+  folded_expr (Item p e) = Item p (folded_expr e)
+  folded_expr (Size p) = Size p
+  folded_expr (MsgItem e) = MsgItem (folded_expr e)
+  folded_expr MsgSize = MsgSize
+  folded_expr (Call f args) = Call f (folded_args args)
+  folded_expr (SendBuf f p) = SendBuf f p
+  folded_expr (Neg e) = negation (folded_expr e)
+  folded_expr (Not e) = inverse (folded_expr e)
+  folded_expr (Two op l r) = operation op (folded_expr l) (folded_expr r)
+
+  pub folded_args : Arguments → Arguments
+  folded_args no_arguments = no_arguments
+  folded_args (argument e es) = argument (folded_expr e) (folded_args es)
+
+-- whether a test holds, where it is a number
+abbrev pub decision : Expression → Option Bool
+decision e = option_map is_truth (number_of e)
+
+-- what is left of a statement: the one part or the other, where its test is decided, and else the statement
+abbrev pub left_of : Option Bool → List Statement → List Statement → Statement → List Statement
+left_of None a b x = x ∷ []
+left_of (Some true) a b x = a
+left_of (Some false) a b x = b
+
+-- an `if` without and with its `else`, and a `while`, of folded parts
+abbrev pub if_left : Expression → List Statement → List Statement
+if_left e a = left_of (decision e) a [] (If e (block a))
+
+abbrev pub if_else_left : Expression → List Statement → List Statement → List Statement
+if_else_left e a b = left_of (decision e) a b (IfElse e (block a) (block b))
+
+abbrev pub while_left : Expression → List Statement → List Statement
+while_left e a = left_of (decision e) (While e (block a) ∷ []) [] (While e (block a))
+
+-- the statements that a statement, and a block, becomes
+abbrev mutual
+  pub folded_stmt : Statement → List Statement
+  folded_stmt (Set x e) = Set x (folded_expr e) ∷ []
+  folded_stmt (SetItem p i e) = SetItem p (folded_expr i) (folded_expr e) ∷ []
+  folded_stmt (Append p e) = Append p (folded_expr e) ∷ []
+  folded_stmt (Take x p) = Take x p ∷ []
+  folded_stmt (Clear p) = Clear p ∷ []
+  folded_stmt (Do f args) = Do f (folded_args args) ∷ []
+  folded_stmt (DoSend f p) = DoSend f p ∷ []
+  folded_stmt (If e a) = if_left (folded_expr e) (folded_stmts a)
+  folded_stmt (IfElse e a b) = if_else_left (folded_expr e) (folded_stmts a) (folded_stmts b)
+  folded_stmt (For x from to step a) = For x (folded_expr from) (folded_expr to) step (block (folded_stmts a)) ∷ []
+  folded_stmt (While e a) = while_left (folded_expr e) (folded_stmts a)
+
+  pub folded_stmts : Block → List Statement
+  folded_stmts no_statements = []
+  folded_stmts (statement x b) = folded_stmt x ++ folded_stmts b
+
+-- a script, folded
+abbrev pub folded : Block → Block
+folded tree = block (folded_stmts tree)

@@ -1,0 +1,27 @@
+-- What folding keeps of a script: how it runs; and it uses nothing more, and takes no more room.
+use Rattle.std.specs.Prelude.{◌≡◌, ℕ, ◌≤◌, ℤ, List, IsTrue}
+use Rattle.arrayvec.specs.ArrayVec.{ArrayVec}
+use Rattle.mate_num.specs.declared.resource.Resource.{Resource}
+use Rattle.mate_num.specs.declared.shape.Shape.{Shape}
+use Rattle.mate_num.specs.declared.store.Store.{Store}
+use Rattle.ts_syntax.specs.Statement.{Block}
+use Rattle.ts_meaning.specs.Meaning.{run_of}
+use Rattle.ts_meaning.specs.Uses.{block_reads, block_writes}
+use Rattle.ts_translation.specs.Translation.{script_need, script_size}
+
+-- the new tree runs as the old one: the end, the store and the calls are the same, whatever the store, the message,
+-- the answers and the turns are
+abbrev pub RunsAs : Block → Block → Type 0
+RunsAs old new =
+    (store : Store) (msg : ArrayVec ℤ) (answers : List ℤ) (turns : ℕ) →
+    run_of new store msg answers turns ≡ run_of old store msg answers turns
+
+-- on a machine of this shape the new tree reads and writes only what the old one does
+pub record UsesNoMore (shape : Shape) (old new : Block) : Type 0 where
+  pub reads : (r : Resource) → IsTrue (block_reads new r) → IsTrue (block_reads old r)
+  pub writes : (r : Resource) → IsTrue (block_writes shape new r) → IsTrue (block_writes shape old r)
+
+-- the new tree needs at most the stack that the old one needs, and its code takes at most as many bytes
+pub record TakesNoMore (old new : Block) : Type 0 where
+  pub need : script_need new ≤ script_need old
+  pub size : script_size new ≤ script_size old

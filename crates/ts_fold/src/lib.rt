@@ -1,0 +1,11 @@
+//! Folding a checked TinyScript script before it is compiled: what its numbers decide is decided once.
+#![tactic(auto)]
+
+pub mod expressions;
+pub mod folding;
+mod operators;
+pub mod statements;
+#[cfg(test)]
+mod tests;
+
+pub use folding::fold;

@@ -1,0 +1,106 @@
+//! Statements: what is left of them goes into the block that they stand in.
+
+ghost use Rattle.std.specs.Prelude.{◌≡◌, ◌++◌, OnOk, IfOk};
+ghost use Rattle.ts_syntax.specs.TreeOf.{expr_tree, stmt_tree, block_trees, block_tree};
+ghost use Rattle.ts_fold.specs.Folded.{decision, folded_expr, folded_stmt, folded_stmts};
+
+use crate::expressions::{arguments, expression, number};
+use mate_num::NoMemory;
+use std::alloc::Global;
+use ts_syntax::{CBlock, CExpr, CForHead, CStmt};
+
+/// A block, folded.
+#[cycle(block)]
+pub(crate) fn block(alloc: Global, body: &CBlock) -> Result<CBlock, NoMemory>
+    ensures { IfOk result (λ folded. block_trees folded ≡ folded_stmts (block_tree body.now)) }
+{
+    let mut folded = CBlock::new(alloc);
+    statements(alloc, body, &mut folded)?;
+    Ok(folded)
+}
+
+// Appends what is left of a block's statements.
+#[cycle(block)]
+fn statements(alloc: Global, body: &CBlock, into: &mut CBlock) -> Result<(), NoMemory>
+    ensures { OnOk result (block_trees into.new ≡ block_trees into.old ++ folded_stmts (block_tree body.now)) }
+{
+    for stmt in body.items.as_slice() {
+        statement(alloc, stmt, into)?;
+    }
+    Ok(())
+}
+
+// Appends what is left of a statement.
+#[cycle(block)]
+fn statement(alloc: Global, stmt: &CStmt, into: &mut CBlock) -> Result<(), NoMemory>
+    ensures { OnOk result (block_trees into.new ≡ block_trees into.old ++ folded_stmt (stmt_tree stmt.now)) }
+{
+    match stmt {
+        CStmt::Set(variable, value) => into.push(CStmt::Set(*variable, expression(alloc, value)?)),
+        CStmt::SetItem(buffer, index, value) => {
+            let index = expression(alloc, index)?;
+            into.push(CStmt::SetItem(*buffer, index, expression(alloc, value)?))
+        }
+        CStmt::Append(buffer, value) => {
+            into.push(CStmt::Append(*buffer, expression(alloc, value)?))
+        }
+        CStmt::Take(variable, buffer) => into.push(CStmt::Take(*variable, *buffer)),
+        CStmt::Clear(buffer) => into.push(CStmt::Clear(*buffer)),
+        CStmt::Do(fun, args) => into.push(CStmt::Do(*fun, arguments(alloc, args)?)),
+        CStmt::SendBuf(fun, buffer) => into.push(CStmt::SendBuf(*fun, *buffer)),
+        CStmt::If(test, body, None) => {
+            let test = expression(alloc, test)?;
+            match decision(&test) {
+                Some(true) => statements(alloc, body, into),
+                Some(false) => Ok(()),
+                None => into.push(CStmt::If(test, block(alloc, body)?, None)),
+            }
+        }
+        CStmt::If(test, body, Some(other)) => {
+            let test = expression(alloc, test)?;
+            match decision(&test) {
+                Some(true) => statements(alloc, body, into),
+                Some(false) => statements(alloc, other, into),
+                None => {
+                    let body = block(alloc, body)?;
+                    let other = block(alloc, other)?;
+                    into.push(CStmt::If(test, body, Some(other)))
+                }
+            }
+        }
+        CStmt::For(head, body) => {
+            let head = for_head(alloc, head)?;
+            into.push(CStmt::For(head, block(alloc, body)?))
+        }
+        CStmt::While(test, body) => {
+            let test = expression(alloc, test)?;
+            match decision(&test) {
+                Some(false) => Ok(()),
+                Some(true) | None => into.push(CStmt::While(test, block(alloc, body)?)),
+            }
+        }
+    }
+}
+
+fn for_head(alloc: Global, head: &CForHead) -> Result<CForHead, NoMemory>
+    ensures var { IfOk result (λ new. new.var ≡ head.now.var) }
+    ensures from { IfOk result (λ new. expr_tree new.from ≡ folded_expr (expr_tree head.now.from)) }
+    ensures to { IfOk result (λ new. expr_tree new.to ≡ folded_expr (expr_tree head.now.to)) }
+    ensures step { IfOk result (λ new. new.step ≡ head.now.step) }
+{
+    let from = expression(alloc, &head.from)?;
+    let to = expression(alloc, &head.to)?;
+    Ok(CForHead {
+        var: head.var,
+        from,
+        to,
+        step: head.step,
+    })
+}
+
+// Whether a test holds, where it is a number.
+fn decision(test: &CExpr) -> Option<bool>
+    ensures { result ≡ decision (expr_tree test.now) }
+{
+    number(test).map(|number| number != 0)
+}
