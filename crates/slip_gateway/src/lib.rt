@@ -1,0 +1,10 @@
+//! Capsule images from a serial line: a byte stream that is cut into frames by SLIP, RFC 1055.
+#![tactic(auto)]
+
+pub mod frames;
+pub mod slip;
+#[cfg(test)]
+mod tests;
+
+pub use frames::{Frame, Frames};
+pub use slip::{Slip, frames_compose};

@@ -1,0 +1,184 @@
+//! The reader of a stream: it is given the bytes in pieces, and keeps what the pieces so far leave open.
+
+ghost use Rattle.std.specs.Prelude.{◌≡◌, ◌≢◌, ◌+◌, ◌≤◌, List, ℕ, [], ◌∷◌, ◌++◌, OnOk, OnErr, IsTrue, ◌↔◌, count_by, vec_len, vec_capacity, length};
+ghost use Rattle.slip_gateway.specs.Fed.{fresh, is_fresh, added, replaced, pushed, frame_left, IsBehind, HasFed};
+ghost use Rattle.slip_gateway.specs.Stream.{is_end, rest_behind, rest, frames_behind, frames};
+
+use crate::frames::{Frame, Frames};
+use mate_num::{Image, NoMemory};
+use std::mem;
+
+/// Ends a frame.
+pub const END: u8 = 192;
+
+/// Begins an escape within a frame.
+pub const ESC: u8 = 219;
+
+/// Behind `ESC`: a byte `END`.
+pub const ESC_END: u8 = 220;
+
+/// Behind `ESC`: a byte `ESC`.
+pub const ESC_ESC: u8 = 221;
+
+/// How the escapes of the frame stand that has begun.
+#[derive(Clone, Copy, PartialEq, Eq, Debug)]
+enum Escapes {
+    /// Each has its second byte.
+    Whole,
+    /// The last byte is an `ESC`.
+    Open,
+    /// One is broken.
+    Broken,
+}
+
+/// A reader of a stream of frames. It takes no memory of its own.
+#[derive(Debug, Drop)]
+pub struct Slip {
+    // The bytes of the frame that has begun, with its escapes replaced: the first 1,056.
+    image: Image,
+    // There were more.
+    too_long: bool,
+    escapes: Escapes,
+}
+
+/// The law by which a stream may be cut anywhere: the frames of two parts, one behind the other, are those of the first,
+/// and then those that the second one closes behind what the first one left.
+pub fn frames_compose()
+    ensures frames { (first second : List ℕ) → frames (first ++ second) ≡ frames first ++ frames_behind (rest first) second }
+    ensures rest { (first second : List ℕ) → rest (first ++ second) ≡ rest_behind (rest first) second }
+{}
+
+// How many frames a piece closes at most.
+fn ends_in(piece: &[u8]) -> usize
+    ensures { result ≡ count_by is_end piece.now }
+{
+    piece.iter().filter(|byte| **byte == END).count()
+}
+
+impl Slip {
+    /// A reader that was given nothing.
+    pub fn new() -> Slip
+        ensures fed { HasFed result [] }
+        ensures fresh { result ≡ fresh }
+    {
+        Slip {
+            image: Image::new(),
+            too_long: false,
+            escapes: Escapes::Whole,
+        }
+    }
+
+    /// Reads the next bytes of the stream, and appends the frames that they close to `into`. `NoMemory` leaves both as
+    /// they were: room for one frame for each `END` is taken first.
+    pub fn feed(&mut self, piece: &[u8], into: &mut Frames) -> Result<(), NoMemory>
+        ensures fed { OnOk result ((fed : List ℕ) → HasFed self.old fed → HasFed self.new (fed ++ piece.now)) }
+        ensures appends { OnOk result ((fed : List ℕ) → HasFed self.old fed → into.new ≡ into.old ++ frames_behind (rest fed) piece.now) }
+
+        // However the bytes are cut, it holds the frames of all of them.
+        ensures holds { OnOk result ((fed : List ℕ) → HasFed self.old fed → into.old ≡ frames fed → into.new ≡ frames (fed ++ piece.now)) }
+        ensures slip_unchanged { OnErr result (self.new ≡ self.old) }
+        ensures frames_unchanged { OnErr result (into.new ≡ into.old) }
+    {
+        into.frames.reserve(ends_in(piece))?;
+        self.read(piece, &mut into.frames);
+        Ok(())
+    }
+
+    /// Whether bytes stand behind the last `END`.
+    pub fn unfinished(&self) -> bool
+        ensures { (fed : List ℕ) → HasFed self.now fed → (IsTrue result ↔ (rest fed ≢ [])) }
+    {
+        !self.is_fresh()
+    }
+
+    // The frame that has begun has no bytes.
+    fn is_fresh(&self) -> bool
+        ensures { result ≡ is_fresh self.now }
+    {
+        self.escapes == Escapes::Whole && self.image.is_empty()
+    }
+
+    // Reads bytes; there is room for the frames that they close.
+    fn read(&mut self, piece: &[u8], into: &mut Vec<Frame>)
+        requires { vec_len into.old + count_by is_end piece.now ≤ vec_capacity into.old }
+        ensures { (begun : List ℕ) → IsBehind self.old begun →
+            IsBehind self.new (rest_behind begun piece.now) × (into.new.items ≡ into.old.items ++ frames_behind begun piece.now) }
+    {
+        for byte in piece {
+            self.read_byte(*byte, into);
+        }
+    }
+
+    fn read_byte(&mut self, byte: u8, into: &mut Vec<Frame>)
+        requires { vec_len into.old + count_by is_end (byte ∷ []) ≤ vec_capacity into.old }
+        ensures reads { (begun : List ℕ) → IsBehind self.old begun →
+            IsBehind self.new (rest_behind begun (byte ∷ [])) × (into.new.items ≡ into.old.items ++ frames_behind begun (byte ∷ [])) }
+        ensures len { vec_len into.new ≤ vec_len into.old + count_by is_end (byte ∷ []) }
+        ensures capacity { vec_capacity into.new ≡ vec_capacity into.old }
+    {
+        if byte != END {
+            self.push(byte);
+            return;
+        }
+        if let Some(frame) = self.close() {
+            into.push_reserved(frame);
+        }
+    }
+
+    // Ends the frame, and gives it where it has bytes.
+    fn close(&mut self) -> Option<Frame>
+        ensures frame { result ≡ frame_left self.old }
+        ensures after { self.new ≡ fresh }
+        ensures fits { length self.old.image.items ≤ 1056 }
+    {
+        let begun = mem::replace(self, Slip::new());
+        let _fits = begun.image.is_full();
+        if begun.is_fresh() {
+            return None;
+        }
+        Some(match begun.escapes {
+            Escapes::Whole if begun.too_long => Frame::TooLong,
+            Escapes::Whole => Frame::Whole(begun.image),
+            Escapes::Open | Escapes::Broken => Frame::BadEscape,
+        })
+    }
+
+    // Reads a byte of the frame.
+    fn push(&mut self, byte: u8)
+        ensures { self.new ≡ pushed self.old byte }
+    {
+        match self.escapes {
+            Escapes::Whole => {
+                if byte == ESC {
+                    self.escapes = Escapes::Open;
+                } else {
+                    self.add(byte);
+                }
+            }
+            Escapes::Open => self.replace(byte),
+            Escapes::Broken => {}
+        }
+    }
+
+    // Reads the byte behind an `ESC`.
+    fn replace(&mut self, byte: u8)
+        ensures { self.new ≡ replaced self.old byte }
+    {
+        self.escapes = Escapes::Whole;
+        match byte {
+            ESC_END => self.add(END),
+            ESC_ESC => self.add(ESC),
+            _ => self.escapes = Escapes::Broken,
+        }
+    }
+
+    fn add(&mut self, byte: u8)
+        ensures { self.new ≡ added self.old byte }
+    {
+        if self.image.is_full() {
+            self.too_long = true;
+        } else {
+            self.image.push(byte);
+        }
+    }
+}
