@@ -1,0 +1,2 @@
+pub mod LockLine
+pub mod CapsuleText

@@ -1,0 +1,10 @@
+//! The text of a verified capsule of a machine.
+#![tactic(auto)]
+
+pub mod lock_line;
+pub mod printing;
+
+pub use printing::print_capsule;
+
+#[cfg(test)]
+mod tests;

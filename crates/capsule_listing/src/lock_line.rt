@@ -1,0 +1,83 @@
+//! The line of a handler's locks.
+
+ghost use Rattle.std.specs.Prelude.{◌≡◌, ◌<◌, ◌≤◌, length, IsTrue, codes, ◌++◌};
+ghost use Rattle.mate_files.specs.Pen.{Prints};
+ghost use Rattle.mate_num.specs.Locks.{is_resource, uses_of};
+ghost use Rattle.capsule_listing.specs.LockLine.{mention, mentions, lock_line, resource_at, room_of};
+
+use mate_files::{Pen, Sink};
+use mate_num::{BufId, DeviceId, LockSet, Name, Resource, VarId};
+use vm_desc::Description;
+
+/// The groups of resources, each of which is a list of a description.
+#[derive(Clone, Copy, Debug)]
+pub enum Group {
+    Shared,
+    Buffers,
+    Devices,
+}
+
+impl Group {
+    // The group's resource of this number.
+    fn resource(self, place: u8) -> Resource
+        ensures { result ≡ resource_at self place }
+    {
+        match self {
+            Group::Shared => Resource::Shared(VarId(place)),
+            Group::Buffers => Resource::Buffer(BufId(place)),
+            Group::Devices => Resource::Device(DeviceId(place)),
+        }
+    }
+}
+
+/// Prints `locks` and the names of what the set holds, each behind a space, in the order of the description; `:r`
+/// follows directly on a name that is only read.
+pub fn print_lock_line<S: Sink>(pen: &mut Pen, out: &mut S, desc: &Description, set: &LockSet)
+    ensures { Prints (S.written out.old) (S.faults out.old) pen.old.result
+        (S.written out.new) (S.faults out.new) pen.new.result (lock_line desc.now (uses_of set.now)) }
+{
+    pen.text(out, "locks");
+    print_group(pen, out, set, Group::Shared, desc.shared.as_slice());
+    print_group(pen, out, set, Group::Buffers, desc.buffers.as_slice());
+    print_group(pen, out, set, Group::Devices, desc.devices.as_slice());
+    pen.text(out, "\n");
+}
+
+// Prints those of a group's names that the set holds.
+fn print_group<S: Sink>(pen: &mut Pen, out: &mut S, set: &LockSet, group: Group, names: &[Name])
+    requires { length names.now ≤ room_of group }
+    ensures { Prints (S.written out.old) (S.faults out.old) pen.old.result
+        (S.written out.new) (S.faults out.new) pen.new.result (mentions (uses_of set.now) group names.now) }
+{
+    for (place, name) in names.iter().enumerate() {
+        print_mention(pen, out, set, group.resource(place as u8), name);
+    }
+}
+
+// Prints the resource's name where the set holds it.
+fn print_mention<S: Sink>(
+    pen: &mut Pen,
+    out: &mut S,
+    set: &LockSet,
+    resource: Resource,
+    name: &Name,
+)
+    requires { IsTrue (is_resource resource) }
+    ensures { Prints (S.written out.old) (S.faults out.old) pen.old.result
+        (S.written out.new) (S.faults out.new) pen.new.result (mention (uses_of set.now) resource name.now) }
+{
+    if set.writes(resource) {
+        print_name(pen, out, name);
+    } else if set.reads(resource) {
+        print_name(pen, out, name);
+        pen.text(out, ":r");
+    }
+}
+
+fn print_name<S: Sink>(pen: &mut Pen, out: &mut S, name: &Name)
+    ensures { Prints (S.written out.old) (S.faults out.old) pen.old.result
+        (S.written out.new) (S.faults out.new) pen.new.result (codes " " ++ name.now) }
+{
+    pen.text(out, " ");
+    pen.text(out, name.as_str());
+}
