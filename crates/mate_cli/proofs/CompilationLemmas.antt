@@ -17,6 +17,7 @@ source_has_no_code d bytes name (refusal.FileLarge file) r = absurd r
 source_has_no_code d bytes name (refusal.BadDescription fault) r = absurd r
 source_has_no_code d bytes name (refusal.BadSource file why) r = r
 source_has_no_code d bytes name (refusal.BadCode file f) r = absurd r
+source_has_no_code d bytes name (refusal.BadCapsule file why) r = absurd r
 source_has_no_code d bytes name (refusal.Unbuilt file) r = absurd r
 source_has_no_code d bytes name refusal.SinkFault r = absurd r
 source_has_no_code d bytes name refusal.NoMemory r = tt
@@ -30,6 +31,7 @@ machine_refused told machine handler source version f0 f1 (refusal.FileLarge nam
 machine_refused told machine handler source version f0 f1 (refusal.BadDescription fault) cause = cause
 machine_refused told machine handler source version f0 f1 (refusal.BadSource name r) cause = absurd cause
 machine_refused told machine handler source version f0 f1 (refusal.BadCode name f) cause = absurd cause
+machine_refused told machine handler source version f0 f1 (refusal.BadCapsule name r) cause = absurd cause
 machine_refused told machine handler source version f0 f1 (refusal.Unbuilt name) cause = absurd cause
 machine_refused told machine handler source version f0 f1 refusal.SinkFault cause = absurd cause
 machine_refused told machine handler source version f0 f1 refusal.NoMemory cause = tt
@@ -46,6 +48,7 @@ code_refused told machine handler source bytes d place version f0 f1 (refusal.Ba
     record { d = d; place = place; known = known; bytes = bytes; holds = holds; refused = r }
 code_refused told machine handler source bytes d place version f0 f1 (refusal.BadCode name f) known holds r =
     record { d = d; place = place; known = known; bytes = bytes; holds = holds; refused = r }
+code_refused told machine handler source bytes d place version f0 f1 (refusal.BadCapsule name why) known holds r = absurd r
 code_refused told machine handler source bytes d place version f0 f1 (refusal.Unbuilt name) known holds r = absurd r
 code_refused told machine handler source bytes d place version f0 f1 refusal.SinkFault known holds r = absurd r
 code_refused told machine handler source bytes d place version f0 f1 refusal.NoMemory known holds r = tt

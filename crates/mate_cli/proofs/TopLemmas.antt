@@ -30,6 +30,7 @@ cause-kept told task f0 f1 f2 (refusal.FileLarge name) high cause = (cause.0, Ro
 cause-kept told task f0 f1 f2 (refusal.BadDescription fault) high cause = cause
 cause-kept told task f0 f1 f2 (refusal.BadSource name r) high cause = cause
 cause-kept told task f0 f1 f2 (refusal.BadCode name f) high cause = cause
+cause-kept told task f0 f1 f2 (refusal.BadCapsule name r) high cause = cause
 cause-kept told task f0 f1 f2 (refusal.Unbuilt name) high cause = cause
 cause-kept told task f0 f1 f2 refusal.SinkFault high cause = cause
 cause-kept told task f0 f1 f2 refusal.NoMemory high cause = cause
@@ -50,6 +51,7 @@ read_refused told told' task name f0 f1 f2 f3 e same low reads high named =
       of (refusal.BadDescription fault) reads = absurd reads
       of (refusal.BadSource file r) reads = absurd reads
       of (refusal.BadCode file f) reads = absurd reads
+      of (refusal.BadCapsule file r) reads = absurd reads
       of (refusal.Unbuilt file) reads = absurd reads
       of refusal.SinkFault reads = absurd reads
       of refusal.NoMemory reads = tt
@@ -62,6 +64,7 @@ unbuilt_refused told task name f0 f1 (refusal.FileLarge file) is named = absurd 
 unbuilt_refused told task name f0 f1 (refusal.BadDescription fault) is named = absurd is
 unbuilt_refused told task name f0 f1 (refusal.BadSource file r) is named = absurd is
 unbuilt_refused told task name f0 f1 (refusal.BadCode file f) is named = absurd is
+unbuilt_refused told task name f0 f1 (refusal.BadCapsule file r) is named = absurd is
 unbuilt_refused told task name f0 f1 (refusal.Unbuilt file) is named = subst (HasUnbuilt task) (sym is) named
 unbuilt_refused told task name f0 f1 refusal.SinkFault is named = absurd is
 unbuilt_refused told task name f0 f1 refusal.NoMemory is named = tt
@@ -77,6 +80,7 @@ source_refused told script name bytes d version f0 f1 (refusal.BadSource file wh
     subst (λ (n : List ℕ). IsBadSource told script n why) (sym r.0)
     (record { d = d; builtin = builtin; version = version; bytes = bytes; scripted = scripted; holds = holds; refused = r.1 })
 source_refused told script name bytes d version f0 f1 (refusal.BadCode file f) builtin scripted holds r = absurd r
+source_refused told script name bytes d version f0 f1 (refusal.BadCapsule file why) builtin scripted holds r = absurd r
 source_refused told script name bytes d version f0 f1 (refusal.Unbuilt file) builtin scripted holds r = absurd r
 source_refused told script name bytes d version f0 f1 refusal.SinkFault builtin scripted holds r = absurd r
 source_refused told script name bytes d version f0 f1 refusal.NoMemory builtin scripted holds r = tt
@@ -104,6 +108,7 @@ outputs told words task f0 f1 (Err (refusal.FileLarge name)) says does = record 
 outputs told words task f0 f1 (Err (refusal.BadDescription fault)) says does = record { task = task; says = says; cause = does }
 outputs told words task f0 f1 (Err (refusal.BadSource name r)) says does = record { task = task; says = says; cause = does }
 outputs told words task f0 f1 (Err (refusal.BadCode name f)) says does = record { task = task; says = says; cause = does }
+outputs told words task f0 f1 (Err (refusal.BadCapsule name r)) says does = record { task = task; says = says; cause = does }
 outputs told words task f0 f1 (Err (refusal.Unbuilt name)) says does = record { task = task; says = says; cause = does }
 outputs told words task f0 f1 (Err refusal.SinkFault) says does = absurd does
 outputs told words task f0 f1 (Err refusal.NoMemory) says does = tt
@@ -144,6 +149,7 @@ module _ (told : Option Names) (words : List (List ℕ)) (before now : ℕ) (s t
   told_refusal (refusal.BadDescription fault) cause out tells = (fault, record { cause = cause; unwritten = out; tells = tells })
   told_refusal (refusal.BadSource name r) cause out tells = (name, inl (r, record { cause = cause; unwritten = out; tells = tells }))
   told_refusal (refusal.BadCode name f) cause out tells = (name, inr (f, record { cause = cause; unwritten = out; tells = tells }))
+  told_refusal (refusal.BadCapsule name r) cause out tells = (name, (r, record { cause = cause; unwritten = out; tells = tells }))
   told_refusal (refusal.Unbuilt name) cause out tells = (name, record { cause = cause; unwritten = out; tells = tells })
   told_refusal refusal.SinkFault cause out tells = absurd cause
   told_refusal refusal.NoMemory cause out tells = no_memory refusal.NoMemory (inl out) (part_of s t (line_of refusal.NoMemory) tells)

@@ -65,6 +65,7 @@ RefusesCode d bytes name (refusal.FileLarge file) = ⊥
 RefusesCode d bytes name (refusal.BadDescription fault) = ⊥
 RefusesCode d bytes name (refusal.BadSource file r) = (file ≡ name) × IsRefused d bytes r
 RefusesCode d bytes name (refusal.BadCode file f) = (file ≡ name) × HasNoCode d bytes f
+RefusesCode d bytes name (refusal.BadCapsule file r) = ⊥
 RefusesCode d bytes name (refusal.Unbuilt file) = ⊥
 RefusesCode d bytes name refusal.SinkFault = ⊥
 RefusesCode d bytes name refusal.NoMemory = Unit {0}

@@ -1,8 +1,10 @@
 pub mod FirstScript
 pub mod FirstRun
 pub mod SourceWords
+pub mod CapsuleWords
 pub mod Refusals
 pub mod Commands
 pub mod Machines
 pub mod Compilation
+pub mod CapsuleFiles
 pub mod Top

@@ -5,6 +5,7 @@ use Rattle.mate_files.specs.Sink.{Sent, SentPart}
 use Rattle.vm_desc.specs.Keys.{word_of}
 use Rattle.vm_desc.specs.declared.fault.DescFault.{DescFault}
 use Rattle.vm_desc.specs.declared.fault.DescFault.TheVariants as desc
+use Rattle.mate_cli.specs.CapsuleWords.{capsule_words}
 use Rattle.mate_cli.specs.SourceWords.{source_words, code_words}
 use Rattle.mate_cli.specs.declared.status.Status.{Status}
 use Rattle.mate_cli.specs.declared.status.Status.TheVariants as status
@@ -34,6 +35,7 @@ status_of (refusal.FileLarge name) = status.FileFault
 status_of (refusal.BadDescription fault) = status.BadDescription
 status_of (refusal.BadSource name r) = status.BadSource
 status_of (refusal.BadCode name f) = status.BadSource
+status_of (refusal.BadCapsule name r) = status.BadCapsule
 status_of (refusal.Unbuilt name) = status.Unbuilt
 status_of refusal.SinkFault = status.SinkFault
 status_of refusal.NoMemory = status.NoMemory
@@ -55,6 +57,7 @@ line_of (refusal.FileLarge name) = codes "file large " ++ name ++ codes "\n"
 line_of (refusal.BadDescription fault) = codes "bad description " ++ fault_words fault
 line_of (refusal.BadSource name r) = codes "bad source " ++ name ++ codes " " ++ source_words r
 line_of (refusal.BadCode name f) = codes "bad source " ++ name ++ codes " " ++ code_words f
+line_of (refusal.BadCapsule name r) = codes "bad capsule " ++ name ++ codes " " ++ capsule_words r
 line_of (refusal.Unbuilt name) = codes "unbuilt " ++ name ++ codes "\n"
 line_of refusal.SinkFault = codes "sink fault\n"
 line_of refusal.NoMemory = codes "no memory\n"

@@ -18,12 +18,16 @@ use Rattle.mate_files.specs.Counts.{Rose}
 use Rattle.mate_files.specs.Files.{Names, WhereTold}
 use Rattle.mate_files.specs.Sink.{Sent, SentPart}
 use Rattle.hex.specs.Hex.{encode_lower}
-use Rattle.mate_cli.specs.Commands.{Task, Node, Table, Compile, Says, SaysNothing, builtin_word}
+use Rattle.capsule_codec.specs.Image.{capsule_parts}
+use Rattle.capsule_listing.specs.CapsuleText.{capsule_text, IsVerifiedFor}
+use Rattle.mate_cli.specs.Commands.{Task, Node, Table, Compile, Check, Says, SaysNothing, builtin_word}
+use Rattle.mate_cli.specs.CapsuleFiles.{IsCapsuleOf, IsNoCapsule, KnowsMachine}
 use Rattle.mate_cli.specs.Compilation.{IsImageFor, IsUncompiled, HasNoHandler, KnowsHandler}
 use Rattle.mate_cli.specs.FirstScript.{IsFirstScript}
 use Rattle.mate_cli.specs.FirstRun.{IsFirstReport}
 use Rattle.mate_cli.specs.Machines.{Holds, NamesMachine, IsBadDescription}
 use Rattle.mate_cli.specs.Refusals.{Tells, line_of}
+use Rattle.mate_cli.specs.declared.capsule_file.CapsuleRefusal.{CapsuleRefusal}
 use Rattle.mate_cli.specs.declared.output.Output.{Output}
 use Rattle.mate_cli.specs.declared.output.Output.TheVariants as output
 use Rattle.mate_cli.specs.declared.status.Status.{Status}
@@ -69,61 +73,84 @@ abbrev pub text_of : Output → List ℕ
 text_of (output.Report d r) = text d r
 text_of (output.OpcodeTable d) = table_text d
 text_of (output.Capsule image) = encode_lower image.items ++ codes "\n"
+text_of (output.Listing d c v) = capsule_text d (capsule_parts c) v.code
 
 -- it can be written
 abbrev pub IsWritable : Output → Type 0
 IsWritable (output.Report d r) = IsTidy d r
 IsWritable (output.OpcodeTable d) = Unit {0}
 IsWritable (output.Capsule image) = Unit {0}
+IsWritable (output.Listing d c v) = IsVerifiedFor d (capsule_parts c) v
 
 -- the output is the task's
 abbrev pub IsFor : Option Names → Task → Output → Type 0
 IsFor told (Node script) (output.Report d r) = IsReportFor told script d r
 IsFor told (Node script) (output.OpcodeTable d) = ⊥
 IsFor told (Node script) (output.Capsule image) = ⊥
+IsFor told (Node script) (output.Listing d c v) = ⊥
 IsFor told (Table machine) (output.Report d r) = ⊥
 IsFor told (Table machine) (output.OpcodeTable d) = NamesMachine told machine d
 IsFor told (Table machine) (output.Capsule image) = ⊥
+IsFor told (Table machine) (output.Listing d c v) = ⊥
 IsFor told (Compile machine handler version source) (output.Report d r) = ⊥
 IsFor told (Compile machine handler version source) (output.OpcodeTable d) = ⊥
 IsFor told (Compile machine handler version source) (output.Capsule image) = IsImageFor told machine handler version source image
+IsFor told (Compile machine handler version source) (output.Listing d c v) = ⊥
+IsFor told (Check machine file) (output.Report d r) = ⊥
+IsFor told (Check machine file) (output.OpcodeTable d) = ⊥
+IsFor told (Check machine file) (output.Capsule image) = ⊥
+IsFor told (Check machine file) (output.Listing d c v) = IsCapsuleOf told machine file d c v
 
--- the task or its script names the file; the source of a compilation is read where the machine has the handler
+-- the task or its script names the file; the source of a compilation is read where the machine has the handler, and a
+-- capsule's file where there is a machine
 abbrev pub NamesFile : Option Names → Task → List ℕ → Type 0
 NamesFile told (Node script) name = (name ≡ script) ⊎ ((version : ℕ) × Scripted told script version name)
 NamesFile told (Table machine) name = (name ≡ machine) × (machine ≢ builtin_word)
 NamesFile told (Compile machine handler version source) name =
     ((name ≡ machine) × (machine ≢ builtin_word)) ⊎ ((name ≡ source) × KnowsHandler told machine handler)
+NamesFile told (Check machine file) name = ((name ≡ machine) × (machine ≢ builtin_word)) ⊎ ((name ≡ file) × KnowsMachine told machine)
 
 -- the machine of a task
 abbrev pub HasBadMachine : Option Names → Task → DescFault → Type 0
 HasBadMachine told (Node script) fault = ⊥
 HasBadMachine told (Table machine) fault = IsBadDescription told machine fault
 HasBadMachine told (Compile machine handler version source) fault = IsBadDescription told machine fault
+HasBadMachine told (Check machine file) fault = IsBadDescription told machine fault
 
 -- the machine of a task has no handler of the name
 abbrev pub LacksHandler : Option Names → Task → Type 0
 LacksHandler told (Node script) = ⊥
 LacksHandler told (Table machine) = ⊥
 LacksHandler told (Compile machine handler version source) = HasNoHandler told machine handler
+LacksHandler told (Check machine file) = ⊥
 
 -- the source of a task
 abbrev pub HasBadSource : Option Names → Task → List ℕ → SourceRefusal → Type 0
 HasBadSource told (Node script) name r = IsBadSource told script name r
 HasBadSource told (Table machine) name r = ⊥
 HasBadSource told (Compile machine handler version source) name r = IsUncompiled told machine handler source (refusal.BadSource name r)
+HasBadSource told (Check machine file) name r = ⊥
 
 -- the source of a task has no code
 abbrev pub HasBadCode : Option Names → Task → List ℕ → CompileFault → Type 0
 HasBadCode told (Node script) name fault = ⊥
 HasBadCode told (Table machine) name fault = ⊥
 HasBadCode told (Compile machine handler version source) name fault = IsUncompiled told machine handler source (refusal.BadCode name fault)
+HasBadCode told (Check machine file) name fault = ⊥
+
+-- the capsule of a task
+abbrev pub HasBadCapsule : Option Names → Task → List ℕ → CapsuleRefusal → Type 0
+HasBadCapsule told (Node script) name r = ⊥
+HasBadCapsule told (Table machine) name r = ⊥
+HasBadCapsule told (Compile machine handler version source) name r = ⊥
+HasBadCapsule told (Check machine file) name r = (name ≡ file) × IsNoCapsule told machine file r
 
 -- the script of a task has a form that isn't read yet
 abbrev pub HasUnbuilt : Task → List ℕ → Type 0
 HasUnbuilt (Node script) name = name ≡ script
 HasUnbuilt (Table machine) name = ⊥
 HasUnbuilt (Compile machine handler version source) name = ⊥
+HasUnbuilt (Check machine file) name = ⊥
 
 -- the cause of a task's refusal, with the counts of the files' faults before the call and after it
 abbrev pub HasCause : Option Names → Task → ℕ → ℕ → Refusal → Type 0
@@ -134,6 +161,7 @@ HasCause told task before now (refusal.FileLarge name) =
 HasCause told task before now (refusal.BadDescription fault) = HasBadMachine told task fault
 HasCause told task before now (refusal.BadSource name r) = HasBadSource told task name r
 HasCause told task before now (refusal.BadCode name f) = HasBadCode told task name f
+HasCause told task before now (refusal.BadCapsule name r) = HasBadCapsule told task name r
 HasCause told task before now (refusal.Unbuilt name) = HasUnbuilt task name
 HasCause told task before now refusal.SinkFault = ⊥
 HasCause told task before now refusal.NoMemory = Unit {0}
@@ -158,6 +186,7 @@ ReadsOr told name before now (Err (refusal.FileLarge file)) =
 ReadsOr told name before now (Err (refusal.BadDescription fault)) = ⊥
 ReadsOr told name before now (Err (refusal.BadSource file r)) = ⊥
 ReadsOr told name before now (Err (refusal.BadCode file f)) = ⊥
+ReadsOr told name before now (Err (refusal.BadCapsule file r)) = ⊥
 ReadsOr told name before now (Err (refusal.Unbuilt file)) = ⊥
 ReadsOr told name before now (Err refusal.SinkFault) = ⊥
 ReadsOr told name before now (Err refusal.NoMemory) = Unit {0}
@@ -170,6 +199,7 @@ IsUnbuilt name (refusal.FileLarge file) = ⊥
 IsUnbuilt name (refusal.BadDescription fault) = ⊥
 IsUnbuilt name (refusal.BadSource file r) = ⊥
 IsUnbuilt name (refusal.BadCode file f) = ⊥
+IsUnbuilt name (refusal.BadCapsule file r) = ⊥
 IsUnbuilt name (refusal.Unbuilt file) = file ≡ name
 IsUnbuilt name refusal.SinkFault = ⊥
 IsUnbuilt name refusal.NoMemory = Unit {0}
@@ -182,6 +212,7 @@ RefusesSource d bytes name (refusal.FileLarge file) = ⊥
 RefusesSource d bytes name (refusal.BadDescription fault) = ⊥
 RefusesSource d bytes name (refusal.BadSource file r) = (file ≡ name) × IsRefused d bytes r
 RefusesSource d bytes name (refusal.BadCode file f) = ⊥
+RefusesSource d bytes name (refusal.BadCapsule file r) = ⊥
 RefusesSource d bytes name (refusal.Unbuilt file) = ⊥
 RefusesSource d bytes name refusal.SinkFault = ⊥
 RefusesSource d bytes name refusal.NoMemory = Unit {0}
@@ -208,6 +239,7 @@ HasRefusal told words before now (refusal.FileLarge name) = Fails told words bef
 HasRefusal told words before now (refusal.BadDescription fault) = Fails told words before now (refusal.BadDescription fault)
 HasRefusal told words before now (refusal.BadSource name r) = Fails told words before now (refusal.BadSource name r)
 HasRefusal told words before now (refusal.BadCode name f) = Fails told words before now (refusal.BadCode name f)
+HasRefusal told words before now (refusal.BadCapsule name r) = Fails told words before now (refusal.BadCapsule name r)
 HasRefusal told words before now (refusal.Unbuilt name) = Fails told words before now (refusal.Unbuilt name)
 HasRefusal told words before now refusal.SinkFault = ⊥
 HasRefusal told words before now refusal.NoMemory = Unit {0}
@@ -258,7 +290,8 @@ Gives told words before now s t status.BadSource =
     (name : List ℕ) × (((r : SourceRefusal) × Refused told words before now s.out t.out s.err s.err_faults t.err t.err_faults (refusal.BadSource name r))
     ⊎ ((f : CompileFault) × Refused told words before now s.out t.out s.err s.err_faults t.err t.err_faults (refusal.BadCode name f)))
 Gives told words before now s t status.BadScript = ⊥
-Gives told words before now s t status.BadCapsule = ⊥
+Gives told words before now s t status.BadCapsule =
+    (name : List ℕ) × ((r : CapsuleRefusal) × Refused told words before now s.out t.out s.err s.err_faults t.err t.err_faults (refusal.BadCapsule name r))
 Gives told words before now s t status.LogFull = ⊥
 Gives told words before now s t status.SinkFault =
     Rose s.out_faults t.out_faults × WritesPart told words s.out t.out × Tells s.err s.err_faults t.err t.err_faults (line_of refusal.SinkFault)

@@ -3,7 +3,7 @@
 ghost use Rattle.std.specs.Prelude.{◌≡◌, ◌≤◌, map, option_map, IfSome};
 ghost use Rattle.std.specs.Char.{is_ascii_digit};
 ghost use Rattle.std.specs.List.{list_all};
-ghost use Rattle.mate_cli.specs.Commands.{seen, task_of, node_task, table_task, compile_task, version_in, is_counting};
+ghost use Rattle.mate_cli.specs.Commands.{seen, task_of, node_task, table_task, compile_task, check_task, version_in, is_counting};
 
 use crate::compilation::Compilation;
 use command_line::CommandLine;
@@ -17,6 +17,8 @@ pub enum Command<'a> {
     Table { machine: &'a str },
     /// Writes the image of a source's capsule.
     Compile(Compilation<'a>),
+    /// Writes the text of the capsule of a machine that the file `capsule` has in hexadecimal digits.
+    Check { machine: &'a str, capsule: &'a str },
 }
 
 /// The command of a line; None where its word is unknown, or has other words or flags than the command takes.
@@ -34,6 +36,9 @@ pub fn command_of<'a>(line: &CommandLine<'a>) -> Option<Command<'a>>
     }
     if line.command == "compile" {
         return compile(line.args.as_slice());
+    }
+    if line.command == "check" {
+        return check(line.args.as_slice());
     }
     None
 }
@@ -73,6 +78,15 @@ fn compile<'a>(args: &[&'a str]) -> Option<Command<'a>>
         version,
         source,
     }))
+}
+
+fn check<'a>(args: &[&'a str]) -> Option<Command<'a>>
+    ensures { option_map seen result ≡ check_task (map (λ w. w.now) args.now) }
+{
+    let [machine, capsule] = args else {
+        return None;
+    };
+    Some(Command::Check { machine, capsule })
 }
 
 /// A version in decimal digits, from 1 to 4294967295, with no sign and no 0 before it.

@@ -1,6 +1,8 @@
 //! The commands of the program `mate`: from words and files to what is written.
 #![tactic(auto)]
 
+mod capsule_file;
+mod capsule_words;
 pub mod command;
 pub mod compilation;
 mod first_run;
@@ -15,6 +17,8 @@ pub mod top;
 pub use status::Status;
 pub use top::mate;
 
+#[cfg(test)]
+mod check_tests;
 #[cfg(test)]
 mod source_tests;
 #[cfg(test)]

@@ -4,6 +4,9 @@ ghost use Rattle.std.specs.Prelude.{◌++◌, codes};
 ghost use Rattle.hex.specs.Hex.{encode_lower};
 ghost use Rattle.mate_files.specs.Sink.{Puts};
 
+use capsule_codec::Capsule;
+use capsule_listing::print_capsule;
+use code_verifier::Verified;
 use mate_files::{Pen, Sink, SinkFault};
 use mate_journal::Report;
 use mate_num::Image;
@@ -18,6 +21,8 @@ pub enum Output {
     OpcodeTable(Description),
     /// The image of a capsule, in hexadecimal digits.
     Capsule(Image),
+    /// The text of a capsule of this machine, with its verified code.
+    Listing(Description, Capsule, Verified),
 }
 
 impl Output {
@@ -32,6 +37,7 @@ impl Output {
             Output::Report(desc, report) => report_text::write(desc, report, out),
             Output::OpcodeTable(desc) => opcode_gen::print_table(desc, out),
             Output::Capsule(image) => write_image(image, out),
+            Output::Listing(desc, capsule, code) => print_capsule(desc, capsule, code, out),
         }
     }
 }

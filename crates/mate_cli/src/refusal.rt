@@ -3,9 +3,12 @@
 ghost use Rattle.std.specs.Prelude.{◌≡◌, ◌++◌, codes};
 ghost use Rattle.mate_files.specs.Pen.{Prints};
 ghost use Rattle.mate_files.specs.Sink.{Puts};
+ghost use Rattle.mate_cli.specs.CapsuleWords.{capsule_words};
 ghost use Rattle.mate_cli.specs.Refusals.{fault_words};
 ghost use Rattle.mate_cli.specs.SourceWords.{source_words, code_words};
 
+use crate::capsule_file::CapsuleRefusal;
+use crate::capsule_words::print_capsule_refusal;
 use crate::source_words::{print_fault, print_source};
 use crate::status::Status;
 use mate_files::{Pen, Sink, SinkFault};
@@ -28,6 +31,8 @@ pub enum Refusal {
     BadSource(Text, SourceRefusal),
     /// The source in the file of this name has no code, for this reason.
     BadCode(Text, CompileFault),
+    /// The file of this name has no capsule of the machine, for this reason.
+    BadCapsule(Text, CapsuleRefusal),
     /// The script in the file of this name has a form that isn't read yet.
     Unbuilt(Text),
     SinkFault,
@@ -47,6 +52,7 @@ impl Refusal {
             Refusal::BadDescription(_) => Status::BadDescription,
             Refusal::BadSource(_, _) => Status::BadSource,
             Refusal::BadCode(_, _) => Status::BadSource,
+            Refusal::BadCapsule(_, _) => Status::BadCapsule,
             Refusal::Unbuilt(_) => Status::Unbuilt,
             Refusal::SinkFault => Status::SinkFault,
             Refusal::NoMemory => Status::NoMemory,
@@ -66,6 +72,7 @@ impl Refusal {
             }
             Refusal::BadSource(name, refusal) => bad_source(pen, err, name, refusal),
             Refusal::BadCode(name, fault) => bad_code(pen, err, name, *fault),
+            Refusal::BadCapsule(name, refusal) => bad_capsule(pen, err, name, *refusal),
             Refusal::Unbuilt(name) => named(pen, err, "unbuilt ", name),
             Refusal::SinkFault => pen.text(err, "sink fault\n"),
             Refusal::NoMemory => pen.text(err, "no memory\n"),
@@ -120,6 +127,16 @@ fn bad_code<E: Sink>(pen: &mut Pen, err: &mut E, name: &Text, fault: CompileFaul
     pen.text(err, name.as_str());
     pen.text(err, " ");
     print_fault(pen, err, fault);
+}
+
+/// The line of a refused capsule.
+fn bad_capsule<E: Sink>(pen: &mut Pen, err: &mut E, name: &Text, refusal: CapsuleRefusal)
+    ensures { Prints (E.written err.old) (E.faults err.old) pen.old.result (E.written err.new) (E.faults err.new) pen.new.result (codes "bad capsule " ++ name.now ++ codes " " ++ capsule_words refusal) }
+{
+    pen.text(err, "bad capsule ");
+    pen.text(err, name.as_str());
+    pen.text(err, " ");
+    print_capsule_refusal(pen, err, refusal);
 }
 
 /// What is wrong with a description, and a line feed.

@@ -152,7 +152,7 @@ fn refusals_are_told(rt: HostRuntime) -> Result<(), Fail> {
 }
 
 // A machine with two handlers, two shared variables, a buffer, three devices and a function of three kinds.
-const MACHINE: &str =
+pub const MACHINE: &str =
     "vm = 7\nshared = [\"a\", \"b\"]\nbuffers = [\"p\"]\ndevices = [\"sun\", \"radio\", \"lamp\"]\n[[handler]]\nname = \"x\"\ncontexts = 2\n[[handler]]\nname = \"y\"\n[[function]]\nname = \"light\"\nkind = \"sense\"\ndevice = \"sun\"\n[[function]]\nname = \"send\"\nkind = \"send\"\ndevice = \"radio\"\n[[function]]\nname = \"set\"\nkind = \"act\"\nargs = 1\ndevice = \"lamp\"\n";
 
 // The lines that every machine's table begins with.
@@ -164,7 +164,7 @@ const OWN_OPCODES: &str =
     "1c BGET 1\n1d BSET 1\n1e BADD 1\n1f BTAKE 1\n20 BSIZE 1\n21 BCLEAR 1\n22 light 0\n23 send 1\n24 set 0\n";
 
 /// Words, split at single spaces.
-fn words_of<R: AllocGlobal>(rt: &R, line: &str) -> Result<Vec<String>, Fail> {
+pub fn words_of<R: AllocGlobal>(rt: &R, line: &str) -> Result<Vec<String>, Fail> {
     let mut words = Vec::new(rt.alloc());
     for word in line.split(' ') {
         words.push(String::from_str(rt.alloc(), word)?)?;
@@ -312,7 +312,7 @@ fn images_are_written(rt: HostRuntime) -> Result<(), Fail> {
 }
 
 /// A text of three parts, the middle one so many times.
-fn text_of<R: AllocGlobal>(
+pub fn text_of<R: AllocGlobal>(
     rt: &R,
     front: &str,
     part: &str,

@@ -1,10 +1,11 @@
 //! The top call: from words and files to what is written.
 
 ghost use Rattle.std.specs.Prelude.{◌≡◌, ◌≤◌, map, string_bytes};
-ghost use Rattle.mate_cli.specs.Commands.{seen, Node};
+ghost use Rattle.mate_cli.specs.Commands.{seen, Node, Check};
 ghost use Rattle.mate_cli.specs.declared.command.Command.TheVariants as command;
 ghost use Rattle.mate_cli.specs.Top.{Outputs, Does, FindsMachine, ReadsOr, IsUnbuilt, Gives};
 
+use crate::capsule_file::read_capsule;
 use crate::command::{Command, command_of};
 use crate::compilation::Compilation;
 use crate::first_run::first_run;
@@ -28,6 +29,8 @@ use vm_desc::{DescFault, Description, builtin};
 /// - `table VM` writes the opcode table of the machine that the file `VM` describes, or of the built-in one where the
 ///   word is `builtin`.
 /// - `compile VM HANDLER VERSION SOURCE` writes the image of the source's capsule, in hexadecimal digits.
+/// - `check VM HEX` decodes and verifies the capsule whose image the file `HEX` has in hexadecimal digits, and writes its
+///   head line, its listing and its locks.
 ///
 /// For any other status than `Ok` one line goes to `err`, and, but for a fault of `out` and want of memory, nothing to
 /// `out`. A failing `err` changes nothing.
@@ -82,6 +85,7 @@ fn task_output<F: Files>(
             Ok(Output::OpcodeTable(desc))
         }
         Command::Compile(compilation) => capsule_of(alloc, compilation, files),
+        Command::Check { machine, capsule } => listing_of(alloc, machine, capsule, files),
     }
 }
 
@@ -112,6 +116,26 @@ fn capsule_of<F: Files>(
         code,
     };
     Ok(Output::Capsule(encode(&capsule)))
+}
+
+/// The text of the capsule in a file.
+fn listing_of<F: Files>(
+    alloc: Global,
+    machine: &str,
+    name: &str,
+    files: &mut F,
+) -> Result<Output, Refusal>
+    ensures { Does (F.contents files.old) (Check machine.now name.now) (F.faults files.old) (F.faults files.new) result }
+{
+    let desc = machine_of(alloc, machine, files)?;
+    let text = read(alloc, files, name)?;
+    match read_capsule(&desc, text.as_slice()) {
+        Ok((capsule, code)) => Ok(Output::Listing(desc, capsule, code)),
+        Err(refusal) => match Text::of(alloc, name) {
+            Ok(name) => Err(Refusal::BadCapsule(name, refusal)),
+            Err(_) => Err(Refusal::NoMemory),
+        },
+    }
 }
 
 /// The report of a script's run on the built-in machine.
