@@ -26,7 +26,7 @@ use Rattle.mate_journal.specs.Log.{Log}
 use Rattle.mate_journal.specs.Machine.{Machine}
 use Rattle.mate_journal.specs.Journal.{Told, told_of, Asked as AskedTold, Ended, Phase, Ready, Waiting, Over as Gone, is_live, is_started, Invocation, Reading, whole_run, changed, heard, journal_of}
 use Rattle.mate_journal.specs.Grants.{AllHeldBack}
-use Rattle.mate_journal.specs.NodeScript.{IsStart}
+use Rattle.mate_journal.specs.Grants.{IsStart}
 use Rattle.mate_journal.specs.WellFormed.{Closes}
 use Rattle.journal_laws.specs.Growth.{IsPushed, IsNamedBelow}
 use Rattle.journal_laws.proofs.Moves.{Moves, asked-Moves, ended-Moves}
@@ -48,13 +48,15 @@ use Rattle.node_invariant.proofs.KeepLemmas.{Grows-then, Grows-none}
 use Rattle.node_invariant.proofs.SerialLemmas.{whole}
 use Rattle.node_grants.specs.Queue.{number_at, number_in, IsQueue}
 use Rattle.node_grants.specs.Totals.{may_start, owed, left, over_all, starts_left, owes, falls}
-use Rattle.node_grants.specs.Turns.{Clock, Pace, Turn, IsTurn, IsAtMark, mark_of, entry_at, others, paced, paced_all, after_step}
+use Rattle.mate_journal.specs.Pace.{Pace, others, paced, paced_all}
+use Rattle.mate_journal.specs.Turns.{Clock, Turn, IsTurn, IsAtMark, mark_of, entry_at, after_step}
 use Rattle.node_grants.specs.Pace.{IsPace}
 use Rattle.node_grants.specs.Starting.{last_started, KeepsOrder, IsStarting, Rests, StartsSome, StartsAll}
 use Rattle.node_grants.proofs.TotalLemmas.{over_all-becomes, over_all-least}
 use Rattle.node_grants.proofs.WaiterLemmas.{all-held-moves}
 use Rattle.node_grants.proofs.OrderLemmas.{live-above, IsQueue-becomes, KeepsOrder-push, grows-by, heard-by, last-by, IsStarting-first}
-use Rattle.node_turns.specs.Pacing.{clock_of, most, GoesOn, Stops, HasMoved, TakesTurn}
+use Rattle.node_invariant.specs.Meaning.{clock_of}
+use Rattle.node_turns.specs.Pacing.{most, GoesOn, Stops, HasMoved, TakesTurn}
 use Rattle.node_turns.proofs.RunningLemmas.{one, one-ready, one-verified, one-below, one-within, one-few, GoesOn-ready}
 use Rattle.node_turns.proofs.ActLemmas.{ready-mid, mid-inv, number-mid, held-mid, owed-mid, TakesTurn-short, HasMoved-from}
 use Rattle.node_turns.proofs.TurnLemmas.{pace-leaves, pace-stays, now-inv, now-count, mark-is, end-is}

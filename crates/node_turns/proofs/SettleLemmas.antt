@@ -29,14 +29,17 @@ use Rattle.node_invariant.proofs.MoveLemmas.{alone-seat, none_ready}
 use Rattle.node_invariant.proofs.KeepLemmas.{Grows-then, Grows-none}
 use Rattle.node_grants.specs.Queue.{number_at, number_in, Rises, IsQueue}
 use Rattle.node_grants.specs.Totals.{if_waits, if_ready, may_start, owed, left, starts_left, owes, falls}
-use Rattle.node_grants.specs.Turns.{Clock, Pace, Turn, IsTurn, mark_of, others, heard_told, gives_way, after_turn, AreTurns, told_in, pace_after, Settles}
+use Rattle.mate_journal.specs.Journal.{heard_told}
+use Rattle.mate_journal.specs.Pace.{Pace, others, gives_way}
+use Rattle.mate_journal.specs.Turns.{Clock, Turn, IsTurn, mark_of, after_turn, AreTurns, told_in, pace_after, Settles}
 use Rattle.node_grants.specs.Pace.{IsPace}
 use Rattle.node_grants.specs.Starting.{KeepsOrder, Rests}
 use Rattle.node_grants.proofs.QueueLemmas.{Rises-same}
 use Rattle.node_grants.proofs.TotalLemmas.{over_all-same, over_all-less}
 use Rattle.node_grants.proofs.StartLemmas.{map-same}
 use Rattle.node_grants.proofs.OrderLemmas.{live-above}
-use Rattle.node_turns.specs.Pacing.{clock_of, most, TakesTurn, AreWithin, SettlesWithin, Chains, SettlesSome, SettlesAll}
+use Rattle.node_invariant.specs.Meaning.{clock_of}
+use Rattle.node_turns.specs.Pacing.{most, TakesTurn, AreWithin, SettlesWithin, Chains, SettlesSome, SettlesAll}
 use Rattle.node_turns.proofs.RunningLemmas.{one, one-ready}
 use Rattle.node_turns.proofs.TurnLemmas.{line-without}
 

@@ -3,11 +3,9 @@ use Rattle.std.specs.Prelude.{◌≡◌, ℕ, ◌+◌, ◌*◌, ◌<◌, ◌≤�
 use Rattle.mate_num.specs.declared.bounds.TheConstants.{CODE_MAX}
 use Rattle.mate_num.specs.declared.call.Stamp.{Stamp}
 use Rattle.mate_num.specs.declared.id.ContextId.{ContextId}
-use Rattle.mate_code.specs.Run.{next_mark, code_after}
 use Rattle.exec_unit.specs.declared.step_end.StepEnd.{StepEnd}
 use Rattle.exec_unit.specs.declared.step_end.StepEnd.TheVariants.{Next, Ask, Halt, Fault}
 use Rattle.vm_desc.specs.declared.description.Description.{Description}
-use Rattle.vm_desc.specs.Shapes.{shape_of}
 use Rattle.mate_journal.specs.Machine.{Machine}
 use Rattle.mate_journal.specs.Journal.{Told, Ready, is_started, Reading, whole_run, changed, heard}
 use Rattle.node_contexts.specs.declared.executing.Ran.{Ran}
@@ -17,21 +15,15 @@ use Rattle.node_contexts.specs.At.{At, at, Becomes}
 use Rattle.node_contexts.specs.Programs.{held_at}
 use Rattle.node_contexts.specs.Executing.{IsSameSeat, Executes}
 use Rattle.node_invariant.specs.declared.parts.Parts.{Parts}
-use Rattle.node_invariant.specs.Meaning.{machine_in, code_of}
+use Rattle.node_invariant.specs.Meaning.{machine_in, clock_of}
 use Rattle.node_invariant.specs.Keeps.{reading, Grows}
 use Rattle.node_grants.specs.Queue.{number_in}
 use Rattle.node_grants.specs.Totals.{starts_left, owes, falls}
 use Rattle.node_grants.specs.Pace.{IsPace}
 use Rattle.node_grants.specs.Starting.{KeepsOrder, Rests}
-use Rattle.node_grants.specs.Turns.{Clock, Pace, Turn, IsTurn, mark_of, entry_at, paced_all, after_step, after_turn, heard_told, AreTurns, told_in, pace_after, Settles}
-
--- the runs of a node's programs by instructions
-abbrev pub clock_of : Description → Clock
-clock_of d = record {
-  quantum = d.quantum;
-  mark = λ p store payload answers turns. next_mark (shape_of d) (code_of (shape_of d) p.image) store payload answers turns;
-  after = λ n p store payload answers turns. code_after n (shape_of d) (code_of (shape_of d) p.image) store payload answers turns;
-}
+use Rattle.mate_journal.specs.Journal.{heard_told}
+use Rattle.mate_journal.specs.Pace.{Pace, paced_all}
+use Rattle.mate_journal.specs.Turns.{Clock, Turn, IsTurn, mark_of, entry_at, after_step, after_turn, AreTurns, told_in, pace_after, Settles}
 
 -- no invocation executes more instructions
 abbrev pub most : Description → ℕ
