@@ -8,7 +8,9 @@ pub mod steps;
 #[cfg(test)]
 mod tests;
 mod words;
+pub mod world;
 
 pub use fault::{Cause, ScriptFault};
 pub use node::node_script;
 pub use steps::{Step, Steps};
+pub use world::{Link, Links, Plan, Planned, Series, SeriesList, Values, What, World};
