@@ -1,0 +1,6 @@
+pub mod AnswerLemmas
+pub mod QuietLemmas
+pub mod SeenLemmas
+pub mod EraLemmas
+pub mod PostingLemmas
+pub mod InstallLemmas
