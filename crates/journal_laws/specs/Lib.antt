@@ -3,4 +3,3 @@ pub mod Positions
 pub mod Apart
 pub mod Devices
 pub mod Progress
-pub mod ScriptSoFar

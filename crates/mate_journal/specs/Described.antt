@@ -1,7 +1,6 @@
 -- The machine of a description.
-use Rattle.std.specs.Prelude.{ℕ, Bool, true, false, List, length, Option, Some, None, slice_get}
+use Rattle.std.specs.Prelude.{ℕ, Bool, true, false, length, Option, Some, None, slice_get}
 use Rattle.mate_num.specs.Store.{zero_store}
-use Rattle.mate_num.specs.declared.id.HandlerId.{HandlerId}
 use Rattle.vm_desc.specs.Contexts.{first_context}
 use Rattle.vm_desc.specs.declared.description.Description.{Description}
 use Rattle.vm_desc.specs.declared.handler.Handler.{Handler}

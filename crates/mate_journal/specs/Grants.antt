@@ -40,6 +40,19 @@ IsGranted m r last Reset = AllHeldBack m r
 IsGranted m r last (Seen store) = AllHeldBack m r
 IsGranted m r last (Void cause) = AllHeldBack m r
 
+-- an entry that starts an invocation
+abbrev pub IsStart : Told → Type 0
+IsStart (Posted n h c payload) = ⊥
+IsStart (Dropped h cause) = ⊥
+IsStart (Started n) = Unit {0}
+IsStart (Asked n f args) = ⊥
+IsStart (Answered n value) = ⊥
+IsStart (Ended n how) = ⊥
+IsStart (Installed p) = ⊥
+IsStart Reset = ⊥
+IsStart (Seen store) = ⊥
+IsStart (Void cause) = ⊥
+
 -- the number of the invocation that an entry starts, 0 for none
 abbrev pub start_of : Told → ℕ
 start_of (Posted n h c payload) = 0

@@ -4,7 +4,7 @@ use Rattle.arrayvec.specs.ArrayVec.{ArrayVec}
 use Rattle.mate_num.specs.declared.call.End.TheVariants as end
 use Rattle.mate_num.specs.declared.id.FunId.{FunId}
 use Rattle.mate_journal.specs.Machine.{Machine}
-use Rattle.mate_journal.specs.Journal.{Told, Posted, Dropped, Started, Asked, Answered, Ended, Installed, Reset, Seen, Void, Event, Phase, Waiting, is_started, Reading, whole_run, AtEachEntry, AtEachPlace}
+use Rattle.mate_journal.specs.Journal.{Told, Posted, Dropped, Started, Asked, Answered, Ended, Installed, Reset, Seen, Void, Event, Waiting, is_started, Reading, whole_run, AtEachEntry, AtEachPlace}
 
 -- where an invocation ends, its whole run on the serial store ends so, with the calls that were recorded.
 -- (The store that the run leaves is the next serial store.)

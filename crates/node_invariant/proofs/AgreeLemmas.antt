@@ -31,7 +31,8 @@ use Rattle.node_contexts.specs.declared.contexts.Contexts.{Contexts}
 use Rattle.node_contexts.specs.At.{At, at, Becomes}
 use Rattle.node_invariant.specs.Meaning.{code_of}
 use Rattle.node_invariant.specs.Fits.{IsHeld}
-use Rattle.node_invariant.specs.Agrees.{code_for, uses_for, answers_of, own_run, status_in, own_in, IsOwnRun, IsFresh, RunsOwn, Agrees}
+use Rattle.mate_journal.specs.Journal.{answers_of}
+use Rattle.node_invariant.specs.Agrees.{code_for, uses_for, own_run, status_in, own_in, IsOwnRun, IsFresh, RunsOwn, Agrees}
 use Rattle.node_invariant.proofs.FitLemmas.{changed-here, changed-other, IsAlone}
 
 -- ---- stores that agree

@@ -47,7 +47,8 @@ use Rattle.node_invariant.specs.declared.parts.Parts.{Parts}
 use Rattle.node_invariant.specs.Standing.{standing}
 use Rattle.node_invariant.specs.Meaning.{machine_in, code_of}
 use Rattle.node_invariant.specs.Fits.{program_of, IsHeld, AreInstalled, IsSeated, Fits}
-use Rattle.node_invariant.specs.Agrees.{code_for, uses_for, answers_of, own_run, own_in, IsOwnRun, RunsOwn, Agrees}
+use Rattle.mate_journal.specs.Journal.{answers_of}
+use Rattle.node_invariant.specs.Agrees.{code_for, uses_for, own_run, own_in, IsOwnRun, RunsOwn, Agrees}
 use Rattle.node_invariant.specs.Keeps.{reading, Keeps, IsTimely}
 use Rattle.node_invariant.specs.Continues.{FitsAfter, Continues}
 use Rattle.node_invariant.proofs.FitLemmas.{HasSeat, by_seat, IsAlone}

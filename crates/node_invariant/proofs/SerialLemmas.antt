@@ -38,7 +38,8 @@ use Rattle.node_contexts.specs.At.{At, at}
 use Rattle.node_invariant.specs.Meaning.{machine_in, code_of}
 use Rattle.node_contexts.specs.Programs.{Programs}
 use Rattle.node_invariant.specs.Fits.{IsHeld, IsSeated, Fits}
-use Rattle.node_invariant.specs.Agrees.{code_for, uses_for, answers_of, own_run, own_in, IsOwnRun, RunsOwn, Agrees}
+use Rattle.mate_journal.specs.Journal.{answers_of}
+use Rattle.node_invariant.specs.Agrees.{code_for, uses_for, own_run, own_in, IsOwnRun, RunsOwn, Agrees}
 use Rattle.node_invariant.proofs.FitLemmas.{by_seat}
 use Rattle.node_invariant.proofs.AgreeLemmas.{or-right}
 

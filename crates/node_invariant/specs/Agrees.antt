@@ -12,7 +12,7 @@ use Rattle.mate_code.specs.Run.{Code, Status, Going, Over, Own, Run, run_after}
 use Rattle.exec_unit.specs.Machine.{begun}
 use Rattle.vm_desc.specs.declared.description.Description.{Description}
 use Rattle.vm_desc.specs.Shapes.{shape_of}
-use Rattle.mate_journal.specs.Journal.{Phase, Unposted, Queued, Ready, Waiting, Over as Gone, is_started, Invocation, Reading}
+use Rattle.mate_journal.specs.Journal.{Phase, Unposted, Queued, Ready, Waiting, Over as Gone, is_started, Invocation, Reading, answers_of}
 use Rattle.node_contexts.specs.declared.seat.Seat.{Seat}
 use Rattle.node_contexts.specs.declared.contexts.Contexts.{Contexts}
 use Rattle.node_contexts.specs.At.{at}
@@ -24,10 +24,6 @@ code_for d i = code_of (shape_of d) i.program.image
 
 abbrev pub uses_for : Description → Invocation → Uses
 uses_for d i = uses_of (shape_of d) (code_for d i)
-
--- the answers that it got
-abbrev pub answers_of : Invocation → List ℤ
-answers_of i = map (λ (call : Call). call.result) i.calls
 
 -- its run on a store, as if it were alone, after so many instructions
 abbrev pub own_run : Description → Invocation → ℕ → Store → Run
