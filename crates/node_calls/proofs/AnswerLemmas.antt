@@ -1,5 +1,5 @@
 -- An answer: the invocation goes on as its own run with one more answer does, and is ready behind all others.
-use Rattle.std.proofs.Common.{◌≡◌, ◌≢◌, ◌⊎◌, ℕ, ◌+◌, ◌<◌, ◌≤◌, ℤ, Bool, true, false, List, [], ◌∷◌, ◌++◌, Option, Some, None, refl, sym, ◌∙◌, ap, subst, arith, inl, inr, length, map}
+use Rattle.std.proofs.Common.{◌≡◌, ◌⊎◌, ℕ, ◌+◌, ◌<◌, ◌≤◌, ℤ, true, List, [], ◌∷◌, ◌++◌, Some, None, refl, sym, ◌∙◌, ap, subst, arith, inl, inr, map}
 use Rattle.std.proofs.lemmas.Bool.{cases_eq}
 use Rattle.std.proofs.lemmas.List.{map-append}
 use Rattle.arrayvec.specs.ArrayVec.{ArrayVec}
@@ -12,41 +12,38 @@ use Rattle.mate_num.specs.declared.store.Store.{Store}
 use Rattle.mate_num.specs.Uses.{uses}
 use Rattle.mate_code.specs.Cells.{Agree}
 use Rattle.mate_code.specs.Effect.{Private, push}
-use Rattle.mate_code.specs.Run.{Own, Run, Status, Going, Over, begun, after}
-use Rattle.mate_code.proofs.RunLemmas.{more, resumed_own, after-given}
+use Rattle.mate_code.specs.Run.{Own, Run, Going, Over, begun, after}
+use Rattle.mate_code.proofs.RunLemmas.{resumed_own, after-given}
 use Rattle.split_phase.specs.Calls.{Asked}
 use Rattle.lock_manager.specs.Claims.{Claims}
 use Rattle.lock_manager.proofs.ClaimLemmas.{same_context}
 use Rattle.code_verifier.specs.Verified.{Fits as FitsCode}
-use Rattle.exec_unit.specs.Step.{Waits}
 use Rattle.vm_desc.specs.declared.description.Description.{Description}
 use Rattle.vm_desc.specs.Shapes.{shape_of}
 use Rattle.mate_journal.specs.declared.entry.Entry.TheVariants as entry
 use Rattle.mate_journal.specs.Log.{Log}
 use Rattle.mate_journal.specs.Machine.{Machine}
-use Rattle.mate_journal.specs.Journal.{Told, Answered, Phase, Ready, Waiting, Over as Gone, is_started, Invocation, Reading, changed, heard}
+use Rattle.mate_journal.specs.Journal.{Answered, Phase, Ready, Waiting, is_started, Invocation, Reading, answers_of, heard}
 use Rattle.mate_journal.specs.Grants.{AllHeldBack}
 use Rattle.mate_journal.specs.NodeScript.{Answers as AnswersStep}
-use Rattle.mate_journal.specs.WellFormed.{IsWaiting}
 use Rattle.journal_laws.specs.Growth.{IsPushed}
-use Rattle.journal_laws.proofs.Moves.{Moves, answered-Moves}
-use Rattle.node_contexts.specs.declared.handlers.Held.{Held}
+use Rattle.journal_laws.proofs.Moves.{answered-Moves}
 use Rattle.node_contexts.specs.declared.seat.Seat.{Seat}
 use Rattle.node_contexts.specs.declared.contexts.Contexts.{Contexts}
-use Rattle.node_contexts.specs.At.{At, ready, waiting, at, Becomes, IsPlaced}
+use Rattle.node_contexts.specs.At.{At, ready, at, Becomes, IsPlaced}
 use Rattle.node_contexts.specs.Programs.{Programs, held_at}
 use Rattle.node_contexts.specs.Executing.{CanAnswer, IsAnswered}
 use Rattle.node_invariant.specs.declared.parts.Parts.{Parts}
 use Rattle.node_invariant.specs.Meaning.{machine_in}
-use Rattle.node_invariant.specs.Agrees.{code_for, uses_for, answers_of, own_run, own_in, IsOwnRun, RunsOwn, Agrees}
+use Rattle.node_invariant.specs.Agrees.{code_for, uses_for, own_run, own_in, IsOwnRun, RunsOwn, Agrees}
 use Rattle.node_invariant.specs.Keeps.{reading, Keeps, IsTimely}
 use Rattle.node_invariant.specs.Continues.{Continues}
-use Rattle.node_invariant.proofs.FitLemmas.{HasSeat, IsAlone, changed-here, changed-other}
+use Rattle.node_invariant.proofs.FitLemmas.{HasSeat, IsAlone}
 use Rattle.node_invariant.proofs.KeepLemmas.{IsPrepared-same}
 use Rattle.node_invariant.proofs.MoveLemmas.{alone-seat, answering, was_waiting, stood_waiting, waits-in, Fits-answered, none_waits}
-use Rattle.node_invariant.proofs.AgreeLemmas.{Alters, Agrees-moves}
-use Rattle.node_grants.specs.Queue.{number_at, number_in, IsQueue}
-use Rattle.node_grants.specs.Turns.{Pace, paced, paced_all}
+use Rattle.node_invariant.proofs.AgreeLemmas.{Agrees-moves}
+use Rattle.node_grants.specs.Queue.{number_at, number_in}
+use Rattle.mate_journal.specs.Pace.{Pace, paced}
 use Rattle.node_grants.specs.Pace.{IsPace}
 use Rattle.node_grants.specs.Starting.{KeepsOrder, Rests}
 use Rattle.node_grants.proofs.WaiterLemmas.{all-held-moves}

@@ -1,16 +1,15 @@
 -- The beginning of an era: all live invocations are cut, and the store is as at first.
-use Rattle.std.proofs.Common.{◌≡◌, ℕ, ◌+◌, ◌≤◌, ◌<◌, Bool, true, false, List, [], ◌∷◌, ◌++◌, Option, Some, None, length, map, refl, sym, ◌∙◌, ap, subst, arith}
+use Rattle.std.proofs.Common.{◌≡◌, ℕ, ◌+◌, ◌≤◌, Bool, true, false, List, [], ◌∷◌, ◌++◌, Some, None, length, map, refl, sym, ◌∙◌, ap, subst, arith}
 use Rattle.std.proofs.Math.ListN.{length-replicate}
 use Rattle.mate_num.specs.Store.{zero_store}
 use Rattle.mate_num.specs.declared.call.Stamp.{Stamp}
-use Rattle.mate_num.specs.declared.id.ContextId.{ContextId}
 use Rattle.mate_num.specs.declared.store.Store.{Store}
 use Rattle.vm_desc.specs.declared.description.Description.{Description}
 use Rattle.vm_desc.specs.Shapes.{shape_of}
 use Rattle.mate_journal.specs.declared.entry.Entry.{Entry}
 use Rattle.mate_journal.specs.declared.entry.Entry.TheVariants as entry
 use Rattle.mate_journal.specs.Log.{Log}
-use Rattle.mate_journal.specs.Journal.{Told, Event, Reset, Seen, told_of, Phase, Queued, is_live, is_started, Invocation, Reading, cut, heard, journal_of}
+use Rattle.mate_journal.specs.Journal.{Told, Reset, Seen, told_of, Phase, is_live, is_started, Invocation, Reading, heard, journal_of}
 use Rattle.mate_journal.specs.Grants.{AllHeldBack, IsGranted}
 use Rattle.mate_journal.specs.NodeScript.{Resets}
 use Rattle.mate_journal.specs.Serial.{EndsAsRun}
@@ -20,11 +19,10 @@ use Rattle.journal_laws.specs.Growth.{IsPushed, IsNamedBelow, IsSeenBefore, last
 use Rattle.journal_laws.proofs.Append.{last_is_seen-push}
 use Rattle.journal_laws.proofs.Moves.{Cuts}
 use Rattle.exec_unit.specs.Step.{HasLengths}
-use Rattle.node_contexts.specs.declared.seat.Seat.{Seat}
-use Rattle.node_contexts.specs.At.{At, at, AreIdle}
+use Rattle.node_contexts.specs.At.{At, AreIdle}
 use Rattle.node_contexts.specs.Programs.{held_at}
 use Rattle.node_invariant.specs.declared.parts.Parts.{Parts}
-use Rattle.node_invariant.specs.Meaning.{machine_in}
+use Rattle.node_invariant.specs.Meaning.{machine_in, clock_of}
 use Rattle.node_invariant.specs.Fits.{AreInstalled}
 use Rattle.node_invariant.specs.Keeps.{reading, Keeps, IsTimely, Grows, event_at}
 use Rattle.node_invariant.specs.Continues.{IsPrepared, Continues}
@@ -33,11 +31,12 @@ use Rattle.node_invariant.proofs.KeepLemmas.{IsPrepared-same}
 use Rattle.node_invariant.proofs.MoveLemmas.{Fits-idle, cut-dead}
 use Rattle.node_invariant.proofs.StartLemmas.{Agrees-idle}
 use Rattle.node_grants.specs.Queue.{number_in}
-use Rattle.node_grants.specs.Turns.{Pace, paced, paced_all}
+use Rattle.mate_journal.specs.Pace.{Pace, paced}
 use Rattle.node_grants.specs.Pace.{IsPace}
 use Rattle.node_grants.specs.Starting.{last_started, Rests}
 use Rattle.node_grants.proofs.OrderLemmas.{KeepsOrder-push, heard-by, grows-by, IsQueue-idle}
-use Rattle.node_calls.specs.Calls.{RestsAgain}
+use Rattle.node_calls.specs.Calls.{RestsAgain, AtPace, TellsStore, IsCleared}
+use Rattle.node_calls.proofs.QuietLemmas.{RestsAgain-then}
 
 -- the last entry shows a store
 pub seen-last : (old new : Log) (at_ : Stamp) (told : List Told) (store : Store) → Grows old new at_ told → told ≡ Seen store ∷ [] → last_is_seen false (journal_of new) ≡ true
@@ -147,6 +146,19 @@ RestsAgain-reset d old new stamp rests timely seen idles zero posts handlers pus
     RestsAgain-era d old new old.log stamp entry.Reset Reset rests timely (BeginsEra-reset d (reading d old.log)) seen idles zero posts (subst P (sym handlers) rests.order.keeps.installed)
     (IsPrepared-same d old rests.order.keeps) pushed refl tt room
 
--- the store that is seen, and the reset
-pub Resets-both : (store : Store) (xs ys : List Told) → xs ≡ Seen store ∷ [] → ys ≡ Reset ∷ [] → Resets (xs ++ ys)
-Resets-both store xs ys e f = record { seen = store; made = ap (λ (l : List Told). l ++ ys) e ∙ ap (λ (l : List Told). Seen store ∷ l) f }
+-- the store is told, all is cleared, and the reset is told
+pub RestsAgain-resets : (d : Description) (old mid next : Parts) (log : Log) (at_ : Stamp) → TellsStore d old mid at_ → IsCleared d mid next → IsPushed next.log record { stamp = at_; entry = entry.Reset } log → next.log.spare ≤ log.spare + 1
+    → RestsAgain d old (record next { log = log }) at_ (AtPace d old (Resets (clock_of d) (machine_in d) (reading d old.log)))
+RestsAgain-resets d old mid next log at_ told cleared pushed room =
+    let log_is : next.log ≡ mid.log = ap (λ (s : Parts). s.log) cleared.same in
+    let P : Log → Type 0 = λ l. IsPushed l record { stamp = at_; entry = entry.Reset } log in
+    let Q : Log → Type 0 = λ l. l.spare ≤ log.spare + 1 in
+    let last = seen-last old.log mid.log at_ told.again.adds.told old.heap told.again.adds.grows told.again.adds.made in
+    RestsAgain-then d old mid (record next { log = log }) at_ (λ ts. ts ≡ Seen old.heap ∷ []) (λ ts. ts ≡ Reset ∷ []) (AtPace d old (Resets (clock_of d) (machine_in d) (reading d old.log))) told.again
+    (RestsAgain-reset d mid (record next { log = log }) at_ told.again.rests told.again.adds.grows.timely last cleared.idle cleared.zero (ap (λ (s : Parts). s.posts) cleared.same) (ap (λ (s : Parts). s.handlers) cleared.same)
+    (subst P log_is pushed) (subst Q log_is room))
+    (λ xs ys e f p has. record { seen = old.heap; shown = told.shown p has; made = ap (λ (l : List Told). l ++ ys) e ∙ ap (λ (l : List Told). Seen old.heap ∷ l) f })
+
+-- there is room for the reset
+pub room-told : (d : Description) (old mid : Parts) (at_ : Stamp) (n : ℕ) → TellsStore d old mid at_ → n + 1 ≤ old.log.spare → n ≤ mid.log.spare
+room-told d old mid at_ n told enough = let g = told.again.adds.grows.spare in let e = ap length told.again.adds.made in omega arith

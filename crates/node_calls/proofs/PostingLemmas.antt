@@ -1,6 +1,6 @@
 -- A post: the new invocation waits behind all others, and starts where nothing holds it back.
-use Rattle.std.proofs.Common.{◌≡◌, ◌≢◌, ◌⊎◌, ℕ, suc, ◌+◌, ◌≤◌, ◌<◌, ℤ, Bool, true, false, ◌||◌, List, [], ◌∷◌, ◌++◌, Option, Some, None, length, map, get_or, refl, sym, ◌∙◌, ap, subst, arith, inl, inr}
-use Rattle.std.specs.Prelude.{IsSome, IsNone, All}
+use Rattle.std.proofs.Common.{◌≡◌, ◌≢◌, ◌⊎◌, ℕ, suc, ◌+◌, ◌≤◌, ◌<◌, ℤ, Bool, true, false, ◌||◌, List, [], ◌∷◌, Option, Some, None, length, map, get_or, refl, sym, ◌∙◌, ap, subst, arith, inl, inr}
+use Rattle.std.specs.Prelude.{IsSome, IsNone}
 use Rattle.std.specs.List.{list_any}
 use Rattle.std.specs.Option.{option_map}
 use Rattle.std.proofs.lemmas.Bool.{cases_eq, eq-eqb}
@@ -23,8 +23,8 @@ use Rattle.vm_desc.proofs.DescriptionLemmas.{bounds_of, first_context-within}
 use Rattle.mate_journal.specs.declared.entry.DropCause.TheVariants as drop
 use Rattle.mate_journal.specs.declared.entry.Entry.TheVariants as entry
 use Rattle.mate_journal.specs.Log.{Log}
-use Rattle.mate_journal.specs.Machine.{Machine, HeldProgram, IsContextOf}
-use Rattle.mate_journal.specs.Journal.{Told, Posted, Dropped, Phase, Queued, is_started, Invocation, Reading, heard}
+use Rattle.mate_journal.specs.Machine.{Machine, HeldProgram}
+use Rattle.mate_journal.specs.Journal.{Posted, Dropped, is_started, Invocation, Reading, heard}
 use Rattle.mate_journal.specs.WellFormed.{IsIdle, IsBusy}
 use Rattle.mate_journal.specs.NodeScript.{DropsNoCode, DropsAllBusy, IsFirstIdle, Posts}
 use Rattle.journal_laws.specs.Growth.{IsPushed}
@@ -37,15 +37,15 @@ use Rattle.node_contexts.specs.Programs.{Programs, held_at}
 use Rattle.node_invariant.specs.declared.parts.Parts.{Parts}
 use Rattle.node_invariant.specs.Meaning.{machine_in}
 use Rattle.node_invariant.specs.Fits.{program_of, Fits}
-use Rattle.node_invariant.specs.Keeps.{reading, Keeps, IsTimely, Grows}
+use Rattle.node_invariant.specs.Keeps.{reading, IsTimely, Grows}
 use Rattle.node_invariant.specs.Continues.{Continues}
 use Rattle.node_invariant.proofs.FitLemmas.{no_seat, by_seat}
 use Rattle.node_invariant.proofs.MoveLemmas.{some-map}
 use Rattle.node_invariant.proofs.KeepLemmas.{Grows-then}
 use Rattle.node_grants.specs.Queue.{number_at, number_in}
-use Rattle.node_grants.specs.Turns.{Pace, paced, paced_all}
+use Rattle.mate_journal.specs.Pace.{Pace}
 use Rattle.node_grants.specs.Pace.{IsPace}
-use Rattle.node_grants.specs.Starting.{Rests, IsStarting, AllButHeld, IsRoomForAll, StartsAll}
+use Rattle.node_grants.specs.Starting.{Rests, IsStarting, IsRoomForAll, StartsAll}
 use Rattle.node_grants.proofs.OrderLemmas.{heard-by, grows-by}
 use Rattle.node_grants.proofs.PostLemmas.{Continues-posted, IsStarting-posted, AllBut-new}
 use Rattle.node_calls.specs.Calls.{RestsAgain}

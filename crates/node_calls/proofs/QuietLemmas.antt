@@ -1,17 +1,17 @@
 -- Calls after one another, and entries that change nothing but the log.
-use Rattle.std.proofs.Common.{◌≡◌, ℕ, ◌+◌, ◌≤◌, List, [], ◌∷◌, ◌++◌, refl, sym, ◌∙◌, ap, subst, arith}
+use Rattle.std.proofs.Common.{◌≡◌, ◌+◌, ◌≤◌, List, [], ◌∷◌, ◌++◌, refl, sym, ◌∙◌, subst}
 use Rattle.mate_num.specs.declared.call.Stamp.{Stamp}
 use Rattle.vm_desc.specs.declared.description.Description.{Description}
 use Rattle.mate_journal.specs.declared.entry.Entry.{Entry}
 use Rattle.mate_journal.specs.Log.{Log}
-use Rattle.mate_journal.specs.Journal.{Told, Reading, journal_of, heard}
+use Rattle.mate_journal.specs.Journal.{Told, Reading, heard}
 use Rattle.mate_journal.specs.Grants.{AllHeldBack, IsGranted}
 use Rattle.node_invariant.specs.declared.parts.Parts.{Parts}
 use Rattle.node_invariant.specs.Meaning.{machine_in}
-use Rattle.node_invariant.specs.Keeps.{reading, Adds}
+use Rattle.node_invariant.specs.Keeps.{reading}
 use Rattle.node_invariant.specs.Continues.{Continues}
 use Rattle.node_invariant.proofs.KeepLemmas.{Grows-then}
-use Rattle.node_grants.specs.Turns.{Pace, paced, paced_all}
+use Rattle.mate_journal.specs.Pace.{Pace, paced, paced_all}
 use Rattle.node_grants.specs.Pace.{IsPace}
 use Rattle.node_grants.specs.Starting.{last_started, Rests}
 use Rattle.node_grants.proofs.OrderLemmas.{KeepsOrder-push, heard-by, grows-by}

@@ -9,7 +9,9 @@ use Rattle.node_contexts.specs.At.{AreIdle}
 use Rattle.vm_desc.specs.declared.description.Description.{Description}
 use Rattle.node_invariant.specs.declared.parts.Parts.{Parts}
 use Rattle.node_invariant.specs.Keeps.{reading, Adds}
-use Rattle.node_grants.specs.Turns.{Pace, paced_all}
+use Rattle.mate_journal.specs.Pace.{Pace, paced_all}
+use Rattle.mate_journal.specs.Turns.{ShowsReady}
+use Rattle.node_invariant.specs.Meaning.{machine_in, clock_of}
 use Rattle.node_grants.specs.Pace.{IsPace}
 use Rattle.node_grants.specs.Starting.{Rests}
 
@@ -19,6 +21,10 @@ pub record RestsAgain (d : Description) (old new : Parts) (at : Stamp) (Rule : L
   pub rests : Rests d new
   pub pace : (p : Pace) → IsPace (reading d old.log) old.contexts p → IsPace (reading d new.log) new.contexts (paced_all p adds.told)
 
+-- the rule, at each pace that the node may have
+abbrev pub AtPace : Description → Parts → (Pace → List Told → Type 0) → List Told → Type 0
+AtPace d s Rule told = (p : Pace) → IsPace (reading d s.log) s.contexts p → Rule p told
+
 -- no invocation in the context waits for an answer
 abbrev pub NobodyWaits : Reading → ContextId → Type 0
 NobodyWaits r c = (n : ℕ) → IsWaiting r n → (r.invocations n).context ≡ c → ⊥
@@ -26,6 +32,7 @@ NobodyWaits r c = (n : ℕ) → IsWaiting r n → (r.invocations n).context ≡ 
 -- the store is told, and nothing else changes
 pub record TellsStore (d : Description) (old new : Parts) (at : Stamp) : Type 0 where
   pub again : RestsAgain d old new at (λ told. told ≡ Seen old.heap ∷ [])
+  pub shown : (p : Pace) → IsPace (reading d old.log) old.contexts p → ShowsReady (clock_of d) (machine_in d) (reading d old.log) p old.heap
   pub same : new ≡ record old { log = new.log }
 
 -- all contexts are idle, and the store is as at first

@@ -14,7 +14,7 @@ use Rattle.node_contexts.specs.Programs.{held_at}
 use Rattle.node_invariant.specs.declared.parts.Parts.{Parts}
 use Rattle.node_invariant.specs.Meaning.{machine_in}
 use Rattle.node_invariant.specs.Keeps.{reading, Grows}
-use Rattle.node_grants.specs.Turns.{Pace}
+use Rattle.mate_journal.specs.Pace.{Pace}
 use Rattle.node_grants.specs.Pace.{IsPace}
 use Rattle.node_grants.specs.Starting.{Rests, IsStarting, AllButHeld}
 use Rattle.node_contexts.specs.declared.contexts.Contexts.{Contexts}

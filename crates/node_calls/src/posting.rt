@@ -70,7 +70,7 @@ fn queue(
     requires can { CanQueue description.now parts.old handler ctx locks }
     requires timely { IsTimely at parts.old.log }
     requires room { 1 ≤ parts.old.log.spare }
-    requires few { length parts.old.log.entries < 4000000000 }
+    requires few { length parts.old.log.entries < 4100000000 }
     ensures { IsQueued description.now parts.old parts.new at handler payload.now result }
 {
     parts.posts += 1;
@@ -109,7 +109,7 @@ pub fn post_in(
     requires rests { Rests description.now parts.old }
     requires timely { IsTimely at parts.old.log }
     requires room { 2 ≤ parts.old.log.spare }
-    requires few { length parts.old.log.entries < 4000000000 }
+    requires few { length parts.old.log.entries < 4100000000 }
     requires handler { handler.0 < length description.now.handlers.items }
     ensures { RestsAgain description.now parts.old parts.new at (PostGives (machine_in description.now) (reading description.now parts.old.log) handler payload.now result) }
 {
