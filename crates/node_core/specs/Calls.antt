@@ -1,5 +1,5 @@
 -- What the calls of a node answer.
-use Rattle.std.specs.Prelude.{◌≡◌, ◌≤◌, ◌+◌, ◌*◌, min, ℕ, List, Option, Some, None}
+use Rattle.std.specs.Prelude.{◌≡◌, ◌<◌, ◌≤◌, ◌+◌, ◌*◌, min, ℕ, List, Some}
 use Rattle.arrayvec.specs.ArrayVec.{ArrayVec}
 use Rattle.mate_num.specs.declared.bounds.TheConstants.{CODE_MAX}
 use Rattle.mate_num.specs.declared.id.ContextId.{ContextId}
@@ -46,8 +46,9 @@ pub record IsAsked (r : Reading) (c : ContextId) (a : Asked) : Type 0 where
   pub waits : (r.invocations a.inv).phase ≡ Waiting a.fun a.args
   pub context : (r.invocations a.inv).context ≡ c
 
--- the image is that of what is installed for the handler
+-- the image is that of what is installed for the handler, whose version is none that stands for nothing
 pub record IsImageOf (r : Reading) (h : HandlerId) (image : ArrayVec ℕ) : Type 0 where
   pub program : HeldProgram
   pub installed : r.installed h ≡ Some program
   pub is : program.image ≡ image
+  pub version : 0 < program.version

@@ -4,7 +4,7 @@ ghost use Rattle.std.specs.Prelude.{◌≡◌, ◌<◌, ◌≤◌, ◌+◌, ◌*
 ghost use Rattle.mate_num.specs.declared.bounds.TheConstants.{CODE_MAX};
 ghost use Rattle.mate_journal.specs.Log.{IsEmpty};
 ghost use Rattle.mate_journal.specs.Journal.{held as held_version};
-ghost use Rattle.mate_journal.specs.Pace.{no_pace};
+ghost use Rattle.mate_journal.specs.Pace.{Pace, no_pace};
 ghost use Rattle.mate_journal.specs.NodeScript.{IsReadyIn};
 ghost use Rattle.node_invariant.specs.Meaning.{machine_in, clock_of};
 ghost use Rattle.node_invariant.specs.Keeps.{IsTimely};
@@ -70,6 +70,7 @@ impl Node {
     /// Makes room for n more entries. `NoMemory` leaves the node as it was, but for its room.
     pub fn reserve(&mut self, n: usize) -> Result<(), NoMemory>
         ensures same { IsSameNode self.old self.new }
+        ensures pace { (p : Pace) → HasPace self.old p → HasPace self.new p }
         ensures room { OnOk result (n ≤ self.new.log.spare) }
     {
         self.parts.log.reserve(n)
@@ -96,13 +97,7 @@ impl Node {
         if !self.parts.contexts.is_ready(ctx) {
             return Err(NotReady);
         }
-        Ok(take_turn(
-            &self.description,
-            &mut self.parts,
-            at,
-            ctx,
-            n,
-        ))
+        Ok(take_turn(&self.description, &mut self.parts, at, ctx, n))
     }
 
     /// Turns of the description's quantum follow one another, each to the invocation that is longest without one, until

@@ -1,5 +1,5 @@
 -- What the programs of a node mean: the runs of their images' code.
-use Rattle.std.specs.Prelude.{ℕ, ℤ, List, [], Result, Ok, Err, drop}
+use Rattle.std.specs.Prelude.{ℕ, [], Result, Ok, Err, drop}
 use Rattle.arrayvec.specs.ArrayVec.{ArrayVec}
 use Rattle.mate_num.specs.declared.shape.Shape.{Shape}
 use Rattle.mate_code.specs.declared.decoding.DecodeFault.{DecodeFault}
@@ -9,7 +9,7 @@ use Rattle.mate_code.specs.Run as run
 use Rattle.mate_code.specs.Run.{Code, code_run, next_mark, code_after}
 use Rattle.mate_code.specs.Table.{table_of}
 use Rattle.mate_journal.specs.Described.{machine_of}
-use Rattle.mate_journal.specs.Machine.{Machine, Meaning, HeldProgram, Outcome}
+use Rattle.mate_journal.specs.Machine.{Machine, Meaning, Outcome}
 use Rattle.mate_journal.specs.Turns.{Clock}
 use Rattle.vm_desc.specs.declared.description.Description.{Description}
 use Rattle.vm_desc.specs.Shapes.{shape_of}

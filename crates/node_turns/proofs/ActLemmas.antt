@@ -1,63 +1,43 @@
 -- A call or an end that is told after the instructions of a turn: what it leaves, and the whole turn.
-use Rattle.std.proofs.Common.{◌≡◌, ◌≢◌, ◌⊎◌, ℕ, zero, suc, ◌+◌, ◌-◌, ◌<◌, ◌≤◌, ℤ, Bool, true, false, cond, List, [], ◌∷◌, ◌++◌, Option, Some, None, length, refl, sym, ◌∙◌, ap, subst, arith, inl, inr}
-use Rattle.std.specs.Prelude.{All, map, min, IsSome}
-use Rattle.std.proofs.lemmas.Bool.{cases_eq, cases_lt}
-use Rattle.std.proofs.lemmas.List.Elements.{All-nil}
-use Rattle.std.proofs.lemmas.List.{append-nil}
-use Rattle.arrayvec.specs.ArrayVec.{ArrayVec}
+use Rattle.std.proofs.Common.{◌≡◌, ◌≢◌, ℕ, ◌+◌, ◌-◌, ◌<◌, ◌≤◌, true, List, [], ◌∷◌, Some, refl, sym, ◌∙◌, ap, subst, arith}
+use Rattle.std.specs.Prelude.{min}
 use Rattle.mate_num.specs.declared.call.End.{End}
-use Rattle.mate_num.specs.declared.call.End.TheVariants as end
 use Rattle.mate_num.specs.declared.call.Stamp.{Stamp}
 use Rattle.mate_num.specs.declared.id.ContextId.{ContextId}
-use Rattle.mate_num.specs.declared.id.FunId.{FunId}
-use Rattle.mate_num.specs.declared.lock_set.LockSet.{LockSet}
 use Rattle.mate_num.specs.declared.store.Store.{Store}
-use Rattle.mate_code.specs.Run.{Own, Over}
-use Rattle.mate_code.specs.Effect.{Private}
+use Rattle.mate_code.specs.Run.{Over}
 use Rattle.context_sched.specs.Ready.{without}
-use Rattle.lock_manager.specs.Claims.{Claims, set_of}
 use Rattle.exec_unit.specs.declared.step_end.StepEnd.{StepEnd}
-use Rattle.exec_unit.specs.declared.step_end.StepEnd.TheVariants.{Next, Ask, Halt, Fault}
 use Rattle.exec_unit.specs.Step.{own_after}
 use Rattle.vm_desc.specs.declared.description.Description.{Description}
 use Rattle.mate_journal.specs.declared.entry.Entry.{Entry}
-use Rattle.mate_journal.specs.declared.entry.Entry.TheVariants as entry
 use Rattle.mate_journal.specs.Log.{Log}
-use Rattle.mate_journal.specs.Machine.{Machine}
-use Rattle.mate_journal.specs.Journal.{Told, told_of, Asked as AskedTold, Ended, Phase, Ready, Waiting, Over as Gone, is_live, is_started, Invocation, Reading, whole_run, changed, heard, journal_of}
+use Rattle.mate_journal.specs.Journal.{Told, is_live, is_started, Reading, whole_run, changed, heard}
 use Rattle.mate_journal.specs.Grants.{AllHeldBack}
-use Rattle.mate_journal.specs.Grants.{IsStart}
-use Rattle.mate_journal.specs.WellFormed.{Closes}
-use Rattle.journal_laws.specs.Growth.{IsPushed, IsNamedBelow}
-use Rattle.journal_laws.proofs.Moves.{Moves, asked-Moves, ended-Moves}
 use Rattle.node_contexts.specs.declared.seat.Seat.{Seat}
-use Rattle.node_contexts.specs.declared.handlers.Handlers.{Handlers}
 use Rattle.node_contexts.specs.declared.contexts.Contexts.{Contexts}
-use Rattle.node_contexts.specs.At.{At, at, ready, Becomes, Asks, Ends}
+use Rattle.node_contexts.specs.At.{At, at, ready, Becomes}
 use Rattle.node_contexts.specs.Programs.{held_at}
 use Rattle.node_contexts.specs.Executing.{Executes}
 use Rattle.node_invariant.specs.declared.parts.Parts.{Parts}
 use Rattle.node_invariant.specs.Meaning.{machine_in}
 use Rattle.node_invariant.specs.Keeps.{reading, Keeps, IsTimely, Grows}
 use Rattle.node_invariant.specs.Continues.{Continues}
-use Rattle.node_invariant.proofs.FitLemmas.{IsAlone, HasSeat, changed-here, changed-other}
+use Rattle.node_invariant.proofs.FitLemmas.{IsAlone}
 use Rattle.node_invariant.proofs.MoveLemmas.{alone-seat, stood_ready}
 use Rattle.node_invariant.proofs.AgreeLemmas.{going_in}
-use Rattle.node_invariant.proofs.EntryLemmas.{IsClosing, IsClosing-halt, IsClosing-fault, Continues-asked, Continues-ended}
-use Rattle.node_invariant.proofs.KeepLemmas.{Grows-then, Grows-none}
-use Rattle.node_invariant.proofs.SerialLemmas.{whole}
-use Rattle.node_grants.specs.Queue.{number_at, number_in, IsQueue}
-use Rattle.node_grants.specs.Totals.{may_start, owed, left, over_all, starts_left, owes, falls}
+use Rattle.node_invariant.proofs.KeepLemmas.{Grows-none}
+use Rattle.node_grants.specs.Queue.{number_at, number_in}
+use Rattle.node_grants.specs.Totals.{may_start, owed, left, starts_left, owes, falls}
 use Rattle.mate_journal.specs.Pace.{Pace, others, paced, paced_all}
-use Rattle.mate_journal.specs.Turns.{Clock, Turn, IsTurn, IsAtMark, mark_of, entry_at, after_step}
+use Rattle.mate_journal.specs.Turns.{IsTurn, mark_of, entry_at, after_step}
 use Rattle.node_grants.specs.Pace.{IsPace}
-use Rattle.node_grants.specs.Starting.{last_started, KeepsOrder, IsStarting, Rests, StartsSome, StartsAll}
+use Rattle.node_grants.specs.Starting.{KeepsOrder, Rests}
 use Rattle.node_grants.proofs.TotalLemmas.{over_all-becomes}
-use Rattle.node_grants.proofs.WaiterLemmas.{all-held-moves}
-use Rattle.node_grants.proofs.OrderLemmas.{live-above, IsQueue-becomes, KeepsOrder-push, grows-by, heard-by, last-by, IsStarting-first}
+use Rattle.node_grants.proofs.OrderLemmas.{live-above, grows-by, heard-by}
 use Rattle.node_invariant.specs.Meaning.{clock_of}
-use Rattle.node_turns.specs.Pacing.{most, GoesOn, Stops, HasMoved, TakesTurn}
-use Rattle.node_turns.proofs.RunningLemmas.{one, one-ready, one-verified, one-below, one-within, one-few, GoesOn-ready}
+use Rattle.node_turns.specs.Pacing.{most, GoesOn, HasMoved, TakesTurn}
+use Rattle.node_turns.proofs.RunningLemmas.{one, one-ready, one-below, one-within, one-few, GoesOn-ready}
 use Rattle.node_turns.proofs.TurnLemmas.{pace-leaves, pace-stays, now-inv, now-count, mark-is, end-is}
 
 -- ---- instructions that go on
@@ -175,7 +155,7 @@ module _ (d : Description) (old mid : Parts) (c : ContextId) (b : ℕ) (rests : 
         (pace-stays (reading d old.log) (reading d mid.log) old.contexts mid.contexts c later s.inv (s.count + b) alone-old number-old above-old g.becomes
         (λ j other. ap (λ (l : Log). (reading d l).invocations j) g.log)
         (λ u e. (let f : g.now ≡ u = (let h : Some g.now ≡ Some u = e in cc) in
-            (ap (λ (x : Seat). x.inv) (sym f) ∙ ap (λ (x : Seat). x.inv) (sym now-same) ∙ mid-inv, ap (λ (x : Seat). x.count) (sym f) ∙ ap (λ (x : Seat). x.count) (sym now-same) ∙ mid-count)))
+        (ap (λ (x : Seat). x.inv) (sym f) ∙ ap (λ (x : Seat). x.inv) (sym now-same) ∙ mid-inv, ap (λ (x : Seat). x.count) (sym f) ∙ ap (λ (x : Seat). x.count) (sym now-same) ∙ mid-count)))
         g.ring (ap (λ (x : Seat). x.inv) (sym now-same) ∙ mid-inv) p pace)
 
   -- ---- it asks or is over
@@ -231,16 +211,18 @@ module _ (d : Description) (old mid : Parts) (c : ContextId) (b : ℕ) (rests : 
         let P : ℕ → Type 0 = λ n. IsPace (reading d log) after record { line = others p.line s.inv; counts = changed p.counts s.inv n } in
         let Q : Pace → Type 0 = λ x. IsPace (reading d log) after x in
         let R : ℕ → Type 0 = λ n. paced (record p { counts = changed p.counts s.inv (min (p.counts s.inv + k) (mark_of (clock_of d) (machine_in d) (reading d old.log) s.inv)) }) told ≡
-        record { line = others p.line n; counts = changed p.counts s.inv (min (p.counts s.inv + k) (mark_of (clock_of d) (machine_in d) (reading d old.log) s.inv)) } in
-        (omega arith, omega arith,
-            subst Q (sym (subst R mid-inv (paced-is (record p { counts = changed p.counts s.inv (min (p.counts s.inv + k) (mark_of (clock_of d) (machine_in d) (reading d old.log) s.inv)) }))))
-            (subst P is
-            (pace-leaves (reading d old.log) (reading d log) old.contexts after c a s.inv (s.count + b + 1) alone-old number-old above-old becomes-old kept-old
-            (λ u f. (let same = here u f in
-                let n = now-count d mid contexts heap c how g.order.keeps ready-mid ex e in
-                let v = now-inv d mid contexts heap c how g.order.keeps ready-mid ex e in
-                (ap (λ (x : Seat). x.inv) same ∙ v ∙ mid-inv, ap (λ (x : Seat). x.count) same ∙ n ∙ ap (λ (x : ℕ). x + 1) mid-count)))
-            (ring ∙ ap (λ (l : List ContextId). without l c) g.ring) p pace)))
+        record { line = others p.line n; counts = changed p.counts s.inv (min (p.counts s.inv + k) (mark_of (clock_of d) (machine_in d) (reading d old.log) s.inv)) } in (
+          omega arith,
+          omega arith,
+          subst Q (sym (subst R mid-inv (paced-is (record p { counts = changed p.counts s.inv (min (p.counts s.inv + k) (mark_of (clock_of d) (machine_in d) (reading d old.log) s.inv)) }))))
+              (subst P is
+              (pace-leaves (reading d old.log) (reading d log) old.contexts after c a s.inv (s.count + b + 1) alone-old number-old above-old becomes-old kept-old
+              (λ u f. (let same = here u f in
+              let n = now-count d mid contexts heap c how g.order.keeps ready-mid ex e in
+              let v = now-inv d mid contexts heap c how g.order.keeps ready-mid ex e in
+              (ap (λ (x : Seat). x.inv) same ∙ v ∙ mid-inv, ap (λ (x : Seat). x.count) same ∙ n ∙ ap (λ (x : ℕ). x + 1) mid-count)))
+              (ring ∙ ap (λ (l : List ContextId). without l c) g.ring) p pace)),
+        )
 
     pub HasMoved-from : HasMoved d old new at_ c k ran told
     HasMoved-from = record {

@@ -1,66 +1,49 @@
 -- Calls and ends that are told in a turn.
-use Rattle.std.proofs.Common.{◌≡◌, ◌≢◌, ◌⊎◌, ℕ, zero, suc, ◌+◌, ◌-◌, ◌<◌, ◌≤◌, ℤ, Bool, true, false, cond, List, [], ◌∷◌, ◌++◌, Option, Some, None, length, refl, sym, ◌∙◌, ap, subst, arith, inl, inr}
-use Rattle.std.specs.Prelude.{All, map, min, IsSome}
-use Rattle.std.proofs.lemmas.Bool.{cases_eq, cases_lt}
+use Rattle.std.proofs.Common.{◌≡◌, ℕ, suc, ◌+◌, ◌<◌, ◌≤◌, ℤ, true, false, List, [], ◌∷◌, Some, None, length, refl, sym, ◌∙◌, ap, subst, arith, inl, inr}
 use Rattle.std.proofs.lemmas.List.Elements.{All-nil}
-use Rattle.std.proofs.lemmas.List.{append-nil}
 use Rattle.arrayvec.specs.ArrayVec.{ArrayVec}
 use Rattle.mate_num.specs.declared.call.End.{End}
 use Rattle.mate_num.specs.declared.call.End.TheVariants as end
 use Rattle.mate_num.specs.declared.call.Stamp.{Stamp}
 use Rattle.mate_num.specs.declared.id.ContextId.{ContextId}
 use Rattle.mate_num.specs.declared.id.FunId.{FunId}
-use Rattle.mate_num.specs.declared.lock_set.LockSet.{LockSet}
-use Rattle.mate_num.specs.declared.store.Store.{Store}
-use Rattle.mate_code.specs.Run.{Own, Over}
-use Rattle.mate_code.specs.Effect.{Private}
 use Rattle.context_sched.specs.Ready.{without}
-use Rattle.lock_manager.specs.Claims.{Claims, set_of}
+use Rattle.lock_manager.specs.Claims.{Claims}
 use Rattle.exec_unit.specs.declared.step_end.StepEnd.{StepEnd}
-use Rattle.exec_unit.specs.declared.step_end.StepEnd.TheVariants.{Next, Ask, Halt, Fault}
+use Rattle.exec_unit.specs.declared.step_end.StepEnd.TheVariants.{Ask}
 use Rattle.exec_unit.specs.Step.{own_after}
 use Rattle.vm_desc.specs.declared.description.Description.{Description}
 use Rattle.mate_journal.specs.declared.entry.Entry.{Entry}
 use Rattle.mate_journal.specs.declared.entry.Entry.TheVariants as entry
 use Rattle.mate_journal.specs.Log.{Log}
-use Rattle.mate_journal.specs.Machine.{Machine}
-use Rattle.mate_journal.specs.Journal.{Told, told_of, Asked as AskedTold, Ended, Phase, Ready, Waiting, Over as Gone, is_live, is_started, Invocation, Reading, whole_run, changed, heard, journal_of}
+use Rattle.mate_journal.specs.Journal.{Told, told_of, Asked as AskedTold, Ended, Waiting, Invocation, Reading, heard}
 use Rattle.mate_journal.specs.Grants.{AllHeldBack}
 use Rattle.mate_journal.specs.Grants.{IsStart}
 use Rattle.mate_journal.specs.WellFormed.{Closes}
 use Rattle.journal_laws.specs.Growth.{IsPushed, IsNamedBelow}
-use Rattle.journal_laws.proofs.Moves.{Moves, asked-Moves, ended-Moves}
+use Rattle.journal_laws.proofs.Moves.{asked-Moves, ended-Moves}
 use Rattle.node_contexts.specs.declared.seat.Seat.{Seat}
-use Rattle.node_contexts.specs.declared.handlers.Handlers.{Handlers}
 use Rattle.node_contexts.specs.declared.contexts.Contexts.{Contexts}
 use Rattle.node_contexts.specs.At.{At, at, ready, Becomes, Asks, Ends, IsPlaced}
 use Rattle.node_contexts.specs.Programs.{held_at}
-use Rattle.node_contexts.specs.Executing.{Executes}
 use Rattle.node_invariant.specs.declared.parts.Parts.{Parts}
 use Rattle.node_invariant.specs.Meaning.{machine_in}
-use Rattle.node_invariant.specs.Keeps.{reading, Keeps, IsTimely, Grows}
+use Rattle.node_invariant.specs.Keeps.{reading, Keeps, IsTimely}
 use Rattle.node_invariant.specs.Continues.{Continues}
-use Rattle.node_invariant.proofs.FitLemmas.{IsAlone, HasSeat, changed-here, changed-other}
-use Rattle.node_invariant.proofs.MoveLemmas.{alone-seat, stood_ready}
+use Rattle.node_invariant.proofs.MoveLemmas.{stood_ready}
 use Rattle.node_invariant.proofs.AgreeLemmas.{going_in}
-use Rattle.node_invariant.proofs.EntryLemmas.{IsClosing, IsClosing-halt, IsClosing-fault, Continues-asked, Continues-ended}
-use Rattle.node_invariant.proofs.KeepLemmas.{Grows-then, Grows-none}
-use Rattle.node_invariant.proofs.SerialLemmas.{whole}
-use Rattle.node_grants.specs.Queue.{number_at, number_in, IsQueue}
-use Rattle.node_grants.specs.Totals.{may_start, owed, left, over_all, starts_left, owes, falls}
-use Rattle.mate_journal.specs.Pace.{Pace, others, paced, paced_all}
-use Rattle.mate_journal.specs.Turns.{Clock, Turn, IsTurn, IsAtMark, mark_of, entry_at, after_step}
-use Rattle.node_grants.specs.Pace.{IsPace}
-use Rattle.node_grants.specs.Starting.{last_started, KeepsOrder, IsStarting, Rests, StartsSome, StartsAll}
-use Rattle.node_grants.proofs.TotalLemmas.{over_all-becomes, over_all-least}
+use Rattle.node_invariant.proofs.EntryLemmas.{IsClosing, Continues-asked, Continues-ended}
+use Rattle.node_invariant.proofs.KeepLemmas.{Grows-then}
+use Rattle.node_grants.specs.Queue.{number_at, number_in}
+use Rattle.node_grants.specs.Totals.{may_start, owed, left, starts_left}
+use Rattle.mate_journal.specs.Turns.{mark_of, entry_at}
+use Rattle.node_grants.specs.Starting.{KeepsOrder, IsStarting, Rests, StartsAll}
 use Rattle.node_grants.proofs.WaiterLemmas.{all-held-moves}
-use Rattle.node_grants.proofs.OrderLemmas.{live-above, IsQueue-becomes, KeepsOrder-push, grows-by, heard-by, last-by, IsStarting-first}
+use Rattle.node_grants.proofs.OrderLemmas.{IsQueue-becomes, KeepsOrder-push, heard-by, last-by, IsStarting-first}
 use Rattle.node_invariant.specs.Meaning.{clock_of}
 use Rattle.node_turns.specs.Pacing.{most, GoesOn, Stops, HasMoved, TakesTurn}
-use Rattle.node_turns.proofs.RunningLemmas.{one, one-ready, one-verified, one-below, one-within, one-few, GoesOn-ready}
-use Rattle.node_turns.proofs.ActLemmas.{ready-mid, mid-inv, number-mid, held-mid, owed-mid, TakesTurn-short, HasMoved-from}
-use Rattle.node_turns.proofs.TurnLemmas.{pace-leaves, pace-stays, now-inv, now-count, mark-is, end-is}
-
+use Rattle.node_turns.proofs.RunningLemmas.{one, one-within}
+use Rattle.node_turns.proofs.ActLemmas.{ready-mid, number-mid, held-mid, HasMoved-from}
 
 stood : (d : Description) (s : Parts) (c : ContextId) (keeps : Keeps d s) (is_ready : (at s.contexts c).ready ≡ true) → at s.contexts c ≡ ready (one d s c keeps is_ready).seat (one d s c keeps is_ready).seated.x.locks
 stood d s c keeps is_ready = stood_ready (machine_in d) (held_at s.handlers.programs) (reading d s.log) s.contexts c keeps.fits is_ready
@@ -79,12 +62,15 @@ TakesTurn-told d old next at_ c k ran told m held within = record {
   told = told ∷ [];
   rests = record { order = m.order; held = held };
   grows = m.grows;
-  turn = λ p pace. (let h = m.pace p pace in
-      (record {
-        ready = m.was;
-        short = λ below. absurd (let above = h.0 in omega arith);
-        reached = λ above. record { starts = []; are_starts = All-nil IsStart; told_is = ap (λ (t : Told). t ∷ []) m.told_is };
-      }, (let above = h.0 in let ran_is = h.1 in omega arith), h.2));
+  turn = λ p pace. (let h = m.pace p pace in (
+    record {
+      ready = m.was;
+      short = λ below. absurd (let above = h.0 in omega arith);
+      reached = λ above. record { starts = []; are_starts = All-nil IsStart; told_is = ap (λ (t : Told). t ∷ []) m.told_is };
+    },
+    (let above = h.0 in let ran_is = h.1 in omega arith),
+    h.2,
+  ));
   within = (let P : ℕ → Type 0 = λ j. mark_of (clock_of d) (machine_in d) (reading d old.log) j ≤ most d in subst P m.number within);
   owed = (let e = m.owed in let one : length (told ∷ []) ≡ 1 = refl in omega arith);
   falls_by = m.falls_by;
@@ -100,12 +86,15 @@ TakesTurn-starts d old mid next at_ c k ran told m s within = record {
   told = told ∷ s.some.told;
   rests = record { order = s.some.starting.order; held = s.held };
   grows = Grows-then old.log mid.log next.log at_ (told ∷ []) s.some.told m.grows s.some.grows;
-  turn = λ p pace. (let h = m.pace p pace in
-      (record {
-        ready = m.was;
-        short = λ below. absurd (let above = h.0 in omega arith);
-        reached = λ above. record { starts = s.some.told; are_starts = s.some.starts; told_is = ap (λ (t : Told). t ∷ s.some.told) m.told_is };
-      }, (let above = h.0 in let ran_is = h.1 in omega arith), s.some.pace _ h.2));
+  turn = λ p pace. (let h = m.pace p pace in (
+    record {
+      ready = m.was;
+      short = λ below. absurd (let above = h.0 in omega arith);
+      reached = λ above. record { starts = s.some.told; are_starts = s.some.starts; told_is = ap (λ (t : Told). t ∷ s.some.told) m.told_is };
+    },
+    (let above = h.0 in let ran_is = h.1 in omega arith),
+    s.some.pace _ h.2,
+  ));
   within = (let P : ℕ → Type 0 = λ j. mark_of (clock_of d) (machine_in d) (reading d old.log) j ≤ most d in subst P m.number within);
   owed = (let e = m.owed in let f = s.some.owed in let more : length (told ∷ s.some.told) ≡ suc (length s.some.told) = refl in omega arith);
   falls_by = (let e = m.falls_by in let f = s.some.falls_by (most d) in omega arith);

@@ -1,9 +1,6 @@
 -- Instructions of one invocation: each that goes on keeps what the node keeps, and the invocation's count is right.
-use Rattle.std.proofs.Common.{◌≡◌, ◌≢◌, ◌⊎◌, ℕ, zero, suc, ◌+◌, ◌*◌, ◌^◌, ◌<◌, ◌≤◌, Bool, true, false, List, [], ◌∷◌, Option, Some, None, length, refl, sym, ◌∙◌, ap, subst, arith, inl, inr}
-use Rattle.std.proofs.lemmas.Bool.{cases_eq}
-use Rattle.mate_num.specs.declared.bounds.TheConstants.{CODE_MAX}
+use Rattle.std.proofs.Common.{◌≡◌, ℕ, zero, suc, ◌+◌, ◌^◌, ◌<◌, ◌≤◌, true, Option, Some, refl, sym, ◌∙◌, ap, subst, arith, inr}
 use Rattle.mate_num.specs.declared.id.ContextId.{ContextId}
-use Rattle.mate_num.specs.declared.lock_set.LockSet.{LockSet}
 use Rattle.mate_num.specs.declared.store.Store.{Store}
 use Rattle.mate_num.specs.declared.shape.Shape.{Shape}
 use Rattle.lock_manager.specs.Claims.{Claims}
@@ -15,14 +12,12 @@ use Rattle.exec_unit.specs.declared.step_end.StepEnd.{StepEnd}
 use Rattle.exec_unit.specs.declared.step_end.StepEnd.TheVariants.{Next, Ask, Halt, Fault}
 use Rattle.exec_unit.specs.Step.{HasLengths, IsStep}
 use Rattle.vm_desc.specs.declared.description.Description.{Description}
-use Rattle.vm_desc.specs.Shapes.{shape_of}
-use Rattle.mate_journal.specs.Machine.{Machine}
 use Rattle.mate_journal.specs.Journal.{Phase, Ready, Invocation, Reading}
 use Rattle.node_contexts.specs.declared.handlers.Held.{Held}
 use Rattle.node_contexts.specs.declared.executing.Ran.{Ran}
 use Rattle.node_contexts.specs.declared.seat.Seat.{Seat}
 use Rattle.node_contexts.specs.declared.contexts.Contexts.{Contexts}
-use Rattle.node_contexts.specs.At.{At, at, ready, Becomes}
+use Rattle.node_contexts.specs.At.{At, at, Becomes}
 use Rattle.node_contexts.specs.Programs.{Programs, held_at}
 use Rattle.node_contexts.specs.Executing.{GoFor, StopsAfter, HasRunTo, HasRun, IsSameSeat, with_seat, CanExecute, Executes, HasTurn}
 use Rattle.node_contexts.proofs.ContextLemmas.{with_seat-becomes, with_seat-same, with_seat-twice}
@@ -31,11 +26,11 @@ use Rattle.node_invariant.specs.Meaning.{machine_in}
 use Rattle.node_invariant.specs.Fits.{IsHeld, FitsIn}
 use Rattle.node_invariant.specs.Agrees.{status_in, IsOwnRun, RunsOwn, own_run}
 use Rattle.node_invariant.specs.Keeps.{reading, Keeps}
-use Rattle.node_invariant.proofs.FitLemmas.{HasSeat, idle_or_seat}
-use Rattle.node_invariant.proofs.MoveLemmas.{running, was_ready, stood_ready}
+use Rattle.node_invariant.proofs.FitLemmas.{HasSeat}
+use Rattle.node_invariant.proofs.MoveLemmas.{running, was_ready}
 use Rattle.node_invariant.proofs.EntryLemmas.{Keeps-executed}
 use Rattle.node_invariant.proofs.SerialLemmas.{HasVerified, verified-seat, whole}
-use Rattle.node_grants.specs.Queue.{number_at, number_in, IsQueue}
+use Rattle.node_grants.specs.Queue.{number_at}
 use Rattle.node_grants.specs.Starting.{KeepsOrder}
 use Rattle.node_grants.proofs.OrderLemmas.{IsQueue-becomes}
 use Rattle.node_turns.specs.Pacing.{most, GoesOn, Stops, RunsTo, RunsFor}
@@ -212,18 +207,18 @@ module _ (d : Description) (old : Parts) (c : ContextId) (s : Seat) (x : Held) (
       let R : Store → Type 0 = λ h. GoesOn d old (record old { contexts = with_seat old.contexts c (seat_after 0 machine); heap = h }) c 0 in
       let N : ℕ → Type 0 = λ n. GoesOn d old (record old { contexts = with_seat old.contexts c (record s { count = n }) }) c 0 in
       subst R (sym go.1) (subst Q (sym go.0) (subst N none (subst P (sym (with_seat-same old.contexts c s is)) (GoesOn-none d old c order is_ready)))) where
-    none : s.count ≡ s.count + 0
-    none = omega arith
+        none : s.count ≡ s.count + 0
+        none = omega arith
   GoesOn-for (suc k) machine heap go =
       let before = GoesOn-for k go.0 go.1 go.2 in
       let P : ℕ → Type 0 = λ n. GoesOn d old (parts_after (suc k) machine heap) c n in
       subst P same (GoesOn-then d old (parts_after k go.0 go.1) (with_seat old.contexts c (seat_after (suc k) machine)) heap c k is_ready before
       (Executes-with (held_at old.handlers.programs) old.contexts c s x is is_held (seat_after k go.0) (seat_after (suc k) machine) go.1 heap Next refl record { inv = refl; handler = refl } one_more go.3)) where
-    same : k + 1 ≡ suc k
-    same = omega arith
+        same : k + 1 ≡ suc k
+        same = omega arith
 
-    one_more : s.count + suc k ≡ s.count + k + 1
-    one_more = omega arith
+        one_more : s.count + suc k ≡ s.count + k + 1
+        one_more = omega arith
 
   seat-same : (now : Seat) (k : ℕ) → IsSameSeat s now → now.count ≡ s.count + k → seat_after k now.machine ≡ now
   seat-same now k same counted =

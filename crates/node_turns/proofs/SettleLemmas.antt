@@ -1,18 +1,17 @@
 -- One turn after another, until nobody is ready.
-use Rattle.std.proofs.Common.{◌≡◌, ◌≢◌, ◌⊎◌, ℕ, zero, suc, ◌+◌, ◌-◌, ◌<◌, ◌≤◌, Bool, true, false, cond, List, [], ◌∷◌, ◌++◌, Option, Some, None, length, refl, sym, ◌∙◌, ap, subst, arith, inl, inr, length-append, append_assoc}
+use Rattle.std.proofs.Common.{◌≡◌, ◌≢◌, ℕ, ◌+◌, ◌<◌, ◌≤◌, Bool, true, false, List, [], ◌∷◌, ◌++◌, Option, Some, None, refl, sym, ◌∙◌, ap, subst, arith, length-append, append_assoc}
 use Rattle.std.specs.Prelude.{map, slice_get, ◌||◌}
-use Rattle.std.proofs.lemmas.Bool.{cases_eq, eq-eqb}
+use Rattle.std.proofs.lemmas.Bool.{eq-eqb}
 use Rattle.std.proofs.lemmas.List.{append-nil, map-append}
 use Rattle.mate_num.specs.declared.call.Stamp.{Stamp}
 use Rattle.mate_num.specs.declared.id.ContextId.{ContextId}
 use Rattle.mate_num.specs.declared.lock_set.LockSet.{LockSet}
-use Rattle.context_sched.specs.Ready.{is_same, holds, without}
-use Rattle.lock_manager.specs.declared.claim.Claim.{Claim}
+use Rattle.context_sched.specs.Ready.{holds, without}
 use Rattle.lock_manager.specs.Claims.{Claims}
 use Rattle.vm_desc.specs.declared.description.Description.{Description}
 use Rattle.mate_journal.specs.Log.{Log}
 use Rattle.mate_journal.specs.Machine.{Machine}
-use Rattle.mate_journal.specs.Journal.{Told, Event, Ready, Reading, is_live, is_started, journal_of, nothing_heard, heard, heard_all}
+use Rattle.mate_journal.specs.Journal.{Told, Ready, Reading, is_live, journal_of, nothing_heard, heard, heard_all}
 use Rattle.journal_laws.proofs.Append.{heard_all-append}
 use Rattle.node_contexts.specs.declared.seat.Seat.{Seat}
 use Rattle.node_contexts.specs.declared.contexts.Contexts.{Contexts}
@@ -23,23 +22,22 @@ use Rattle.node_invariant.specs.Meaning.{machine_in}
 use Rattle.node_invariant.specs.Fits.{Fits, IsRight}
 use Rattle.node_contexts.specs.At.{IsPlaced}
 use Rattle.node_invariant.specs.Agrees.{Agrees}
-use Rattle.node_invariant.specs.Keeps.{reading, Keeps, IsTimely, event_at, Grows}
+use Rattle.node_invariant.specs.Keeps.{reading, IsTimely, event_at, Grows}
 use Rattle.node_invariant.proofs.FitLemmas.{IsAlone}
 use Rattle.node_invariant.proofs.MoveLemmas.{alone-seat, none_ready}
 use Rattle.node_invariant.proofs.KeepLemmas.{Grows-then, Grows-none}
-use Rattle.node_grants.specs.Queue.{number_at, number_in, Rises, IsQueue}
+use Rattle.node_grants.specs.Queue.{number_at, number_in, Rises}
 use Rattle.node_grants.specs.Totals.{if_waits, if_ready, may_start, owed, left, starts_left, owes, falls}
 use Rattle.mate_journal.specs.Journal.{heard_told}
 use Rattle.mate_journal.specs.Pace.{Pace, others, gives_way}
-use Rattle.mate_journal.specs.Turns.{Clock, Turn, IsTurn, mark_of, after_turn, AreTurns, told_in, pace_after, Settles}
+use Rattle.mate_journal.specs.Turns.{Clock, Turn, IsTurn, mark_of, after_turn, AreTurns, told_in, pace_after}
 use Rattle.node_grants.specs.Pace.{IsPace}
-use Rattle.node_grants.specs.Starting.{KeepsOrder, Rests}
+use Rattle.node_grants.specs.Starting.{Rests}
 use Rattle.node_grants.proofs.QueueLemmas.{Rises-same}
 use Rattle.node_grants.proofs.TotalLemmas.{over_all-same, over_all-less}
-use Rattle.node_grants.proofs.StartLemmas.{map-same}
 use Rattle.node_grants.proofs.OrderLemmas.{live-above}
 use Rattle.node_invariant.specs.Meaning.{clock_of}
-use Rattle.node_turns.specs.Pacing.{most, TakesTurn, AreWithin, SettlesWithin, Chains, SettlesSome, SettlesAll}
+use Rattle.node_turns.specs.Pacing.{most, TakesTurn, AreWithin, Chains, SettlesSome, SettlesAll}
 use Rattle.node_turns.proofs.RunningLemmas.{one, one-ready}
 use Rattle.node_turns.proofs.TurnLemmas.{line-without}
 
@@ -94,7 +92,7 @@ first-is : (ring : List ContextId) (c : ContextId) → Some c ≡ slice_get ring
 first-is [] c e = absurd (let f : Some c ≡ None = e in cc)
 first-is (k ∷ ring) c e = let f : Some c ≡ Some k = e in let g : c ≡ k = cc in (ring, ap (λ (x : ContextId). x ∷ ring) (sym g))
 
-none-first : (ring : List ContextId) → None ≡ slice_get ring 0 → ring ≡ []
+pub none-first : (ring : List ContextId) → None ≡ slice_get ring 0 → ring ≡ []
 none-first [] e = refl
 none-first (k ∷ ring) e = absurd (let f : None ≡ Some k = e in cc)
 
@@ -254,18 +252,21 @@ SettlesAll-from d old next at_ f first = record {
   told = f.told;
   rests = f.rests;
   grows = f.grows;
-  settles = λ p pace. (let h = f.chain p pace in
-      (pace_after (clock_of d) (machine_in d) (reading d old.log) p h.turns, record {
-        settles = record {
-          turns = h.turns;
-          are_turns = h.are_turns;
-          made = h.made;
-          then = refl;
-          empty = h.pace.line ∙ ap (map (number_in next.contexts)) (none-first next.contexts.ring first);
-          settled = λ n is. none n (let P : Reading → Type 0 = λ r. (r.invocations n).phase ≡ Ready in subst P (sym f.heard_is) is);
-        };
-        within = h.within;
-      }, h.pace));
+  settles = λ p pace. (let h = f.chain p pace in (
+    pace_after (clock_of d) (machine_in d) (reading d old.log) p h.turns,
+    record {
+      settles = record {
+        turns = h.turns;
+        are_turns = h.are_turns;
+        made = h.made;
+        then = refl;
+        empty = h.pace.line ∙ ap (map (number_in next.contexts)) (none-first next.contexts.ring first);
+        settled = λ n is. none n (let P : Reading → Type 0 = λ r. (r.invocations n).phase ≡ Ready in subst P (sym f.heard_is) is);
+      };
+      within = h.within;
+    },
+    h.pace,
+  ));
   handlers = f.handlers;
   posts = f.posts;
 } where

@@ -1,5 +1,5 @@
 -- The pace of a node, and what its instructions, calls and ends make of its parts.
-use Rattle.std.specs.Prelude.{◌≡◌, ℕ, ◌+◌, ◌*◌, ◌<◌, ◌≤◌, Bool, true, Some, List, [], ◌∷◌, map, min, length}
+use Rattle.std.specs.Prelude.{◌≡◌, ℕ, ◌+◌, ◌*◌, ◌<◌, ◌≤◌, Some, List, [], ◌∷◌, min, length}
 use Rattle.mate_num.specs.declared.bounds.TheConstants.{CODE_MAX}
 use Rattle.mate_num.specs.declared.call.Stamp.{Stamp}
 use Rattle.mate_num.specs.declared.id.ContextId.{ContextId}
@@ -7,11 +7,10 @@ use Rattle.exec_unit.specs.declared.step_end.StepEnd.{StepEnd}
 use Rattle.exec_unit.specs.declared.step_end.StepEnd.TheVariants.{Next, Ask, Halt, Fault}
 use Rattle.vm_desc.specs.declared.description.Description.{Description}
 use Rattle.mate_journal.specs.Machine.{Machine}
-use Rattle.mate_journal.specs.Journal.{Told, Ready, is_started, Reading, whole_run, changed, heard}
+use Rattle.mate_journal.specs.Journal.{Told, Ready, Reading, whole_run, changed, heard}
 use Rattle.node_contexts.specs.declared.executing.Ran.{Ran}
 use Rattle.node_contexts.specs.declared.seat.Seat.{Seat}
-use Rattle.node_contexts.specs.declared.contexts.Contexts.{Contexts}
-use Rattle.node_contexts.specs.At.{At, at, Becomes}
+use Rattle.node_contexts.specs.At.{at, Becomes}
 use Rattle.node_contexts.specs.Programs.{held_at}
 use Rattle.node_contexts.specs.Executing.{IsSameSeat, Executes}
 use Rattle.node_invariant.specs.declared.parts.Parts.{Parts}

@@ -18,5 +18,11 @@ pub fn run_some(description: &Description, parts: &mut Parts, ctx: ContextId, n:
     ensures { RunsFor description.now parts.old parts.new ctx n result }
 {
     let _turns = description.turns;
-    turn(&mut parts.contexts, &parts.handlers, &mut parts.heap, ctx, n)
+    turn(
+        &mut parts.contexts,
+        &parts.handlers,
+        &mut parts.heap,
+        ctx,
+        n,
+    )
 }

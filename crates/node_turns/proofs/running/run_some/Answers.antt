@@ -1,5 +1,5 @@
 -- The ready invocation can execute, and each instruction that goes on keeps what the node keeps.
-use Rattle.std.proofs.Common.{◌<◌, ◌^◌, ◌+◌, ◌*◌, arith}
+use Rattle.std.proofs.Common.{◌<◌, ◌^◌, arith}
 use Rattle.std.proofs.lemmas.Grind.{common_steps}
 use Rattle.node_turns.specs.Pacing.{most}
 use Rattle.node_turns.proofs.RunningLemmas.{CanExecute-ready, RunsFor-from}

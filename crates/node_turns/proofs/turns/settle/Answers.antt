@@ -1,8 +1,8 @@
 -- The first of the ring goes last, and has a turn.
-use Rattle.std.proofs.Common.{ap, ◌∙◌, ◌≡◌, ◌<◌, ◌≤◌, ◌+◌, arith, length}
+use Rattle.std.proofs.Common.{ap, ◌∙◌, ◌<◌, arith}
 use Rattle.node_contexts.specs.At.{At}
 use Rattle.node_turns.specs.Pacing.{most}
-use Rattle.node_grants.specs.Totals.{falls, owes}
+use Rattle.node_grants.specs.Totals.{falls}
 use Rattle.node_turns.proofs.SettleLemmas.{first-ready, Rests-way, owes-way, falls-way, SettlesSome-none, SettlesSome-then, SettlesAll-from, room-turn}
 use Rattle.node_turns.proofs.turns.settle.Goals as goal
 

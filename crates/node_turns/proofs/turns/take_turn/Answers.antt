@@ -1,5 +1,5 @@
 -- The instructions, what they end with, and the starts after an end.
-use Rattle.std.proofs.Common.{inl, refl, sym, ap, subst}
+use Rattle.std.proofs.Common.{inl, refl}
 use Rattle.mate_num.specs.declared.call.End.TheVariants as end
 use Rattle.mate_journal.specs.declared.entry.Entry.TheVariants as entry
 use Rattle.node_invariant.proofs.EntryLemmas.{IsClosing-halt, IsClosing-fault}
