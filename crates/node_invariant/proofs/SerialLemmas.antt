@@ -197,7 +197,7 @@ one_value xs ys v as_long same =
       | inr beyond ↦ ap (take 1) (drop_all v xs (omega arith) ∙ sym (drop_all v ys (omega arith)))
     ]
 
-values-read : (s t : Store) (q : Resource) → AreAsLong s t → read s q ≡ read t q → values_at s q ≡ values_at t q
+pub values-read : (s t : Store) (q : Resource) → AreAsLong s t → read s q ≡ read t q → values_at s q ≡ values_at t q
 values-read s t (Shared v) as_long same = one_value s.shared.items t.shared.items v.0 as_long.shared (let e : value_at s v.0 ∷ [] ≡ value_at t v.0 ∷ [] = same in cc)
 values-read s t (Buffer b) as_long same = same
 values-read s t (Device d) as_long same = refl
