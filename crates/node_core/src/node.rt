@@ -10,6 +10,7 @@ ghost use Rattle.node_invariant.specs.Meaning.{machine_in, clock_of};
 ghost use Rattle.node_invariant.specs.Keeps.{IsTimely};
 ghost use Rattle.node_grants.specs.Starting.{Rests};
 ghost use Rattle.node_turns.specs.Pacing.{SettlesWithin};
+ghost use Rattle.node_calls.specs.Calls.{NobodyWaits};
 ghost use Rattle.node_core.specs.Journal.{KeepsJournal};
 
 use crate::standing::{Asked, NotReady, Standing};
@@ -58,7 +59,7 @@ fn keeps_journal(description: &Description, parts: &Parts)
 
 impl Node {
     ghost use Rattle.node_core.specs.View.{heard_of, HasPace, Tells, IsSameNode};
-    ghost use Rattle.node_core.specs.Calls.{HasStepped, StandsAs, IsWaitingIn, IsAsked, IsImageOf};
+    ghost use Rattle.node_core.specs.Calls.{HasStepped, StandsAs, IsAsked, IsImageOf};
 
     /// A node of this machine. Nothing is installed, all variables are 0, all buffers are empty, and nothing was told.
     pub fn new(alloc: Global, description: &Description) -> Result<Node, NoMemory>
@@ -138,7 +139,7 @@ impl Node {
     /// The call that the invocation in the context waits with; None exactly where none waits there.
     pub fn asked(&self, ctx: ContextId) -> Option<Asked>
         requires { ctx.0 < 16 }
-        ensures { MatchOption result (IsWaitingIn (heard_of self.now) ctx → ⊥) (IsAsked (heard_of self.now) ctx) }
+        ensures { MatchOption result (NobodyWaits (heard_of self.now) ctx) (IsAsked (heard_of self.now) ctx) }
     {
         let (fun, args) = self.parts.contexts.asked(ctx)?;
         let inv = self.parts.contexts.seat(ctx)?.inv;
