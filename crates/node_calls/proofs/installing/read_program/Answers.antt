@@ -15,7 +15,7 @@ pub returns-in_err-code : goal.returns-in_err-code
 returns-in_err-code c =
     let e = err_from_is_err_and c.from_residual-in_err-code.result c.from_residual-in_err-code.ensures.1 in
     rw (e.1, e.2) (λ r.
-        IsUnverified-from c.args.description.now c.args.bytes.now c.as_slice.result.now c.in_ok-capsule.capsule c.in_err-code.field-0.0 c.in_ok-capsule.ensures.value c.as_slice.ensures.value c.in_err-code.ensures)
+    IsUnverified-from c.args.description.now c.args.bytes.now c.as_slice.result.now c.in_ok-capsule.capsule c.in_err-code.field-0.0 c.in_ok-capsule.ensures.value c.as_slice.ensures.value c.in_err-code.ensures)
 
 pub returns : goal.returns
 returns c =
