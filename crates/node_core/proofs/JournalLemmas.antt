@@ -7,12 +7,16 @@ use Rattle.mate_journal.specs.WellFormed.{IsWellFormed}
 use Rattle.mate_journal.specs.Serial.{IsSerial}
 use Rattle.mate_journal.specs.Stores.{ShowsStores}
 use Rattle.mate_journal.specs.Grants.{AllHeldBack, GrantsInOrder}
+use Rattle.mate_journal.specs.Machine.{Machine}
+use Rattle.mate_journal.specs.Devices.{DeviceOf, WritesWhatItAsks, AsksDevicesInOrder}
+use Rattle.journal_laws.specs.Progress.{GoesForward}
 use Rattle.journal_laws.specs.Growth.{GrantsBefore}
 use Rattle.journal_laws.proofs.Append.{journal_of-same, NamesInLog-same, GrantsInOrder-join}
 use Rattle.journal_laws.proofs.Apart.{nothing_heard-orderly}
 use Rattle.journal_laws.proofs.Order.{ends-in_order}
 use Rattle.journal_laws.proofs.Progress.{never-stuck}
 use Rattle.node_contexts.specs.Programs.{held_at}
+use Rattle.node_invariant.proofs.AskLemmas.{writes-what_it_asks}
 use Rattle.node_invariant.specs.declared.parts.Parts.{Parts}
 use Rattle.node_invariant.specs.Meaning.{machine_in}
 use Rattle.node_invariant.specs.Fits.{AreInstalled, Fits}
@@ -27,8 +31,19 @@ grants-of : (d : Description) (s : Parts) → Rests d s → GrantsInOrder (machi
 unfolding reading
 grants-of d s rests = GrantsInOrder-join (machine_in d) (nothing_heard (machine_in d)) 0 (journal_of s.log) rests.order.grants rests.held
 
-pub KeepsJournal-rests : (d : Description) (s : Parts) → Rests d s → KeepsJournal (machine_in d) s.log
-KeepsJournal-rests d s rests =
+pub Forward : (d : Description) (s : Parts) → Rests d s → GoesForward (reading d s.log)
+unfolding reading
+Forward d s rests =
+    let m = machine_in d in
+    (never-stuck m (nothing_heard m) 0 (journal_of s.log) rests.order.keeps.well_formed.follow (grants-of d s rests) (record { numbered = (nothing_heard-orderly m).numbered })).last
+
+-- the calls to devices are in order in each such journal
+abbrev pub InOrder : Type 0
+InOrder = (m : Machine) (es : List Event) (device_of : DeviceOf) → WritesWhatItAsks device_of m.meaning → IsWellFormed m (nothing_heard m) es → IsSerial m (nothing_heard m) es
+    → GrantsInOrder m (nothing_heard m) 0 es → AsksDevicesInOrder device_of es
+
+pub KeepsJournal-rests : (d : Description) (s : Parts) → InOrder → Rests d s → KeepsJournal (machine_in d) s.log
+KeepsJournal-rests d s in_order rests =
     let m = machine_in d in
     let keeps = rests.order.keeps in
     let grants = grants-of d s rests in
@@ -38,6 +53,7 @@ KeepsJournal-rests d s rests =
       stores = keeps.shows;
       grants = grants;
       never_stuck = never-stuck m (nothing_heard m) 0 (journal_of s.log) keeps.well_formed.follow grants (record { numbered = (nothing_heard-orderly m).numbered });
+      devices = in_order m (journal_of s.log) m.device_of (writes-what_it_asks d) keeps.well_formed keeps.serial grants;
       ends_as_posted = ends-in_order m (nothing_heard m) 0 (journal_of s.log) keeps.well_formed.follow rests.order.grants (nothing_heard-orderly m);
     }
 

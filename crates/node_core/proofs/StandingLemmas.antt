@@ -21,7 +21,7 @@ use Rattle.node_invariant.proofs.MoveLemmas.{none_ready, none_waits, answering, 
 use Rattle.node_grants.specs.Starting.{Rests}
 use Rattle.node_turns.proofs.RunningLemmas.{one, one-ready}
 use Rattle.node_core.specs.Calls.{IsNoneReady, IsWaitingIn, IsImageOf}
-use Rattle.node_core.proofs.JournalLemmas.{KeepsJournal-rests}
+use Rattle.node_core.proofs.JournalLemmas.{Forward}
 
 -- ---- who is ready
 
@@ -58,12 +58,8 @@ module _ (d : Description) (s : Parts) (keeps : Keeps d s) where
   pub nobody-waits : (c : ContextId) → (at s.contexts c).call ≡ None → IsWaitingIn r c → ⊥
   nobody-waits c none w = none_waits h r s.contexts c keeps.fits none w.invocation w.waits.fun w.waits.args w.waits.waits w.context
 
-  forward : Rests d s → GoesForward r
-  unfolding reading
-  forward rests = (KeepsJournal-rests d s rests).never_stuck.last
-
   pub none-live : Rests d s → s.contexts.ring ≡ [] → IsNoneAsking s.contexts → IsNoneLive r
-  none-live rests empty none = by (forward rests) where
+  none-live rests empty none = by (Forward d s rests) where
     by : GoesForward (reading d s.log) → IsNoneLive (reading d s.log)
     by (inl x) = absurd (nobody-ready d s keeps empty x.invocation x.ready)
     by (inr (inl x)) = absurd (

@@ -8,9 +8,12 @@ ghost use Rattle.mate_journal.specs.Pace.{Pace, no_pace};
 ghost use Rattle.mate_journal.specs.NodeScript.{IsReadyIn};
 ghost use Rattle.node_invariant.specs.Meaning.{machine_in, clock_of};
 ghost use Rattle.node_invariant.specs.Keeps.{IsTimely};
+ghost use Rattle.node_grants.specs.Starting.{Rests};
 ghost use Rattle.node_turns.specs.Pacing.{SettlesWithin};
+ghost use Rattle.node_core.specs.Journal.{KeepsJournal};
 
 use crate::standing::{Asked, NotReady, Standing};
+use journal_laws::asks_devices_in_order;
 use mate_journal::NodeLog;
 use mate_num::{ContextId, HandlerId, Image, NoMemory, Stamp};
 use node_contexts::{Contexts, Handlers};
@@ -43,9 +46,18 @@ impl Model for Node {
     ghost invariant = { IsRight };
 }
 
+/// What the log of a node that rests keeps.
+fn keeps_journal(description: &Description, parts: &Parts)
+    requires { Rests description.now parts.now }
+    ensures { KeepsJournal (machine_in description.now) parts.now.log }
+{
+    let _description = description;
+    let _parts = parts;
+    asks_devices_in_order();
+}
+
 impl Node {
     ghost use Rattle.node_core.specs.View.{heard_of, HasPace, Tells, IsSameNode};
-    ghost use Rattle.node_core.specs.Journal.{KeepsJournal};
     ghost use Rattle.node_core.specs.Calls.{HasStepped, StandsAs, IsWaitingIn, IsAsked, IsImageOf};
 
     /// A node of this machine. Nothing is installed, all variables are 0, all buffers are empty, and nothing was told.
@@ -155,6 +167,7 @@ impl Node {
         ensures same { result.now ≡ self.now.log }
         ensures keeps { KeepsJournal (machine_in self.now.description) self.now.log }
     {
+        keeps_journal(&self.description, &self.parts);
         &self.parts.log
     }
 
@@ -163,6 +176,7 @@ impl Node {
         ensures same { result ≡ self.log }
         ensures keeps { KeepsJournal (machine_in self.description) self.log }
     {
+        keeps_journal(&self.description, &self.parts);
         self.parts.log
     }
 }
