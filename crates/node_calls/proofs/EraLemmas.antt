@@ -13,9 +13,9 @@ use Rattle.mate_journal.specs.Journal.{Told, Reset, Seen, told_of, Phase, is_liv
 use Rattle.mate_journal.specs.Grants.{AllHeldBack, IsGranted}
 use Rattle.mate_journal.specs.NodeScript.{Resets}
 use Rattle.mate_journal.specs.Serial.{EndsAsRun}
-use Rattle.mate_journal.specs.Stores.{ShowsStore}
+use Rattle.mate_journal.specs.Stores.{ShowsStore, IsSeenBefore}
 use Rattle.mate_journal.specs.WellFormed.{MayFollow}
-use Rattle.journal_laws.specs.Growth.{IsPushed, IsNamedBelow, IsSeenBefore, last_is_seen}
+use Rattle.journal_laws.specs.Growth.{IsPushed, IsNamedBelow, last_is_seen}
 use Rattle.journal_laws.proofs.Append.{last_is_seen-push}
 use Rattle.journal_laws.proofs.Moves.{Cuts}
 use Rattle.exec_unit.specs.Step.{HasLengths}

@@ -277,10 +277,10 @@ module _ (d : Description) (old mid next : Parts) (at_ : Stamp) (bytes : List �
   RestsAgain-once new payload answer always empty posted =
       RestsAgain-then d old next new at_ (λ told. told ≡ Seen old.heap ∷ Installed p ∷ []) (PostGives m (reading d next.log) i.handler payload answer) (AtPace d old (InstallsBytes d r bytes)) both posted
       (λ xs ys e gives.
-          (let Q : Reading → Type 0 = λ q. PostGives m q i.handler payload answer ys in
-          let O : List ℤ → Type 0 = λ values. Occasion m (heard m r (Installed p)) i.handler (record { items = values }) ys in
-          installs ys (xs ++ ys) (ap (λ (l : List Told). l ++ ys) e) (λ is. subst O empty (Occasion-gives m (heard m r (Installed p)) i.handler payload answer ys (subst Q heard-next gives)))
-          (λ never. absurd (let f : false ≡ true = sym never ∙ always in cc))))
+      (let Q : Reading → Type 0 = λ q. PostGives m q i.handler payload answer ys in
+      let O : List ℤ → Type 0 = λ values. Occasion m (heard m r (Installed p)) i.handler (record { items = values }) ys in
+      installs ys (xs ++ ys) (ap (λ (l : List Told). l ++ ys) e) (λ is. subst O empty (Occasion-gives m (heard m r (Installed p)) i.handler payload answer ys (subst Q heard-next gives)))
+      (λ never. absurd (let f : false ≡ true = sym never ∙ always in cc))))
 
 -- ---- refusals
 

@@ -49,7 +49,7 @@ use Rattle.node_grants.specs.Starting.{Rests, IsStarting, IsRoomForAll, StartsAl
 use Rattle.node_grants.proofs.OrderLemmas.{heard-by, grows-by}
 use Rattle.node_grants.proofs.PostLemmas.{Continues-posted, IsStarting-posted, AllBut-new}
 use Rattle.node_calls.specs.Calls.{RestsAgain}
-use Rattle.node_calls.specs.Posting.{IsFirstFree, AreTaken, CanQueue, IsQueued}
+use Rattle.node_calls.specs.Posting.{IsFirstFree, HasNoneFree, CanQueue, IsQueued}
 use Rattle.node_calls.proofs.QuietLemmas.{RestsAgain-as}
 use Rattle.node_calls.proofs.SeenLemmas.{RestsAgain-dropped}
 
@@ -103,7 +103,7 @@ module _ (d : Description) (old : Parts) (log : Log) (stamp : Stamp) (h : Handle
       RestsAgain-as d old (record old { log = log }) stamp (λ told. told ≡ Dropped h drop.NoCode ∷ []) (DropsNoCode (reading d old.log) h)
       (RestsAgain-dropped d old log stamp rests timely h drop.NoCode pushed room) (λ told made. record { no_code = none-heard d old h rests is; made = made })
 
-  pub RestsAgain-all_busy : (x : Held) → held_at old.handlers.programs h ≡ Some x → AreTaken (machine_in d) old.contexts h → IsPushed old.log record { stamp = stamp; entry = entry.Dropped h drop.AllBusy } log
+  pub RestsAgain-all_busy : (x : Held) → held_at old.handlers.programs h ≡ Some x → HasNoneFree (machine_in d) old.contexts h → IsPushed old.log record { stamp = stamp; entry = entry.Dropped h drop.AllBusy } log
       → RestsAgain d old (record old { log = log }) stamp (DropsAllBusy (machine_in d) (reading d old.log) h)
   RestsAgain-all_busy x is taken pushed =
       RestsAgain-as d old (record old { log = log }) stamp (λ told. told ≡ Dropped h drop.AllBusy ∷ []) (DropsAllBusy (machine_in d) (reading d old.log) h)
@@ -225,14 +225,17 @@ RestsAgain-posted d old mid new at_ h payload n q starts = record {
   adds = record {
     told = Posted n h q.context payload ∷ starts.some.told;
     grows = Grows-then old.log mid.log new.log at_ (Posted n h q.context payload ∷ []) starts.some.told q.grows starts.some.grows;
-    made = (q.number, record {
-      context = q.context;
-      starts = starts.some.told;
-      code = q.code;
-      first_idle = q.first_idle;
-      are_starts = starts.some.starts;
-      made = ap (λ (k : ℕ). Posted k h q.context payload ∷ starts.some.told) q.number;
-    });
+    made = (
+      q.number,
+      record {
+        context = q.context;
+        starts = starts.some.told;
+        code = q.code;
+        first_idle = q.first_idle;
+        are_starts = starts.some.starts;
+        made = ap (λ (k : ℕ). Posted k h q.context payload ∷ starts.some.told) q.number;
+      },
+    );
   };
   rests = record { order = starts.some.starting.order; held = starts.held };
   pace = λ p pace. starts.some.pace p (q.pace p pace);
@@ -269,5 +272,5 @@ module _ (m : Machine) (s : Contexts) (h : HandlerId) (first count place : ℕ) 
     lower = λ k of_handler below. (let from = of_handler.from in before k (omega arith) below);
   }
 
-  pub all-taken : first + count ≤ place → AreTaken m s h
+  pub all-taken : first + count ≤ place → HasNoneFree m s h
   all-taken past k of_handler = let from = of_handler.from in let below = of_handler.below in before k (omega arith) (omega arith)

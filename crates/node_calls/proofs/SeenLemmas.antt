@@ -28,7 +28,6 @@ pub record IsShownIn (l : Log) (store : Store) (at : Stamp) (after : Log) : Type
   pub images : after.images ≡ l.images
   pub stores : after.stores ≡ l.stores ++ store ∷ []
 
-
 module _ (d : Description) (old : Parts) (log : Log) (stamp : Stamp) (rests : Rests d old) (timely : IsTimely stamp old.log) where
   abbrev keeps : Keeps d old
   keeps = rests.order.keeps

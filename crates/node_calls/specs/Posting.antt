@@ -36,8 +36,8 @@ pub record IsFirstFree (m : Machine) (contexts : Contexts) (h : HandlerId) (c : 
   pub lower : (k : ContextId) → IsContextOf m h k → k.0 < c.0 → IsSome (at contexts k).seat
 
 -- an invocation has each context of the handler
-abbrev pub AreTaken : Machine → Contexts → HandlerId → Type 0
-AreTaken m contexts h = (k : ContextId) → IsContextOf m h k → IsSome (at contexts k).seat
+abbrev pub HasNoneFree : Machine → Contexts → HandlerId → Type 0
+HasNoneFree m contexts h = (k : ContextId) → IsContextOf m h k → IsSome (at contexts k).seat
 
 -- the context of the handler can take an invocation that is to have these locks
 pub record CanQueue (d : Description) (s : Parts) (h : HandlerId) (c : ContextId) (locks : LockSet) : Type 0 where

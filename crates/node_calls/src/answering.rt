@@ -25,7 +25,7 @@ pub fn answer_in(
     requires rests { Rests description.now parts.old }
     requires timely { IsTimely at parts.old.log }
     requires room { 1 ≤ parts.old.log.spare }
-    requires small { ctx.0 < 16 }
+    requires context { ctx.0 < 16 }
     ensures { MatchResult result
         (λ _. RestsAgain description.now parts.old parts.new at (Answers (reading description.now parts.old.log) ctx value))
         (λ _. NobodyWaits (reading description.now parts.old.log) ctx × (parts.new ≡ parts.old)) }

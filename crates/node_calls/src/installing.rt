@@ -33,26 +33,42 @@ pub enum InstallFault {
     NotNewer { held: u32 },
 }
 
+impl From<CapsuleFault> for InstallFault {
+    ghost use Rattle.std.specs.Prelude.{◌≡◌};
+    ghost use Rattle.node_calls.specs.declared.installing.InstallFault.TheVariants.{Capsule};
+
+    ghost from_gives = { λ fault refusal. refusal ≡ Capsule fault };
+
+    fn from(fault: CapsuleFault) -> InstallFault {
+        InstallFault::Capsule(fault)
+    }
+}
+
+impl From<VerifyFault> for InstallFault {
+    ghost use Rattle.std.specs.Prelude.{◌≡◌};
+    ghost use Rattle.node_calls.specs.declared.installing.InstallFault.TheVariants.{Code};
+
+    ghost from_gives = { λ fault refusal. refusal ≡ Code fault };
+
+    fn from(fault: VerifyFault) -> InstallFault {
+        InstallFault::Code(fault)
+    }
+}
+
 /// A program that can be installed for the handler.
 #[derive(Drop)]
-pub struct Installable {
-    pub handler: HandlerId,
-    pub held: Held,
+struct Installable {
+    handler: HandlerId,
+    held: Held,
 }
 
 /// The program that the bytes are, with the locks that its code takes; or why they are none.
 fn read_program(description: &Description, bytes: &[u8]) -> Result<Installable, InstallFault>
     ensures { MatchResult result (IsInstallable description.now bytes.now) (λ fault. RefusesBytes description.now bytes.now fault) }
 {
-    let capsule = match decode(description, bytes) {
-        Ok(capsule) => capsule,
-        Err(fault) => return Err(InstallFault::Capsule(fault)),
-    };
+    let capsule = decode(description, bytes)?;
     let table = Table::of(&shape(description));
-    let code = match verify(&table, description, capsule.code.as_slice()) {
-        Ok(code) => code,
-        Err(fault) => return Err(InstallFault::Code(fault)),
-    };
+    let code = verify(&table, description, capsule.code.as_slice())?;
     let locks = locks(description, &code);
     let Ok(image) = Image::try_from(bytes) else {
         unreachable!()
@@ -68,7 +84,7 @@ fn read_program(description: &Description, bytes: &[u8]) -> Result<Installable, 
     })
 }
 
-/// A handler's programs have eight places.
+/// The programs of the handlers have eight places.
 fn places_are_eight(programs: &[Option<Held>; 8])
     ensures { length programs.now ≡ 8 }
 {

@@ -1,4 +1,7 @@
-//! The calls of a node that its outside makes, from rest to rest: answers, posts, installs, resets, stores that are seen.
+//! The calls of a node that its outside makes, from rest to rest: posts, answers, installs, resets, stores that are told.
+//!
+//! Each takes a node that rests, a stamp that may follow that of the last entry, room for the entries that it tells (their
+//! greatest number), and a log whose positions are far from a u32's end. After it the node rests again.
 #![tactic(auto)]
 
 pub mod answering;

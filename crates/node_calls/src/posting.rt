@@ -6,7 +6,7 @@ ghost use Rattle.node_invariant.specs.Keeps.{reading, IsTimely};
 ghost use Rattle.node_invariant.specs.Meaning.{machine_in};
 ghost use Rattle.node_grants.specs.Starting.{Rests};
 ghost use Rattle.node_calls.specs.Calls.{RestsAgain};
-ghost use Rattle.node_calls.specs.Posting.{PostGives, IsFirstFree, AreTaken, CanQueue, IsQueued};
+ghost use Rattle.node_calls.specs.Posting.{PostGives, IsFirstFree, HasNoneFree, CanQueue, IsQueued};
 
 use exec_unit::Machine;
 use mate_journal::{DropCause, Entry};
@@ -44,7 +44,7 @@ fn first_free(
 ) -> Option<ContextId>
     requires { handler.0 < length description.now.handlers.items }
     ensures { MatchOption result
-        (AreTaken (machine_in description.now) contexts.now handler)
+        (HasNoneFree (machine_in description.now) contexts.now handler)
         (IsFirstFree (machine_in description.now) contexts.now handler) }
 {
     let first = description.first_context(handler).0;

@@ -5,7 +5,7 @@ use Rattle.node_calls.proofs.AnswerLemmas.{CanAnswer-waiting, RestsAgain-answer}
 use Rattle.node_calls.proofs.answering.answer_in.Goals as goal
 
 pub answer-requires : goal.answer-requires
-answer-requires c = CanAnswer-waiting c.args.description.now c.args.parts.now c.args.ctx c.in-Some.field-0 c.requires.rests c.requires.small (sym c.in-Some.ensures)
+answer-requires c = CanAnswer-waiting c.args.description.now c.args.parts.now c.args.ctx c.in-Some.field-0 c.requires.rests c.requires.context (sym c.in-Some.ensures)
 
 pub returns : goal.returns
 returns c =
