@@ -12,7 +12,9 @@ ghost use Rattle.node_calls.specs.Installing.{InstallsBytes, Refuses};
 use crate::node::Node;
 use mate_journal::VoidCause;
 use mate_num::{ContextId, HandlerId, Payload, Stamp};
-use node_calls::{InstallFault, PostAnswer, answer_in, install_in, post_in, reset_in, seen_in, void_in};
+use node_calls::{
+    InstallFault, PostAnswer, answer_in, install_in, post_in, reset_in, seen_in, void_in,
+};
 use split_phase::NotWaiting;
 
 impl Node {
