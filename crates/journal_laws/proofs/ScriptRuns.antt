@@ -2,7 +2,7 @@
 use Rattle.std.proofs.Common.{◌≡◌, ◌<◌, ℕ, suc, ◌+◌, List, [], ◌∷◌, ◌++◌, length, refl, sym, ◌∙◌, ap, subst, arith, append_assoc, length-append}
 use Rattle.std.proofs.lemmas.List.{append-nil}
 use Rattle.mate_journal.specs.Machine.{Machine}
-use Rattle.mate_journal.specs.Journal.{Event, Told, Reading, heard, heard_all, heard_told, told_by}
+use Rattle.mate_journal.specs.Journal.{Event, Reading, heard, heard_all, heard_told, told_by}
 use Rattle.mate_journal.specs.Pace.{Pace}
 use Rattle.mate_journal.specs.Turns.{Clock}
 use Rattle.mate_journal.specs.NodeScript.{Step, records_max, AreOfEvent, Makes, HaveMade}

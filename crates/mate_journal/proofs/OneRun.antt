@@ -1,5 +1,5 @@
 -- The journal of one install, one post and one run of an invocation that ends: it owes nothing.
-use Rattle.std.proofs.Common.{◌≡◌, ◌≤◌, ◌<◌, ℕ, Bool, false, IsTrue, List, [], ◌∷◌, ℤ, length, map, refl, sym, ap, subst, arith, inl, inr, ◌≢◌, lit<, lit≤}
+use Rattle.std.proofs.Common.{zero, ◌++◌, suc, ◌+◌, ◌≡◌, ◌≤◌, ◌<◌, ℕ, Bool, false, IsTrue, List, [], ◌∷◌, ℤ, length, map, refl, sym, ap, subst, arith, inl, inr, ◌≢◌, lit<, lit≤}
 use Rattle.std.proofs.lemmas.Bool.Decides.{eqb_tells}
 use Rattle.std.proofs.lemmas.List.Elements.{All-from_recursion}
 use Rattle.arrayvec.specs.ArrayVec.{ArrayVec}
@@ -11,11 +11,13 @@ use Rattle.mate_num.specs.declared.id.HandlerId.{HandlerId}
 use Rattle.mate_num.specs.declared.id.ContextId.{ContextId}
 use Rattle.mate_num.specs.declared.store.Store.{Store}
 use Rattle.mate_journal.specs.Machine.{Machine, HeldProgram, Outcome, IsContextOf}
-use Rattle.mate_journal.specs.Journal.{Phase, Ready, Waiting, Over, told_by, Told, Posted, Started, Ended, Installed, Seen, Event, Reading, nothing_heard, heard, is_started, Queued, changed, Invocation}
+use Rattle.mate_journal.specs.Journal.{Phase, Ready, Waiting, Over, told_by, Told, Posted, Started, Asked, Ended, Installed, Seen, Event, Reading, nothing_heard, heard, is_started, Queued, changed, Invocation}
 use Rattle.mate_journal.specs.WellFormed.{IsWellFormed, Closes, NotBefore}
 use Rattle.mate_journal.specs.Serial.{IsSerial, RunsSoFar}
 use Rattle.mate_journal.specs.Stores.{ShowsStores, IsShown}
 use Rattle.mate_journal.specs.Grants.{GrantsInOrder, AllHeldBack, MayStart, IsStart}
+use Rattle.mate_journal.specs.Positions.{TellsAt}
+use Rattle.mate_journal.specs.Devices.{DeviceOf, AsksAt, AsksDevicesInOrder}
 use Rattle.mate_journal.specs.Pace.{Pace, no_pace, paced, gives_way}
 use Rattle.mate_journal.specs.Turns.{Clock, ShowsReady, entry_at, Turn, IsTurn, after_step, Settles}
 use Rattle.mate_journal.specs.NodeScript.{Step, Install, Post, Run, Whole, IsRunOf, HaveMade, AreOfEvent, Installs, Posts}
@@ -79,6 +81,18 @@ untrue b holds fails = cc
 
 in_order : (a b : ℕ) → a ≤ b → NotBefore (record { event = a; time = 0 }) (record { event = b; time = 0 })
 in_order a b h = record { event = h; time = omega arith; same = λ _. refl }
+
+-- what a part tells, the whole tells
+TellsAt-before : (es back : List Event) (q : ℕ) (t : Told) → TellsAt es q t → TellsAt (es ++ back) q t
+TellsAt-before [] back q t tells = absurd tells
+TellsAt-before (e ∷ es) back zero t tells = tells
+TellsAt-before (e ∷ es) back (suc q) t tells = TellsAt-before es back q t tells
+
+TellsAt-behind : (front es : List Event) (q : ℕ) (t : Told) → TellsAt es q t → TellsAt (front ++ es) (length front + q) t
+TellsAt-behind [] es q t tells = let same : length {A = Event} [] + q ≡ q = omega arith in subst (λ (i : ℕ). TellsAt es i t) (sym same) tells
+TellsAt-behind (e ∷ front) es q t tells =
+    let next : length (e ∷ front) + q ≡ suc (length front + q) = omega arith in
+    subst (λ (i : ℕ). TellsAt (e ∷ (front ++ es)) i t) (sym next) (TellsAt-behind front es q t tells)
 
 module _ (k : Clock) (m : Machine) (version : ℕ) (image : ArrayVec ℕ) where
   abbrev p : HeldProgram
@@ -204,6 +218,23 @@ module _ (k : Clock) (m : Machine) (version : ℕ) (image : ArrayVec ℕ) where
           | inl live ↦ untrue (is_started (posted.invocations k).phase) live (each_posted IsQuiet refl (λ k _. refl) k)
           | inr earlier ↦ past_changed NotQueued before 1 (one Queued) k (λ e. let below : k < 1 = earlier.0 in omega arith) (λ e. cc) earlier.1
         ]
+
+  -- it has no call
+  no_call : (e : End) (n q : ℕ) (f : FunId) (args : ArrayVec ℤ)
+      → TellsAt (at 1 (Seen m.zero_store) ∷ at 1 (Installed p) ∷ at 2 (Posted 1 main first empty) ∷ at 2 (Started 1) ∷ at 3 (Ended 1 e) ∷ at 4 (Seen (first_run m p).store) ∷ []) q (Asked n f args) → ⊥
+  no_call e n zero f args tells = cc
+  no_call e n (suc zero) f args tells = cc
+  no_call e n (suc (suc zero)) f args tells = cc
+  no_call e n (suc (suc (suc zero))) f args tells = cc
+  no_call e n (suc (suc (suc (suc zero)))) f args tells = cc
+  no_call e n (suc (suc (suc (suc (suc zero))))) f args tells = cc
+  no_call e n (suc (suc (suc (suc (suc (suc q)))))) f args tells = tells
+
+  pub one_run-devices : (device_of : DeviceOf) → AsksDevicesInOrder device_of (one_run m p)
+  one_run-devices device_of front era back d is one_era = record { rising = λ j k q q' _ _ asks _. absurd (no_asks j q asks); one_open = λ j k q q' _ _ asks _. absurd (no_asks j q asks) } where
+    no_asks : (n q : ℕ) → AsksAt device_of d era n q → ⊥
+    no_asks n q asks = no_call (first_run m p).end n (length front + q) asks.fun asks.args
+        (subst (λ (es : List Event). TellsAt es (length front + q) (Asked n asks.fun asks.args)) (sym is) (TellsAt-behind front (era ++ back) q (Asked n asks.fun asks.args) (TellsAt-before era back q (Asked n asks.fun asks.args) asks.tells)))
 
   pub one_run-events : RunsToEnd k m p → IsRunOf k m Whole (one_script p) (one_run m p)
   one_run-events h = record {

@@ -5,6 +5,8 @@ pub mod WellFormed
 pub mod Serial
 pub mod Stores
 pub mod Grants
+pub mod Positions
+pub mod Devices
 pub mod Pace
 pub mod Turns
 pub mod NodeScript

@@ -4,9 +4,9 @@ use Rattle.mate_num.specs.declared.call.Stamp.{Stamp}
 use Rattle.mate_journal.specs.declared.entry.Entry.{Entry}
 use Rattle.mate_journal.specs.Log.{Log}
 use Rattle.mate_journal.specs.Journal.{Told, told_of, journal_of, Reading, heard}
-use Rattle.journal_laws.specs.Growth.{NamesInLog, IsNamedBelow, IsPushed, IsSeenBefore, last_is_seen}
+use Rattle.journal_laws.specs.Growth.{NamesInLog, IsNamedBelow, IsPushed, last_is_seen}
 use Rattle.mate_journal.specs.Serial.{EndsAsRun}
-use Rattle.mate_journal.specs.Stores.{ShowsStore}
+use Rattle.mate_journal.specs.Stores.{ShowsStore, IsSeenBefore}
 use Rattle.mate_journal.specs.WellFormed.{MayFollow}
 use Rattle.exec_unit.specs.Step.{HasLengths}
 use Rattle.vm_desc.specs.declared.description.Description.{Description}

@@ -1,5 +1,5 @@
 -- Devices: in one era the calls to a device come in the order in which the invocations are read.
-use Rattle.std.specs.Prelude.{◌≡◌, ◌≢◌, ◌<◌, ℕ, ℤ, IsTrue, List, Option, Some}
+use Rattle.std.specs.Prelude.{◌≡◌, ◌≢◌, ◌<◌, ℕ, ℤ, IsTrue, List, ◌++◌, Option, Some}
 use Rattle.arrayvec.specs.ArrayVec.{ArrayVec}
 use Rattle.mate_num.specs.declared.call.End.TheVariants as end
 use Rattle.mate_num.specs.declared.id.DeviceId.{DeviceId}
@@ -8,7 +8,7 @@ use Rattle.mate_num.specs.declared.resource.Resource.TheVariants.{Device}
 use Rattle.mate_num.specs.declared.store.Store.{Store}
 use Rattle.mate_journal.specs.Machine.{HeldProgram, Meaning}
 use Rattle.mate_journal.specs.Journal.{Asked, Event}
-use Rattle.journal_laws.specs.Positions.{TellsAt, EndsAt}
+use Rattle.mate_journal.specs.Positions.{TellsAt, EndsAt, AreOfOneEra}
 
 -- the device that each function speaks to, if any
 abbrev pub DeviceOf : Type 0
@@ -44,3 +44,7 @@ NeverEnds era n = (p : ℕ) → EndsAt era n p → ⊥
 pub record AsksInOrder (device_of : DeviceOf) (d : DeviceId) (era : List Event) : Type 0 where
   pub rising : (j k p q : ℕ) → j ≢ k → IsReadBefore era j k → AsksAt device_of d era j p → AsksAt device_of d era k q → p < q
   pub one_open : (j k p q : ℕ) → NeverEnds era j → NeverEnds era k → AsksAt device_of d era j p → AsksAt device_of d era k q → j ≡ k
+
+-- in each era of a journal, and in each part of one, the calls to each device are in order
+abbrev pub AsksDevicesInOrder : DeviceOf → List Event → Type 0
+AsksDevicesInOrder device_of es = (front era back : List Event) (d : DeviceId) → es ≡ front ++ (era ++ back) → AreOfOneEra era → AsksInOrder device_of d era

@@ -1,7 +1,7 @@
 -- Positions in a list of events, counted from 0, and the parts of a journal in which no era begins.
-use Rattle.std.specs.Prelude.{◌≡◌, ℕ, zero, suc, List, [], ◌∷◌}
+use Rattle.std.specs.Prelude.{◌≡◌, ℕ, zero, suc, List, [], ◌∷◌, ⊤, MatchBool}
 use Rattle.mate_num.specs.declared.call.End.{End}
-use Rattle.mate_journal.specs.Journal.{Told, Posted, Dropped, Started, Asked, Answered, Ended, Installed, Reset, Seen, Void, Event}
+use Rattle.mate_journal.specs.Journal.{Told, Ended, begins_era, Event}
 
 -- the event at the position tells this
 abbrev pub TellsAt : List Event → ℕ → Told → Type 0
@@ -16,16 +16,7 @@ pub record EndsAt (es : List Event) (n : ℕ) (p : ℕ) : Type 0 where
 
 -- the entry begins no era
 abbrev pub StaysInEra : Told → Type 0
-StaysInEra (Posted n h c payload) = Unit {0}
-StaysInEra (Dropped h cause) = Unit {0}
-StaysInEra (Started n) = Unit {0}
-StaysInEra (Asked n f args) = Unit {0}
-StaysInEra (Answered n value) = Unit {0}
-StaysInEra (Ended n how) = Unit {0}
-StaysInEra (Installed p) = ⊥
-StaysInEra Reset = ⊥
-StaysInEra (Seen store) = Unit {0}
-StaysInEra (Void cause) = Unit {0}
+StaysInEra told = MatchBool (begins_era told) ⊥ ⊤
 
 -- the events are of one era: none begins another
 abbrev pub AreOfOneEra : List Event → Type 0
