@@ -60,21 +60,21 @@ use Rattle.node_invariant.proofs.SerialLemmas.{HasVerified, started-live, verifi
 -- ---- locks and uses
 
 -- the locks of a seat are what its invocation uses
-seat-uses : (d : Description) (held : Programs) (posts : ℕ) (i : Invocation) (c : ContextId) (s : Seat) (a : At) (g : IsSeated held posts i c s a) → IsHeld d g.x → IsSameUses (locks.uses_of g.x.locks) (uses_for d i)
+pub seat-uses : (d : Description) (held : Programs) (posts : ℕ) (i : Invocation) (c : ContextId) (s : Seat) (a : At) (g : IsSeated held posts i c s a) → IsHeld d g.x → IsSameUses (locks.uses_of g.x.locks) (uses_for d i)
 seat-uses d held posts i c s a g h =
     let P : HeldProgram → Type 0 = λ p. IsSameUses (locks.uses_of g.x.locks) (uses_of (shape_of d) (code_of (shape_of d) p.image)) in
     subst P (sym g.program) h.locks_are
 
-uses-same : (a b : Uses) (q : Resource) → IsSameUses a b → uses b q ≡ true → uses a q ≡ true
+pub uses-same : (a b : Uses) (q : Resource) → IsSameUses a b → uses b q ≡ true → uses a q ≡ true
 uses-same a b q same t = rw (same.reads q, same.writes q) t
 
-IsCompatible-same : (a b u w : Uses) → IsSameUses a u → IsSameUses b w → IsCompatible a b → IsCompatible u w
+pub IsCompatible-same : (a b u w : Uses) → IsSameUses a u → IsSameUses b w → IsCompatible a b → IsCompatible u w
 IsCompatible-same a b u w au bw apart = record { apart = λ q at. by q at } where
   by : (q : Resource) → ConflictsAt u w q → ⊥
   by q (inl x) = apart.apart q (inl (au.writes q ∙ x.0, uses-same b w q bw x.1))
   by q (inr y) = apart.apart q (inr (bw.writes q ∙ y.0, uses-same a u q au y.1))
 
-holds-by_started : (p : Phase) (s : Seat) (l : LockSet) → is_started p ≡ true → (standing p s l).holds ≡ Some l
+pub holds-by_started : (p : Phase) (s : Seat) (l : LockSet) → is_started p ≡ true → (standing p s l).holds ≡ Some l
 holds-by_started Unposted s l is = cc
 holds-by_started Queued s l is = cc
 holds-by_started Ready s l is = refl
