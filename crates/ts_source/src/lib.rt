@@ -6,6 +6,3 @@ pub mod refusal;
 
 pub use accepting::accept;
 pub use refusal::SourceRefusal;
-
-#[cfg(test)]
-mod tests;
