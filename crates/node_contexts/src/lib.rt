@@ -10,6 +10,3 @@ pub use contexts::Contexts;
 pub use executing::{execute, number, take_answer};
 pub use handlers::{Handlers, Held};
 pub use seat::Seat;
-
-#[cfg(test)]
-mod tests;

@@ -5,8 +5,6 @@ pub mod fault;
 mod lines;
 pub mod node;
 pub mod steps;
-#[cfg(test)]
-mod tests;
 mod words;
 
 pub use fault::{Cause, ScriptFault};
