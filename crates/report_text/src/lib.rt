@@ -11,6 +11,3 @@ mod words;
 
 pub use summary::brief;
 pub use text::{write, write_end, write_event};
-
-#[cfg(test)]
-mod tests;
