@@ -2,7 +2,7 @@
 #![tactic(auto)]
 
 use mate_cli::mate;
-use mate_cli::refusal::Refusal;
+use mate_refusals::Refusal;
 use mate_files::{OsFiles, OsSink};
 use std::process::ExitCode;
 use std::rt::Env;
