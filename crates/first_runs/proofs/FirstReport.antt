@@ -27,7 +27,8 @@ use Rattle.mate_journal.specs.NodeRun.{IsNodeRun}
 use Rattle.mate_journal.specs.declared.entry.Stamped.{Stamped}
 use Rattle.mate_journal.specs.declared.report.Report.{Report}
 use Rattle.mate_journal.proofs.OneRun.{at, RunsToEnd, one_run, first_run, one_run-well_formed, one_run-serial, one_run-stores, one_run-grants, one_run-devices, one_run-events}
-use Rattle.report_text.specs.Tidy.{IsTidy, IsTidyLog, IsStoreOf, IsEntryInRange, StampsRise, EntriesRise, start, Mark, marks, Agree, AreOfOneNode}
+use Rattle.mate_journal.specs.Tidy.{IsTidyLog, IsStoreOf, IsEntryInRange}
+use Rattle.report_text.specs.Tidy.{IsTidy, Mark, marks, IsNoEarlier, AreOfOneNode}
 use Rattle.first_runs.specs.FirstRun.{IsFirstLog, IsFirstReport, source_meaning, source_clock, first_program, first_steps, first_entries, end_entry, nothing, main}
 
 -- ---- the log
@@ -86,25 +87,19 @@ runs_to_end d version shape tree builtin positive closes = let handlers : d.hand
 
 -- ---- tidy
 
-rises : (a b : ℕ) → a ≤ b → StampsRise (record { event = a; time = 0 }) (record { event = b; time = 0 })
-rises a b h = record { event = h; time = omega arith; same = λ _. refl }
-
-entries_rise : (version : ℕ) (e : End) → EntriesRise start (first_entries version e)
-entries_rise version e = (rises 0 1 (lit≤ tt), (rises 1 1 (lit≤ tt), (rises 1 2 (lit≤ tt), (rises 2 2 (lit≤ tt), (rises 2 3 (lit≤ tt), (rises 3 4 (lit≤ tt), tt))))))
-
 tidy_log : (d : Description) (version : ℕ) (e : End) (before after : Store) (spare : ℕ) → Closes e → 0 < length d.handlers.items → 0 < context_count d
     → IsStoreOf d before → IsStoreOf d after → IsTidyLog d (written version e before after spare)
 tidy_log d version end.Halt before after spare closes handlers contexts b a = record {
   in_range = All-from_recursion (λ (x : Stamped). IsEntryInRange d x.entry) (first_entries version end.Halt) (tt, (handlers, ((handlers, contexts), (tt, (tt, (tt, tt))))));
-  numbered = (refl, (refl, (tt, (tt, (tt, (refl, (refl, refl)))))));
-  stores = All-from_recursion (IsStoreOf d) (before ∷ after ∷ []) (b, (a, tt));
-  rise = entries_rise version end.Halt;
+  numbered = record { images = refl; stores = refl };
+  lengths = All-from_recursion (IsStoreOf d) (before ∷ after ∷ []) (b, (a, tt));
+  ordered = (lit≤ tt, (lit≤ tt, (lit≤ tt, (lit≤ tt, (lit≤ tt, (lit≤ tt, tt))))));
 }
 tidy_log d version (end.Fault kind) before after spare closes handlers contexts b a = record {
   in_range = All-from_recursion (λ (x : Stamped). IsEntryInRange d x.entry) (first_entries version (end.Fault kind)) (tt, (handlers, ((handlers, contexts), (tt, (tt, (tt, tt))))));
-  numbered = (refl, (refl, (tt, (tt, (tt, (refl, (refl, refl)))))));
-  stores = All-from_recursion (IsStoreOf d) (before ∷ after ∷ []) (b, (a, tt));
-  rise = entries_rise version (end.Fault kind);
+  numbered = record { images = refl; stores = refl };
+  lengths = All-from_recursion (IsStoreOf d) (before ∷ after ∷ []) (b, (a, tt));
+  ordered = (lit≤ tt, (lit≤ tt, (lit≤ tt, (lit≤ tt, (lit≤ tt, (lit≤ tt, tt))))));
 }
 tidy_log d version (end.Wants fun args) before after spare closes handlers contexts b a = absurd closes
 
@@ -112,11 +107,8 @@ abbrev pub report_of : Log → Report
 report_of l = record { nodes = l ∷ []; air = []; events = 3; whole = true }
 
 -- records that are all of time 0 and of node 0 agree
-all_agree : (ms : List Mark) → All (λ (m : Mark). m.stamp.time ≡ 0) ms → All (λ (a : Mark). All (Agree a) ms) ms
-all_agree ms zero_time = λ k d below k' d' below'.
-    let t = zero_time k d below in
-    let t' = zero_time k' d' below' in
-    record { same = λ _. t ∙ sym t'; later = λ _. omega arith }
+all_agree : (ms : List Mark) → All (λ (m : Mark). m.stamp.time ≡ 0) ms → All (λ (a : Mark). All (IsNoEarlier a) ms) ms
+all_agree ms zero_time = λ k d below k' d' below' _. let t = zero_time k d below in omega arith
 
 all_of_one_node : (ms : List Mark) → All (λ (m : Mark). m.node ≡ 0) ms → All (λ (a : Mark). All (AreOfOneNode ms a) ms) ms
 all_of_one_node ms zero_node = λ k d below k' d' below' same. inl (zero_node k d below ∙ sym (zero_node k' d' below'))
@@ -128,7 +120,8 @@ tidy_report d version e before after spare log = record {
   nodes_high = lit≤ tt;
   logs = All-from_recursion (IsTidyLog d) (written version e before after spare ∷ []) (log, tt);
   air_in_range = All-nil _;
-  air_rises = tt;
+  air_ordered = tt;
+  air_nodes = tt;
   in_time = all_agree (marks (report_of (written version e before after spare))) (All-from_recursion (λ (m : Mark). m.stamp.time ≡ 0) (marks (report_of (written version e before after spare))) (refl, (refl, (refl, (refl, (refl, (refl, tt)))))));
   one_node = all_of_one_node (marks (report_of (written version e before after spare))) (All-from_recursion (λ (m : Mark). m.node ≡ 0) (marks (report_of (written version e before after spare))) (refl, (refl, (refl, (refl, (refl, (refl, tt)))))));
 }
