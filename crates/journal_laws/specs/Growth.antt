@@ -20,17 +20,9 @@ event_of l s = record { stamp = s.stamp; told = told_of l s.entry }
 
 -- the image or the store that an entry names is one of so many
 abbrev pub IsNamedBelow : ℕ → ℕ → Entry → Type 0
-IsNamedBelow images stores (entry.Post n h c payload) = Unit {0}
-IsNamedBelow images stores (entry.Dropped h cause) = Unit {0}
-IsNamedBelow images stores (entry.Start n) = Unit {0}
-IsNamedBelow images stores (entry.Ask n f args) = Unit {0}
-IsNamedBelow images stores (entry.Answer n value) = Unit {0}
-IsNamedBelow images stores (entry.Halt n) = Unit {0}
-IsNamedBelow images stores (entry.Fault n kind) = Unit {0}
 IsNamedBelow images stores (entry.Install h version image) = image < images
-IsNamedBelow images stores entry.Reset = Unit {0}
 IsNamedBelow images stores (entry.Seen store) = store < stores
-IsNamedBelow images stores (entry.Void cause) = Unit {0}
+IsNamedBelow images stores _ = Unit {0}
 
 abbrev pub AreNamedBelow : ℕ → ℕ → List Stamped → Type 0
 AreNamedBelow images stores [] = Unit {0}

@@ -31,55 +31,24 @@ pub data Told : Type 0 where
 
 -- the invocation that an entry starts, if any
 abbrev pub started_by : Told → Option ℕ
-started_by (Posted n h c payload) = None
-started_by (Dropped h cause) = None
 started_by (Started n) = Some n
-started_by (Asked n f args) = None
-started_by (Answered n value) = None
-started_by (Ended n how) = None
-started_by (Installed p) = None
-started_by Reset = None
-started_by (Seen store) = None
-started_by (Void cause) = None
+started_by _ = None
 
 -- the invocation that an entry ends, and how, if any
 abbrev pub ended_by : Told → Option (ℕ × End)
-ended_by (Posted n h c payload) = None
-ended_by (Dropped h cause) = None
-ended_by (Started n) = None
-ended_by (Asked n f args) = None
-ended_by (Answered n value) = None
 ended_by (Ended n how) = Some (n, how)
-ended_by (Installed p) = None
-ended_by Reset = None
-ended_by (Seen store) = None
-ended_by (Void cause) = None
+ended_by _ = None
 
 -- the store that an entry shows, if any
 abbrev pub store_seen : Told → Option Store
-store_seen (Posted n h c payload) = None
-store_seen (Dropped h cause) = None
-store_seen (Started n) = None
-store_seen (Asked n f args) = None
-store_seen (Answered n value) = None
-store_seen (Ended n how) = None
-store_seen (Installed p) = None
-store_seen Reset = None
 store_seen (Seen store) = Some store
-store_seen (Void cause) = None
+store_seen _ = None
 
 -- the entry begins an era
 abbrev pub begins_era : Told → Bool
-begins_era (Posted n h c payload) = false
-begins_era (Dropped h cause) = false
-begins_era (Started n) = false
-begins_era (Asked n f args) = false
-begins_era (Answered n value) = false
-begins_era (Ended n how) = false
 begins_era (Installed p) = true
 begins_era Reset = true
-begins_era (Seen store) = false
-begins_era (Void cause) = false
+begins_era _ = false
 
 -- something told, and when
 pub record Event : Type 0 where
@@ -154,7 +123,7 @@ pub record Reading : Type 0 where
   pub installed : HandlerId → Option HeldProgram
   pub invocations : ℕ → Invocation
 
-abbrev no_program : HeldProgram
+abbrev pub no_program : HeldProgram
 no_program = record { handler = record { 0 = 0 }; version = 0; image = no_image }
 
 -- an invocation that was not posted yet

@@ -12,3 +12,5 @@ pub mod Turns
 pub mod NodeScript
 pub mod Described
 pub mod NodeRun
+pub mod Tidy
+pub mod NodeReport

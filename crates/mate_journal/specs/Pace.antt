@@ -1,6 +1,6 @@
 -- The pace of a node: whose turn it is, and how many instructions each invocation executed.
 use Rattle.std.specs.Prelude.{◌==◌, ℕ, not, List, [], ◌∷◌, ◌++◌, filter}
-use Rattle.mate_journal.specs.Journal.{Told, Posted, Dropped, Started, Asked, Answered, Ended, Installed, Reset, Seen, Void, changed}
+use Rattle.mate_journal.specs.Journal.{Told, Started, Asked, Answered, Ended, Installed, Reset, changed}
 
 -- the ready invocations, the one that is longest without a turn first; and how many instructions each executed since
 -- its start
@@ -18,16 +18,13 @@ others line n = filter (λ k. not (n == k)) line
 
 -- whoever starts or is answered goes last; whoever asks or ends leaves; an era's end empties the line
 abbrev pub paced : Pace → Told → Pace
-paced p (Posted n h c payload) = p
-paced p (Dropped h cause) = p
 paced p (Started n) = record { line = p.line ++ n ∷ []; counts = changed p.counts n 0 }
 paced p (Asked n f args) = record p { line = others p.line n }
 paced p (Answered n value) = record p { line = p.line ++ n ∷ [] }
 paced p (Ended n how) = record p { line = others p.line n }
 paced p (Installed x) = record p { line = [] }
 paced p Reset = record p { line = [] }
-paced p (Seen store) = p
-paced p (Void cause) = p
+paced p _ = p
 
 abbrev pub paced_all : Pace → List Told → Pace
 paced_all p [] = p

@@ -7,8 +7,6 @@ mod exprs;
 pub mod fault;
 mod scope;
 mod stmts;
-#[cfg(test)]
-mod tests;
 
 pub use checking::check;
 pub use fault::CheckFault;

@@ -9,6 +9,3 @@ mod words;
 
 pub use compiling::compile;
 pub use fault::CompileFault;
-
-#[cfg(test)]
-mod tests;

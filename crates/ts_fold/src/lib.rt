@@ -5,7 +5,5 @@ pub mod expressions;
 pub mod folding;
 mod operators;
 pub mod statements;
-#[cfg(test)]
-mod tests;
 
 pub use folding::fold;

@@ -5,8 +5,6 @@ pub mod fault;
 pub mod law;
 pub mod scanner;
 pub mod spans;
-#[cfg(test)]
-mod tests;
 
 pub use fault::TokenFault;
 pub use law::print_law;

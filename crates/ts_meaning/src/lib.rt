@@ -8,6 +8,3 @@ mod statements;
 mod values;
 
 pub use run::{Calls, Played, play};
-
-#[cfg(test)]
-mod tests;

@@ -7,8 +7,6 @@ pub mod decls;
 pub mod depth;
 pub mod expect;
 pub mod expression;
-#[cfg(test)]
-mod expression_tests;
 pub mod fault;
 pub mod halt;
 pub mod head;
@@ -19,8 +17,6 @@ pub mod parser;
 pub mod role;
 pub mod simple;
 pub mod stmt;
-#[cfg(test)]
-mod tests;
 pub mod verdict;
 
 pub use cutting::tokens;

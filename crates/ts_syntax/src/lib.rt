@@ -11,8 +11,6 @@ pub mod printer;
 pub mod right;
 pub mod script;
 pub mod stmt;
-#[cfg(test)]
-mod tests;
 pub mod token;
 pub mod word;
 

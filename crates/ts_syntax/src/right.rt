@@ -195,6 +195,3 @@ fn block_is_right(shape: &Shape, block: &CBlock) -> bool
     }
     true
 }
-
-#[cfg(test)]
-mod tests;

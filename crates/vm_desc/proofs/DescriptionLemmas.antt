@@ -7,7 +7,8 @@ use Rattle.std.proofs.lemmas.List.{length-map}
 use Rattle.std.proofs.lemmas.List.Sums.{sum_by-cons, sum_by-take-le, sum_by_more, sum_by_more_le}
 use Rattle.std.specs.List.{list_all}
 use Rattle.mate_num.specs.declared.shape.Shape.{Shape}
-use Rattle.vm_desc.specs.Limits.{Parts, is_valid, is_handler, is_function, is_device, duplicate_of, context_sum, args_of}
+use Rattle.vm_desc.specs.Limits.{Parts, is_valid, are_handlers, are_functions, are_variables, is_handler, is_function, is_device, is_trickle, is_radio, round_time, longest, duplicate_of, context_sum, args_of}
+use Rattle.vm_desc.specs.Names.{between}
 use Rattle.vm_desc.specs.Contexts.{first_context, handler_of}
 use Rattle.std.proofs.Math.Bool.{Bool-set}
 use Rattle.vm_desc.specs.Whole.{described, parts_of, context_count}
@@ -80,6 +81,20 @@ bounds_of d =
       gap_high = grind (arith, nat_tests, and_parts);
       round_fits = grind (arith, nat_tests, and_parts);
     }
+
+inner_part : (lists names numbers trickle radio more : Bool) → ((lists && (names && (numbers && (trickle && radio)))) && more) ≡ true → trickle ≡ true
+inner_part lists names numbers trickle radio more h =
+    let all = (and_parts (lists && (names && (numbers && (trickle && radio)))) more h).0 in
+    let settings = (and_parts names (numbers && (trickle && radio)) (and_parts lists (names && (numbers && (trickle && radio))) all).1).1 in
+    (and_parts trickle radio (and_parts numbers (trickle && radio) settings).1).0
+
+-- the Trickle settings keep their rules together
+pub trickle_rules : (d : Description) → IsTrue (is_trickle d.trickle)
+trickle_rules d =
+    let p = parts_of d in
+    inner_part (are_handlers p.handlers && are_functions (length p.devices) p.functions) (are_variables p)
+    ((nat_le p.vm_id 4294967295 && nat_le p.turns 1000000) && between 1 10000 p.quantum) (is_trickle p.trickle) (is_radio p.radio)
+    (is_none (duplicate_of p) && nat_le (round_time (length p.handlers) p.radio) (longest p.trickle)) d.valid
 
 args_fit : (kind : FunKind) → nat_le (args_of kind) 4 ≡ true → (nat_le (args_of kind) 4 && (not (is_send kind) || args_of kind == 0)) ≡ true
 args_fit Sense h = refl

@@ -46,26 +46,14 @@ impl Place {
         ensures { result ≡ stands_in (words_of self) word.now }
     {
         match self {
-            Place::Document => {
-                word == "vm"
-                    || word == "shared"
-                    || word == "buffers"
-                    || word == "devices"
-                    || word == "turns"
-                    || word == "quantum"
-            }
-            Place::Handler => {
-                word == "name" || word == "kind" || word == "contexts" || word == "period"
-            }
-            Place::Function => {
-                word == "name"
-                    || word == "kind"
-                    || word == "args"
-                    || word == "device"
-                    || word == "latency"
-            }
-            Place::Trickle => word == "imin" || word == "doublings" || word == "k",
-            Place::Radio => word == "delay" || word == "gap",
+            Place::Document => matches!(
+                word,
+                "vm" | "shared" | "buffers" | "devices" | "turns" | "quantum"
+            ),
+            Place::Handler => matches!(word, "name" | "kind" | "contexts" | "period"),
+            Place::Function => matches!(word, "name" | "kind" | "args" | "device" | "latency"),
+            Place::Trickle => matches!(word, "imin" | "doublings" | "k"),
+            Place::Radio => matches!(word, "delay" | "gap"),
             Place::Value => false,
         }
     }

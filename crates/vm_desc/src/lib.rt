@@ -14,8 +14,6 @@ mod parts;
 pub mod reading;
 pub mod settings;
 pub mod shape_of;
-#[cfg(test)]
-mod tests;
 mod whole;
 
 pub use built_in::builtin;

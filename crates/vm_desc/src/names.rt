@@ -52,24 +52,27 @@ fn continues_name(c: u8) -> bool
 fn is_keyword(word: &str) -> bool
     ensures { result ≡ is_keyword word.now }
 {
-    word == "shared"
-        || word == "private"
-        || word == "buffer"
-        || word == "if"
-        || word == "then"
-        || word == "else"
-        || word == "end"
-        || word == "for"
-        || word == "to"
-        || word == "step"
-        || word == "next"
-        || word == "while"
-        || word == "and"
-        || word == "or"
-        || word == "not"
-        || word == "size"
-        || word == "clear"
-        || word == "msg"
+    matches!(
+        word,
+        "shared"
+            | "private"
+            | "buffer"
+            | "if"
+            | "then"
+            | "else"
+            | "end"
+            | "for"
+            | "to"
+            | "step"
+            | "next"
+            | "while"
+            | "and"
+            | "or"
+            | "not"
+            | "size"
+            | "clear"
+            | "msg"
+    )
 }
 
 /// Whether `name` is among `names`.

@@ -1,0 +1,62 @@
+-- Small scripts, of which contracts of other crates fix what becomes of them.
+use Rattle.std.specs.Prelude.{ℕ, ℤ, pos, negsuc, List, [], ◌∷◌}
+use Rattle.mate_num.specs.declared.id.VarId.{VarId}
+use Rattle.mate_num.specs.declared.id.BufId.{BufId}
+use Rattle.mate_num.specs.declared.id.FunId.{FunId}
+use Rattle.ts_syntax.specs.Expression.{Expression, no_arguments, Num, MsgSize, Call, Two}
+use Rattle.ts_syntax.specs.Statement.{Statement, Block, no_statements, statement, Set, Append, Clear, Do, DoSend, If, IfElse, For, While}
+use Rattle.ts_syntax.specs.declared.bin_op.BinOp.{BinOp}
+use Rattle.ts_syntax.specs.declared.bin_op.BinOp.TheVariants.{And, Gt}
+use Rattle.ts_syntax.specs.declared.checked_stmt.CVar.{CVar}
+use Rattle.ts_syntax.specs.declared.checked_stmt.CVar.TheVariants as variable
+
+-- one statement
+abbrev pub only : Statement → Block
+only s = statement s no_statements
+
+-- a number, and a call without arguments
+abbrev pub whole : ℕ → Expression
+whole n = Num (pos n)
+
+abbrev pub asking : FunId → Expression
+asking f = Call f no_arguments
+
+-- `f(); f();`
+abbrev pub two_calls : FunId → Block
+two_calls f = statement (Do f no_arguments) (only (Do f no_arguments))
+
+-- `while 1 clear(p); end while`
+abbrev pub without_end : BufId → Block
+without_end p = only (While (whole 1) (only (Clear p)))
+
+-- `x = 0 and f();`
+abbrev pub false_and_call : CVar → FunId → Block
+false_and_call x f = only (Set x (Two And (whole 0) (asking f)))
+
+-- `for x = 1 to 1 f(); next x`
+abbrev pub once_round : CVar → FunId → Block
+once_round x f = only (For x (whole 1) (whole 1) (pos 1) (only (Do f no_arguments)))
+
+-- `private 8 = 0;`
+abbrev pub ninth_private : Block
+ninth_private = only (Set (variable.Private 8) (whole 0))
+
+-- `for x = 0 to f() next x`
+abbrev pub call_in_limit : CVar → FunId → Block
+call_in_limit x f = only (For x (whole 0) (asking f) (pos 1) no_statements)
+
+-- `for x = 0 to 0 step step next x`
+abbrev pub with_step : CVar → ℤ → Block
+with_step x step = only (For x (whole 0) (whole 0) step no_statements)
+
+-- `if test then clear(p); else clear(q); end if`
+abbrev pub cleared_by : Expression → BufId → BufId → Block
+cleared_by test p q = only (IfElse test (only (Clear p)) (only (Clear q)))
+
+-- `while test clear(p); end while`
+abbrev pub clearing : Expression → BufId → Block
+clearing test p = only (While test (only (Clear p)))
+
+-- `p[] = left > right;`
+abbrev pub compared : BufId → ℕ → ℕ → Block
+compared p left right = only (Append p (Two Gt (whole left) (whole right)))

@@ -1,0 +1,100 @@
+//! Scripts that exclude wrong bodies of `fold`.
+
+ghost use Rattle.std.specs.Prelude.{◌≡◌, IfOk};
+ghost use Rattle.ts_syntax.specs.Checked.{tree_of};
+ghost use Rattle.ts_syntax.specs.Expression.{Num, MsgSize};
+ghost use Rattle.ts_syntax.specs.Statement.{no_statements, Append, Clear};
+ghost use Rattle.language_callers.specs.Scripts.{two_calls, cleared_by, clearing, call_in_limit, compared, only, whole};
+
+use mate_num::{BufId, FunId, NoMemory};
+use std::alloc::Global;
+use ts_fold::fold;
+use ts_syntax::{CVar, Checked};
+
+pub fn calls_stay(alloc: Global, script: &Checked, fun: FunId) -> Result<Checked, NoMemory>
+    requires { tree_of script.now ≡ two_calls fun }
+    ensures { IfOk result (λ new. tree_of new ≡ two_calls fun) }
+{
+    fold(alloc, script)
+}
+
+pub fn false_takes_the_other_block(
+    alloc: Global,
+    script: &Checked,
+    buffer: BufId,
+    other: BufId,
+) -> Result<Checked, NoMemory>
+    requires { tree_of script.now ≡ cleared_by (whole 0) buffer other }
+    ensures { IfOk result (λ new. tree_of new ≡ only (Clear other)) }
+{
+    fold(alloc, script)
+}
+
+pub fn true_takes_the_first_block(
+    alloc: Global,
+    script: &Checked,
+    buffer: BufId,
+    other: BufId,
+) -> Result<Checked, NoMemory>
+    requires { tree_of script.now ≡ cleared_by (whole 2) buffer other }
+    ensures { IfOk result (λ new. tree_of new ≡ only (Clear buffer)) }
+{
+    fold(alloc, script)
+}
+
+pub fn an_open_test_stays(
+    alloc: Global,
+    script: &Checked,
+    buffer: BufId,
+    other: BufId,
+) -> Result<Checked, NoMemory>
+    requires { tree_of script.now ≡ cleared_by MsgSize buffer other }
+    ensures { IfOk result (λ new. tree_of new ≡ cleared_by MsgSize buffer other) }
+{
+    fold(alloc, script)
+}
+
+pub fn a_loop_at_false_goes(
+    alloc: Global,
+    script: &Checked,
+    buffer: BufId,
+) -> Result<Checked, NoMemory>
+    requires { tree_of script.now ≡ clearing (whole 0) buffer }
+    ensures { IfOk result (λ new. tree_of new ≡ no_statements) }
+{
+    fold(alloc, script)
+}
+
+pub fn a_loop_at_true_stays(
+    alloc: Global,
+    script: &Checked,
+    buffer: BufId,
+) -> Result<Checked, NoMemory>
+    requires { tree_of script.now ≡ clearing (whole 1) buffer }
+    ensures { IfOk result (λ new. tree_of new ≡ clearing (whole 1) buffer) }
+{
+    fold(alloc, script)
+}
+
+pub fn a_comparison_is_from_the_left(
+    alloc: Global,
+    script: &Checked,
+    buffer: BufId,
+) -> Result<Checked, NoMemory>
+    requires { tree_of script.now ≡ compared buffer 2 1 }
+    ensures { IfOk result (λ new. tree_of new ≡ only (Append buffer (whole 1))) }
+{
+    fold(alloc, script)
+}
+
+pub fn a_limit_stays_behind_its_first_value(
+    alloc: Global,
+    script: &Checked,
+    variable: CVar,
+    fun: FunId,
+) -> Result<Checked, NoMemory>
+    requires { tree_of script.now ≡ call_in_limit variable fun }
+    ensures { IfOk result (λ new. tree_of new ≡ call_in_limit variable fun) }
+{
+    fold(alloc, script)
+}

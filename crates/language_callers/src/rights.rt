@@ -1,0 +1,36 @@
+//! Bodies that exclude wrong bodies of `is_right`.
+
+ghost use Rattle.std.specs.Prelude.{◌≡◌, false, pos, negsuc};
+ghost use Rattle.ts_syntax.specs.TreeOf.{block_tree};
+ghost use Rattle.language_callers.specs.Scripts.{ninth_private, call_in_limit, with_step};
+
+use mate_num::{FunId, Shape};
+use ts_syntax::{CBlock, CVar, is_right};
+
+pub fn a_ninth_private_is_wrong(shape: &Shape, body: &CBlock) -> bool
+    requires { block_tree body.now ≡ ninth_private }
+    ensures { result ≡ false }
+{
+    is_right(shape, body)
+}
+
+pub fn a_call_in_a_limit_is_wrong(shape: &Shape, body: &CBlock, variable: CVar, fun: FunId) -> bool
+    requires { block_tree body.now ≡ call_in_limit variable fun }
+    ensures { result ≡ false }
+{
+    is_right(shape, body)
+}
+
+pub fn a_step_of_zero_is_wrong(shape: &Shape, body: &CBlock, variable: CVar) -> bool
+    requires { block_tree body.now ≡ with_step variable (pos 0) }
+    ensures { result ≡ false }
+{
+    is_right(shape, body)
+}
+
+pub fn the_lowest_step_is_wrong(shape: &Shape, body: &CBlock, variable: CVar) -> bool
+    requires { block_tree body.now ≡ with_step variable (negsuc 32767) }
+    ensures { result ≡ false }
+{
+    is_right(shape, body)
+}

@@ -1,0 +1,76 @@
+//! Runs that exclude wrong bodies of `play`.
+
+ghost use Rattle.std.specs.Prelude.{◌≡◌, [], ◌∷◌, pos, IfOk};
+ghost use Rattle.mate_num.specs.declared.call.End.TheVariants.{Halt, Fault, Wants};
+ghost use Rattle.mate_num.specs.declared.call.FaultKind.TheVariants.{Overrun};
+ghost use Rattle.ts_syntax.specs.Checked.{tree_of};
+ghost use Rattle.ts_syntax.specs.Statement.{no_statements};
+ghost use Rattle.language_callers.specs.Scripts.{two_calls, without_end, false_and_call, once_round};
+
+use mate_num::{BufId, FunId, NoMemory, Payload, Store};
+use std::alloc::Global;
+use ts_meaning::{Played, play};
+use ts_syntax::{CVar, Checked};
+
+pub fn no_statement_changes_the_store(
+    alloc: Global,
+    script: &Checked,
+    store: &Store,
+) -> Result<Played, NoMemory>
+    requires { tree_of script.now ≡ no_statements }
+    ensures end { IfOk result (λ played. played.end ≡ Halt) }
+    ensures store { IfOk result (λ played. played.store ≡ store.now) }
+{
+    play(alloc, script, store, &Payload::new(), &[], 0)
+}
+
+pub fn each_call_takes_its_own_answer(
+    alloc: Global,
+    script: &Checked,
+    store: &Store,
+    fun: FunId,
+) -> Result<Played, NoMemory>
+    requires { tree_of script.now ≡ two_calls fun }
+    ensures end { IfOk result (λ played. played.end ≡ Halt) }
+    ensures calls { IfOk result (λ played. played.calls ≡
+        record { fun = fun; args = record { items = [] }; result = pos 7 } ∷ record { fun = fun; args = record { items = [] }; result = pos 9 } ∷ []) }
+{
+    play(alloc, script, store, &Payload::new(), &[7, 9, 4], 0)
+}
+
+pub fn a_call_wants_an_answer(
+    alloc: Global,
+    script: &Checked,
+    store: &Store,
+    fun: FunId,
+) -> Result<Played, NoMemory>
+    requires { tree_of script.now ≡ two_calls fun }
+    ensures { IfOk result (λ played. played.end ≡ Wants fun (record { items = [] })) }
+{
+    play(alloc, script, store, &Payload::new(), &[7], 0)
+}
+
+pub fn and_goes_on_at_false(
+    alloc: Global,
+    script: &Checked,
+    store: &Store,
+    variable: CVar,
+    fun: FunId,
+) -> Result<Played, NoMemory>
+    requires { tree_of script.now ≡ false_and_call variable fun }
+    ensures { IfOk result (λ played. played.end ≡ Wants fun (record { items = [] })) }
+{
+    play(alloc, script, store, &Payload::new(), &[], 0)
+}
+
+pub fn going_back_takes_a_turn(
+    alloc: Global,
+    script: &Checked,
+    store: &Store,
+    buffer: BufId,
+) -> Result<Played, NoMemory>
+    requires { tree_of script.now ≡ without_end buffer }
+    ensures { IfOk result (λ played. played.end ≡ Fault Overrun) }
+{
+    play(alloc, script, store, &Payload::new(), &[], 1)
+}

@@ -1,0 +1,81 @@
+//! Texts that exclude wrong bodies of `tokens`, `check` and `compile`.
+
+ghost use Rattle.std.specs.Prelude.{◌≡◌, [], ◌∷◌, IfOk};
+ghost use Rattle.mate_code.specs.Table.{table_of};
+ghost use Rattle.ts_syntax.specs.Checked.{shape_of, tree_of};
+ghost use Rattle.ts_syntax.specs.Cut.{token};
+ghost use Rattle.ts_syntax.specs.Seen.{source_of};
+ghost use Rattle.ts_syntax.specs.Statement.{no_statements};
+ghost use Rattle.ts_syntax.specs.Tree.{no_acts, act_then, clear};
+ghost use Rattle.ts_syntax.specs.declared.token.TokenKind.TheVariants as kind;
+
+use mate_code::Table;
+use mate_num::Code;
+use std::alloc::Global;
+use ts_checker::{CheckFault, check};
+use ts_compiler::{CompileFault, compile};
+use ts_lexer::{TokenFault, tokens};
+use ts_syntax::{Checked, Script, Tokens, Word};
+use vm_desc::Description;
+
+#[tactic(auto, unfolding(ts_syntax::specs::Cut::cut_from))]
+pub fn less_or_equal_is_one_token(alloc: Global) -> Result<Tokens, TokenFault>
+    ensures { IfOk result (λ tokens. tokens ≡ token kind.Le 0 2 ∷ []) }
+{
+    tokens(alloc, b"<=")
+}
+
+#[tactic(auto, unfolding(ts_syntax::specs::Cut::cut_from))]
+pub fn a_comment_ends_with_its_line(alloc: Global) -> Result<Tokens, TokenFault>
+    ensures { IfOk result (λ tokens. tokens ≡ token kind.Semi 3 4 ∷ []) }
+{
+    tokens(alloc, b"!\r\n;")
+}
+
+#[tactic(auto, unfolding(ts_syntax::specs::Cut::cut_from, ts_syntax::specs::Cut::word_kind))]
+pub fn a_keyword_is_no_name(alloc: Global) -> Result<Tokens, TokenFault>
+    ensures { IfOk result (λ tokens. tokens ≡ token kind.If 1 3 ∷ []) }
+{
+    tokens(alloc, b"\rif")
+}
+
+#[tactic(auto, unfolding(ts_syntax::specs::Cut::cut_from))]
+pub fn a_large_literal_has_no_tokens(alloc: Global) -> Result<Tokens, TokenFault>
+    ensures { IfOk result (λ _. ⊥) }
+{
+    tokens(alloc, b"65536")
+}
+
+#[tactic(auto, unfolding(ts_syntax::specs::Cut::cut_from))]
+pub fn a_letter_behind_a_literal_has_no_tokens(alloc: Global) -> Result<Tokens, TokenFault>
+    ensures { IfOk result (λ _. ⊥) }
+{
+    tokens(alloc, b"1a")
+}
+
+#[tactic(auto, unfolding(ts_syntax::specs::Cut::cut_from))]
+pub fn a_name_of_17_bytes_has_no_tokens(alloc: Global) -> Result<Tokens, TokenFault>
+    ensures { IfOk result (λ _. ⊥) }
+{
+    tokens(alloc, b"abcdefghijklmnopq")
+}
+
+pub fn an_undeclared_name_is_refused(
+    alloc: Global,
+    desc: &Description,
+    script: &Script,
+    word: &Word,
+) -> Result<Checked, CheckFault>
+    requires { source_of script.now ≡ record { decls = []; body = act_then (clear word.now) no_acts } }
+    ensures { IfOk result (λ _. ⊥) }
+{
+    check(alloc, desc, script)
+}
+
+pub fn no_statement_is_one_byte(table: &Table, script: &Checked) -> Result<Code, CompileFault>
+    requires table { table.now ≡ table_of (shape_of script.now) }
+    requires tree { tree_of script.now ≡ no_statements }
+    ensures { IfOk result (λ code. code.items ≡ 0 ∷ []) }
+{
+    compile(table, script)
+}

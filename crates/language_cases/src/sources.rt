@@ -1,0 +1,32 @@
+//! Sources and what they are for a machine.
+
+use crate::texts::bytes_of;
+use std::alloc::{AllocError, Global};
+use ts_source::{SourceRefusal, accept};
+use ts_syntax::Checked;
+use vm_desc::Description;
+
+/// The checked tree of a source, or its first refusal.
+pub fn tree(alloc: Global, machine: &Description, source: &str) -> Result<String, AllocError> {
+    match accepted(alloc, machine, source)? {
+        Ok(script) => format!(in alloc; "{:?}", script.body()),
+        Err(refusal) => Ok(refusal),
+    }
+}
+
+/// The checked script of a source, or the text of its first refusal.
+pub fn accepted(
+    alloc: Global,
+    machine: &Description,
+    source: &str,
+) -> Result<Result<Checked, String>, AllocError> {
+    let bytes = bytes_of(alloc, source)?;
+    if bytes.len() > 1_048_576 {
+        return Ok(Err("too long".to_string(alloc)?));
+    }
+    match accept(alloc, machine, bytes.as_slice()) {
+        Ok(script) => Ok(Ok(script)),
+        Err(SourceRefusal::Meaning(fault)) => Ok(Err(format!(in alloc; "{fault}")?)),
+        Err(SourceRefusal::Spelling(fault)) => Ok(Err(format!(in alloc; "{fault:?}")?)),
+    }
+}
