@@ -158,7 +158,3 @@ RestsAgain-resets d old mid next log at_ told cleared pushed room =
     (RestsAgain-reset d mid (record next { log = log }) at_ told.again.rests told.again.adds.grows.timely last cleared.idle cleared.zero (ap (λ (s : Parts). s.posts) cleared.same) (ap (λ (s : Parts). s.handlers) cleared.same)
     (subst P log_is pushed) (subst Q log_is room))
     (λ xs ys e f p has. record { seen = old.heap; shown = told.shown p has; made = ap (λ (l : List Told). l ++ ys) e ∙ ap (λ (l : List Told). Seen old.heap ∷ l) f })
-
--- there is room for the reset
-pub room-told : (d : Description) (old mid : Parts) (at_ : Stamp) (n : ℕ) → TellsStore d old mid at_ → n + 1 ≤ old.log.spare → n ≤ mid.log.spare
-room-told d old mid at_ n told enough = let g = told.again.adds.grows.spare in let e = ap length told.again.adds.made in omega arith

@@ -29,7 +29,6 @@ use Rattle.std.proofs.lemmas.List.Elements.{All-nil, All-cons, All-append}
 use Rattle.mate_journal.specs.Tidy.{IsStoreOf}
 use Rattle.journal_laws.proofs.TidyLemmas.{NumbersInOrder-install, NamesInLog-numbered}
 use Rattle.vm_desc.specs.declared.description.Description.{Description}
-use Rattle.vm_desc.specs.Bounds.{HasBounds}
 use Rattle.vm_desc.specs.Shapes.{shape_of}
 use Rattle.vm_desc.proofs.DescriptionLemmas.{bounds_of}
 use Rattle.mate_journal.specs.declared.entry.Entry.TheVariants as entry
@@ -233,10 +232,6 @@ IsUnverified-from d bytes code c fault decoded_is same refused =
     let B : List ℕ → Type 0 = λ bs. bytes_verification (shape_of d) bs ≡ Err (refusal_of fault) in
     record { capsule = capsule_parts c; decoded = decoded_is; refused = subst B same refused }
 
--- an image has room for the bytes
-pub image-fits : (bytes : List ℕ) (c : Capsule) → bytes ≡ image_of (capsule_parts c) → length c.code.items ≤ 1040 → length bytes ≤ 1056
-image-fits bytes c image_is fits = let e = ap length image_is in omega arith
-
 -- ---- the whole install
 
 -- what is heard after more was told
@@ -310,7 +305,3 @@ IsNoNewer-from d s bytes i version rests can version_is older =
 -- a newer one
 pub newer-than : (d : Description) (s : Parts) (i : Installable) (version : ℕ) → Rests d s → version ≡ version_in (held_at s.handlers.programs i.handler) → version < i.held.version → held (reading d s.log) i.handler < i.held.version
 newer-than d s i version rests version_is above = let same = held-version d s i.handler rests in omega arith
-
--- a handler is one of eight
-pub handler-small : (d : Description) (h : HandlerId) → h.0 < length d.handlers.items → h.0 < 8
-handler-small d h below = let all : HasBounds d = bounds_of d in omega arith
