@@ -7,7 +7,7 @@ use Rattle.mate_files.specs.Files.{Names, WhereTold}
 use Rattle.mate_files.proofs.SinkLemmas.{SentPart-whole, Rose-after, Rose-kept}
 use Rattle.vm_desc.specs.Whole.{parts_of, builtin_parts}
 use Rattle.vm_desc.specs.declared.description.Description.{Description}
-use Rattle.vm_desc.specs.Text.{Reads, description_of}
+use Rattle.vm_reader.specs.Text.{Reads, description_of}
 use Rattle.vm_desc.specs.declared.fault.DescFault.{DescFault}
 use Rattle.vm_desc.specs.declared.fault.DescFault.TheVariants as desc
 use Rattle.mate_cli.specs.Commands.{Task, Node, Says, builtin_word}

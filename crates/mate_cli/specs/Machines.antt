@@ -1,6 +1,6 @@
 -- The machines that words name.
 use Rattle.std.specs.Prelude.{◌≡◌, ◌≢◌, ℕ, List, Option, Some, Err, ◌⊎◌}
-use Rattle.vm_desc.specs.Text.{IsDescribed, description_of}
+use Rattle.vm_reader.specs.Text.{IsDescribed, description_of}
 use Rattle.vm_desc.specs.Whole.{parts_of, builtin_parts}
 use Rattle.vm_desc.specs.declared.description.Description.{Description}
 use Rattle.vm_desc.specs.declared.fault.DescFault.{DescFault}

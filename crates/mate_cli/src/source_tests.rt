@@ -15,7 +15,8 @@ use ts_compiler::compile;
 use ts_meaning::play;
 use ts_source::accept;
 use ts_syntax::Checked;
-use vm_desc::{Description, read};
+use vm_desc::Description;
+use vm_reader::read;
 
 /// The machine: a function has the name of a shared variable, and one that of a buffer.
 const MACHINE: &str = r#"

@@ -168,7 +168,7 @@ fn machine_of<F: Files>(alloc: Global, word: &str, files: &mut F) -> Result<Desc
         return Ok(builtin());
     }
     let bytes = read(alloc, files, word)?;
-    match vm_desc::read(alloc, bytes.as_slice()) {
+    match vm_reader::read(alloc, bytes.as_slice()) {
         Ok(desc) => Ok(desc),
         Err(DescFault::NoMemory) => Err(Refusal::NoMemory),
         Err(fault) => Err(Refusal::BadDescription(fault)),
