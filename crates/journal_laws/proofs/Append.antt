@@ -13,9 +13,9 @@ use Rattle.mate_journal.specs.Machine.{Machine}
 use Rattle.mate_journal.specs.Journal.{Told, Posted, Dropped, Started, Asked, Answered, Ended, Installed, Reset, Seen, Void, Event, told_of, journal_of, Reading, heard, heard_all, AtEachEntry, AtEachPlace}
 use Rattle.mate_journal.specs.WellFormed.{MayFollow, NotBefore, IsInTime, start, IsWellFormed}
 use Rattle.mate_journal.specs.Serial.{EndsAsRun, RunsSoFar, IsSerial}
-use Rattle.mate_journal.specs.Stores.{ShowsStore, SeenBeforeEras, ShowsStores}
+use Rattle.mate_journal.specs.Stores.{ShowsStore, SeenBeforeEras, ShowsStores, is_seen, IsSeenBefore}
 use Rattle.mate_journal.specs.Grants.{AllHeldBack, IsGranted, start_of, GrantsInOrder}
-use Rattle.journal_laws.specs.Growth.{event_of, IsNamedBelow, AreNamedBelow, NamesInLog, IsPushed, AddsImage, AddsStore, last_stamp, last_start, is_seen, last_is_seen, IsSeenBefore, BeforeEachEntry, GrantsBefore}
+use Rattle.journal_laws.specs.Growth.{event_of, IsNamedBelow, AreNamedBelow, NamesInLog, IsPushed, AddsImage, AddsStore, last_stamp, last_start, last_is_seen, BeforeEachEntry, GrantsBefore}
 use Rattle.mate_journal.specs.declared.entry.Entry.{Entry}
 use Rattle.mate_journal.specs.declared.entry.Entry.TheVariants as entry
 use Rattle.mate_journal.specs.declared.entry.Stamped.{Stamped}

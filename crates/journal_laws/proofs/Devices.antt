@@ -16,9 +16,9 @@ use Rattle.mate_journal.specs.Serial.{RunsSoFar}
 use Rattle.mate_journal.specs.Stores.{Writes}
 use Rattle.mate_journal.specs.Grants.{AreConflicting, start_of}
 use Rattle.journal_laws.specs.Growth.{GrantsBefore}
-use Rattle.journal_laws.specs.Positions.{TellsAt, EndsAt, StaysInEra, AreOfOneEra}
+use Rattle.mate_journal.specs.Positions.{TellsAt, EndsAt, StaysInEra, AreOfOneEra}
 use Rattle.journal_laws.specs.Apart.{IsOrderly}
-use Rattle.journal_laws.specs.Devices.{DeviceOf, WritesWhatItAsks, AsksAt, IsReadBefore, NeverEnds, AsksInOrder}
+use Rattle.mate_journal.specs.Devices.{DeviceOf, WritesWhatItAsks, AsksAt, IsReadBefore, NeverEnds, AsksInOrder}
 use Rattle.journal_laws.proofs.Changed.{untrue}
 use Rattle.journal_laws.proofs.Moves.{Moves, started-Moves, asked-Moves, answered-Moves, ended-Moves, posted-Joins, started_live}
 use Rattle.journal_laws.proofs.Apart.{IsNumbered, live_posted, ready_live, ready_started, orderly-step, orderly-apart}

@@ -7,3 +7,4 @@ pub mod Devices
 pub mod Progress
 pub mod Fresh
 pub mod ScriptRuns
+pub mod TidyLemmas

@@ -8,7 +8,7 @@ use Rattle.mate_journal.specs.Journal.{Told, Posted, Dropped, Started, Asked, An
 use Rattle.mate_journal.specs.WellFormed.{MayFollow}
 use Rattle.mate_journal.specs.Grants.{IsAhead, AreConflicting, start_of}
 use Rattle.journal_laws.specs.Growth.{GrantsBefore}
-use Rattle.journal_laws.specs.Positions.{EndsAt}
+use Rattle.mate_journal.specs.Positions.{EndsAt}
 use Rattle.journal_laws.specs.Apart.{IsOrderly, EndAsPosted}
 use Rattle.journal_laws.proofs.Changed.{untrue}
 use Rattle.journal_laws.proofs.Moves.{Moves, started-Moves, asked-Moves, answered-Moves, ended-Moves, Joins, posted-Joins, Cuts, cut-dead}

@@ -5,7 +5,7 @@ use Rattle.mate_journal.specs.Machine.{Machine}
 use Rattle.mate_journal.specs.Journal.{Told, Posted, Dropped, Started, Asked, Answered, Ended, Installed, Reset, Seen, Void, Event, Phase, Unposted, Queued, Ready, Waiting, Over, is_live, is_started, Reading, heard, AtEachEntry}
 use Rattle.mate_journal.specs.WellFormed.{MayFollow}
 use Rattle.mate_journal.specs.Grants.{IsAhead, AllHeldBack, IsGranted, start_of, GrantsInOrder}
-use Rattle.mate_journal.specs.NodeScript.{IsStart}
+use Rattle.mate_journal.specs.Grants.{IsStart}
 use Rattle.journal_laws.specs.Progress.{IsSomeReady, IsSomeWaiting, GoesForward, IsNeverStuck}
 use Rattle.journal_laws.proofs.Changed.{untrue}
 use Rattle.journal_laws.proofs.Apart.{IsNumbered, numbered-step}

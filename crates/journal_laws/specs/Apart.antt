@@ -3,7 +3,7 @@ use Rattle.std.specs.Prelude.{◌≡◌, ◌≢◌, ◌<◌, ℕ, IsTrue, List}
 use Rattle.mate_journal.specs.Machine.{Machine}
 use Rattle.mate_journal.specs.Journal.{Event, Unposted, is_started, Reading, heard_all}
 use Rattle.mate_journal.specs.Grants.{IsAhead, AreConflicting}
-use Rattle.journal_laws.specs.Positions.{EndsAt}
+use Rattle.mate_journal.specs.Positions.{EndsAt}
 
 -- two started live invocations don't conflict
 abbrev pub AreApart : Machine → Reading → Type 0

@@ -1,12 +1,13 @@
 -- A journal as it grows: what was told last, and the rules of its entries apart from what holds at its end.
-use Rattle.std.specs.Prelude.{◌≡◌, ◌<◌, ℕ, Bool, true, false, List, [], ◌∷◌, ◌++◌, length}
+use Rattle.std.specs.Prelude.{◌≡◌, ◌<◌, ℕ, Bool, List, [], ◌∷◌, ◌++◌, length}
 use Rattle.arrayvec.specs.ArrayVec.{ArrayVec}
 use Rattle.mate_num.specs.declared.call.Stamp.{Stamp}
 use Rattle.mate_num.specs.declared.store.Store.{Store}
 use Rattle.mate_journal.specs.Log.{Log}
 use Rattle.mate_journal.specs.Machine.{Machine}
-use Rattle.mate_journal.specs.Journal.{Told, Posted, Dropped, Started, Asked, Answered, Ended, Installed, Reset, Seen, Void, Event, told_of, Reading, heard, AtEachEntry}
+use Rattle.mate_journal.specs.Journal.{Event, told_of, Reading, heard, AtEachEntry}
 use Rattle.mate_journal.specs.Grants.{IsGranted, start_of}
+use Rattle.mate_journal.specs.Stores.{is_seen}
 use Rattle.mate_journal.specs.declared.entry.Entry.{Entry}
 use Rattle.mate_journal.specs.declared.entry.Entry.TheVariants as entry
 use Rattle.mate_journal.specs.declared.entry.Stamped.{Stamped}
@@ -19,17 +20,9 @@ event_of l s = record { stamp = s.stamp; told = told_of l s.entry }
 
 -- the image or the store that an entry names is one of so many
 abbrev pub IsNamedBelow : ℕ → ℕ → Entry → Type 0
-IsNamedBelow images stores (entry.Post n h c payload) = Unit {0}
-IsNamedBelow images stores (entry.Dropped h cause) = Unit {0}
-IsNamedBelow images stores (entry.Start n) = Unit {0}
-IsNamedBelow images stores (entry.Ask n f args) = Unit {0}
-IsNamedBelow images stores (entry.Answer n value) = Unit {0}
-IsNamedBelow images stores (entry.Halt n) = Unit {0}
-IsNamedBelow images stores (entry.Fault n kind) = Unit {0}
 IsNamedBelow images stores (entry.Install h version image) = image < images
-IsNamedBelow images stores entry.Reset = Unit {0}
 IsNamedBelow images stores (entry.Seen store) = store < stores
-IsNamedBelow images stores (entry.Void cause) = Unit {0}
+IsNamedBelow images stores _ = Unit {0}
 
 abbrev pub AreNamedBelow : ℕ → ℕ → List Stamped → Type 0
 AreNamedBelow images stores [] = Unit {0}
@@ -69,36 +62,10 @@ abbrev pub last_start : ℕ → List Event → ℕ
 last_start before [] = before
 last_start before (e ∷ es) = last_start (start_of e.told) es
 
--- the entry shows a store
-abbrev pub is_seen : Told → Bool
-is_seen (Posted n h c payload) = false
-is_seen (Dropped h cause) = false
-is_seen (Started n) = false
-is_seen (Asked n f args) = false
-is_seen (Answered n value) = false
-is_seen (Ended n how) = false
-is_seen (Installed p) = false
-is_seen Reset = false
-is_seen (Seen store) = true
-is_seen (Void cause) = false
-
 -- the last event shows a store, `before` where there is no event
 abbrev pub last_is_seen : Bool → List Event → Bool
 last_is_seen before [] = before
 last_is_seen before (e ∷ es) = last_is_seen (is_seen e.told) es
-
--- the entry begins an era: then a store was seen directly before
-abbrev pub IsSeenBefore : Bool → Told → Type 0
-IsSeenBefore seen (Posted n h c payload) = Unit {0}
-IsSeenBefore seen (Dropped h cause) = Unit {0}
-IsSeenBefore seen (Started n) = Unit {0}
-IsSeenBefore seen (Asked n f args) = Unit {0}
-IsSeenBefore seen (Answered n value) = Unit {0}
-IsSeenBefore seen (Ended n how) = Unit {0}
-IsSeenBefore seen (Installed p) = seen ≡ true
-IsSeenBefore seen Reset = seen ≡ true
-IsSeenBefore seen (Seen store) = Unit {0}
-IsSeenBefore seen (Void cause) = Unit {0}
 
 -- ---- the rules of the entries, without what holds at the end
 

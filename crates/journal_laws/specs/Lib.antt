@@ -1,6 +1,3 @@
 pub mod Growth
-pub mod Positions
 pub mod Apart
-pub mod Devices
 pub mod Progress
-pub mod ScriptSoFar

@@ -3,7 +3,7 @@ use Rattle.std.specs.Prelude.{◌≡◌, ℕ, IsTrue, List, ◌⊎◌}
 use Rattle.mate_journal.specs.Machine.{Machine}
 use Rattle.mate_journal.specs.Journal.{Event, Ready, is_live, Reading, heard_all, AtEachEntry}
 use Rattle.mate_journal.specs.WellFormed.{IsWaiting}
-use Rattle.mate_journal.specs.NodeScript.{IsStart}
+use Rattle.mate_journal.specs.Grants.{IsStart}
 
 -- some invocation is ready
 pub record IsSomeReady (r : Reading) : Type 0 where

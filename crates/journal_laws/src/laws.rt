@@ -1,16 +1,14 @@
 //! The laws of journals. Each is what a function promises that does nothing. A journal here is one that is well
 //! formed and keeps the grant rule, from before anything was heard.
 
-ghost use Rattle.std.specs.Prelude.{◌≡◌, ◌++◌, List};
-ghost use Rattle.mate_num.specs.declared.id.DeviceId.{DeviceId};
+ghost use Rattle.std.specs.Prelude.{List};
 ghost use Rattle.mate_journal.specs.Machine.{Machine};
 ghost use Rattle.mate_journal.specs.Journal.{Event, nothing_heard, AtEachPlace};
 ghost use Rattle.mate_journal.specs.WellFormed.{IsWellFormed};
 ghost use Rattle.mate_journal.specs.Serial.{IsSerial};
 ghost use Rattle.mate_journal.specs.Grants.{GrantsInOrder};
-ghost use Rattle.journal_laws.specs.Positions.{AreOfOneEra};
 ghost use Rattle.journal_laws.specs.Apart.{AreApart, EndAsPosted};
-ghost use Rattle.journal_laws.specs.Devices.{DeviceOf, WritesWhatItAsks, AsksInOrder};
+ghost use Rattle.mate_journal.specs.Devices.{DeviceOf, WritesWhatItAsks, AsksDevicesInOrder};
 ghost use Rattle.journal_laws.specs.Progress.{IsNeverStuck};
 
 /// At each place two started live invocations don't conflict.
@@ -28,9 +26,9 @@ pub fn ends_as_posted()
 /// In each era, and in each part of one, the calls to a device have rising positions where the invocations are read in
 /// the order of their ends, and after them those that never end.
 pub fn asks_devices_in_order()
-    ensures { (m : Machine) (es front era back : List Event) (device_of : DeviceOf) (d : DeviceId) →
+    ensures { (m : Machine) (es : List Event) (device_of : DeviceOf) →
         WritesWhatItAsks device_of m.meaning → IsWellFormed m (nothing_heard m) es → IsSerial m (nothing_heard m) es → GrantsInOrder m (nothing_heard m) 0 es →
-        es ≡ front ++ (era ++ back) → AreOfOneEra era → AsksInOrder device_of d era }
+        AsksDevicesInOrder device_of es }
 {}
 
 /// Wherever no start follows, some invocation is ready, or one waits for the outside, or none is live.

@@ -37,34 +37,8 @@ pub data Use : Type 0 where
   Sends : (fun : FunId) → (buf : BufId) → Use
 
 abbrev pub use_of : Instr → Use
-use_of Halt = Nothing
-use_of (PushW x) = Nothing
-use_of (PushB n) = Nothing
 use_of (GetS v) = Gets (Shared v)
 use_of (SetS v) = Changes (Shared v)
-use_of (GetP n) = Nothing
-use_of (SetP n) = Nothing
-use_of Add = Nothing
-use_of Sub = Nothing
-use_of Mul = Nothing
-use_of Div = Nothing
-use_of Mod = Nothing
-use_of Neg = Nothing
-use_of Not = Nothing
-use_of And = Nothing
-use_of Or = Nothing
-use_of Eq = Nothing
-use_of Ne = Nothing
-use_of Lt = Nothing
-use_of Gt = Nothing
-use_of Le = Nothing
-use_of Ge = Nothing
-use_of (Jz place) = Nothing
-use_of (Jmp place) = Nothing
-use_of (Back place) = Nothing
-use_of Drop = Nothing
-use_of MsgGet = Nothing
-use_of MsgSize = Nothing
 use_of (BGet b) = Gets (Buffer b)
 use_of (BSet b) = Changes (Buffer b)
 use_of (BAdd b) = Changes (Buffer b)
@@ -73,6 +47,7 @@ use_of (BSize b) = Gets (Buffer b)
 use_of (BClear b) = Changes (Buffer b)
 use_of (Fun f) = Calls f
 use_of (FunBuf f b) = Sends f b
+use_of _ = Nothing
 
 -- the cell that an instruction names
 abbrev pub cell_in : Use → Option Resource

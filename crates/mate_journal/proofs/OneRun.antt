@@ -1,22 +1,26 @@
 -- The journal of one install, one post and one run of an invocation that ends: it owes nothing.
-use Rattle.std.proofs.Common.{◌≡◌, ◌≤◌, ◌<◌, ℕ, zero, suc, ◌+◌, Bool, true, false, IsTrue, List, [], ◌∷◌, ◌++◌, ℤ, length, map, Option, Some, None, refl, sym, ◌∙◌, ap, subst, arith, ◌⊎◌, inl, inr, ◌≢◌, lit<, lit≤}
+use Rattle.std.proofs.Common.{zero, ◌++◌, suc, ◌+◌, ◌≡◌, ◌≤◌, ◌<◌, ℕ, Bool, false, IsTrue, List, [], ◌∷◌, ℤ, length, map, refl, sym, ap, subst, arith, inl, inr, ◌≢◌, lit<, lit≤}
 use Rattle.std.proofs.lemmas.Bool.Decides.{eqb_tells}
 use Rattle.std.proofs.lemmas.List.Elements.{All-from_recursion}
 use Rattle.arrayvec.specs.ArrayVec.{ArrayVec}
 use Rattle.mate_num.specs.declared.call.Call.{Call}
+use Rattle.mate_num.specs.declared.call.End.{End}
 use Rattle.mate_num.specs.declared.call.End.TheVariants as end
 use Rattle.mate_num.specs.declared.id.FunId.{FunId}
-use Rattle.mate_num.specs.declared.call.Stamp.{Stamp}
 use Rattle.mate_num.specs.declared.id.HandlerId.{HandlerId}
 use Rattle.mate_num.specs.declared.id.ContextId.{ContextId}
 use Rattle.mate_num.specs.declared.store.Store.{Store}
 use Rattle.mate_journal.specs.Machine.{Machine, HeldProgram, Outcome, IsContextOf}
-use Rattle.mate_journal.specs.Journal.{Phase, Ready, Waiting, Over, told_by, Told, Posted, Started, Ended, Installed, Seen, Event, Reading, nothing_heard, heard, heard_all, is_live, is_started, Queued, changed, Invocation}
+use Rattle.mate_journal.specs.Journal.{Phase, Ready, Waiting, Over, told_by, Told, Posted, Started, Asked, Ended, Installed, Seen, Event, Reading, nothing_heard, heard, is_started, Queued, changed, Invocation}
 use Rattle.mate_journal.specs.WellFormed.{IsWellFormed, Closes, NotBefore}
 use Rattle.mate_journal.specs.Serial.{IsSerial, RunsSoFar}
 use Rattle.mate_journal.specs.Stores.{ShowsStores, IsShown}
-use Rattle.mate_journal.specs.Grants.{GrantsInOrder, AllHeldBack, MayStart}
-use Rattle.mate_journal.specs.NodeScript.{Step, Install, Post, Run, IsRunOf, AreOfEvent, Installs, Posts, Settles, IsOfRun, IsStart}
+use Rattle.mate_journal.specs.Grants.{GrantsInOrder, AllHeldBack, MayStart, IsStart}
+use Rattle.mate_journal.specs.Positions.{TellsAt}
+use Rattle.mate_journal.specs.Devices.{DeviceOf, AsksAt, AsksDevicesInOrder}
+use Rattle.mate_journal.specs.Pace.{Pace, no_pace, paced, gives_way}
+use Rattle.mate_journal.specs.Turns.{Clock, ShowsReady, entry_at, Turn, IsTurn, after_step, Settles}
+use Rattle.mate_journal.specs.NodeScript.{Step, Install, Post, Run, Whole, IsRunOf, HaveMade, AreOfEvent, Installs, Posts}
 
 abbrev empty : ArrayVec ℤ
 empty = record { items = [] }
@@ -48,13 +52,14 @@ one_run m p =
 abbrev pub one_script : HeldProgram → List Step
 one_script p = Install p ∷ Post main empty ∷ Run ∷ []
 
--- what is asked of the machine and the program
-pub record RunsToEnd (m : Machine) (p : HeldProgram) : Type 0 where
+-- what is asked of the clock, the machine and the program
+pub record RunsToEnd (k : Clock) (m : Machine) (p : HeldProgram) : Type 0 where
   pub context : IsContextOf m main first
   pub not_once : m.runs_once main ≡ false
   pub version : 0 < p.version
   pub closes : Closes (first_run m p).end
   pub calls : (first_run m p).calls ≡ []
+  pub quick : k.mark p m.zero_store empty [] m.turns ≤ k.quantum
   pub variables : length (first_run m p).store.shared.items ≡ length m.zero_store.shared.items
   pub buffers : length (first_run m p).store.buffers.items ≡ length m.zero_store.buffers.items
 
@@ -77,7 +82,19 @@ untrue b holds fails = cc
 in_order : (a b : ℕ) → a ≤ b → NotBefore (record { event = a; time = 0 }) (record { event = b; time = 0 })
 in_order a b h = record { event = h; time = omega arith; same = λ _. refl }
 
-module _ (m : Machine) (version : ℕ) (image : ArrayVec ℕ) where
+-- what a part tells, the whole tells
+TellsAt-before : (es back : List Event) (q : ℕ) (t : Told) → TellsAt es q t → TellsAt (es ++ back) q t
+TellsAt-before [] back q t tells = absurd tells
+TellsAt-before (e ∷ es) back zero t tells = tells
+TellsAt-before (e ∷ es) back (suc q) t tells = TellsAt-before es back q t tells
+
+TellsAt-behind : (front es : List Event) (q : ℕ) (t : Told) → TellsAt es q t → TellsAt (front ++ es) (length front + q) t
+TellsAt-behind [] es q t tells = let same : length {A = Event} [] + q ≡ q = omega arith in subst (λ (i : ℕ). TellsAt es i t) (sym same) tells
+TellsAt-behind (e ∷ front) es q t tells =
+    let next : length (e ∷ front) + q ≡ suc (length front + q) = omega arith in
+    subst (λ (i : ℕ). TellsAt (e ∷ (front ++ es)) i t) (sym next) (TellsAt-behind front es q t tells)
+
+module _ (k : Clock) (m : Machine) (version : ℕ) (image : ArrayVec ℕ) where
   abbrev p : HeldProgram
   p = for_main version image
 
@@ -133,13 +150,13 @@ module _ (m : Machine) (version : ℕ) (image : ArrayVec ℕ) where
   none_queued : (r : Reading) → ((k : ℕ) → (r.invocations k).phase ≡ Queued → ⊥) → AllHeldBack m r
   none_queued r q = λ n e. absurd (q n e)
 
-  pub one_run-well_formed : RunsToEnd m p → IsWellFormed m (nothing_heard m) (one_run m p)
+  pub one_run-well_formed : RunsToEnd k m p → IsWellFormed m (nothing_heard m) (one_run m p)
   one_run-well_formed h = record {
     in_time = (in_order 0 1 (lit≤ tt), (in_order 1 1 (lit≤ tt), (in_order 1 2 (lit≤ tt), (in_order 2 2 (lit≤ tt), (in_order 2 3 (lit≤ tt), (in_order 3 4 (lit≤ tt), tt))))));
     follow = (tt, (tt, ((refl, refl, h.context, λ n live same. untrue false live refl), (refl, ((refl, h.closes), (tt, tt))))));
   }
 
-  pub one_run-serial : RunsToEnd m p → IsSerial m (nothing_heard m) (one_run m p)
+  pub one_run-serial : RunsToEnd k m p → IsSerial m (nothing_heard m) (one_run m p)
   one_run-serial h = record {
     ends = (tt, (tt, (tt, (tt, ((refl, h.calls), (tt, tt))))));
     so_far = (
@@ -165,7 +182,7 @@ module _ (m : Machine) (version : ℕ) (image : ArrayVec ℕ) where
     over : RunsSoFar m ended
     over = quiet ended (each_ended IsQuiet refl (λ k _. refl))
 
-  pub one_run-stores : RunsToEnd m p → ShowsStores m (nothing_heard m) (one_run m p)
+  pub one_run-stores : RunsToEnd k m p → ShowsStores m (nothing_heard m) (one_run m p)
   one_run-stores h = record {
     shown = (at_start, (tt, (tt, (tt, (tt, (at_end, tt))))));
     before_eras = (tt, (refl, (tt, (tt, (tt, (tt, tt))))));
@@ -181,7 +198,7 @@ module _ (m : Machine) (version : ℕ) (image : ArrayVec ℕ) where
       waiting = λ r n w waits. absurd (untrue (is_started (ended.invocations n).phase) w.started (each_ended IsQuiet refl (λ k _. refl) n));
     }
 
-  pub one_run-grants : RunsToEnd m p → GrantsInOrder m (nothing_heard m) 0 (one_run m p)
+  pub one_run-grants : RunsToEnd k m p → GrantsInOrder m (nothing_heard m) 0 (one_run m p)
   one_run-grants h = (
     none_queued (nothing_heard m) (λ k e. cc),
     (
@@ -202,65 +219,122 @@ module _ (m : Machine) (version : ℕ) (image : ArrayVec ℕ) where
           | inr earlier ↦ past_changed NotQueued before 1 (one Queued) k (λ e. let below : k < 1 = earlier.0 in omega arith) (λ e. cc) earlier.1
         ]
 
-  pub one_run-events : RunsToEnd m p → IsRunOf m true 0 1 (nothing_heard m) (one_script p) (one_run m p)
-  one_run-events h =
-      inr (
-        lit< tt,
-        at 1 (Seen m.zero_store) ∷ at 1 (Installed p) ∷ [],
-        at 2 (Posted 1 main first empty) ∷ at 2 (Started 1) ∷ rest,
-        refl,
-        of_event 1 (Seen m.zero_store) (Installed p),
-        inl installs,
-        from_post,
-      ) where
-        rest : List Event
-        rest = at 3 (Ended 1 (first_run m p).end) ∷ at 4 (Seen (first_run m p).store) ∷ []
+  -- it has no call
+  no_call : (e : End) (n q : ℕ) (f : FunId) (args : ArrayVec ℤ)
+      → TellsAt (at 1 (Seen m.zero_store) ∷ at 1 (Installed p) ∷ at 2 (Posted 1 main first empty) ∷ at 2 (Started 1) ∷ at 3 (Ended 1 e) ∷ at 4 (Seen (first_run m p).store) ∷ []) q (Asked n f args) → ⊥
+  no_call e n zero f args tells = cc
+  no_call e n (suc zero) f args tells = cc
+  no_call e n (suc (suc zero)) f args tells = cc
+  no_call e n (suc (suc (suc zero))) f args tells = cc
+  no_call e n (suc (suc (suc (suc zero)))) f args tells = cc
+  no_call e n (suc (suc (suc (suc (suc zero))))) f args tells = cc
+  no_call e n (suc (suc (suc (suc (suc (suc q)))))) f args tells = tells
 
-        of_event : (k : ℕ) (a b : Told) → AreOfEvent k (at k a ∷ at k b ∷ [])
-        of_event k a b = All-from_recursion (λ (e : Event). e.stamp ≡ record { event = k; time = 0 }) (at k a ∷ at k b ∷ []) (refl, (refl, tt))
+  pub one_run-devices : (device_of : DeviceOf) → AsksDevicesInOrder device_of (one_run m p)
+  one_run-devices device_of front era back d is one_era = record { rising = λ j k q q' _ _ asks _. absurd (no_asks j q asks); one_open = λ j k q q' _ _ asks _. absurd (no_asks j q asks) } where
+    no_asks : (n q : ℕ) → AsksAt device_of d era n q → ⊥
+    no_asks n q asks = no_call (first_run m p).end n (length front + q) asks.fun asks.args
+        (subst (λ (es : List Event). TellsAt es (length front + q) (Asked n asks.fun asks.args)) (sym is) (TellsAt-behind front (era ++ back) q (Asked n asks.fun asks.args) (TellsAt-before era back q (Asked n asks.fun asks.args) asks.tells)))
 
-        alone : (k : ℕ) (a : Told) → AreOfEvent k (at k a ∷ [])
-        alone k a = All-from_recursion (λ (e : Event). e.stamp ≡ record { event = k; time = 0 }) (at k a ∷ []) (refl, tt)
+  pub one_run-events : RunsToEnd k m p → IsRunOf k m Whole (one_script p) (one_run m p)
+  one_run-events h = record {
+    done = one_script p;
+    left = [];
+    front = at 1 (Seen m.zero_store) ∷ at 1 (Installed p) ∷ posting;
+    last = at 4 (Seen (first_run m p).store) ∷ [];
+    pace = after_step k m started (gives_way pace_started 1) k.quantum turn;
+    steps_are = refl;
+    events_are = refl;
+    made = from_install;
+    ends = (refl, record { seen = (first_run m p).store; shown = none_ready ended (each_ended IsQuiet refl (λ k _. refl)); made = refl }, alone 4 (Seen (first_run m p).store));
+  } where
+    running : List Event
+    running = at 3 (Ended 1 (first_run m p).end) ∷ []
 
-        installs : Installs m (nothing_heard m) p (told_by (at 1 (Seen m.zero_store) ∷ at 1 (Installed p) ∷ []))
-        installs = record { seen = m.zero_store; rest = []; newer = h.version; made = refl; once = λ once. absurd (untrue (m.runs_once main) once h.not_once); else = λ _. refl }
+    posting : List Event
+    posting = at 2 (Posted 1 main first empty) ∷ at 2 (Started 1) ∷ running
 
-        posts : Posts m installed main empty (told_by (at 2 (Posted 1 main first empty) ∷ at 2 (Started 1) ∷ []))
-        posts = record {
-          context = first;
-          starts = Started 1 ∷ [];
-          code = refl;
-          first_idle = record { context = h.context; idle = λ n live same. untrue false live refl; lowest = λ k _ below. absurd (omega arith) };
-          are_starts = All-from_recursion IsStart (Started 1 ∷ []) (tt, tt);
-          made = refl;
-        }
+    of_event : (n : ℕ) (a b : Told) → AreOfEvent n (at n a ∷ at n b ∷ [])
+    of_event n a b = All-from_recursion (λ (e : Event). e.stamp ≡ record { event = n; time = 0 }) (at n a ∷ at n b ∷ []) (refl, (refl, tt))
 
-        settles : Settles m started (at 3 (Ended 1 (first_run m p).end) ∷ [])
-        settles = record { made = All-from_recursion IsOfRun (Ended 1 (first_run m p).end ∷ []) (tt, tt); settled = each_ended (λ k i. i.phase ≡ Ready → ⊥) (λ e. cc) (λ k _ e. cc) }
+    alone : (n : ℕ) (a : Told) → AreOfEvent n (at n a ∷ [])
+    alone n a = All-from_recursion (λ (e : Event). e.stamp ≡ record { event = n; time = 0 }) (at n a ∷ []) (refl, tt)
 
-        at_last : IsRunOf m true 5 4 ended [] (at 4 (Seen (first_run m p).store) ∷ [])
-        at_last = (record { seen = (first_run m p).store; made = refl }, alone 4 (Seen (first_run m p).store))
+    none_ready : (r : Reading) → ((n : ℕ) → is_started (r.invocations n).phase ≡ false) → {pace : Pace} {seen : Store} → ShowsReady k m r pace seen
+    none_ready r quiet = record { ready = λ at n w ready. absurd (untrue (is_started (r.invocations n).phase) w.started (quiet n)) }
 
-        from_run : IsRunOf m true 4 3 started (Run ∷ []) rest
-        from_run =
-            inr (
-              lit< tt,
-              at 3 (Ended 1 (first_run m p).end) ∷ [],
-              at 4 (Seen (first_run m p).store) ∷ [],
-              refl,
-              alone 3 (Ended 1 (first_run m p).end),
-              settles,
-              at_last,
-            )
+    pace_started : Pace
+    pace_started = paced no_pace (Started 1)
 
-        from_post : IsRunOf m true 2 2 installed (Post main empty ∷ Run ∷ []) (at 2 (Posted 1 main first empty) ∷ at 2 (Started 1) ∷ rest)
-        from_post =
-            inr (
-              lit< tt,
-              at 2 (Posted 1 main first empty) ∷ at 2 (Started 1) ∷ [],
-              rest,
-              refl,
-              of_event 2 (Posted 1 main first empty) (Started 1),
-              inr (inr posts),
-              from_run,
-            )
+    turn : Turn
+    turn = record { invocation = 1; told = Ended 1 (first_run m p).end ∷ [] }
+
+    installs : Installs k m (nothing_heard m) no_pace p (told_by (at 1 (Seen m.zero_store) ∷ at 1 (Installed p) ∷ []))
+    installs = record {
+      seen = m.zero_store;
+      rest = [];
+      shown = none_ready (nothing_heard m) (λ n. refl);
+      newer = h.version;
+      made = refl;
+      once = λ once. absurd (untrue (m.runs_once main) once h.not_once);
+      else = λ _. refl;
+    }
+
+    posts : Posts m installed main empty (told_by (at 2 (Posted 1 main first empty) ∷ at 2 (Started 1) ∷ []))
+    posts = record {
+      context = first;
+      starts = Started 1 ∷ [];
+      code = refl;
+      first_idle = record { context = h.context; idle = λ n live same. untrue false live refl; lowest = λ k _ below. absurd (omega arith) };
+      are_starts = All-from_recursion IsStart (Started 1 ∷ []) (tt, tt);
+      made = refl;
+    }
+
+    closing : (e : End) → Closes e → Ended 1 e ≡ entry_at 1 e
+    closing end.Halt closes = refl
+    closing (end.Fault kind) closes = refl
+    closing (end.Wants f args) closes = absurd closes
+
+    is_turn : IsTurn k m started (gives_way pace_started 1) k.quantum turn
+    is_turn = record {
+      ready = refl;
+      short = λ few. absurd (omega (arith, few, h.quick));
+      reached = λ _. record { starts = []; are_starts = All-from_recursion IsStart [] tt; told_is = ap (λ (t : Told). t ∷ []) (closing (first_run m p).end h.closes) };
+    }
+
+    settles : Settles k m started pace_started (told_by running) (after_step k m started (gives_way pace_started 1) k.quantum turn)
+    settles = record {
+      turns = turn ∷ [];
+      are_turns = (([], refl), is_turn, tt);
+      made = refl;
+      then = refl;
+      empty = refl;
+      settled = each_ended (λ k i. i.phase ≡ Ready → ⊥) (λ e. cc) (λ k _ e. cc);
+    }
+
+    from_run : HaveMade k m 4 3 started pace_started (Run ∷ []) running (after_step k m started (gives_way pace_started 1) k.quantum turn)
+    from_run = (lit< tt, running, [], after_step k m started (gives_way pace_started 1) k.quantum turn, refl, alone 3 (Ended 1 (first_run m p).end), settles, (refl, refl))
+
+    from_post : HaveMade k m 2 2 installed no_pace (Post main empty ∷ Run ∷ []) posting (after_step k m started (gives_way pace_started 1) k.quantum turn)
+    from_post = (
+      lit< tt,
+      at 2 (Posted 1 main first empty) ∷ at 2 (Started 1) ∷ [],
+      running,
+      pace_started,
+      refl,
+      of_event 2 (Posted 1 main first empty) (Started 1),
+      (inr (inr posts), refl),
+      from_run,
+    )
+
+    from_install : HaveMade k m 0 1 (nothing_heard m) no_pace (one_script p) (at 1 (Seen m.zero_store) ∷ at 1 (Installed p) ∷ posting) (after_step k m started (gives_way pace_started 1) k.quantum turn)
+    from_install = (
+      lit< tt,
+      at 1 (Seen m.zero_store) ∷ at 1 (Installed p) ∷ [],
+      posting,
+      no_pace,
+      refl,
+      of_event 1 (Seen m.zero_store) (Installed p),
+      (inl installs, refl),
+      from_post,
+    )

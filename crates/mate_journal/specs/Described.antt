@@ -1,9 +1,10 @@
 -- The machine of a description.
-use Rattle.std.specs.Prelude.{ℕ, Bool, true, false, List, length, Option, Some, None, slice_get}
+use Rattle.std.specs.Prelude.{ℕ, Bool, true, false, length, Option, Some, None, slice_get}
 use Rattle.mate_num.specs.Store.{zero_store}
-use Rattle.mate_num.specs.declared.id.HandlerId.{HandlerId}
+use Rattle.mate_num.specs.declared.id.DeviceId.{DeviceId}
 use Rattle.vm_desc.specs.Contexts.{first_context}
 use Rattle.vm_desc.specs.declared.description.Description.{Description}
+use Rattle.vm_desc.specs.declared.function.Function.{Function}
 use Rattle.vm_desc.specs.declared.handler.Handler.{Handler}
 use Rattle.vm_desc.specs.declared.handler.HandlerKind.{HandlerKind}
 use Rattle.vm_desc.specs.declared.handler.HandlerKind.TheVariants as kind
@@ -25,6 +26,11 @@ abbrev pub runs_once : Option Handler → Bool
 runs_once None = false
 runs_once (Some h) = is_once h.kind
 
+-- the device that a function speaks to, if any
+abbrev pub device_for : Option Function → Option DeviceId
+device_for None = None
+device_for (Some f) = f.device
+
 -- a description's machine, with what its programs mean
 abbrev pub machine_of : Description → Meaning → Machine
 machine_of d meaning = record {
@@ -33,5 +39,6 @@ machine_of d meaning = record {
   first_context = λ h. first_context d.handlers.items h.0;
   contexts = λ h. contexts_of (slice_get d.handlers.items h.0);
   runs_once = λ h. runs_once (slice_get d.handlers.items h.0);
+  device_of = λ f. device_for (slice_get d.functions.items f.0);
   meaning = meaning;
 }

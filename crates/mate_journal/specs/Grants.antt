@@ -1,8 +1,8 @@
 -- The grant rule: an invocation waits to start only for conflicting ones, which are started or were posted earlier.
-use Rattle.std.specs.Prelude.{◌≡◌, ◌<◌, ℕ, IsTrue, List, [], ◌∷◌, ◌⊎◌}
+use Rattle.std.specs.Prelude.{◌≡◌, ◌<◌, ℕ, IsTrue, List, [], ◌∷◌, ◌⊎◌, ⊤, MatchOption, IsSomeAnd, unwrap_or}
 use Rattle.mate_num.specs.Uses.{Conflicts}
 use Rattle.mate_journal.specs.Machine.{Machine}
-use Rattle.mate_journal.specs.Journal.{Told, Posted, Dropped, Started, Asked, Answered, Ended, Installed, Reset, Seen, Void, Event, Queued, is_started, Reading, heard}
+use Rattle.mate_journal.specs.Journal.{Told, started_by, Event, Queued, is_started, Reading, heard}
 
 -- k comes before the queued invocation n: it is started and live, or it was posted earlier and is queued
 abbrev pub IsAhead : Reading → ℕ → ℕ → Type 0
@@ -29,29 +29,15 @@ MayStart m r n = (k : ℕ) → IsAhead r n k → AreConflicting m r n k → ⊥
 -- before an entry: a start is of an invocation that nothing holds back, with a greater number than a start directly
 -- before it (`last`, 0 for none); before any other entry all queued invocations are held back
 abbrev pub IsGranted : Machine → Reading → ℕ → Told → Type 0
-IsGranted m r last (Posted n h c payload) = AllHeldBack m r
-IsGranted m r last (Dropped h cause) = AllHeldBack m r
-IsGranted m r last (Started n) = MayStart m r n × (last < n)
-IsGranted m r last (Asked n f args) = AllHeldBack m r
-IsGranted m r last (Answered n value) = AllHeldBack m r
-IsGranted m r last (Ended n how) = AllHeldBack m r
-IsGranted m r last (Installed p) = AllHeldBack m r
-IsGranted m r last Reset = AllHeldBack m r
-IsGranted m r last (Seen store) = AllHeldBack m r
-IsGranted m r last (Void cause) = AllHeldBack m r
+IsGranted m r last told = MatchOption (started_by told) (AllHeldBack m r) (λ n. MayStart m r n × (last < n))
+
+-- an entry that starts an invocation
+abbrev pub IsStart : Told → Type 0
+IsStart told = IsSomeAnd (started_by told) (λ n. ⊤)
 
 -- the number of the invocation that an entry starts, 0 for none
 abbrev pub start_of : Told → ℕ
-start_of (Posted n h c payload) = 0
-start_of (Dropped h cause) = 0
-start_of (Started n) = n
-start_of (Asked n f args) = 0
-start_of (Answered n value) = 0
-start_of (Ended n how) = 0
-start_of (Installed p) = 0
-start_of Reset = 0
-start_of (Seen store) = 0
-start_of (Void cause) = 0
+start_of told = unwrap_or (started_by told) 0
 
 -- the rule along a journal; `last` is the number of the invocation that the entry before it started, 0 for none
 abbrev pub GrantsInOrder : Machine → Reading → ℕ → List Event → Type 0

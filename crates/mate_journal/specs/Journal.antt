@@ -1,5 +1,5 @@
 -- A node's journal, and what was heard up to a place in it.
-use Rattle.std.specs.Prelude.{◌≡◌, ℕ, suc, ◌==◌, Bool, true, false, IsTrue, List, [], ◌∷◌, ◌++◌, map, ℤ, Option, Some, None, unwrap_or, slice_index_or, if◌then◌else◌}
+use Rattle.std.specs.Prelude.{ℕ, ◌==◌, Bool, true, false, List, [], ◌∷◌, ◌++◌, map, ℤ, Option, Some, None, unwrap_or, slice_index_or, if◌then◌else◌}
 use Rattle.arrayvec.specs.ArrayVec.{ArrayVec}
 use Rattle.mate_num.specs.declared.call.Call.{Call}
 use Rattle.mate_num.specs.declared.call.End.{End}
@@ -15,7 +15,6 @@ use Rattle.mate_journal.specs.declared.entry.DropCause.{DropCause}
 use Rattle.mate_journal.specs.declared.entry.VoidCause.{VoidCause}
 use Rattle.mate_journal.specs.declared.entry.Entry.{Entry}
 use Rattle.mate_journal.specs.declared.entry.Entry.TheVariants as entry
-use Rattle.mate_journal.specs.declared.entry.Stamped.{Stamped}
 
 -- what an entry tells, with the image or the store that it names
 pub data Told : Type 0 where
@@ -29,6 +28,27 @@ pub data Told : Type 0 where
   Reset : Told
   Seen : (store : Store) → Told
   Void : (cause : VoidCause) → Told
+
+-- the invocation that an entry starts, if any
+abbrev pub started_by : Told → Option ℕ
+started_by (Started n) = Some n
+started_by _ = None
+
+-- the invocation that an entry ends, and how, if any
+abbrev pub ended_by : Told → Option (ℕ × End)
+ended_by (Ended n how) = Some (n, how)
+ended_by _ = None
+
+-- the store that an entry shows, if any
+abbrev pub store_seen : Told → Option Store
+store_seen (Seen store) = Some store
+store_seen _ = None
+
+-- the entry begins an era
+abbrev pub begins_era : Told → Bool
+begins_era (Installed p) = true
+begins_era Reset = true
+begins_era _ = false
 
 -- something told, and when
 pub record Event : Type 0 where
@@ -103,7 +123,7 @@ pub record Reading : Type 0 where
   pub installed : HandlerId → Option HeldProgram
   pub invocations : ℕ → Invocation
 
-abbrev no_program : HeldProgram
+abbrev pub no_program : HeldProgram
 no_program = record { handler = record { 0 = 0 }; version = 0; image = no_image }
 
 -- an invocation that was not posted yet
@@ -129,11 +149,15 @@ changed f n value k = if k == n then value else f k
 abbrev pub in_phase : Phase → Invocation → Invocation
 in_phase phase i = record i { phase = phase }
 
+-- the answers that an invocation got
+abbrev pub answers_of : Invocation → List ℤ
+answers_of i = map (λ (call : Call). call.result) i.calls
+
 -- the whole run of an invocation on the serial store, with the answers that it got
 abbrev pub whole_run : Machine → Reading → ℕ → Outcome
 whole_run m r n =
     let i = r.invocations n in
-    m.meaning.run i.program r.serial i.payload (map (λ (call : Call). call.result) i.calls) m.turns
+    m.meaning.run i.program r.serial i.payload (answers_of i) m.turns
 
 -- the function and arguments that the invocation waits for
 abbrev answered : Phase → ℤ → List Call → List Call
@@ -178,6 +202,11 @@ heard m r (Void cause) = r
 abbrev pub heard_all : Machine → Reading → List Event → Reading
 heard_all m r [] = r
 heard_all m r (e ∷ es) = heard_all m (heard m r e.told) es
+
+-- the same of what a list of entries tells
+abbrev pub heard_told : Machine → Reading → List Told → Reading
+heard_told m r [] = r
+heard_told m r (t ∷ ts) = heard_told m (heard m r t) ts
 
 -- a rule for each entry, at what was heard before it
 abbrev pub AtEachEntry : (Reading → Told → Type 0) → Machine → Reading → List Event → Type 0

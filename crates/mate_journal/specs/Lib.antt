@@ -5,6 +5,12 @@ pub mod WellFormed
 pub mod Serial
 pub mod Stores
 pub mod Grants
+pub mod Positions
+pub mod Devices
+pub mod Pace
+pub mod Turns
 pub mod NodeScript
 pub mod Described
 pub mod NodeRun
+pub mod Tidy
+pub mod NodeReport

@@ -1,9 +1,11 @@
 -- What a journal is read against: a machine, and what its installed programs mean.
-use Rattle.std.specs.Prelude.{ℕ, ◌+◌, ◌<◌, ◌≤◌, Bool, List, ℤ, []}
+use Rattle.std.specs.Prelude.{ℕ, ◌+◌, ◌<◌, ◌≤◌, Bool, List, ℤ, Option}
 use Rattle.arrayvec.specs.ArrayVec.{ArrayVec}
 use Rattle.mate_num.specs.Uses.{Uses}
 use Rattle.mate_num.specs.declared.call.Call.{Call}
 use Rattle.mate_num.specs.declared.call.End.{End}
+use Rattle.mate_num.specs.declared.id.DeviceId.{DeviceId}
+use Rattle.mate_num.specs.declared.id.FunId.{FunId}
 use Rattle.mate_num.specs.declared.id.HandlerId.{HandlerId}
 use Rattle.mate_num.specs.declared.id.ContextId.{ContextId}
 use Rattle.mate_num.specs.declared.store.Store.{Store}
@@ -27,13 +29,15 @@ pub record Meaning : Type 0 where
   pub uses : HeldProgram → Uses
 
 -- a machine: its store at the beginning of an era, the turns of an invocation, the first context of each handler
--- and how many it has, the handlers that run once at each of their installs, and what programs mean
+-- and how many it has, the handlers that run once at each of their installs, the device that each function speaks to, if
+-- any, and what programs mean
 pub record Machine : Type 0 where
   pub zero_store : Store
   pub turns : ℕ
   pub first_context : HandlerId → ℕ
   pub contexts : HandlerId → ℕ
   pub runs_once : HandlerId → Bool
+  pub device_of : FunId → Option DeviceId
   pub meaning : Meaning
 
 -- the context is one of the handler's

@@ -1,5 +1,5 @@
 -- The run of a node script: what its journal owes.
-use Rattle.std.specs.Prelude.{Bool, List}
+use Rattle.std.specs.Prelude.{List}
 use Rattle.mate_journal.specs.Log.{Log}
 use Rattle.mate_journal.specs.Machine.{Machine}
 use Rattle.mate_journal.specs.Journal.{journal_of, nothing_heard}
@@ -7,14 +7,17 @@ use Rattle.mate_journal.specs.WellFormed.{IsWellFormed}
 use Rattle.mate_journal.specs.Serial.{IsSerial}
 use Rattle.mate_journal.specs.Stores.{ShowsStores}
 use Rattle.mate_journal.specs.Grants.{GrantsInOrder}
-use Rattle.mate_journal.specs.NodeScript.{Step, IsRunOf}
+use Rattle.mate_journal.specs.Devices.{AsksDevicesInOrder}
+use Rattle.mate_journal.specs.Turns.{Clock}
+use Rattle.mate_journal.specs.NodeScript.{Step, RunEnd, IsRunOf}
 
 -- The journal of the log is well formed; its invocations, run whole and one at a time in the order of their ends, give
--- what it tells; it shows stores as they are; an invocation waits to start only for conflicting ones; and its events
--- are those of the steps.
-pub record IsNodeRun (m : Machine) (whole : Bool) (steps : List Step) (l : Log) : Type 0 where
+-- what it tells; it shows stores as they are; an invocation waits to start only for conflicting ones; in each
+-- era the calls to a device are in order; and its events are those of the steps, in turns by the clock.
+pub record IsNodeRun (k : Clock) (m : Machine) (how : RunEnd) (steps : List Step) (l : Log) : Type 0 where
   pub well_formed : IsWellFormed m (nothing_heard m) (journal_of l)
   pub serial : IsSerial m (nothing_heard m) (journal_of l)
   pub stores : ShowsStores m (nothing_heard m) (journal_of l)
   pub grants : GrantsInOrder m (nothing_heard m) 0 (journal_of l)
-  pub events : IsRunOf m whole 0 1 (nothing_heard m) steps (journal_of l)
+  pub devices : AsksDevicesInOrder m.device_of (journal_of l)
+  pub events : IsRunOf k m how steps (journal_of l)

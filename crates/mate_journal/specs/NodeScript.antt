@@ -1,21 +1,23 @@
--- Events and posts of a node script: which entries each step of the script makes.
-use Rattle.std.specs.Prelude.{◌≡◌, ◌≤◌, ◌<◌, ℕ, suc, ◌+◌, Bool, true, false, IsTrue, List, [], ◌∷◌, ◌++◌, ℤ, length, All, Option, None, IsSome, IsNone, ◌⊎◌}
+-- Events and posts of a node script: which entries each step of the script makes, and the pace after it.
+use Rattle.std.specs.Prelude.{◌≡◌, ◌≢◌, ◌≤◌, ◌<◌, ℕ, suc, ◌+◌, false, IsTrue, List, [], ◌∷◌, ◌++◌, ℤ, length, All, IsSome, IsNone, ◌⊎◌}
 use Rattle.arrayvec.specs.ArrayVec.{ArrayVec}
 use Rattle.mate_num.specs.declared.id.HandlerId.{HandlerId}
 use Rattle.mate_num.specs.declared.id.ContextId.{ContextId}
-use Rattle.mate_num.specs.declared.call.Stamp.{Stamp}
 use Rattle.mate_num.specs.declared.store.Store.{Store}
 use Rattle.mate_journal.specs.declared.entry.DropCause.TheVariants as drop
 use Rattle.mate_journal.specs.declared.entry.VoidCause.TheVariants as void
 use Rattle.mate_journal.specs.Machine.{Machine, HeldProgram, IsContextOf}
-use Rattle.mate_journal.specs.Journal.{Told, Posted, Dropped, Started, Asked, Answered, Ended, Installed, Reset, Seen, Void, Event, Ready, Reading, held, heard, heard_all, told_by}
+use Rattle.mate_journal.specs.Journal.{Told, Posted, Dropped, Answered, Installed, Reset, Seen, Void, Event, Ready, Reading, nothing_heard, held, heard, heard_all, told_by}
 use Rattle.mate_journal.specs.WellFormed.{IsIdle, IsBusy, IsWaiting}
+use Rattle.mate_journal.specs.Grants.{IsStart}
+use Rattle.mate_journal.specs.Pace.{Pace, no_pace, paced_all}
+use Rattle.mate_journal.specs.Turns.{Clock, ShowsReady, IsTurn, after_step, Settles}
 
 -- a step of a node script
 pub data Step : Type 0 where
   Install : (program : HeldProgram) → Step
   Post : (handler : HandlerId) (payload : ArrayVec ℤ) → Step
-  Turn : (context : ContextId) (instructions : ℕ) → Step
+  StepIn : (context : ContextId) (instructions : ℕ) → Step
   Run : Step
   Answer : (context : ContextId) (value : ℤ) → Step
   Show : Step
@@ -24,32 +26,6 @@ pub data Step : Type 0 where
 -- the greatest number of records before an event is begun is one less
 abbrev pub records_max : ℕ
 records_max = 1000000
-
--- an entry that the running of invocations makes
-abbrev pub IsOfRun : Told → Type 0
-IsOfRun (Posted n h c payload) = ⊥
-IsOfRun (Dropped h cause) = ⊥
-IsOfRun (Started n) = Unit {0}
-IsOfRun (Asked n f args) = Unit {0}
-IsOfRun (Answered n value) = ⊥
-IsOfRun (Ended n how) = Unit {0}
-IsOfRun (Installed p) = ⊥
-IsOfRun Reset = ⊥
-IsOfRun (Seen store) = ⊥
-IsOfRun (Void cause) = ⊥
-
--- an entry that starts an invocation
-abbrev pub IsStart : Told → Type 0
-IsStart (Posted n h c payload) = ⊥
-IsStart (Dropped h cause) = ⊥
-IsStart (Started n) = Unit {0}
-IsStart (Asked n f args) = ⊥
-IsStart (Answered n value) = ⊥
-IsStart (Ended n how) = ⊥
-IsStart (Installed p) = ⊥
-IsStart Reset = ⊥
-IsStart (Seen store) = ⊥
-IsStart (Void cause) = ⊥
 
 -- c is the handler's lowest context that no live invocation has
 pub record IsFirstIdle (m : Machine) (r : Reading) (h : HandlerId) (c : ContextId) : Type 0 where
@@ -82,18 +58,19 @@ abbrev pub Occasion : Machine → Reading → HandlerId → ArrayVec ℤ → Lis
 Occasion m r h payload entries = DropsNoCode r h entries ⊎ DropsAllBusy m r h entries ⊎ Posts m r h payload entries
 
 -- a newer capsule is installed; a handler that runs once is then posted with an empty payload
-pub record Installs (m : Machine) (r : Reading) (p : HeldProgram) (entries : List Told) : Type 0 where
+pub record Installs (k : Clock) (m : Machine) (r : Reading) (p : Pace) (x : HeldProgram) (entries : List Told) : Type 0 where
   pub seen : Store
   pub rest : List Told
-  pub newer : held r p.handler < p.version
-  pub made : entries ≡ Seen seen ∷ Installed p ∷ rest
-  pub once : IsTrue (m.runs_once p.handler) → Occasion m (heard m r (Installed p)) p.handler (record { items = [] }) rest
-  pub else : (m.runs_once p.handler ≡ false) → rest ≡ []
+  pub shown : ShowsReady k m r p seen
+  pub newer : held r x.handler < x.version
+  pub made : entries ≡ Seen seen ∷ Installed x ∷ rest
+  pub once : IsTrue (m.runs_once x.handler) → Occasion m (heard m r (Installed x)) x.handler (record { items = [] }) rest
+  pub else : (m.runs_once x.handler ≡ false) → rest ≡ []
 
 -- an older one, or the same, is not
-pub record IsNotNewer (r : Reading) (p : HeldProgram) (entries : List Told) : Type 0 where
-  pub older : p.version ≤ held r p.handler
-  pub made : entries ≡ Void (void.NotNewer (held r p.handler)) ∷ []
+pub record IsNotNewer (r : Reading) (x : HeldProgram) (entries : List Told) : Type 0 where
+  pub older : x.version ≤ held r x.handler
+  pub made : entries ≡ Void (void.NotNewer (held r x.handler)) ∷ []
 
 -- a ready invocation is in the context
 pub record IsReadyIn (r : Reading) (c : ContextId) : Type 0 where
@@ -101,18 +78,16 @@ pub record IsReadyIn (r : Reading) (c : ContextId) : Type 0 where
   pub ready : (r.invocations invocation).phase ≡ Ready
   pub context : (r.invocations invocation).context ≡ c
 
-pub record Turns (r : Reading) (c : ContextId) (entries : List Told) : Type 0 where
-  pub ready : IsReadyIn r c
-  pub made : All IsOfRun entries
+-- the ready invocation in the context has one turn of so many instructions
+pub record TurnsIn (k : Clock) (m : Machine) (r : Reading) (p : Pace) (c : ContextId) (instructions : ℕ) (entries : List Told) (q : Pace) : Type 0 where
+  pub invocation : ℕ
+  pub context : (r.invocations invocation).context ≡ c
+  pub turn : IsTurn k m r p instructions record { invocation = invocation; told = entries }
+  pub then : q ≡ after_step k m r p instructions record { invocation = invocation; told = entries }
 
 pub record IsNotReady (r : Reading) (c : ContextId) (entries : List Told) : Type 0 where
   pub none : IsReadyIn r c → ⊥
   pub made : entries ≡ Void void.NotReady ∷ []
-
--- invocations run until none is ready
-pub record Settles (m : Machine) (r : Reading) (entries : List Event) : Type 0 where
-  pub made : All IsOfRun (told_by entries)
-  pub settled : (n : ℕ) → ((heard_all m r entries).invocations n).phase ≡ Ready → ⊥
 
 -- the waiting invocation in the context is answered
 pub record Answers (r : Reading) (c : ContextId) (value : ℤ) (entries : List Told) : Type 0 where
@@ -126,40 +101,69 @@ pub record IsNotWaiting (r : Reading) (c : ContextId) (entries : List Told) : Ty
   pub made : entries ≡ Void void.NotWaiting ∷ []
 
 -- the store is seen, and nothing else
-pub record ShowsOnce (entries : List Told) : Type 0 where
+pub record ShowsOnce (k : Clock) (m : Machine) (r : Reading) (p : Pace) (entries : List Told) : Type 0 where
   pub seen : Store
+  pub shown : ShowsReady k m r p seen
   pub made : entries ≡ Seen seen ∷ []
 
-pub record Resets (entries : List Told) : Type 0 where
+pub record Resets (k : Clock) (m : Machine) (r : Reading) (p : Pace) (entries : List Told) : Type 0 where
   pub seen : Store
+  pub shown : ShowsReady k m r p seen
   pub made : entries ≡ Seen seen ∷ Reset ∷ []
 
--- what a step makes, at what was heard before it
-abbrev pub Makes : Machine → Reading → Step → List Event → Type 0
-Makes m r (Install p) es = Installs m r p (told_by es) ⊎ IsNotNewer r p (told_by es)
-Makes m r (Post h payload) es = Occasion m r h payload (told_by es)
-Makes m r (Turn c n) es = Turns r c (told_by es) ⊎ IsNotReady r c (told_by es)
-Makes m r Run es = Settles m r es
-Makes m r (Answer c value) es = Answers r c value (told_by es) ⊎ IsNotWaiting r c (told_by es)
-Makes m r Show es = ShowsOnce (told_by es)
-Makes m r ResetNode es = Resets (told_by es)
+-- the entries change the pace one by one: no instruction is executed
+abbrev pub IsPacedBy : Pace → List Event → Pace → Type 0
+IsPacedBy p es q = q ≡ paced_all p (told_by es)
+
+-- what a step makes, at what was heard before it and the pace before it, and the pace after it
+abbrev pub Makes : Clock → Machine → Reading → Pace → Step → List Event → Pace → Type 0
+Makes k m r p (Install x) es q = (Installs k m r p x (told_by es) ⊎ IsNotNewer r x (told_by es)) × IsPacedBy p es q
+Makes k m r p (Post h payload) es q = Occasion m r h payload (told_by es) × IsPacedBy p es q
+Makes k m r p (StepIn c n) es q = TurnsIn k m r p c n (told_by es) q ⊎ (IsNotReady r c (told_by es) × IsPacedBy p es q)
+Makes k m r p Run es q = Settles k m r p (told_by es) q
+Makes k m r p (Answer c value) es q = (Answers r c value (told_by es) ⊎ IsNotWaiting r c (told_by es)) × IsPacedBy p es q
+Makes k m r p Show es q = ShowsOnce k m r p (told_by es) × IsPacedBy p es q
+Makes k m r p ResetNode es q = Resets k m r p (told_by es) × IsPacedBy p es q
 
 -- all of one event, at time 0
 abbrev pub AreOfEvent : ℕ → List Event → Type 0
-AreOfEvent k es = All (λ (e : Event). e.stamp ≡ record { event = k; time = 0 }) es
+AreOfEvent n es = All (λ (e : Event). e.stamp ≡ record { event = n; time = 0 }) es
 
--- The k-th step is event k, at time 0. An event is begun only where fewer than 1,000,000 records stand before it.
--- A whole run has an event for each step, and ends with the store seen under the next number; a run that isn't whole
--- stops before a step where the records are that many. `records` stand before event k, at which `steps` are left.
-abbrev pub IsRunOf : Machine → Bool → ℕ → ℕ → Reading → List Step → List Event → Type 0
-IsRunOf m true records k r [] es = ShowsOnce (told_by es) × AreOfEvent k es
-IsRunOf m false records k r [] es = ⊥
-IsRunOf m whole records k r (step ∷ steps) es =
-    ((whole ≡ false) × (records_max ≤ records) × (es ≡ []))
-    ⊎ ((records < records_max)
+-- These steps made these events, one event each, and the pace after them is q. `records` stood before the first of them,
+-- which is event n. An event is begun only where fewer than 1,000,000 records stand before it.
+abbrev pub HaveMade : Clock → Machine → ℕ → ℕ → Reading → Pace → List Step → List Event → Pace → Type 0
+HaveMade k m records n r p [] es q = (es ≡ []) × (q ≡ p)
+HaveMade k m records n r p (step ∷ steps) es q =
+    (records < records_max)
     × (front : List Event)
     × (rest : List Event)
+    × (then : Pace)
     × (es ≡ front ++ rest)
-    × AreOfEvent k front
-    × Makes m r step front
-    × IsRunOf m whole (records + length front) (suc k) (heard_all m r front) steps rest)
+    × AreOfEvent n front
+    × Makes k m r p step front then
+    × HaveMade k m (records + length front) (suc n) (heard_all m r front) then steps rest q
+
+-- how a run ends: it is whole, its log is full, or it was cut from outside after a step
+pub data RunEnd : Type 0 where
+  Whole : RunEnd
+  Full : RunEnd
+  Cut : RunEnd
+
+-- the last events, where these steps are left before event n: a whole run has none left, and ends with the store seen
+-- under the next number; a full one stops before a step, where 1,000,000 records stand or more
+abbrev pub EndsRun : Clock → Machine → RunEnd → ℕ → ℕ → Reading → Pace → List Step → List Event → Type 0
+EndsRun k m Whole records n r p left es = (left ≡ []) × ShowsOnce k m r p (told_by es) × AreOfEvent n es
+EndsRun k m Full records n r p left es = (left ≢ []) × (records_max ≤ records) × (es ≡ [])
+EndsRun k m Cut records n r p left es = es ≡ []
+
+-- the k-th step is event k, at time 0: the steps that were done made the events in front, and the run ends so
+pub record IsRunOf (k : Clock) (m : Machine) (how : RunEnd) (steps : List Step) (es : List Event) : Type 0 where
+  pub done : List Step
+  pub left : List Step
+  pub front : List Event
+  pub last : List Event
+  pub pace : Pace
+  pub steps_are : steps ≡ done ++ left
+  pub events_are : es ≡ front ++ last
+  pub made : HaveMade k m 0 1 (nothing_heard m) no_pace done front pace
+  pub ends : EndsRun k m how (length front) (suc (length done)) (heard_all m (nothing_heard m) front) pace left last

@@ -1,24 +1,15 @@
 -- Serial replay: the invocations, run whole and one at a time in the order of their ends, give what the journal tells.
-use Rattle.std.specs.Prelude.{ℤ, ◌≡◌, ℕ, List, IsTrue}
+use Rattle.std.specs.Prelude.{◌≡◌, ℕ, ℤ, List, IsTrue, IfSome}
 use Rattle.arrayvec.specs.ArrayVec.{ArrayVec}
 use Rattle.mate_num.specs.declared.call.End.TheVariants as end
 use Rattle.mate_num.specs.declared.id.FunId.{FunId}
 use Rattle.mate_journal.specs.Machine.{Machine}
-use Rattle.mate_journal.specs.Journal.{Told, Posted, Dropped, Started, Asked, Answered, Ended, Installed, Reset, Seen, Void, Event, Phase, Waiting, is_started, Reading, whole_run, AtEachEntry, AtEachPlace}
+use Rattle.mate_journal.specs.Journal.{Told, ended_by, Event, Waiting, is_started, Reading, whole_run, AtEachEntry, AtEachPlace}
 
 -- where an invocation ends, its whole run on the serial store ends so, with the calls that were recorded.
 -- (The store that the run leaves is the next serial store.)
 abbrev pub EndsAsRun : Machine → Reading → Told → Type 0
-EndsAsRun m r (Posted n h c payload) = Unit {0}
-EndsAsRun m r (Dropped h cause) = Unit {0}
-EndsAsRun m r (Started n) = Unit {0}
-EndsAsRun m r (Asked n f args) = Unit {0}
-EndsAsRun m r (Answered n value) = Unit {0}
-EndsAsRun m r (Ended n how) = ((whole_run m r n).end ≡ how) × ((whole_run m r n).calls ≡ (r.invocations n).calls)
-EndsAsRun m r (Installed p) = Unit {0}
-EndsAsRun m r Reset = Unit {0}
-EndsAsRun m r (Seen store) = Unit {0}
-EndsAsRun m r (Void cause) = Unit {0}
+EndsAsRun m r told = IfSome (ended_by told) (λ e. ((whole_run m r e.0).end ≡ e.1) × ((whole_run m r e.0).calls ≡ (r.invocations e.0).calls))
 
 -- the whole run of each started live invocation gives exactly the calls that it made so far, and where it waits,
 -- the run wants that call's answer

@@ -1,5 +1,5 @@
 -- Well-formed journals: how the entries of an invocation follow one another.
-use Rattle.std.specs.Prelude.{ℤ, ◌≡◌, ◌≤◌, ℕ, suc, List, [], ◌∷◌, IsTrue, IsSome, ◌⊎◌}
+use Rattle.std.specs.Prelude.{ℤ, ◌≡◌, ◌≤◌, ℕ, suc, List, [], ◌∷◌, IsTrue, IsSome}
 use Rattle.arrayvec.specs.ArrayVec.{ArrayVec}
 use Rattle.mate_num.specs.declared.call.End.{End}
 use Rattle.mate_num.specs.declared.call.End.TheVariants as end
@@ -7,7 +7,7 @@ use Rattle.mate_num.specs.declared.call.Stamp.{Stamp}
 use Rattle.mate_num.specs.declared.id.ContextId.{ContextId}
 use Rattle.mate_num.specs.declared.id.FunId.{FunId}
 use Rattle.mate_journal.specs.Machine.{Machine, IsContextOf}
-use Rattle.mate_journal.specs.Journal.{Told, Posted, Dropped, Started, Asked, Answered, Ended, Installed, Reset, Seen, Void, Event, Phase, Unposted, Queued, Ready, Waiting, Over, is_live, Reading, AtEachEntry}
+use Rattle.mate_journal.specs.Journal.{Told, Posted, Dropped, Started, Asked, Answered, Ended, Installed, Reset, Seen, Void, Event, Queued, Ready, Waiting, is_live, Reading, AtEachEntry}
 
 -- no live invocation has the context
 abbrev pub IsIdle : Reading → ContextId → Type 0

@@ -12,6 +12,3 @@ pub use entry::{DropCause, Entry, Stamped, VoidCause};
 pub use node_log::NodeLog;
 pub use program::{Program, Programs};
 pub use report::{NodeLogs, Report, RunFault};
-
-#[cfg(test)]
-mod tests;

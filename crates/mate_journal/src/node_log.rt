@@ -2,9 +2,10 @@
 
 ghost use Rattle.std.specs.Prelude.{◌≡◌, ◌≤◌, ◌<◌, ◌+◌, ◌∷◌, ◌++◌, [], length, take, OnOk};
 ghost use Rattle.mate_journal.specs.Log.{Log, IsSameLog};
+ghost use Rattle.mate_journal.specs.declared.entry.Entry.TheVariants as told;
 
-use crate::entry::Stamped;
-use mate_num::{Image, NoMemory, Store};
+use crate::entry::{Entry, Stamped};
+use mate_num::{HandlerId, Image, NoMemory, Stamp, Store};
 use std::alloc::Global;
 use std::marker::Model;
 
@@ -124,6 +125,47 @@ impl NodeLog {
         let position = self.stores.len() as u32;
         self.stores.push_reserved(store.copy());
         position
+    }
+
+    /// Appends a copy of a store and the entry that shows it. Both take one of the room together.
+    pub fn push_seen(&mut self, at: Stamp, store: &Store)
+        requires room { 1 ≤ self.old.spare }
+        requires count { length self.old.stores < 4100000000 }
+        ensures entries { self.new.entries ≡ self.old.entries ++ record { stamp = at; entry = told.Seen (length self.old.stores) } ∷ [] }
+        ensures images { self.new.images ≡ self.old.images }
+        ensures stores { self.new.stores ≡ self.old.stores ++ store.now ∷ [] }
+        ensures spare { self.old.spare ≤ self.new.spare + 1 }
+    {
+        let number = self.stores.len() as u32;
+        self.stores.push_reserved(store.copy());
+        self.entries.push_reserved(Stamped {
+            stamp: at,
+            entry: Entry::Seen { store: number },
+        });
+    }
+
+    /// Appends a copy of an image and the entry that installs it. Both take one of the room together.
+    pub fn push_install(&mut self, at: Stamp, handler: HandlerId, version: u32, image: &Image)
+        requires room { 1 ≤ self.old.spare }
+        requires count { length self.old.images < 4100000000 }
+        ensures entries { self.new.entries ≡ self.old.entries ++ record { stamp = at; entry = told.Install handler version (length self.old.images) } ∷ [] }
+        ensures images { self.new.images ≡ self.old.images ++ image.now ∷ [] }
+        ensures stores { self.new.stores ≡ self.old.stores }
+        ensures spare { self.old.spare ≤ self.new.spare + 1 }
+    {
+        let Ok(copy) = Image::try_from(image.as_slice()) else {
+            unreachable!()
+        };
+        let number = self.images.len() as u32;
+        self.images.push_reserved(copy);
+        self.entries.push_reserved(Stamped {
+            stamp: at,
+            entry: Entry::Install {
+                handler,
+                version,
+                image: number,
+            },
+        });
     }
 
     /// Keeps that many of each list from the front, or all where there are fewer.

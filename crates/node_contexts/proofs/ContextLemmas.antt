@@ -1,6 +1,8 @@
 -- What the calls on contexts leave there.
-use Rattle.std.proofs.Common.{◌≡◌, ◌≢◌, ℕ, ◌+◌, ◌<◌, ℤ, Bool, true, List, [], ◌∷◌, ◌++◌, length, set, Option, Some, None, refl, sym, ◌∙◌, ap, subst, arith, get_or-set_same, get_or-set_other}
-use Rattle.std.proofs.Math.ListN.{length-set}
+use Rattle.std.proofs.lemmas.Bool.{cases_eq}
+use Rattle.std.specs.Prelude.{IfSome, slice_get, slice_index_or, Result, Ok, Err, MatchResult, OnOk, OnErr}
+use Rattle.std.proofs.Common.{◌≡◌, ◌≢◌, ℕ, zero, suc, ◌+◌, ◌<◌, ℤ, Bool, true, false, inl, inr, List, [], ◌∷◌, ◌++◌, length, set, Option, Some, None, refl, sym, ◌∙◌, ap, subst, arith, get_or-set_same, get_or-set_other}
+use Rattle.std.proofs.lemmas.List.{set-get_or}
 use Rattle.std.specs.List.{Contains}
 use Rattle.std.proofs.lemmas.List.Elements.{Contains-append_right}
 use Rattle.mate_num.specs.declared.id.ContextId.{ContextId}
@@ -8,18 +10,25 @@ use Rattle.mate_num.specs.declared.lock_set.LockSet.{LockSet}
 use Rattle.mate_num.specs.declared.store.Store.{Store}
 use Rattle.lock_manager.specs.declared.claim.Claim.{Claim}
 use Rattle.lock_manager.specs.Claims.{Claims, set_of, AreOnce, Grants}
-use Rattle.lock_manager.proofs.ClaimLemmas.{times-append, AreOnce-fewer}
+use Rattle.lock_manager.proofs.ClaimLemmas.{times, times-append, set_of-none, AreOnce-fewer, same_context}
 use Rattle.lock_manager.proofs.GrantLemmas.{set_of-Contains}
-use Rattle.context_sched.specs.Ready.{holds, Changes}
-use Rattle.mate_code.specs.Effect.{push}
+use Rattle.context_sched.specs.Ready.{holds, without, AreContexts, Changes}
+use Rattle.mate_num.specs.declared.id.FunId.{FunId}
+use Rattle.split_phase.specs.declared.pending.NotWaiting.{NotWaiting}
+use Rattle.split_phase.specs.Calls as calls
+use Rattle.split_phase.specs.Calls.{Asked, call_at, IsOf}
+use Rattle.mate_code.specs.Effect.{Private, push}
+use Rattle.code_verifier.specs.Verified.{VerifiedCode}
 use Rattle.exec_unit.specs.declared.step_end.StepEnd.{StepEnd}
+use Rattle.exec_unit.specs.declared.step_end.StepEnd.TheVariants.{Next, Ask, Halt, Fault}
 use Rattle.exec_unit.specs.Step.{IsStep}
 use Rattle.node_contexts.specs.declared.handlers.Held.{Held}
+use Rattle.node_contexts.specs.declared.executing.Ran.{Ran}
 use Rattle.node_contexts.specs.declared.seat.Seat.{Seat}
 use Rattle.node_contexts.specs.declared.contexts.Contexts.{Contexts}
-use Rattle.node_contexts.specs.At.{At, seat_at, at, Becomes, Starts}
+use Rattle.node_contexts.specs.At.{At, seat_at, at, Becomes, Starts, GivesWay}
 use Rattle.node_contexts.specs.Programs.{Programs}
-use Rattle.node_contexts.specs.Executing.{IsSameSeat, Executes, TakesAnswer}
+use Rattle.node_contexts.specs.Executing.{GoFor, StopsAfter, HasRunTo, HasRun, IsSameSeat, with_seat, HasTurn, IsAnswered}
 
 -- ---- starts
 
@@ -31,6 +40,34 @@ waited-set old new ctx g once =
     let among : Contains old.waiting g.claim = subst P (sym g.was) (Contains-append_right g.earlier (g.claim ∷ g.later) g.claim (0, omega arith, refl)) in
     let Q : ContextId → Type 0 = λ k. set_of old.waiting k ≡ Some g.claim.set in
     subst Q g.own (set_of-Contains old.waiting g.claim waiting among)
+
+-- a context of the locks is small
+pub claim-small : (claims : List Claim) (ctx : ContextId) (set : LockSet) → AreOnce claims → set_of claims ctx ≡ Some set → ctx.0 < 16
+claim-small claims ctx set once is =
+    elim (cases_eq (times ctx claims) 0) [
+      | inl none ↦ absurd (let e : None ≡ Some set = sym (set_of-none claims ctx none) ∙ is in cc)
+      | inr some ↦ once.within ctx (omega arith)
+    ]
+
+pub waited-small : (old new : Claims) (ctx : ContextId) (g : Grants old new ctx) → AreOnce (old.started ++ old.waiting) → ctx.0 < 16
+waited-small old new ctx g once =
+    let waiting : AreOnce old.waiting = AreOnce-fewer (old.started ++ old.waiting) old.waiting (λ k. (let e = times-append k old.started old.waiting in omega arith)) once in
+    claim-small old.waiting ctx g.claim.set waiting (waited-set old new ctx g once)
+
+-- one that was taken out of the ring and put back last
+pub GivesWay-from : (old : Contexts) (mid ring : List ContextId) (ctx : ContextId) → mid ≡ without old.ring ctx → Changes old.ring mid ctx false → ring ≡ mid ++ ctx ∷ [] → Changes mid ring ctx true
+    → (at old ctx).ready ≡ true → GivesWay old (record old { ring = ring }) ctx
+GivesWay-from old mid ring ctx out first last then is =
+    let P : List ContextId → Type 0 = λ l. ring ≡ l ++ ctx ∷ [] in
+    record {
+      each = λ k. ap (λ (b : Bool). record (at old k) { ready = b }) (elim (cases_eq k.0 ctx.0) [
+        | inl e ↦ (let Q : ContextId → Type 0 = λ j. holds ring j ≡ holds old.ring j in subst Q (sym (same_context k ctx e)) (then.here ∙ sym is))
+        | inr other ↦ (then.others k other ∙ first.others k other)
+      ]);
+      seats = refl;
+      locks = refl;
+      ring = subst P out last;
+    }
 
 -- the same seat and call, with other locks
 pub same_at : (a : At) (w h : Option LockSet) (b : Bool) (w' h' : Option LockSet) (b' : Bool) → w ≡ w' → h ≡ h' → b ≡ b'
@@ -57,29 +94,104 @@ Starts-from old locks ring ctx g once last changes =
 
 -- ---- another seat of the same invocation
 
--- a seat that was taken out, and put back another one
-pub seat-put_back : (old : Contexts) (ctx : ContextId) (place : ℕ) (mid o : Option Seat) → place ≡ ctx.0 → ctx.0 < length old.seats
-    → Becomes old (record old { seats = set (set old.seats place mid) place o }) ctx (record (at old ctx) { seat = o })
-seat-put_back old ctx place mid o same below =
-    let L : ℕ → List (Option Seat) = λ p. set (set old.seats p mid) p o in
-    let taken : List (Option Seat) = set old.seats ctx.0 mid in
-    let n = length-set old.seats ctx.0 mid in
-    let here : seat_at (L ctx.0) ctx ≡ o = get_or-set_same taken ctx.0 o None (omega arith) in
-    let there : (k : ContextId) → k.0 ≢ ctx.0 → seat_at (L ctx.0) k ≡ seat_at old.seats k =
-    λ k other. get_or-set_other taken ctx.0 k.0 o None other ∙ get_or-set_other old.seats ctx.0 k.0 mid None other in
+set-twice : {A : Type 0} (xs : List A) (k : ℕ) (a b : A) → set (set xs k a) k b ≡ set xs k b
+set-twice [] k a b = refl
+set-twice (x ∷ xs) zero a b = refl
+set-twice (x ∷ xs) (suc k) a b = ap (λ l. x ∷ l) (set-twice xs k a b)
+
+seats-twice : (old : Contexts) (ctx : ContextId) (place : ℕ) (mid o : Option Seat) → place ≡ ctx.0 → set (set old.seats place mid) place o ≡ set old.seats ctx.0 o
+seats-twice old ctx place mid o same = set-twice old.seats place mid o ∙ ap (λ (p : ℕ). set old.seats p o) same
+
+-- whoever has a place in the list stands within it
+pub some-within : {A : Type 0} (xs : List (Option A)) (k : ℕ) (x : A) → slice_index_or xs k None ≡ Some x → k < length xs
+some-within [] k x is = absurd (let f : None ≡ Some x = is in cc)
+some-within (y ∷ xs) zero x is = omega arith
+some-within (y ∷ xs) (suc k) x is = let h = some-within xs k x is in omega arith
+
+-- another seat changes nothing else
+pub with_seat-becomes : (old : Contexts) (c : ContextId) (s now : Seat) → (at old c).seat ≡ Some s → Becomes old (with_seat old c now) c (record (at old c) { seat = Some now })
+with_seat-becomes old c s now is =
+    let below = some-within old.seats c.0 s is in
     record {
-      here = ap (λ (s : Option Seat). record (at old ctx) { seat = s }) (ap (λ (p : ℕ). seat_at (L p) ctx) same ∙ here);
-      others = λ k other. ap (λ (s : Option Seat). record (at old k) { seat = s }) (ap (λ (p : ℕ). seat_at (L p) k) same ∙ there k other);
+      here = ap (λ (o : Option Seat). record (at old c) { seat = o }) (get_or-set_same old.seats c.0 (Some now) None below);
+      others = λ k other. ap (λ (o : Option Seat). record (at old k) { seat = o }) (get_or-set_other old.seats c.0 k.0 (Some now) None other);
     }
 
-pub Executes-from : (held : Programs) (old : Contexts) (before after : Store) (ctx : ContextId) (how : StepEnd) (s now : Seat) (x : Held) (place : ℕ) (mid : Option Seat)
-    → place ≡ ctx.0 → ctx.0 < length old.seats → seat_at old.seats ctx ≡ Some s → held s.handler ≡ Some x → IsSameSeat s now → now.count ≡ s.count + 1 → IsStep x.code s.machine before how now.machine after
-    → Executes held old before ctx how (record old { seats = set (set old.seats place mid) place (Some now) }) after
-Executes-from held old before after ctx how s now x place mid same_place below is is_held same counted step =
-    record { seat = s; is = is; x = x; is_held = is_held; now = now; same = same; counted = counted; step = step; becomes = seat-put_back old ctx place mid (Some now) same_place below; locks = refl; ring = refl }
+-- the seat that is there is no other
+pub with_seat-same : (old : Contexts) (c : ContextId) (s : Seat) → (at old c).seat ≡ Some s → with_seat old c s ≡ old
+with_seat-same old c s is =
+    ap (λ (l : List (Option Seat)). record old { seats = l }) (ap (λ (o : Option Seat). set old.seats c.0 o) (sym is) ∙ set-get_or old.seats c.0 None)
 
-pub TakesAnswer-from : (old : Contexts) (ctx : ContextId) (value : ℤ) (s now : Seat) (place : ℕ) (mid : Option Seat)
-    → place ≡ ctx.0 → ctx.0 < length old.seats → seat_at old.seats ctx ≡ Some s → IsSameSeat s now → now.count ≡ s.count → now.machine ≡ push value s.machine
-    → TakesAnswer old (record old { seats = set (set old.seats place mid) place (Some now) }) ctx value
-TakesAnswer-from old ctx value s now place mid same_place below is same counted pushed =
-    record { seat = s; is = is; now = now; same = same; counted = counted; pushed = pushed; becomes = seat-put_back old ctx place mid (Some now) same_place below; locks = refl; ring = refl }
+-- the last one stays
+pub with_seat-twice : (old : Contexts) (c : ContextId) (s now : Seat) → with_seat (with_seat old c s) c now ≡ with_seat old c now
+with_seat-twice old c s now = ap (λ (l : List (Option Seat)). record old { seats = l }) (set-twice old.seats c.0 (Some s) (Some now))
+
+-- one more instruction of a machine
+pub HasRun-stop : (v : VerifiedCode) (old : Private) (before : Store) (n gone : ℕ) (ran : Ran) (mid new : Private) (store after : Store) → gone < n → ran.instructions ≡ gone + 1 → GoFor v gone old before mid store
+    → IsStep v mid store ran.how new after → (ran.how ≡ Next → ⊥) → HasRun v old before n ran new after
+HasRun-stop v old before n gone ran mid new store after few counted goes last not = by ran.how refl where
+  stops : StopsAfter v old before n ran new after
+  stops = record { gone = gone; few = few; instructions = counted; mid = mid; store = store; goes = goes; last = last }
+
+  by : (how : StepEnd) → ran.how ≡ how → HasRunTo how v old before n ran new after
+  by Next e = absurd (not e)
+  by (Ask f args) e = stops
+  by Halt e = stops
+  by (Fault kind) e = stops
+
+pub HasTurn-from : (held : Programs) (old : Contexts) (before after : Store) (c : ContextId) (n : ℕ) (ran : Ran) (s now : Seat) (x : Held) (place : ℕ) (mid : Option Seat)
+    → place ≡ c.0 → (at old c).seat ≡ Some s → held s.handler ≡ Some x → IsSameSeat s now → now.count ≡ s.count + ran.instructions → HasRun x.code s.machine before n ran now.machine after
+    → HasTurn held old before c n ran (record old { seats = set (set old.seats place mid) place (Some now) }) after
+HasTurn-from held old before after c n ran s now x place mid same_place is is_held same counted run =
+    record {
+      seat = s;
+      is = is;
+      x = x;
+      is_held = is_held;
+      now = now;
+      same = same;
+      counted = counted;
+      run = run;
+      sits = ap (λ (l : List (Option Seat)). record old { seats = l }) (seats-twice old c place mid (Some now) same_place);
+    }
+
+-- after the answer no call is left in the context, and the others are as they were
+pub taken-call : (old new : List (Option Asked)) (c : ContextId) (r : Result FunId NotWaiting) → MatchResult r (λ fun. IsOf (call_at old c) fun) (λ _. call_at old c ≡ None)
+    → OnOk r (calls.Becomes old new c None) → OnErr r (new ≡ old) → (call_at new c ≡ None) × ((k : ContextId) → k.0 ≢ c.0 → call_at new k ≡ call_at old k)
+taken-call old new c (Ok fun) was ok err = (ok.here, ok.others)
+taken-call old new c (Err e) was ok err = (ap (λ (l : List (Option Asked)). call_at l c) err ∙ was, λ k other. ap (λ (l : List (Option Asked)). call_at l k) err)
+
+-- the call is taken out, the value is pushed, and the context goes last into the ring
+pub IsAnswered-from : (old : Contexts) (pending : List (Option Asked)) (ring : List ContextId) (c : ContextId) (value : ℤ) (s now : Seat) (place : ℕ) (mid : Option Seat)
+    → place ≡ c.0 → (at old c).seat ≡ Some s → IsSameSeat s now → now.count ≡ s.count → now.machine ≡ push value s.machine
+    → call_at pending c ≡ None → ((k : ContextId) → k.0 ≢ c.0 → call_at pending k ≡ call_at old.pending k) → ring ≡ old.ring ++ c ∷ [] → Changes old.ring ring c true
+    → IsAnswered old (record old { seats = set (set old.seats place mid) place (Some now); pending = pending; ring = ring }) c value
+IsAnswered-from old pending ring c value s now place mid same_place is same counted pushed none others last changes =
+    let b = with_seat-becomes old c s now is in
+    let seats : set (set old.seats place mid) place (Some now) ≡ set old.seats c.0 (Some now) = seats-twice old c place mid (Some now) same_place in
+    let P : List (Option Seat) → Type 0 = λ l. IsAnswered old (record old { seats = l; pending = pending; ring = ring }) c value in
+    subst P (sym seats) record {
+      seat = s;
+      is = is;
+      now = now;
+      same = same;
+      counted = counted;
+      pushed = pushed;
+      becomes = record {
+        here =
+            ap (λ (a : At). record a { ready = holds ring c; call = call_at pending c }) b.here
+            ∙ ap (λ (r : Bool). record (at old c) { seat = Some now; ready = r; call = call_at pending c }) changes.here
+            ∙ ap (λ (o : Option Asked). record (at old c) { seat = Some now; ready = true; call = o }) none;
+        others = λ k other.
+            ap (λ (a : At). record a { ready = holds ring k; call = call_at pending k }) (b.others k other)
+            ∙ ap (λ (r : Bool). record (at old k) { ready = r; call = call_at pending k }) (changes.others k other)
+            ∙ ap (λ (o : Option Asked). record (at old k) { call = o }) (others k other);
+      };
+      locks = refl;
+      ring = last;
+    }
+
+-- the first of the ring is a context of the node
+pub first-small : (ring : List ContextId) (first : Option ContextId) → AreContexts ring → first ≡ slice_get ring 0 → IfSome first (λ ctx. ctx.0 < 16)
+first-small [] first all is = let P : Option ContextId → Type 0 = λ o. IfSome o (λ ctx. ctx.0 < 16) in subst P (sym is) tt
+first-small (c ∷ ring) first all is = let P : Option ContextId → Type 0 = λ o. IfSome o (λ ctx. ctx.0 < 16) in subst P (sym is) all.0

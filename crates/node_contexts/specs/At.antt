@@ -1,5 +1,5 @@
 -- What stands at a context: its invocation, its locks, whether it is ready, and the call that it waits with.
-use Rattle.std.specs.Prelude.{◌≡◌, ◌≢◌, ◌<◌, ℕ, [], ◌∷◌, ◌++◌, Bool, true, false, List, Option, Some, None, slice_index_or}
+use Rattle.std.specs.Prelude.{◌≡◌, ◌≢◌, ◌<◌, ℕ, [], ◌∷◌, ◌++◌, Bool, true, false, List, Option, Some, None, IsSome, slice_index_or}
 use Rattle.mate_num.specs.declared.id.ContextId.{ContextId}
 use Rattle.mate_num.specs.declared.lock_set.LockSet.{LockSet}
 use Rattle.lock_manager.specs.Claims.{set_of, no_claims, Grants, Releases}
@@ -54,7 +54,6 @@ pub record AreIdle (s : Contexts) : Type 0 where
 
 -- whoever waits for locks is none of the ready ones
 pub record CanStart (s : Contexts) : Type 0 where
-  pub context : (c : ContextId) (set : LockSet) → (at s c).waits ≡ Some set → c.0 < 16
   pub absent : (c : ContextId) (set : LockSet) → (at s c).waits ≡ Some set → (at s c).ready ≡ false
 
 -- the context gets the locks that it waits for, and is ready
@@ -76,3 +75,19 @@ pub record Ends (old new : Contexts) (c : ContextId) : Type 0 where
   pub becomes : Becomes old new c (record (at old c) { seat = None; holds = None; ready = false; waits = None })
   pub releases : Releases old.locks new.locks c
   pub ring : new.ring ≡ without old.ring c
+
+-- the ready context goes last, and all else stays
+pub record GivesWay (old new : Contexts) (c : ContextId) : Type 0 where
+  pub each : (k : ContextId) → at new k ≡ at old k
+  pub seats : new.seats ≡ old.seats
+  pub locks : new.locks ≡ old.locks
+  pub ring : new.ring ≡ without old.ring c ++ c ∷ []
+
+-- the context waits for the answer to a call
+pub record IsAsking (s : Contexts) (c : ContextId) : Type 0 where
+  pub small : c.0 < 16
+  pub asks : IsSome (at s c).call
+
+-- no invocation does
+pub record IsNoneAsking (s : Contexts) : Type 0 where
+  pub none : (c : ContextId) (seat : Seat) → (at s c).seat ≡ Some seat → (at s c).call ≡ None

@@ -1,11 +1,11 @@
 //! The contexts of a node: the invocation in each, the locks that it waits for or holds, whether it is ready,
 //! and the call that it waits with.
 
-ghost use Rattle.std.specs.Prelude.{◌≡◌, ◌<◌, ◌++◌, ◌∷◌, [], Some, None, IfOk, MatchBool, MatchOption, IsSome};
+ghost use Rattle.std.specs.Prelude.{◌≡◌, ◌<◌, ◌++◌, ◌∷◌, [], Some, None, IfOk, MatchBool, MatchOption, IsSome, IfSome, slice_get, true};
 ghost use Rattle.std.specs.Option.{option_copied};
 ghost use Rattle.mate_num.specs.declared.id.ContextId.{ContextId as Context};
-ghost use Rattle.lock_manager.specs.Claims.{Enqueues, Grants, GrantsNone, Releases};
-ghost use Rattle.context_sched.specs.Ready.{without};
+ghost use Rattle.lock_manager.specs.Claims.{AreOnce, Enqueues, Grants, GrantsNone, Releases};
+ghost use Rattle.context_sched.specs.Ready.{without, AreContexts};
 
 use crate::seat::Seat;
 use context_sched::Ring;
@@ -24,7 +24,7 @@ pub struct Contexts {
 }
 
 impl Contexts {
-    ghost use Rattle.node_contexts.specs.At.{at, idle, queued, ready, waiting, seat_at, Becomes, AreIdle, CanStart, Starts, Asks, Ends};
+    ghost use Rattle.node_contexts.specs.At.{at, idle, queued, ready, waiting, seat_at, Becomes, AreIdle, CanStart, Starts, Asks, Ends, GivesWay, IsAsking, IsNoneAsking};
 
     /// All contexts are idle. No other call takes memory.
     pub fn new(alloc: Global) -> Result<Contexts, NoMemory>
@@ -71,7 +71,9 @@ impl Contexts {
     /// held back.
     pub fn grant(&mut self) -> Option<ContextId>
         requires { CanStart self.old }
-        ensures { MatchOption result (GrantsNone self.old.locks self.new.locks × (self.new ≡ self.old)) (Starts self.old self.new) }
+        ensures granted { MatchOption result (GrantsNone self.old.locks self.new.locks × (self.new ≡ self.old)) (Starts self.old self.new) }
+        ensures small { IfSome result (λ ctx. ctx.0 < 16) }
+        ensures once { AreOnce (self.old.locks.started ++ self.old.locks.waiting) }
     {
         let ctx = self.locks.grant()?;
         self.ring.ready(ctx);
@@ -88,6 +90,15 @@ impl Contexts {
         self.ring.remove(ctx);
     }
 
+    /// The function that the invocation of the context called and a copy of the arguments; None exactly where it doesn't
+    /// wait for an answer.
+    pub fn asked(&self, ctx: ContextId) -> Option<(FunId, Payload)>
+        requires { ctx.0 < 16 }
+        ensures { result ≡ (at self.now ctx).call }
+    {
+        self.pending.asked(ctx)
+    }
+
     /// The ready invocation of the context is over: the context is idle.
     pub fn finish(&mut self, ctx: ContextId)
         requires context { ctx.0 < 16 }
@@ -97,6 +108,46 @@ impl Contexts {
         self.seats[usize::from(ctx.0)] = None;
         self.locks.release(ctx);
         self.ring.remove(ctx);
+    }
+
+    /// Whether the invocation of the context is ready.
+    pub fn is_ready(&self, ctx: ContextId) -> bool
+        ensures { result ≡ (at self.now ctx).ready }
+    {
+        self.ring.contains(ctx)
+    }
+
+    /// The lowest context that waits for the answer to a call; None exactly where no invocation does.
+    pub fn first_waiting(&self) -> Option<ContextId>
+        ensures { MatchOption result (IsNoneAsking self.now) (IsAsking self.now) }
+    {
+        let _last = self.seats[15].is_none();
+        for place in 0..16 {
+            if self.asked(ContextId(place)).is_some() {
+                return Some(ContextId(place));
+            }
+        }
+        None
+    }
+
+    /// The ready context that has the next turn; None exactly where none is ready.
+    pub fn first_ready(&self) -> Option<ContextId>
+        ensures first { result ≡ slice_get self.now.ring 0 }
+        ensures small { IfSome result (λ ctx. ctx.0 < 16) }
+        ensures contexts { AreContexts self.now.ring }
+    {
+        let _len = self.ring.len();
+        self.ring.first()
+    }
+
+    /// The ready context has its next turn after all others.
+    pub fn give_way(&mut self, last: ContextId)
+        requires small { last.0 < 16 }
+        requires ready { (at self.old last).ready ≡ true }
+        ensures { GivesWay self.old self.new last }
+    {
+        self.ring.remove(last);
+        self.ring.ready(last);
     }
 
     /// All contexts are idle.

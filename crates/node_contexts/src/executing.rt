@@ -1,15 +1,25 @@
 //! What the invocation in a context does: it executes instructions and takes answers.
 
 ghost use Rattle.std.specs.Prelude.{◌≡◌, ◌<◌, IsSome};
+ghost use Rattle.code_verifier.specs.Verified.{Fits};
+ghost use Rattle.exec_unit.specs.Step.{HasLengths};
 ghost use Rattle.node_contexts.specs.At.{at as at_context, IsPlaced};
 ghost use Rattle.node_contexts.specs.Programs.{held_at};
-ghost use Rattle.node_contexts.specs.Executing.{CanExecute, Executes, CanAnswer, TakesAnswer};
+ghost use Rattle.node_contexts.specs.Executing.{CanExecute, HasRun, HasTurn, CanAnswer, IsAnswered};
 
 use crate::contexts::Contexts;
 use crate::handlers::Handlers;
-use exec_unit::{StepEnd, resume, step};
+use code_verifier::Verified;
+use exec_unit::{Machine, StepEnd, resume, step};
 use mate_num::ContextId;
 use node_heap::Heap;
+
+/// How far an invocation came in a turn: how many instructions it executed, and how the last one ended.
+#[derive(Drop)]
+pub struct Ran {
+    pub instructions: u32,
+    pub how: StepEnd,
+}
 
 /// The number of the invocation in the context.
 pub fn number(contexts: &Contexts, ctx: ContextId) -> u32
@@ -23,15 +33,39 @@ pub fn number(contexts: &Contexts, ctx: ContextId) -> u32
     seat.inv
 }
 
-/// Executes the instruction at the place of the invocation in the context.
-pub fn execute(
+/// Executes n instructions, or fewer where one asks or ends.
+fn run(code: &Verified, machine: &mut Machine, heap: &mut Heap, n: u32) -> Ran
+    requires fits { Fits code.now machine.old }
+    requires lengths { HasLengths code.now.shape heap.old }
+    ensures { HasRun code.now machine.old heap.old n result machine.new heap.new }
+{
+    for before in 0..n {
+        match step(code, machine, heap) {
+            StepEnd::Next => {}
+            how => {
+                return Ran {
+                    instructions: before + 1,
+                    how,
+                };
+            }
+        }
+    }
+    Ran {
+        instructions: n,
+        how: StepEnd::Next,
+    }
+}
+
+/// The invocation in the context executes n instructions, or fewer where one asks or ends.
+pub fn turn(
     contexts: &mut Contexts,
     handlers: &Handlers,
     heap: &mut Heap,
     ctx: ContextId,
-) -> StepEnd
+    n: u32,
+) -> Ran
     requires { CanExecute (held_at handlers.now.programs) contexts.old heap.old ctx }
-    ensures { Executes (held_at handlers.now.programs) contexts.old heap.old ctx result contexts.new heap.new }
+    ensures { HasTurn (held_at handlers.now.programs) contexts.old heap.old ctx n result contexts.new heap.new }
 {
     let place = usize::from(ctx.0);
     let Some(mut seat) = contexts.seats[place].take() else {
@@ -40,16 +74,17 @@ pub fn execute(
     let Some(held) = handlers.get(seat.handler) else {
         unreachable!()
     };
-    let how = step(&held.code, &mut seat.machine, heap);
-    seat.count += 1;
+    let ran = run(&held.code, &mut seat.machine, heap, n);
+    seat.count += u64::from(ran.instructions);
     contexts.seats[place] = Some(seat);
-    how
+    ran
 }
 
-/// The invocation in the context takes the answer to its call.
-pub fn take_answer(contexts: &mut Contexts, handlers: &Handlers, ctx: ContextId, value: i16)
+/// The invocation in the context, which waits, is given the answer to its call: it is ready, and has its turn after all
+/// others.
+pub fn answer(contexts: &mut Contexts, handlers: &Handlers, ctx: ContextId, value: i16)
     requires { CanAnswer (held_at handlers.now.programs) contexts.old ctx }
-    ensures { TakesAnswer contexts.old contexts.new ctx value }
+    ensures { IsAnswered contexts.old contexts.new ctx value }
 {
     let place = usize::from(ctx.0);
     let Some(mut seat) = contexts.seats[place].take() else {
@@ -60,4 +95,6 @@ pub fn take_answer(contexts: &mut Contexts, handlers: &Handlers, ctx: ContextId,
     };
     resume(&held.code, &mut seat.machine, value);
     contexts.seats[place] = Some(seat);
+    let _ = contexts.pending.answer(ctx);
+    contexts.ring.ready(ctx);
 }

@@ -34,12 +34,14 @@ impl Handlers {
         }
     }
 
-    /// What is installed for the handler.
+    /// What is installed for the handler; None also for a number of no handler.
     pub fn get(&self, handler: HandlerId) -> Option<&Held>
-        requires { handler.0 < 8 }
         ensures { option_copied result ≡ held_at self.now.programs handler }
     {
-        self.programs[usize::from(handler.0)].as_ref()
+        match self.programs.get(usize::from(handler.0)) {
+            Some(held) => held.as_ref(),
+            None => None,
+        }
     }
 
     /// The program is installed in place of what was.
@@ -52,7 +54,6 @@ impl Handlers {
 
     /// The version that is installed for the handler, 0 for none.
     pub fn version(&self, handler: HandlerId) -> u32
-        requires { handler.0 < 8 }
         ensures { result ≡ version_in (held_at self.now.programs handler) }
     {
         match self.get(handler) {

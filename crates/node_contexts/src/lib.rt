@@ -1,4 +1,4 @@
-//! The contexts of a node, what is installed for its handlers, and the instructions of the invocations in them.
+//! The contexts of a node, what is installed for its handlers, and the turns of the invocations in them.
 #![tactic(auto)]
 
 pub mod contexts;
@@ -7,9 +7,6 @@ pub mod handlers;
 pub mod seat;
 
 pub use contexts::Contexts;
-pub use executing::{execute, number, take_answer};
+pub use executing::{Ran, answer, number, turn};
 pub use handlers::{Handlers, Held};
 pub use seat::Seat;
-
-#[cfg(test)]
-mod tests;

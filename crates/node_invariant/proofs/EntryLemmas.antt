@@ -1,19 +1,16 @@
 -- What each thing that happens asks of the parts: starts, instructions, calls and ends.
-use Rattle.std.proofs.Common.{◌≡◌, ◌≢◌, ◌⊎◌, ℕ, suc, ◌+◌, ◌<◌, ◌≤◌, ℤ, Bool, true, false, List, [], ◌∷◌, ◌++◌, Option, Some, None, refl, sym, ◌∙◌, ap, subst, arith, inl, inr, length, map}
-use Rattle.lock_manager.specs.declared.claim.Claim.{Claim}
+use Rattle.std.proofs.Common.{◌≡◌, ℕ, ◌+◌, ℤ, true, false, [], Some, None, refl, sym, ◌∙◌, ap, subst, arith, inl, inr, length}
 use Rattle.lock_manager.specs.Claims.{set_of}
 use Rattle.lock_manager.proofs.GrantLemmas.{Contains-set_of}
 use Rattle.arrayvec.specs.ArrayVec.{ArrayVec}
 use Rattle.mate_num.specs.Locks as locks
 use Rattle.mate_num.specs.Uses.{Uses, uses, ConflictsAt, IsCompatible, IsSameUses}
-use Rattle.mate_num.specs.declared.call.Call.{Call}
 use Rattle.mate_num.specs.declared.call.End.{End}
 use Rattle.mate_num.specs.declared.call.End.TheVariants as end
 use Rattle.mate_num.specs.declared.call.FaultKind.{FaultKind}
 use Rattle.mate_num.specs.declared.call.Stamp.{Stamp}
 use Rattle.mate_num.specs.declared.id.ContextId.{ContextId}
 use Rattle.mate_num.specs.declared.id.FunId.{FunId}
-use Rattle.mate_num.specs.declared.id.HandlerId.{HandlerId}
 use Rattle.mate_num.specs.declared.lock_set.LockSet.{LockSet}
 use Rattle.mate_num.specs.declared.resource.Resource.{Resource}
 use Rattle.mate_num.specs.declared.shape.Shape.{Shape}
@@ -21,12 +18,12 @@ use Rattle.mate_num.specs.declared.store.Store.{Store}
 use Rattle.mate_code.specs.Cells.{Agree}
 use Rattle.mate_code.specs.CodeUses.{uses_of}
 use Rattle.mate_code.specs.Effect.{Private}
-use Rattle.mate_code.specs.Run.{Own, Run, Status, Going, Over, begun, bound, after, end_of}
+use Rattle.mate_code.specs.Run.{Own, Run, Status, Going, Over, begun, bound, end_of}
 use Rattle.mate_code.proofs.RunLemmas.{Matches, after-other, after-AreAsLong}
 use Rattle.code_verifier.specs.Verified.{Fits as FitsCode}
 use Rattle.exec_unit.specs.declared.step_end.StepEnd.{StepEnd}
 use Rattle.exec_unit.specs.declared.step_end.StepEnd.TheVariants.{Next, Ask, Halt, Fault}
-use Rattle.exec_unit.specs.Step.{HasLengths, IsStep, Waits, going, own_after, FitsAfter as FitsCodeAfter}
+use Rattle.exec_unit.specs.Step.{HasLengths, IsStep, Waits, own_after, FitsAfter as FitsCodeAfter}
 use Rattle.vm_desc.specs.declared.description.Description.{Description}
 use Rattle.vm_desc.specs.Shapes.{shape_of}
 use Rattle.mate_journal.specs.declared.entry.Entry.{Entry}
@@ -35,21 +32,22 @@ use Rattle.journal_laws.specs.Growth.{IsPushed, IsNamedBelow}
 use Rattle.mate_journal.specs.WellFormed.{Closes}
 use Rattle.mate_journal.specs.Serial.{EndsAsRun}
 use Rattle.mate_journal.specs.Log.{Log}
-use Rattle.mate_journal.specs.Machine.{HeldProgram, Machine}
-use Rattle.mate_journal.specs.Journal.{Told, told_of, Started, Asked as AskedTold, Ended, Phase, Unposted, Queued, Ready, Waiting, Over as Gone, is_started, in_phase, heard, whole_run, Invocation, Reading, changed}
+use Rattle.mate_journal.specs.Machine.{HeldProgram}
+use Rattle.mate_journal.specs.Journal.{told_of, Started, Asked as AskedTold, Ended, Phase, Unposted, Queued, Ready, Waiting, Over as Gone, is_started, in_phase, Invocation, Reading}
 use Rattle.node_contexts.specs.declared.handlers.Held.{Held}
 use Rattle.node_contexts.specs.declared.seat.Seat.{Seat}
 use Rattle.node_contexts.specs.declared.contexts.Contexts.{Contexts}
 use Rattle.node_contexts.specs.At.{At, idle, ready, waiting, at, Becomes, Starts, Asks, Ends}
 use Rattle.node_contexts.specs.Programs.{Programs, held_at}
-use Rattle.node_contexts.specs.Executing.{IsSameSeat, Executes}
+use Rattle.node_contexts.specs.Executing.{Executes}
 use Rattle.node_invariant.specs.declared.parts.Parts.{Parts}
 use Rattle.node_invariant.specs.Standing.{standing}
 use Rattle.node_invariant.specs.Meaning.{machine_in, code_of}
-use Rattle.node_invariant.specs.Fits.{program_of, IsHeld, AreInstalled, IsSeated, Fits}
-use Rattle.node_invariant.specs.Agrees.{code_for, uses_for, answers_of, own_run, own_in, IsOwnRun, RunsOwn, Agrees}
+use Rattle.node_invariant.specs.Fits.{IsHeld, IsSeated}
+use Rattle.mate_journal.specs.Journal.{answers_of}
+use Rattle.node_invariant.specs.Agrees.{code_for, uses_for, own_run, own_in, IsOwnRun, RunsOwn, Agrees}
 use Rattle.node_invariant.specs.Keeps.{reading, Keeps, IsTimely}
-use Rattle.node_invariant.specs.Continues.{FitsAfter, Continues}
+use Rattle.node_invariant.specs.Continues.{Continues}
 use Rattle.node_invariant.proofs.FitLemmas.{HasSeat, by_seat, IsAlone}
 use Rattle.node_invariant.proofs.KeepLemmas.{IsPrepared-same}
 use Rattle.node_invariant.proofs.MoveLemmas.{alone-seat, changed-same, starting, stood, start-seat, start-queued, Fits-started, running, was_ready, stood_ready, Fits-executed, Fits-asked, Fits-ended}
@@ -60,21 +58,21 @@ use Rattle.node_invariant.proofs.SerialLemmas.{HasVerified, started-live, verifi
 -- ---- locks and uses
 
 -- the locks of a seat are what its invocation uses
-seat-uses : (d : Description) (held : Programs) (posts : ℕ) (i : Invocation) (c : ContextId) (s : Seat) (a : At) (g : IsSeated held posts i c s a) → IsHeld d g.x → IsSameUses (locks.uses_of g.x.locks) (uses_for d i)
+pub seat-uses : (d : Description) (held : Programs) (posts : ℕ) (i : Invocation) (c : ContextId) (s : Seat) (a : At) (g : IsSeated held posts i c s a) → IsHeld d g.x → IsSameUses (locks.uses_of g.x.locks) (uses_for d i)
 seat-uses d held posts i c s a g h =
     let P : HeldProgram → Type 0 = λ p. IsSameUses (locks.uses_of g.x.locks) (uses_of (shape_of d) (code_of (shape_of d) p.image)) in
     subst P (sym g.program) h.locks_are
 
-uses-same : (a b : Uses) (q : Resource) → IsSameUses a b → uses b q ≡ true → uses a q ≡ true
+pub uses-same : (a b : Uses) (q : Resource) → IsSameUses a b → uses b q ≡ true → uses a q ≡ true
 uses-same a b q same t = rw (same.reads q, same.writes q) t
 
-IsCompatible-same : (a b u w : Uses) → IsSameUses a u → IsSameUses b w → IsCompatible a b → IsCompatible u w
+pub IsCompatible-same : (a b u w : Uses) → IsSameUses a u → IsSameUses b w → IsCompatible a b → IsCompatible u w
 IsCompatible-same a b u w au bw apart = record { apart = λ q at. by q at } where
   by : (q : Resource) → ConflictsAt u w q → ⊥
   by q (inl x) = apart.apart q (inl (au.writes q ∙ x.0, uses-same b w q bw x.1))
   by q (inr y) = apart.apart q (inr (bw.writes q ∙ y.0, uses-same a u q au y.1))
 
-holds-by_started : (p : Phase) (s : Seat) (l : LockSet) → is_started p ≡ true → (standing p s l).holds ≡ Some l
+pub holds-by_started : (p : Phase) (s : Seat) (l : LockSet) → is_started p ≡ true → (standing p s l).holds ≡ Some l
 holds-by_started Unposted s l is = cc
 holds-by_started Queued s l is = cc
 holds-by_started Ready s l is = refl

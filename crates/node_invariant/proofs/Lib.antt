@@ -5,3 +5,4 @@ pub mod AgreeLemmas
 pub mod StartLemmas
 pub mod SerialLemmas
 pub mod EntryLemmas
+pub mod AskLemmas

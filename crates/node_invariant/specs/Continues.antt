@@ -1,12 +1,12 @@
 -- What one more entry of a node's log asks of the parts that come with it.
-use Rattle.std.specs.Prelude.{◌≡◌, ℕ, ◌+◌, ◌≤◌, false, length}
+use Rattle.std.specs.Prelude.{◌≡◌, ◌+◌, ◌≤◌, false, length}
 use Rattle.mate_num.specs.declared.call.Stamp.{Stamp}
 use Rattle.mate_journal.specs.declared.entry.Entry.{Entry}
 use Rattle.mate_journal.specs.Log.{Log}
 use Rattle.mate_journal.specs.Journal.{Told, told_of, journal_of, Reading, heard}
-use Rattle.journal_laws.specs.Growth.{NamesInLog, IsNamedBelow, IsPushed, IsSeenBefore, last_is_seen}
+use Rattle.journal_laws.specs.Growth.{NamesInLog, IsNamedBelow, IsPushed, last_is_seen}
 use Rattle.mate_journal.specs.Serial.{EndsAsRun}
-use Rattle.mate_journal.specs.Stores.{ShowsStore}
+use Rattle.mate_journal.specs.Stores.{ShowsStore, IsSeenBefore}
 use Rattle.mate_journal.specs.WellFormed.{MayFollow}
 use Rattle.exec_unit.specs.Step.{HasLengths}
 use Rattle.vm_desc.specs.declared.description.Description.{Description}

@@ -1,14 +1,14 @@
 -- Lists whose items have an event number each, and what stands in one event.
-use Rattle.std.proofs.Common.{◌≡◌, ◌≢◌, ℕ, zero, suc, ◌+◌, ◌<◌, ◌≤◌, max, Bool, true, false, cond, eqb, ltb, List, ◌++◌, ◌∷◌, [], length, replicate, take, drop, get_or, map, refl, ap, sym, ◌∙◌, subst, arith, inl, inr, min}
-use Rattle.std.specs.Prelude.{⊤, flat_map, filter, fold, ◌==◌, nat_lt, All}
+use Rattle.std.proofs.Common.{◌≡◌, ◌≢◌, ℕ, zero, suc, ◌+◌, ◌<◌, ◌≤◌, max, Bool, false, cond, List, ◌++◌, ◌∷◌, [], length, replicate, take, drop, get_or, map, refl, ap, sym, ◌∙◌, subst, arith, inl, inr, min}
+use Rattle.std.specs.Prelude.{flat_map, fold, ◌==◌, All}
 use Rattle.std.proofs.Common.{append-nil, length-drop, ◌-◌, take-append-drop, drop-cons, add-one}
 use Rattle.std.proofs.lemmas.List.{take_all, drop_all}
 use Rattle.std.proofs.Math.Seq.{take-append_seam, drop-append_seam}
 use Rattle.std.proofs.lemmas.Grind.{flat_map-append}
-use Rattle.std.proofs.lemmas.Bool.{ne_eqb, eq-eqb, le-ltb, lt-ltb, cases_order, cases_lt, cond-true, cond-false}
+use Rattle.std.proofs.lemmas.Bool.{ne_eqb, eq-eqb, cases_lt, cond-true}
 use Rattle.std.proofs.lemmas.List.Elements.{All-nil, All-cons, All-head, All-tail, All-same, All-take, All-drop, All-weaker, All-more, All-rest, All-append, filter_more, filter-append}
-use Rattle.report_text.specs.Text.{below}
-use Rattle.report_text.specs.Progress.{at_event, Rises, IsLeftFrom, IsCut, IsGreatest, lesser}
+use Rattle.mate_journal.specs.Tidy.{below, EventsRise}
+use Rattle.report_text.specs.Progress.{at_event, IsLeftFrom, IsCut, IsGreatest, lesser}
 use Rattle.std.specs.Prelude.{Option, None, Some, slice_get}
 use Rattle.std.specs.Option.{option_map}
 use Rattle.std.proofs.lemmas.Option.{slice_get_cases}
@@ -43,11 +43,11 @@ fold-max_bounds a (x ∷ xs) =
 
 -- ---- what stands in an event
 
-pub Rises-low : {A : Type 0} (ev : A → ℕ) (low : ℕ) (xs : List A) → Rises ev low xs → All (λ (x : A). low ≤ ev x) xs
-Rises-low ev low [] h = All-nil (λ (x : _). low ≤ ev x)
-Rises-low ev low (x ∷ xs) h =
+pub EventsRise-low : {A : Type 0} (ev : A → ℕ) (low : ℕ) (xs : List A) → EventsRise ev low xs → All (λ (x : A). low ≤ ev x) xs
+EventsRise-low ev low [] h = All-nil (λ (x : _). low ≤ ev x)
+EventsRise-low ev low (x ∷ xs) h =
     All-cons (λ (x : _). low ≤ ev x) x xs h.0
-    (All-weaker (λ (y : _). ev x ≤ ev y) (λ (y : _). low ≤ ev y) (λ (y : _) (p : ev x ≤ ev y). omega (arith, p, h.0)) xs (Rises-low ev (ev x) xs h.1))
+    (All-weaker (λ (y : _). ev x ≤ ev y) (λ (y : _). low ≤ ev y) (λ (y : _) (p : ev x ≤ ev y). omega (arith, p, h.0)) xs (EventsRise-low ev (ev x) xs h.1))
 
 -- no item stands in an event that no item has
 pub at_event-none : {A : Type 0} (ev : A → ℕ) (k : ℕ) (xs : List A) → All (λ (x : A). ev x ≢ k) xs → at_event ev k xs ≡ []
@@ -65,10 +65,10 @@ rest-from xs ys n e = take_all (length xs - n) (drop n xs) (omega (arith, length
 -- ---- a run of items of one event
 
 -- what stands from a place on is of no earlier event than the item there
-pub Rises-drop : {A : Type 0} (ev : A → ℕ) (low : ℕ) (xs : List A) (n : ℕ) (d : A) → Rises ev low xs → n < length xs → All (λ (y : A). ev (get_or xs n d) ≤ ev y) (drop n xs)
-Rises-drop ev low [] n d h p = absurd (omega (arith, p))
-Rises-drop ev low (x ∷ xs) zero d h p = All-cons (λ (y : _). ev x ≤ ev y) x xs (omega arith) (Rises-low ev (ev x) xs h.1)
-Rises-drop ev low (x ∷ xs) (suc n) d h p = Rises-drop ev (ev x) xs n d h.1 (omega (arith, p))
+pub EventsRise-drop : {A : Type 0} (ev : A → ℕ) (low : ℕ) (xs : List A) (n : ℕ) (d : A) → EventsRise ev low xs → n < length xs → All (λ (y : A). ev (get_or xs n d) ≤ ev y) (drop n xs)
+EventsRise-drop ev low [] n d h p = absurd (omega (arith, p))
+EventsRise-drop ev low (x ∷ xs) zero d h p = All-cons (λ (y : _). ev x ≤ ev y) x xs (omega arith) (EventsRise-low ev (ev x) xs h.1)
+EventsRise-drop ev low (x ∷ xs) (suc n) d h p = EventsRise-drop ev (ev x) xs n d h.1 (omega (arith, p))
 
 drop_at : {A : Type 0} (xs : List A) (n : ℕ) (d : A) → n < length xs → drop n xs ≡ get_or xs n d ∷ drop (n + 1) xs
 drop_at xs n d p = rw add-one (drop-cons xs n d p)
@@ -122,7 +122,7 @@ pub at_event-end : {A : Type 0} (ev : A → ℕ) (event : ℕ) (xs : List A) (n 
 at_event-end ev event xs n p = ap (at_event ev event) (take_all n xs p)
 
 -- at an item of another event
-pub IsCut-stop : {A : Type 0} (ev : A → ℕ) (event : ℕ) (xs : List A) (n : ℕ) (x : A) → Rises ev 0 xs → Runs ev event xs n → n < length xs → x ≡ get_or xs n x → ev x ≢ event
+pub IsCut-stop : {A : Type 0} (ev : A → ℕ) (event : ℕ) (xs : List A) (n : ℕ) (x : A) → EventsRise ev 0 xs → Runs ev event xs n → n < length xs → x ≡ get_or xs n x → ev x ≢ event
     → IsCut ev (event + 1) xs n
 IsCut-stop ev event xs n x rises h p is ne =
     let here : event ≤ ev (get_or xs n x) = All-drop_here (λ (y : _). event ≤ ev y) xs n x p h.after in
@@ -130,7 +130,7 @@ IsCut-stop ev event xs n x rises h p is ne =
     let above : event + 1 ≤ ev (get_or xs n x) = omega (arith, here, other) in record {
       within = h.within;
       before = h.before;
-      after = All-weaker (λ (y : _). ev (get_or xs n x) ≤ ev y) (λ (y : _). event + 1 ≤ ev y) (λ (y : _) (q : ev (get_or xs n x) ≤ ev y). omega (arith, q, above)) (drop n xs) (Rises-drop ev 0 xs n x rises p);
+      after = All-weaker (λ (y : _). ev (get_or xs n x) ≤ ev y) (λ (y : _). event + 1 ≤ ev y) (λ (y : _) (q : ev (get_or xs n x) ≤ ev y). omega (arith, q, above)) (drop n xs) (EventsRise-drop ev 0 xs n x rises p);
     }
 
 -- all items of an event stand before a cut at the next one
@@ -163,13 +163,13 @@ pub IsLeftFrom-down : {A : Type 0} (ev : A → ℕ) (xs : List A) (n : ℕ) (i j
 IsLeftFrom-down ev xs n i j p h = All-weaker (λ (x : _). j ≤ ev x) (λ (x : _). i ≤ ev x) (λ (x : _) (q : j ≤ ev x). omega (arith, p, q)) (drop n xs) h
 
 -- the event of the next item is the greatest bound of what is left
-pub IsGreatest-head : {A : Type 0} (ev : A → ℕ) (xs : List A) (n : ℕ) → Rises ev 0 xs → IsGreatest (option_map ev (slice_get xs n)) (λ (event : ℕ). IsLeftFrom ev event xs n)
+pub IsGreatest-head : {A : Type 0} (ev : A → ℕ) (xs : List A) (n : ℕ) → EventsRise ev 0 xs → IsGreatest (option_map ev (slice_get xs n)) (λ (event : ℕ). IsLeftFrom ev event xs n)
 IsGreatest-head ev xs n h =
     elim (slice_get_cases xs n).1 [
       | inl s ↦
           let x = s.0 in
           let P : Option ℕ → Type 0 = λ (o : Option ℕ). IsGreatest o (λ (event : ℕ). IsLeftFrom ev event xs n) in
-          let all = Rises-drop ev 0 xs n x h s.1 in
+          let all = EventsRise-drop ev 0 xs n x h s.1 in
           subst P (sym (ap (option_map ev) s.2)) (
             subst (λ (k : ℕ). IsLeftFrom ev k xs n) (ap ev s.3) all,
             λ k p. subst (λ (m : ℕ). k ≤ m) (ap ev s.3) (All-drop_here (λ (y : _). k ≤ ev y) xs n x s.1 p),

@@ -6,3 +6,4 @@ pub mod MergeLemmas
 pub mod BriefLemmas
 pub mod QuietReport
 pub mod PieceLemmas
+pub mod NodeLemmas

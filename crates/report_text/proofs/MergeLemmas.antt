@@ -1,5 +1,5 @@
 -- Lemmas on `specs/Progress.antt`, and on the lines of one event.
-use Rattle.std.proofs.Common.{◌≡◌, ◌≢◌, ℕ, zero, suc, ◌+◌, ◌<◌, ◌≤◌, max, List, ◌++◌, ◌∷◌, [], length, map, take, drop, get_or, set, refl, ap, sym, subst, ◌∙◌, arith, add-one, zero-add, inl, inr, get_or-set_other, get_or-set_same}
+use Rattle.std.proofs.Common.{◌≡◌, ◌≢◌, ℕ, suc, ◌+◌, ◌<◌, ◌≤◌, max, List, ◌++◌, ◌∷◌, [], length, map, take, get_or, set, refl, ap, sym, subst, ◌∙◌, arith, zero-add, inl, inr, get_or-set_other, get_or-set_same}
 use Rattle.std.specs.Prelude.{flat_map, fold, All, Option, None, Some, IfSome, slice_get, slice_index_or}
 use Rattle.std.specs.Option.{option_map}
 use Rattle.std.proofs.lemmas.Bool.{cases_lt}
@@ -8,12 +8,12 @@ use Rattle.std.proofs.lemmas.Option.{slice_get_cases}
 use Rattle.vm_desc.specs.declared.description.Description.{Description}
 use Rattle.mate_journal.specs.Log.{Log}
 use Rattle.mate_journal.specs.declared.air.Aired.{Aired}
-use Rattle.mate_journal.specs.declared.entry.Stamped.{Stamped}
 use Rattle.mate_journal.specs.declared.report.Report.{Report}
-use Rattle.report_text.specs.Text.{air_line, entry_line, entry_lines, event_lines, below, events_end}
-use Rattle.report_text.specs.Progress.{entry_event, air_event, at_event, Rises, IsOrdered, IsLeftFrom, IsCut, AreCuts, AreLeftFrom, IsGreatest, lesser}
+use Rattle.mate_journal.specs.Tidy.{below, entry_event, EventsRise}
+use Rattle.report_text.specs.Text.{air_line, entry_line, entry_lines, event_lines, events_end}
+use Rattle.report_text.specs.Progress.{air_event, at_event, IsLeftFrom, IsCut, AreCuts, AreLeftFrom, IsGreatest, lesser}
 use Rattle.report_text.proofs.EventLemmas.{IsCut-later, IsCut-first, at_event-between, flat_map-skip, IsGreatest-both, IsGreatest-same, IsGreatest-head, IsLeftFrom-down, All-of_map, fold-max_bounds}
-use Rattle.report_text.proofs.TextLemmas.{entry_lines-next, below_end}
+use Rattle.report_text.proofs.TextLemmas.{entry_lines-next}
 
 -- ---- the logs of one event
 
@@ -54,7 +54,7 @@ LeftUpTo-down r air cursors node m n p h = record {
   in_logs = λ k d q. IsLeftFrom-down entry_event (slice_index_or r.nodes k d).entries (slice_index_or cursors k 0) m n p (h.in_logs k d q);
 }
 
-pub greatest-start : (r : Report) (air : ℕ) (cursors : List ℕ) (head : Option ℕ) → Rises air_event 0 r.air → head ≡ option_map air_event (slice_get r.air air)
+pub greatest-start : (r : Report) (air : ℕ) (cursors : List ℕ) (head : Option ℕ) → EventsRise air_event 0 r.air → head ≡ option_map air_event (slice_get r.air air)
     → IsGreatest head (LeftUpTo r air cursors 0)
 greatest-start r air cursors head rises is =
     subst (λ (o : Option ℕ). IsGreatest o (LeftUpTo r air cursors 0)) (sym is)
@@ -74,7 +74,7 @@ left-next r air cursors node log n p is h here k d q =
     ]
 
 pub greatest-next : (r : Report) (air : ℕ) (cursors : List ℕ) (node : ℕ) (log : Log) (next head : Option ℕ) → node < length r.nodes → log ≡ get_or r.nodes node log
-    → Rises entry_event 0 log.entries → head ≡ option_map entry_event (slice_get log.entries (get_or cursors node 0)) → IsGreatest next (LeftUpTo r air cursors node)
+    → EventsRise entry_event 0 log.entries → head ≡ option_map entry_event (slice_get log.entries (get_or cursors node 0)) → IsGreatest next (LeftUpTo r air cursors node)
     → IsGreatest (lesser next head) (LeftUpTo r air cursors (node + 1))
 greatest-next r air cursors node log next head p is rises e h =
     let here : ℕ → Type 0 = λ (n : ℕ). IsLeftFrom entry_event n log.entries (get_or cursors node 0) in

@@ -1,10 +1,9 @@
 -- Lemmas on `specs/Pieces.antt`: the pieces make up the text.
-use Rattle.std.proofs.Common.{◌≡◌, ◌≢◌, ℕ, zero, suc, ◌+◌, ◌<◌, ◌≤◌, max, List, ◌++◌, ◌∷◌, [], length, map, take, drop, get_or, set, refl, ap, sym, subst, ◌∙◌, arith, inl, inr, ◌⊎◌, append-nil, append_assoc, add-one, zero-add}
-use Rattle.std.specs.Prelude.{flat_map, fold, filter, ◌==◌, All, slice_get, slice_index_or, codes, Bool, true, false}
-use Rattle.std.proofs.lemmas.Bool.{eq-eqb, cond-true, cases_eq}
+use Rattle.std.proofs.Common.{◌≡◌, ◌≢◌, ℕ, zero, suc, ◌+◌, ◌<◌, ◌≤◌, max, List, ◌++◌, ◌∷◌, [], length, map, drop, get_or, set, refl, ap, sym, subst, ◌∙◌, arith, inl, inr, append-nil, append_assoc, zero-add}
+use Rattle.std.specs.Prelude.{flat_map, fold, ◌==◌, All, slice_get, codes}
+use Rattle.std.proofs.lemmas.Bool.{eq-eqb, cond-true}
 use Rattle.std.proofs.lemmas.Grind.{flat_map-append}
-use Rattle.std.proofs.lemmas.List.{length-set}
-use Rattle.std.proofs.lemmas.List.Elements.{All-nil, All-cons, All-head, All-tail, All-same, All-weaker, All-append, All-map, All-set, All-filter, filter-append}
+use Rattle.std.proofs.lemmas.List.Elements.{All-nil, All-head, All-tail, All-same, All-weaker, All-append, All-map, All-set, All-filter, filter-append}
 use Rattle.std.proofs.Math.Seq.{drop-append_seam}
 use Rattle.vm_desc.specs.declared.description.Description.{Description}
 use Rattle.mate_journal.specs.Log.{Log}
@@ -14,8 +13,9 @@ use Rattle.mate_journal.specs.declared.entry.Entry.TheVariants as entry
 use Rattle.mate_journal.specs.declared.entry.Stamped.{Stamped}
 use Rattle.mate_journal.specs.declared.report.Report.{Report}
 use Rattle.report_text.specs.Words.{entry_words, stamp_words, seen_words, image_of, image_word, word, number, handler_name}
-use Rattle.report_text.specs.Text.{air_line, entry_line, entry_lines, event_lines, event_piece, below, events_end, lines}
-use Rattle.report_text.specs.Progress.{entry_event, air_event, at_event}
+use Rattle.mate_journal.specs.Tidy.{below, entry_event}
+use Rattle.report_text.specs.Text.{air_line, entry_line, entry_lines, event_lines, event_piece, events_end, lines}
+use Rattle.report_text.specs.Progress.{air_event, at_event}
 use Rattle.report_text.specs.Pieces.{IsNamed, GoesOn, IsBefore, AddsPiece}
 use Rattle.report_text.proofs.EventLemmas.{at_event-none, flat_map-skip, flat_map-below_next}
 use Rattle.report_text.proofs.TextLemmas.{below_end}

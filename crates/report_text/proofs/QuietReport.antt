@@ -1,8 +1,9 @@
 -- A report that is tidy: two nodes whose first intervals begin, and which show their stores at the end.
-use Rattle.std.proofs.Common.{◌≡◌, ℕ, ◌<◌, ◌≤◌, Bool, true, false, List, ◌++◌, ◌∷◌, [], length, refl, ap, sym, subst, ◌∙◌, arith, inl, inr, ◌⊎◌}
-use Rattle.std.specs.Prelude.{All, replicate, pos, IsTrue}
+use Rattle.std.proofs.Common.{◌≡◌, ℕ, ◌<◌, ◌≤◌, true, false, List, ◌∷◌, [], length, refl, ap, sym, subst, ◌∙◌, arith, inl, inr, ◌⊎◌}
+use Rattle.std.specs.Prelude.{All, pos, IsTrue}
 use Rattle.std.proofs.lemmas.List.{length-replicate}
 use Rattle.std.proofs.lemmas.List.Elements.{All-nil, All-cons, All-weaker, All-same}
+use Rattle.arrayvec.specs.ArrayVec.{ArrayVec}
 use Rattle.mate_num.specs.Store.{zero_store}
 use Rattle.mate_num.specs.declared.call.Stamp.{Stamp}
 use Rattle.mate_num.specs.declared.store.Store.{Store}
@@ -13,7 +14,12 @@ use Rattle.mate_journal.specs.declared.air.Air.TheVariants as air
 use Rattle.mate_journal.specs.declared.entry.Stamped.{Stamped}
 use Rattle.mate_journal.specs.declared.entry.Entry.TheVariants as entry
 use Rattle.mate_journal.specs.declared.report.Report.{Report}
-use Rattle.report_text.specs.Tidy.{IsTidy, IsTidyLog, IsStoreOf, IsEntryInRange, IsAirInRange, AreNumbered, EntriesRise, AirRises, StampsRise, Mark, Agree, AreOfOneNode, IsLastSeen, start, marks}
+use Rattle.mate_journal.specs.Tidy.{image_named, store_named, names_in, below, IsEntryInRange, IsStoreOf, EventsRise, entry_event, IsTidyLog}
+use Rattle.report_text.specs.Progress.{air_event}
+use Rattle.report_text.specs.Tidy.{IsTidy, IsAirInRange, AirNodesRise, Mark, IsNoEarlier, AreOfOneNode, IsLastSeen, marks}
+
+abbrev start : Stamp
+start = record { event = 0; time = 0 }
 
 abbrev pub second : Stamp
 second = record { event = 1; time = 5000 }
@@ -30,39 +36,30 @@ pub record IsQuiet (d : Description) (l : Log) : Type 0 where
   pub images : l.images ≡ []
   pub stores : l.stores ≡ zero_store (length d.shared.items) (length d.buffers.items) ∷ []
 
-rises : StampsRise start second
-rises = record { event = omega arith; time = omega arith; same = λ e. absurd (omega (arith, e)) }
-
-still : StampsRise start start
-still = record { event = omega arith; time = omega arith; same = λ e. refl }
-
 tidy_log : (d : Description) (l : Log) → IsQuiet d l → IsTidyLog d l
 tidy_log d l quiet =
     let store = zero_store (length d.shared.items) (length d.buffers.items) in record {
       in_range = All-same (λ (e : Stamped). IsEntryInRange d e.entry) l.entries (shown ∷ []) quiet.entries
           (All-cons (λ (e : Stamped). IsEntryInRange d e.entry) shown [] tt (All-nil (λ (e : Stamped). IsEntryInRange d e.entry)));
-      numbered = subst (AreNumbered 0 0 l) (sym quiet.entries) (refl, (ap length quiet.images, ap length quiet.stores));
-      stores = All-same (IsStoreOf d) l.stores (store ∷ []) quiet.stores
+      numbered = record {
+        images = ap (names_in image_named) quiet.entries ∙ sym (ap (λ (is : List (ArrayVec ℕ)). below (length is)) quiet.images);
+        stores = ap (names_in store_named) quiet.entries ∙ sym (ap (λ (ss : List Store). below (length ss)) quiet.stores);
+      };
+      lengths = All-same (IsStoreOf d) l.stores (store ∷ []) quiet.stores
           (All-cons (IsStoreOf d) store [] (record { shared = length-replicate (length d.shared.items) (pos 0); buffers = length-replicate (length d.buffers.items) (record { items = [] }) }) (All-nil (IsStoreOf d)));
-      rise = subst (EntriesRise start) (sym quiet.entries) (rises, tt);
+      ordered = subst (EventsRise entry_event 0) (sym quiet.entries) (omega arith, tt);
     }
 
 -- a mark of the first event, or one of the second that shows a store
 abbrev IsPlain : Mark → Type 0
 IsPlain m = (m.stamp ≡ start) ⊎ ((m.stamp ≡ second) × IsTrue m.is_seen)
 
-agree : (a b : Mark) → IsPlain a → IsPlain b → Agree a b
-agree a b (inl p) (inl q) =
-    let at = ap (λ (s : Stamp). s.time) (p ∙ sym q) in record { same = λ e. at; later = λ e. omega (arith, at) }
-agree a b (inl p) (inr q) =
-    let ea = ap (λ (s : Stamp). s.event) p in
-    let eb = ap (λ (s : Stamp). s.event) q.0 in
-    let ta = ap (λ (s : Stamp). s.time) p in record { same = λ e. absurd (omega (arith, e, ea, eb)); later = λ e. omega (arith, ta) }
+agree : (a b : Mark) → IsPlain a → IsPlain b → IsNoEarlier a b
+agree a b (inl p) q = let ta = ap (λ (s : Stamp). s.time) p in λ e. omega (arith, ta)
 agree a b (inr p) (inl q) =
     let ea = ap (λ (s : Stamp). s.event) p.0 in
-    let eb = ap (λ (s : Stamp). s.event) q in record { same = λ e. absurd (omega (arith, e, ea, eb)); later = λ e. absurd (omega (arith, e, ea, eb)) }
-agree a b (inr p) (inr q) =
-    let at = ap (λ (s : Stamp). s.time) (p.0 ∙ sym q.0) in record { same = λ e. at; later = λ e. omega (arith, at) }
+    let eb = ap (λ (s : Stamp). s.event) q in λ e. absurd (omega (arith, e, ea, eb))
+agree a b (inr p) (inr q) = let at = ap (λ (s : Stamp). s.time) (p.0 ∙ sym q.0) in λ e. omega (arith, at)
 
 last_seen : (ms : List Mark) (event : ℕ) → event ≡ 1 → All IsPlain ms → IsLastSeen ms event
 last_seen ms event at all =
@@ -103,9 +100,10 @@ quiet_is_tidy d r l0 l1 nodes on_air quiet0 quiet1 =
       air_in_range =
           let P : Aired → Type 0 = λ (a : Aired). (a.node < length r.nodes) × IsAirInRange (length r.nodes) a.air in
           All-same P r.air (begun 0 ∷ begun 1 ∷ []) on_air (All-cons P (begun 0) (begun 1 ∷ []) (omega (arith, count), tt) (All-cons P (begun 1) [] (omega (arith, count), tt) (All-nil P)));
-      air_rises = subst (AirRises start 0) (sym on_air) (still, (λ e. omega arith), (still, (λ e. omega arith), tt));
-      in_time = subst (λ (ms : List Mark). All (λ (a : Mark). All (Agree a) ms) ms) (sym same)
-          (All-weaker IsPlain (λ (a : Mark). All (Agree a) four) (λ a p. All-weaker IsPlain (Agree a) (λ b q. agree a b p q) four all_plain) four all_plain);
+      air_ordered = subst (EventsRise air_event 0) (sym on_air) (omega arith, (omega arith, tt));
+      air_nodes = subst AirNodesRise (sym on_air) (λ e. omega arith, tt);
+      in_time = subst (λ (ms : List Mark). All (λ (a : Mark). All (IsNoEarlier a) ms) ms) (sym same)
+          (All-weaker IsPlain (λ (a : Mark). All (IsNoEarlier a) four) (λ a p. All-weaker IsPlain (IsNoEarlier a) (λ b q. agree a b p q) four all_plain) four all_plain);
       one_node = subst (λ (ms : List Mark). All (λ (a : Mark). All (AreOfOneNode ms a) ms) ms) (sym same)
           (All-weaker IsPlain (λ (a : Mark). All (AreOfOneNode four a) four) (λ a p. All-weaker IsPlain (AreOfOneNode four a) (λ b q. one_node four a b all_plain p) four all_plain) four all_plain);
     }

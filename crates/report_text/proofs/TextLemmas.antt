@@ -1,32 +1,23 @@
 -- Lemmas on `specs/Text.antt`.
-use Rattle.std.proofs.Common.{◌≡◌, ℕ, Bool, zero, suc, ◌+◌, ◌<◌, ◌≤◌, max, List, ◌++◌, ◌∷◌, [], length, map, refl, ap, sym, ◌∙◌, arith}
-use Rattle.std.specs.Prelude.{flat_map, filter, fold, ◌==◌, All, slice_index_or}
+use Rattle.std.proofs.Common.{◌≡◌, ℕ, Bool, zero, suc, ◌+◌, ◌<◌, ◌≤◌, max, List, ◌++◌, ◌∷◌, [], length, map, ap, sym, ◌∙◌, arith}
+use Rattle.std.specs.Prelude.{flat_map, fold, All}
 use Rattle.std.proofs.Common.{append-nil, append_assoc, take, get_or}
-use Rattle.std.proofs.lemmas.List.Elements.{All-weaker, All-head, All-same}
+use Rattle.std.proofs.lemmas.List.Elements.{All-weaker}
 use Rattle.vm_desc.specs.declared.description.Description.{Description}
-use Rattle.mate_num.specs.declared.call.Stamp.{Stamp}
 use Rattle.mate_journal.specs.Log.{Log}
-use Rattle.mate_journal.specs.declared.air.Aired.{Aired}
 use Rattle.mate_journal.specs.declared.entry.Stamped.{Stamped}
 use Rattle.mate_journal.specs.declared.report.Report.{Report}
-use Rattle.report_text.specs.Text.{entry_line, entry_lines, event_lines, below, events_end, end_line, records, text}
-use Rattle.report_text.specs.Progress.{entry_event, air_event, IsOrdered, at_event, Rises}
-use Rattle.report_text.specs.Tidy.{EntriesRise, AirRises, IsTidy, start}
+use Rattle.mate_journal.specs.Tidy.{entry_event}
+use Rattle.report_text.specs.Text.{entry_line, entry_lines, events_end, end_line}
+use Rattle.report_text.specs.Progress.{IsOrdered, at_event}
+use Rattle.report_text.specs.Tidy.{IsTidy}
 use Rattle.report_text.proofs.EventLemmas.{All-of_map, All-of_flat_map, fold-max_bounds}
-
-pub Rises-entries : (last : Stamp) (es : List Stamped) → EntriesRise last es → Rises entry_event last.event es
-Rises-entries last [] h = tt
-Rises-entries last (e ∷ es) h = (h.0.event, Rises-entries e.stamp es h.1)
-
-pub Rises-air : (last : Stamp) (node : ℕ) (aired : List Aired) → AirRises last node aired → Rises air_event last.event aired
-Rises-air last node [] h = tt
-Rises-air last node (a ∷ rest) h = (h.0.event, Rises-air a.stamp a.node rest h.2)
 
 -- event numbers fall along no list of a tidy report
 pub IsOrdered-tidy : (d : Description) (r : Report) → IsTidy d r → IsOrdered r
 IsOrdered-tidy d r tidy = record {
-  air = Rises-air start 0 r.air tidy.air_rises;
-  logs = λ k x p. Rises-entries start (slice_index_or r.nodes k x).entries (tidy.logs k x p).rise;
+  air = tidy.air_ordered;
+  logs = λ k x p. (tidy.logs k x p).ordered;
 }
 
 -- each entry's event is below the end of the events

@@ -1,5 +1,5 @@
 -- The summary of a report.
-use Rattle.std.specs.Prelude.{ℕ, ◌==◌, ◌+◌, Bool, true, false, if◌then◌else◌, List, [], ◌∷◌, ◌++◌, codes, length, max, fold, flat_map, filter_map, count_by, sum_by, Option, None, Some}
+use Rattle.std.specs.Prelude.{ℕ, ◌==◌, Bool, true, false, if◌then◌else◌, List, ◌++◌, codes, length, max, fold, flat_map, filter_map, count_by, sum_by, Option, None, Some}
 use Rattle.vm_desc.specs.declared.description.Description.{Description}
 use Rattle.mate_journal.specs.Log.{Log}
 use Rattle.mate_journal.specs.declared.air.Air.{Air}
@@ -9,7 +9,8 @@ use Rattle.mate_journal.specs.declared.entry.Entry.{Entry}
 use Rattle.mate_journal.specs.declared.entry.Entry.TheVariants as entry
 use Rattle.mate_journal.specs.declared.report.Report.{Report}
 use Rattle.report_text.specs.Words.{number, word, handler_name}
-use Rattle.report_text.specs.Text.{below, records, end_word}
+use Rattle.mate_journal.specs.Tidy.{below}
+use Rattle.report_text.specs.Text.{records, end_word}
 use Rattle.report_text.specs.declared.summary.EntryKind.{EntryKind}
 use Rattle.report_text.specs.declared.summary.EntryKind.TheVariants as entry_kind
 use Rattle.report_text.specs.declared.summary.AirKind.{AirKind}

@@ -1,14 +1,11 @@
 -- How far a report was written: a position in each of its lists.
-use Rattle.std.specs.Prelude.{◌≤◌, ◌<◌, ◌==◌, ℕ, List, [], ◌∷◌, length, take, drop, filter, slice_index_or, All, Option, None, Some, ⊤, min}
+use Rattle.std.specs.Prelude.{◌≤◌, ◌<◌, ◌==◌, ℕ, List, length, take, drop, filter, slice_index_or, All, Option, None, Some, min}
 use Rattle.mate_journal.specs.Log.{Log}
+use Rattle.mate_journal.specs.Tidy.{EventsRise, entry_event}
 use Rattle.mate_journal.specs.declared.air.Aired.{Aired}
-use Rattle.mate_journal.specs.declared.entry.Stamped.{Stamped}
 use Rattle.mate_journal.specs.declared.report.Report.{Report}
 
--- the event of an entry, and of what happened on the air
-abbrev pub entry_event : Stamped → ℕ
-entry_event e = e.stamp.event
-
+-- the event of what happened on the air
 abbrev pub air_event : Aired → ℕ
 air_event a = a.stamp.event
 
@@ -16,15 +13,10 @@ air_event a = a.stamp.event
 abbrev pub at_event : {A : Type 0} → (A → ℕ) → ℕ → List A → List A
 at_event ev event xs = filter (λ x. ev x == event) xs
 
--- event numbers don't fall along a list, and none is below `low`
-abbrev pub Rises : {A : Type 0} → (A → ℕ) → ℕ → List A → Type 0
-Rises ev low [] = ⊤
-Rises ev low (x ∷ xs) = (low ≤ ev x) × Rises ev (ev x) xs
-
 -- event numbers fall along no list of a report
 pub record IsOrdered (r : Report) : Type 0 where
-  pub air : Rises air_event 0 r.air
-  pub logs : All (λ (l : Log). Rises entry_event 0 l.entries) r.nodes
+  pub air : EventsRise air_event 0 r.air
+  pub logs : All (λ (l : Log). EventsRise entry_event 0 l.entries) r.nodes
 
 -- no item from position n on is of an event before `event`
 abbrev pub IsLeftFrom : {A : Type 0} → (A → ℕ) → ℕ → List A → ℕ → Type 0

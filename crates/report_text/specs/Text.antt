@@ -1,7 +1,8 @@
 -- The text of a report: a line per record, in the order of events, and a last line.
-use Rattle.std.specs.Prelude.{ℕ, zero, suc, ◌+◌, ◌==◌, Bool, true, false, List, [], ◌∷◌, ◌++◌, codes, length, drop, map, flat_map, filter, max, fold, sum_by}
+use Rattle.std.specs.Prelude.{ℕ, suc, ◌+◌, ◌==◌, Bool, true, false, List, [], ◌∷◌, ◌++◌, codes, length, drop, map, flat_map, filter, max, fold, sum_by}
 use Rattle.vm_desc.specs.declared.description.Description.{Description}
 use Rattle.mate_journal.specs.Log.{Log}
+use Rattle.mate_journal.specs.Tidy.{below}
 use Rattle.mate_journal.specs.declared.air.Aired.{Aired}
 use Rattle.mate_journal.specs.declared.entry.Stamped.{Stamped}
 use Rattle.mate_journal.specs.declared.report.Report.{Report}
@@ -29,11 +30,6 @@ entry_lines d event node (l ∷ ls) =
 abbrev pub event_lines : Description → Report → ℕ → List ℕ
 event_lines d r event =
     flat_map air_line (filter (λ a. a.stamp.event == event) r.air) ++ entry_lines d event 0 r.nodes
-
--- the numbers below n, in order
-abbrev pub below : ℕ → List ℕ
-below zero = []
-below (suc n) = below n ++ n ∷ []
 
 -- a number greater than that of each event with a record
 abbrev pub events_end : Report → ℕ

@@ -6,8 +6,9 @@ ghost use Rattle.std.specs.Prelude.{◌≡◌, ◌<◌, ◌+◌, length, flat_ma
 ghost use Rattle.std.specs.Option.{option_map};
 ghost use Rattle.mate_files.specs.Pen.{Prints};
 ghost use Rattle.mate_journal.specs.Log.{Log};
-ghost use Rattle.report_text.specs.Text.{air_line, entry_line, entry_lines, event_lines, below, events_end};
-ghost use Rattle.report_text.specs.Progress.{entry_event, air_event, at_event, Rises, IsOrdered, IsCut, AreCuts, AreLeftFrom, IsGreatest, lesser};
+ghost use Rattle.mate_journal.specs.Tidy.{below, entry_event, EventsRise};
+ghost use Rattle.report_text.specs.Text.{air_line, entry_line, entry_lines, event_lines, events_end};
+ghost use Rattle.report_text.specs.Progress.{air_event, at_event, IsOrdered, IsCut, AreCuts, AreLeftFrom, IsGreatest, lesser};
 
 use crate::air_line::air_line;
 use crate::entry_line::entry_line;
@@ -47,7 +48,7 @@ fn air_of_event<S: Sink>(
     from: usize,
     event: u64,
 ) -> usize
-    requires ordered { Rises air_event 0 air.now }
+    requires ordered { EventsRise air_event 0 air.now }
     requires cut { IsCut air_event event air.now from }
     ensures prints { Prints (S.written out.old) (S.faults out.old) pen.old.result (S.written out.new) (S.faults out.new) pen.new.result
         (flat_map air_line (at_event air_event event air.now)) }
@@ -75,7 +76,7 @@ fn log_of_event<S: Sink>(
     from: usize,
     event: u64,
 ) -> usize
-    requires ordered { Rises entry_event 0 log.now.entries }
+    requires ordered { EventsRise entry_event 0 log.now.entries }
     requires cut { IsCut entry_event event log.now.entries from }
     ensures prints { Prints (S.written out.old) (S.faults out.old) pen.old.result (S.written out.new) (S.faults out.new) pen.new.result
         (flat_map (entry_line desc.now log.now node) (at_event entry_event event log.now.entries)) }
@@ -105,7 +106,7 @@ fn logs_of_event<S: Sink>(
 )
     requires count { length logs.now < 256 }
     requires same { length cursors.old ≡ length logs.now }
-    requires ordered { All (λ (l : Log). Rises entry_event 0 l.entries) logs.now }
+    requires ordered { All (λ (l : Log). EventsRise entry_event 0 l.entries) logs.now }
     requires cut { AreCuts event logs.now cursors.old }
     ensures prints { Prints (S.written out.old) (S.faults out.old) pen.old.result (S.written out.new) (S.faults out.new) pen.new.result
         (entry_lines desc.now event 0 logs.now) }

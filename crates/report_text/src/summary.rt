@@ -3,7 +3,7 @@
 ghost use Rattle.std.specs.Prelude.{◌≡◌, ◌≤◌, ◌*◌, ◌^◌, length, max, fold, flat_map, count_by};
 ghost use Rattle.mate_files.specs.Pen.{Prints};
 ghost use Rattle.mate_files.specs.Sink.{Puts};
-ghost use Rattle.report_text.specs.Text.{below};
+ghost use Rattle.mate_journal.specs.Tidy.{below};
 ghost use Rattle.report_text.specs.Tidy.{IsTidy};
 ghost use Rattle.report_text.specs.Brief.{is_entry, is_air, entries_of, air_of, installed, versions, newest, last, holders, count_line, newest_line, count_lines, brief};
 

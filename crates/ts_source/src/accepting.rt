@@ -20,7 +20,10 @@ pub fn accept(alloc: Global, desc: &Description, bytes: &[u8]) -> Result<Checked
     ensures tells { Tells desc.now bytes.now result }
     ensures shape { IfOk result (λ script. shape_of script ≡ shape_of_machine desc.now) }
 {
-    let tokens = tokens(alloc, bytes)?;
-    let script = parse(alloc, &tokens, bytes.len() as u32)?;
+    // the tokens go before the checked tree is made
+    let script = {
+        let tokens = tokens(alloc, bytes)?;
+        parse(alloc, &tokens, bytes.len() as u32)?
+    };
     Ok(check(alloc, desc, &script)?)
 }

@@ -5,8 +5,8 @@ use Rattle.mate_journal.specs.Journal.{Event, nothing_heard, heard_all, AtEachEn
 use Rattle.mate_journal.specs.WellFormed.{MayFollow}
 use Rattle.mate_journal.specs.Serial.{RunsSoFar}
 use Rattle.journal_laws.specs.Growth.{GrantsBefore, last_start}
-use Rattle.journal_laws.specs.Positions.{AreOfOneEra}
-use Rattle.journal_laws.specs.Devices.{DeviceOf, WritesWhatItAsks, AsksInOrder}
+use Rattle.mate_journal.specs.Positions.{AreOfOneEra}
+use Rattle.mate_journal.specs.Devices.{DeviceOf, WritesWhatItAsks, AsksInOrder}
 use Rattle.journal_laws.proofs.Append.{AtEachEntry-front, AtEachEntry-back, AtEachPlace-back, GrantsBefore-front, GrantsBefore-back, GrantsInOrder-before}
 use Rattle.journal_laws.proofs.Apart.{nothing_heard-orderly, orderly-after}
 use Rattle.journal_laws.proofs.Devices.{AsksWritten, asks-written, part-in-order}
@@ -27,7 +27,7 @@ of_parts m front era back device_of d writes follow so_far granted one_era =
     one_era
 
 pub returns : goal.returns
-returns c = λ m es front era back device_of d writes right serial granted is one_era.
+returns c = λ m es device_of writes right serial granted front era back d is one_era.
     of_parts m front era back device_of d writes
     (subst (λ (all : List Event). AtEachEntry (MayFollow m) m (nothing_heard m) all) is right.follow)
     (subst (λ (all : List Event). AtEachPlace (RunsSoFar m) m (nothing_heard m) all) is serial.so_far)

@@ -1,4 +1,4 @@
-use Rattle.std.proofs.Common.{◌≡◌, List, slice_get, None, Option, ap, sym, arith}
+use Rattle.std.proofs.Common.{◌≡◌, slice_get, None, ap, sym, arith}
 use Rattle.std.proofs.lemmas.Grind.{common_steps}
 use Rattle.std.proofs.lemmas.Option.{gets}
 use Rattle.mate_files.proofs.PenLemmas.{Prints-nil, Prints-by}

@@ -1,11 +1,11 @@
-use Rattle.std.proofs.Common.{◌≡◌, ◌<◌, List, length, get_or, ap, subst, ◌∙◌, arith}
+use Rattle.std.proofs.Common.{◌≡◌, ◌<◌, List, length, get_or, ap, ◌∙◌, arith}
 use Rattle.std.specs.Prelude.{flat_map}
 use Rattle.mate_files.proofs.PenLemmas.{Prints-by}
 use Rattle.mate_journal.specs.declared.entry.Stamped.{Stamped}
 use Rattle.report_text.specs.Text.{entry_line}
-use Rattle.report_text.specs.Progress.{entry_event, at_event}
+use Rattle.mate_journal.specs.Tidy.{entry_event}
 use Rattle.report_text.proofs.PrintLemmas.{Prints-push, Prints-none}
-use Rattle.report_text.proofs.EventLemmas.{Runs-start, Runs-next, at_event-start, at_event-next, at_event-cut, at_event-end, IsCut-stop, IsCut-end}
+use Rattle.report_text.proofs.EventLemmas.{Runs-start, Runs-next, at_event-start, at_event-next, at_event-cut, IsCut-stop}
 use Rattle.report_text.proofs.merge.log_of_event.Goals as goal
 
 pub loop-next-init : goal.loop-next-init

@@ -2,7 +2,8 @@ use Rattle.std.proofs.Common.{length, take, ◌-◌}
 use Rattle.std.specs.Prelude.{flat_map}
 use Rattle.mate_files.specs.Pen.{Prints}
 use Rattle.report_text.specs.Text.{entry_line}
-use Rattle.report_text.specs.Progress.{entry_event, at_event}
+use Rattle.mate_journal.specs.Tidy.{entry_event}
+use Rattle.report_text.specs.Progress.{at_event}
 use Rattle.report_text.proofs.EventLemmas.{Runs}
 use Rattle.report_text.proofs.merge.log_of_event.Given as goal
 

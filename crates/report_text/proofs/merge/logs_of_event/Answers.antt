@@ -1,4 +1,4 @@
-use Rattle.std.proofs.Common.{◌≡◌, ◌+◌, ◌≤◌, ◌<◌, ◌≢◌, length, arith, get_or-set_other}
+use Rattle.std.proofs.Common.{◌+◌, ◌<◌, ◌≢◌, length, arith, get_or-set_other}
 use Rattle.mate_files.proofs.PenLemmas.{◌⟫◌, Prints-by}
 use Rattle.report_text.proofs.MergeLemmas.{entry_lines-push, cuts-next}
 use Rattle.report_text.proofs.merge.logs_of_event.Goals as goal

@@ -1,9 +1,10 @@
-use Rattle.std.proofs.Common.{◌≡◌, ◌+◌, ◌≤◌, ◌<◌, ℕ, length, take}
+use Rattle.std.proofs.Common.{◌+◌, ◌≤◌, ◌<◌, ℕ, length, take}
 use Rattle.std.specs.Prelude.{slice_index_or}
 use Rattle.mate_journal.specs.Log.{Log}
 use Rattle.mate_files.specs.Pen.{Prints}
 use Rattle.report_text.specs.Text.{entry_lines}
-use Rattle.report_text.specs.Progress.{entry_event, IsCut}
+use Rattle.mate_journal.specs.Tidy.{entry_event}
+use Rattle.report_text.specs.Progress.{IsCut}
 use Rattle.report_text.proofs.merge.logs_of_event.Given as goal
 
 abbrev pub invariant-loop-node : goal.invariant-loop-node

@@ -5,7 +5,8 @@ use Rattle.mate_journal.specs.Log.{Log}
 use Rattle.mate_journal.specs.declared.air.Aired.{Aired}
 use Rattle.mate_journal.specs.declared.entry.Stamped.{Stamped}
 use Rattle.report_text.specs.Text.{events_end}
-use Rattle.report_text.specs.Progress.{entry_event, air_event, Rises, IsGreatest}
+use Rattle.mate_journal.specs.Tidy.{entry_event, EventsRise}
+use Rattle.report_text.specs.Progress.{air_event, IsGreatest}
 use Rattle.report_text.proofs.TextLemmas.{below_end}
 use Rattle.report_text.proofs.MergeLemmas.{LeftUpTo, greatest-start, greatest-next, greatest-end, below_end-air, head-below, lesser-below}
 use Rattle.report_text.proofs.merge.next_event.Goals as goal
@@ -25,7 +26,7 @@ loop-node-preserved c =
     let log = c.log-item.result in
     let within : node < length report.nodes = omega (arith, c.loop-node-test.true, ap length c.nodes-log-items.ensures) in
     let is = c.log-item.is ∙ ap (λ (ls : List Log). get_or ls node log) c.nodes-log-items.ensures in
-    let rises = subst (λ (l : Log). Rises entry_event 0 l.entries) (sym is) (c.requires.ordered.logs node log within) in
+    let rises = subst (λ (l : Log). EventsRise entry_event 0 l.entries) (sym is) (c.requires.ordered.logs node log within) in
     let below = subst (λ (l : Log). All (λ (e : Stamped). entry_event e < events_end report) l.entries) (sym is) (below_end report node log within) in
     let greatest = greatest-next report c.args.air c.args.cursors.now node log c.loop-node.next c.log_head.result within is rises c.log_head.ensures c.loop-node.invariant.first in
     let head = head-below entry_event (events_end report) log.entries (get_or c.args.cursors.now node 0) c.log_head.result below c.log_head.ensures in record {

@@ -1,9 +1,10 @@
-use Rattle.std.proofs.Common.{◌≡◌, ◌+◌, ◌-◌, ◌≤◌, ◌<◌, ℕ, suc, List, [], length, refl, ap, sym, subst, ◌∙◌, arith}
+use Rattle.std.proofs.Common.{◌≡◌, ◌+◌, ◌≤◌, ◌<◌, ℕ, suc, List, ap, sym, subst, ◌∙◌, arith}
 use Rattle.std.specs.Prelude.{flat_map, Option, IfSome}
 use Rattle.mate_files.proofs.PenLemmas.{◌⟫◌, Prints-by, Prints-nil}
 use Rattle.mate_journal.specs.Log.{Log}
 use Rattle.mate_journal.specs.declared.air.Aired.{Aired}
-use Rattle.report_text.specs.Text.{air_line, entry_lines, event_lines, below, events_end}
+use Rattle.mate_journal.specs.Tidy.{below}
+use Rattle.report_text.specs.Text.{air_line, entry_lines, event_lines, events_end}
 use Rattle.report_text.specs.Progress.{air_event, at_event, IsCut, AreCuts}
 use Rattle.report_text.proofs.EventLemmas.{flat_map-below_next}
 use Rattle.report_text.proofs.MergeLemmas.{IsAt, IsAt-start, IsAt-next, lines-skip, reached, reached-from}

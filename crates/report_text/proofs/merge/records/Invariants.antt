@@ -1,7 +1,8 @@
-use Rattle.std.proofs.Common.{◌≡◌, ◌-◌, ◌<◌, length}
+use Rattle.std.proofs.Common.{◌-◌, ◌<◌}
 use Rattle.std.specs.Prelude.{flat_map, IfSome}
 use Rattle.mate_files.specs.Pen.{Prints}
-use Rattle.report_text.specs.Text.{event_lines, below, events_end}
+use Rattle.mate_journal.specs.Tidy.{below}
+use Rattle.report_text.specs.Text.{event_lines, events_end}
 use Rattle.report_text.proofs.MergeLemmas.{IsAt, reached}
 use Rattle.report_text.proofs.merge.records.Given as goal
 

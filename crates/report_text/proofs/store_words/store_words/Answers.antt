@@ -1,7 +1,6 @@
-use Rattle.std.proofs.Common.{◌≡◌, ℕ, List, ap, ◌∙◌}
-use Rattle.std.specs.Prelude.{flat_map, ℤ}
+use Rattle.std.proofs.Common.{◌≡◌, ℕ, List}
+use Rattle.std.specs.Prelude.{flat_map}
 use Rattle.std.specs.List.{zip}
-use Rattle.arrayvec.specs.ArrayVec.{ArrayVec}
 use Rattle.mate_files.proofs.PenLemmas.{◌⟫◌, Prints-by}
 use Rattle.report_text.specs.Words.{shared_word, buffer_word}
 use Rattle.report_text.proofs.store_words.store_words.Goals as goal

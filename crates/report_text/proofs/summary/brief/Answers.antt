@@ -1,7 +1,8 @@
 use Rattle.std.proofs.Common.{ap, ◌∙◌, length}
 use Rattle.std.specs.Prelude.{flat_map}
 use Rattle.mate_files.proofs.PenLemmas.{◌⟫◌, Puts-finished, Prints-by}
-use Rattle.report_text.specs.Text.{below, end_word}
+use Rattle.mate_journal.specs.Tidy.{below}
+use Rattle.report_text.specs.Text.{end_word}
 use Rattle.report_text.specs.Brief.{newest_line}
 use Rattle.report_text.proofs.summary.brief.Goals as goal
 

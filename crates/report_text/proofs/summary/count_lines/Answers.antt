@@ -1,4 +1,4 @@
-use Rattle.std.proofs.Common.{List, length, ap, ◌∙◌, codes}
+use Rattle.std.proofs.Common.{length, ap, ◌∙◌, codes}
 use Rattle.mate_files.proofs.PenLemmas.{◌⟫◌, Prints-by}
 use Rattle.report_text.specs.Brief.{count_line, entries_of, air_of}
 use Rattle.report_text.specs.declared.summary.EntryKind.TheVariants as entry_kind

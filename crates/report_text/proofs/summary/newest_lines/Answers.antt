@@ -1,7 +1,7 @@
 use Rattle.std.proofs.Common.{◌≡◌, ◌+◌, suc, ap, sym, ◌∙◌, arith}
 use Rattle.std.specs.Prelude.{flat_map}
 use Rattle.mate_files.proofs.PenLemmas.{◌⟫◌, Prints-by}
-use Rattle.report_text.specs.Text.{below}
+use Rattle.mate_journal.specs.Tidy.{below}
 use Rattle.report_text.specs.Brief.{newest_line}
 use Rattle.report_text.proofs.EventLemmas.{flat_map-below_next}
 use Rattle.report_text.proofs.summary.newest_lines.Goals as goal

@@ -1,6 +1,6 @@
 use Rattle.std.specs.Prelude.{flat_map}
 use Rattle.mate_files.specs.Pen.{Prints}
-use Rattle.report_text.specs.Text.{below}
+use Rattle.mate_journal.specs.Tidy.{below}
 use Rattle.report_text.specs.Brief.{newest_line}
 use Rattle.report_text.proofs.summary.newest_lines.Given as goal
 

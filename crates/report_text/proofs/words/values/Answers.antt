@@ -1,4 +1,4 @@
-use Rattle.std.proofs.Common.{◌<◌, length, arith, rules, pos, get_or, FitsSigned}
+use Rattle.std.proofs.Common.{arith, rules, pos, get_or, FitsSigned}
 use Rattle.std.specs.Int.{w16}
 use Rattle.mate_files.proofs.PenLemmas.{Prints-next}
 use Rattle.report_text.specs.Words.{value}

@@ -1,0 +1,4 @@
+pub mod PaceLemmas
+pub mod JournalLemmas
+pub mod StandingLemmas
+pub mod MadeLemmas

@@ -1,0 +1,3 @@
+pub mod Right
+pub mod Sources
+pub mod ScriptSteps

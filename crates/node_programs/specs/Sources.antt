@@ -1,0 +1,50 @@
+-- What installed programs mean by their sources.
+use Rattle.std.specs.Prelude.{ℕ, ℤ, ◌==◌, Bool, ◌&&◌, List, [], ◌∷◌, Option, Some, None, if◌then◌else◌}
+use Rattle.std.specs.Str.{bytes_eq}
+use Rattle.arrayvec.specs.ArrayVec.{ArrayVec}
+use Rattle.mate_num.specs.Uses.{Uses}
+use Rattle.mate_num.specs.declared.shape.Shape.{Shape}
+use Rattle.mate_num.specs.declared.store.Store.{Store}
+use Rattle.ts_syntax.specs.Checked.{tree_of}
+use Rattle.ts_syntax.specs.declared.checked.Checked.{Checked}
+use Rattle.ts_meaning.specs.Meaning.{run_of}
+use Rattle.ts_meaning.specs.Uses.{uses_of}
+use Rattle.ts_meaning.specs.declared.run.Played.{Played}
+use Rattle.vm_desc.specs.Shapes.{shape_of}
+use Rattle.vm_desc.specs.declared.description.Description.{Description}
+use Rattle.mate_journal.specs.Machine.{HeldProgram, Outcome, Meaning}
+use Rattle.mate_journal.specs.declared.program.Program.{Program}
+use Rattle.node_invariant.specs.Meaning.{meaning_of}
+
+-- a program as a node holds it
+abbrev pub held_as : Program → HeldProgram
+held_as p = record { handler = p.handler; version = p.version; image = p.image }
+
+-- this program is held
+abbrev pub is_held_as : HeldProgram → Program → Bool
+is_held_as h p = (h.handler.0 == p.handler.0) && ((h.version == p.version) && bytes_eq h.image.items p.image.items)
+
+-- the source of a held program: that of the first program that is held so, if it has one
+abbrev pub source_in : List Program → HeldProgram → Option Checked
+source_in [] h = None
+source_in (p ∷ ps) h = if is_held_as h p then p.source else source_in ps h
+
+abbrev pub outcome_of : Played → Outcome
+outcome_of o = record { end = o.end; store = o.store; calls = o.calls }
+
+-- the run of a program with a source is that of the source, and it uses what the source uses; that of one without is
+-- its code's
+abbrev pub run_from : Shape → Option Checked → HeldProgram → Store → ArrayVec ℤ → List ℤ → ℕ → Outcome
+run_from shape None h store payload answers turns = (meaning_of shape).run h store payload answers turns
+run_from shape (Some source) h store payload answers turns = outcome_of (run_of (tree_of source) store payload answers turns)
+
+abbrev pub uses_from : Shape → Option Checked → HeldProgram → Uses
+uses_from shape None h = (meaning_of shape).uses h
+uses_from shape (Some source) h = uses_of shape (tree_of source)
+
+-- what held programs mean, where these programs are given
+abbrev pub meaning_by : Description → List Program → Meaning
+meaning_by d ps = record {
+  run = λ h store payload answers turns. run_from (shape_of d) (source_in ps h) h store payload answers turns;
+  uses = λ h. uses_from (shape_of d) (source_in ps h) h;
+}

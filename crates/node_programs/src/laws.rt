@@ -1,0 +1,24 @@
+//! The laws of right programs. Each is what a function promises that does nothing.
+
+ghost use Rattle.std.specs.Prelude.{◌≡◌, List};
+ghost use Rattle.vm_desc.specs.Shapes.{shape_of};
+ghost use Rattle.vm_desc.specs.declared.description.Description.{Description};
+ghost use Rattle.mate_journal.specs.Turns.{Clock};
+ghost use Rattle.mate_journal.specs.NodeScript.{Step, RunEnd};
+ghost use Rattle.mate_journal.specs.NodeReport.{IsNodeReport};
+ghost use Rattle.mate_journal.specs.declared.program.Program.{Program};
+ghost use Rattle.mate_journal.specs.declared.report.Report.{Report};
+ghost use Rattle.node_invariant.specs.Meaning.{meaning_of};
+ghost use Rattle.node_programs.specs.Right.{AreRightPrograms};
+ghost use Rattle.node_programs.specs.Sources.{meaning_by};
+
+/// What right programs mean by their sources is what their images' code means.
+pub fn sources_mean_what_their_code_does()
+    ensures { (d : Description) (ps : List Program) → AreRightPrograms d ps → meaning_by d ps ≡ meaning_of (shape_of d) }
+{}
+
+/// So a report that holds by the code of the installed images holds by the sources of the programs, whose code ran.
+pub fn reports_hold_by_the_sources()
+    ensures { (d : Description) (ps : List Program) (k : Clock) (steps : List Step) (how : RunEnd) (r : Report) →
+        AreRightPrograms d ps → IsNodeReport d k (meaning_of (shape_of d)) steps how r → IsNodeReport d k (meaning_by d ps) steps how r }
+{}

@@ -1,0 +1,43 @@
+//! The pending calls: `ask CONTEXT FUNCTION VALUE VALUE`, `asked CONTEXT`, `answer CONTEXT` and `cancel` in turn. `ask`
+//! and `cancel` print nothing.
+
+use crate::steps::{Part, answers, place, value};
+use mate_num::{ContextId, FunId, Payload};
+use split_phase::Pending;
+use std::alloc::{AllocError, Global};
+
+pub fn answer(alloc: Global, case: &str) -> Result<String, AllocError> {
+    let mut pending = Pending::new();
+    answers(alloc, &mut pending, case)
+}
+
+impl Part for Pending {
+    fn take(&mut self, alloc: Global, step: &str) -> Result<String, AllocError> {
+        taken(alloc, self, step)
+    }
+}
+
+fn taken(alloc: Global, pending: &mut Pending, step: &str) -> Result<String, AllocError> {
+    if step == "cancel" {
+        pending.cancel();
+        return Ok(String::new(alloc));
+    }
+    let mut words = step.split(' ');
+    let verb = words.next().unwrap_or("");
+    let ctx = ContextId(place(words.next()));
+    if ctx.0 >= 16 {
+        return "no context".to_string(alloc);
+    }
+    match verb {
+        "asked" => return format!(in alloc; "{:?}", pending.asked(ctx)),
+        "answer" => return format!(in alloc; "{:?}", pending.answer(ctx)),
+        "ask" if pending.asked(ctx).is_none() => {}
+        _ => return "no step".to_string(alloc),
+    }
+    let fun = FunId(place(words.next()));
+    let mut args = Payload::new();
+    args.push(value(words.next()));
+    args.push(value(words.next()));
+    pending.ask(ctx, fun, args);
+    Ok(String::new(alloc))
+}

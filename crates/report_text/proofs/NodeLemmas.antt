@@ -1,0 +1,97 @@
+-- The report of a node script is tidy.
+use Rattle.std.proofs.Common.{◌≡◌, ◌<◌, ◌+◌, ℕ, suc, List, [], ◌∷◌, ◌++◌, map, length, refl, sym, ◌∙◌, ap, subst, arith, inl, append-nil}
+use Rattle.std.specs.Prelude.{All, is_some}
+use Rattle.std.proofs.lemmas.List.Elements.{All-nil, All-cons, All-append, All-weaker, All-same, All-head, All-tail}
+use Rattle.mate_num.specs.declared.call.Stamp.{Stamp}
+use Rattle.vm_desc.specs.declared.description.Description.{Description}
+use Rattle.mate_journal.specs.Log.{Log}
+use Rattle.mate_journal.specs.Machine.{Machine, Meaning}
+use Rattle.mate_journal.specs.Described.{machine_of}
+use Rattle.mate_journal.specs.Journal.{Event, Reading, journal_of, told_of, nothing_heard, heard_all}
+use Rattle.mate_journal.specs.Pace.{Pace, no_pace}
+use Rattle.mate_journal.specs.Turns.{Clock}
+use Rattle.mate_journal.specs.NodeScript.{Step, RunEnd, Whole, Full, Cut, AreOfEvent, HaveMade, EndsRun, IsRunOf}
+use Rattle.mate_journal.specs.NodeReport.{IsNodeReport}
+use Rattle.mate_journal.specs.Tidy.{store_named, EventsRise, IsTidyLog}
+use Rattle.mate_journal.specs.declared.air.Aired.{Aired}
+use Rattle.mate_journal.specs.declared.entry.Stamped.{Stamped}
+use Rattle.mate_journal.specs.declared.report.Report.{Report}
+use Rattle.report_text.specs.Progress.{air_event}
+use Rattle.report_text.specs.Tidy.{IsTidy, IsAirInRange, AirNodesRise, Mark, marks, IsNoEarlier, AreOfOneNode}
+use Rattle.report_text.proofs.EventLemmas.{All-of_map}
+
+-- ---- all is of time 0
+
+abbrev AreAtZero : List Event → Type 0
+AreAtZero es = All (λ (e : Event). e.stamp.time ≡ 0) es
+
+of_event-zero : (n : ℕ) (es : List Event) → AreOfEvent n es → AreAtZero es
+of_event-zero n es all =
+    All-weaker (λ (e : Event). e.stamp ≡ record { event = n; time = 0 }) (λ (e : Event). e.stamp.time ≡ 0) (λ e is. ap (λ (s : Stamp). s.time) is) es all
+
+none-zero : (es : List Event) → es ≡ [] → AreAtZero es
+none-zero es none = All-same (λ (e : Event). e.stamp.time ≡ 0) es [] none (All-nil (λ (e : Event). e.stamp.time ≡ 0))
+
+parts-zero : (es front rest : List Event) → es ≡ front ++ rest → AreAtZero front → AreAtZero rest → AreAtZero es
+parts-zero es front rest is a b = All-same (λ (e : Event). e.stamp.time ≡ 0) es (front ++ rest) is (All-append (λ (e : Event). e.stamp.time ≡ 0) front rest a b)
+
+made-zero : (k : Clock) (m : Machine) (records n : ℕ) (r : Reading) (p : Pace) (steps : List Step) (es : List Event) (q : Pace) → HaveMade k m records n r p steps es q → AreAtZero es
+made-zero k m records n r p [] es q made = none-zero es made.0
+made-zero k m records n r p (step ∷ steps) es q made =
+    parts-zero es made.1 made.2 made.4 (of_event-zero n made.1 made.5)
+    (made-zero k m (records + length made.1) (suc n) (heard_all m r made.1) made.3 steps made.2 q made.7)
+
+ends-zero : (k : Clock) (m : Machine) (how : RunEnd) (records n : ℕ) (r : Reading) (p : Pace) (left : List Step) (es : List Event) → EndsRun k m how records n r p left es → AreAtZero es
+ends-zero k m Whole records n r p left es ends = of_event-zero n es ends.2
+ends-zero k m Full records n r p left es ends = none-zero es ends.2
+ends-zero k m Cut records n r p left es ends = none-zero es ends
+
+run-zero : (k : Clock) (m : Machine) (how : RunEnd) (steps : List Step) (es : List Event) → IsRunOf k m how steps es → AreAtZero es
+run-zero k m how steps es run =
+    parts-zero es run.front run.last run.events_are (made-zero k m 0 1 (nothing_heard m) no_pace run.done run.front run.pace run.made)
+    (ends-zero k m how (length run.front) (suc (length run.done)) (heard_all m (nothing_heard m) run.front) run.pace run.left run.last run.ends)
+
+-- ---- one node
+
+-- the marks of one log's report
+abbrev mark_of_entry : Stamped → Mark
+mark_of_entry e = record { stamp = e.stamp; node = 0; is_seen = is_some (store_named e.entry) }
+
+one-marks : (r : Report) (l : Log) → r.nodes ≡ l ∷ [] → r.air ≡ [] → marks r ≡ map mark_of_entry l.entries
+one-marks r l nodes air =
+    let is : marks r ≡ map mark_of_entry l.entries ++ [] = rw (nodes, air) refl in is ∙ append-nil (map mark_of_entry l.entries)
+
+-- a mark of time 0 and of node 0
+pub record IsPlain (m : Mark) : Type 0 where
+  pub time : m.stamp.time ≡ 0
+  pub node : m.node ≡ 0
+
+plain-marks : (es : List Stamped) → All (λ (e : Stamped). e.stamp.time ≡ 0) es → All IsPlain (map mark_of_entry es)
+plain-marks [] all = All-nil IsPlain
+plain-marks (e ∷ es) all =
+    All-cons IsPlain (mark_of_entry e) (map mark_of_entry es) (record { time = All-head (λ (e : Stamped). e.stamp.time ≡ 0) e es all; node = refl })
+    (plain-marks es (All-tail (λ (e : Stamped). e.stamp.time ≡ 0) e es all))
+
+entries-zero : (l : Log) → AreAtZero (journal_of l) → All (λ (e : Stamped). e.stamp.time ≡ 0) l.entries
+entries-zero l all = All-of_map (λ (e : Event). e.stamp.time ≡ 0) (λ (e : Stamped). record { stamp = e.stamp; told = told_of l e.entry }) l.entries all
+
+pub node-tidy : (d : Description) (k : Clock) (meaning : Meaning) (steps : List Step) (how : RunEnd) (r : Report) → IsNodeReport d k meaning steps how r → IsTidy d r
+node-tidy d k meaning steps how r n =
+    let count : length r.nodes ≡ 1 = ap (λ (ls : List Log). length ls) n.one_node in
+    let same : marks r ≡ map mark_of_entry n.log.entries = one-marks r n.log n.one_node n.no_air in
+    let plain : All IsPlain (marks r) =
+    subst (All IsPlain) (sym same) (plain-marks n.log.entries (entries-zero n.log (run-zero k (machine_of d meaning) how steps (journal_of n.log) n.run.events))) in
+    record {
+      nodes_low = omega (arith, count);
+      nodes_high = omega (arith, count);
+      logs = All-same (IsTidyLog d) r.nodes (n.log ∷ []) n.one_node (All-cons (IsTidyLog d) n.log [] n.tidy (All-nil (IsTidyLog d)));
+      air_in_range =
+          let P : Aired → Type 0 = λ (a : Aired). (a.node < length r.nodes) × IsAirInRange (length r.nodes) a.air in
+          All-same P r.air [] n.no_air (All-nil P);
+      air_ordered = subst (EventsRise air_event 0) (sym n.no_air) tt;
+      air_nodes = subst AirNodesRise (sym n.no_air) tt;
+      in_time = All-weaker IsPlain (λ (a : Mark). All (IsNoEarlier a) (marks r))
+          (λ a p. All-weaker IsPlain (IsNoEarlier a) (λ b q. let t = p.time in λ _. omega (arith, t)) (marks r) plain) (marks r) plain;
+      one_node = All-weaker IsPlain (λ (a : Mark). All (AreOfOneNode (marks r) a) (marks r))
+          (λ a p. All-weaker IsPlain (AreOfOneNode (marks r) a) (λ b q _. inl (p.node ∙ sym q.node)) (marks r) plain) (marks r) plain;
+    }
