@@ -1,8 +1,8 @@
 -- The laws of steps that proofs of commands cite.
-use Rattle.std.proofs.Common.{◌≡◌, ◌⊎◌, inl, inr, ℕ, Bool, List, Option, Result, Ok, Err, ap, subst}
+use Rattle.std.proofs.Common.{◌≡◌, ◌⊎◌, inl, inr, ℕ, Bool, Option, Result, Ok, Err, ap, subst}
 use Rattle.std.specs.Prelude.{IsErrAnd}
-use Rattle.mate_cli.specs.Steps.{Then, goes_on, stops}
-use Rattle.mate_cli.specs.Parts.{Folder, Reads}
+use Rattle.mate_cli.specs.Steps.{Then, stops}
+use Rattle.mate_cli.specs.Parts.{Folder, ReadsFiles}
 use Rattle.mate_files.specs.Files.{Names}
 use Rattle.mate_refusals.specs.declared.refusal.Refusal.{Refusal}
 use Rattle.mate_refusals.specs.declared.refusal.Refusal.TheVariants.{NoMemory}
@@ -15,7 +15,7 @@ stops_by r (Err y) refused is = stops r refused (ap Err is)
 
 -- a fact of the files as they are later is a fact of them as they were
 pub moved : {A : Type 0} {told told' : Option Names} {steady steady' : Bool} {n n' : ℕ} {answer : Result A Refusal} (P : Folder → Type 0)
-    → Reads told steady n told' steady' n' answer → P (record { told = told'; steady = steady' }) → P (record { told = told; steady = steady })
+    → ReadsFiles told steady n told' steady' n' answer → P (record { told = told'; steady = steady' }) → P (record { told = told; steady = steady })
 moved {told} {steady} {steady' = steady'} P r p =
     subst (λ (s : Bool). P (record { told = told; steady = s })) r.same_steady
     (subst (λ (t : Option Names). P (record { told = t; steady = steady' })) r.same_told p)

@@ -1,10 +1,9 @@
 -- Laws of steps that have one answer.
-use Rattle.std.proofs.Common.{◌≡◌, ◌≢◌, ◌⊎◌, inl, inr, ℕ, ◌<◌, ◌≤◌, List, length, Option, Some, None, true, Result, Ok, Err, refl, sym, ◌∙◌, ap, subst, arith}
-use Rattle.std.specs.Prelude.{IsSomeAnd, ⊤}
+use Rattle.std.proofs.Common.{◌≡◌, inl, inr, ℕ, ◌<◌, List, length, Option, Some, None, Result, Ok, Err, refl, sym, ◌∙◌, ap, subst, arith}
+use Rattle.std.specs.Prelude.{IsSomeAnd}
 use Rattle.std.specs.Global.{Vec}
 use Rattle.opcode_gen.specs.TableText.{table_text}
 use Rattle.vm_reader.specs.Text.{description_of}
-use Rattle.vm_desc.specs.Limits.{Parts}
 use Rattle.vm_desc.specs.Whole.{parts_of}
 use Rattle.vm_desc.specs.declared.description.Description.{Description}
 use Rattle.mate_refusals.specs.DescriptionCauses.{fault_told}
@@ -13,13 +12,11 @@ use Rattle.mate_refusals.specs.declared.description_cause.DescriptionCause.{Desc
 use Rattle.vm_desc.proofs.DescriptionLemmas.{parts_of-same}
 use Rattle.mate_files.specs.Files.{Names}
 use Rattle.mate_files.specs.declared.files.TheConstants.{FILE_MAX}
-use Rattle.mate_cli.specs.OneAnswer.{Alike, Agree, SameText, steady}
-use Rattle.mate_cli.specs.Outputs.{writes, text_of}
-use Rattle.mate_cli.specs.Parts.{IsRead, IsUnread, file, described, described_in, built_in, machine}
+use Rattle.mate_cli.specs.OneAnswer.{Alike, AnswersAgree, SameText, steady}
+use Rattle.mate_cli.specs.Outputs.{writes}
+use Rattle.mate_cli.specs.Parts.{IsRead, IsUnread, file, machine_text, built_in, machine}
 use Rattle.mate_cli.specs.Steps.{judged, Then, goes_on, stops}
-use Rattle.mate_cli.specs.Table.{table}
-use Rattle.mate_commands.specs.Words.{builtin_word}
-use Rattle.mate_cli.specs.declared.output.Output.{Output}
+use Rattle.mate_cli.specs.Table.{opcode_table}
 use Rattle.mate_refusals.specs.declared.cause.Unread.{Unread}
 use Rattle.mate_refusals.specs.declared.cause.Unread.TheVariants.{Failed, Large}
 use Rattle.mate_refusals.specs.declared.refusal.Refusal.{Refusal}
@@ -38,7 +35,7 @@ alike-right R (Err t) r e = inr (inr e)
 
 -- two commands agree where their first steps do, and what follows values that are alike
 pub then_agrees : {A B : Type 0} (R : A → A → Type 0) (S : B → B → Type 0) (p q : Result A Refusal → Type 0) (f g : A → Result B Refusal → Type 0)
-    → Agree R p q → ((a b : A) → R a b → Agree S (f a) (g b)) → Agree S (λ x. Then p f x) (λ y. Then q g y)
+    → AnswersAgree R p q → ((a b : A) → R a b → AnswersAgree S (f a) (g b)) → AnswersAgree S (λ x. Then p f x) (λ y. Then q g y)
 then_agrees R S p q f g first rest x y (goes_on a pa fa) (goes_on b qb gb) = rest a b (first (Ok a) (Ok b) pa qb) x y fa gb
 then_agrees R S p q f g first rest x y (goes_on a pa fa) (stops r qr e) =
     subst (λ (z : _). Alike S x z) (sym e) (alike-right S x r (first (Ok a) (Err r) pa qr))
@@ -50,7 +47,7 @@ then_agrees R S p q f g first rest x y (stops r pr e) (stops t qt h) =
 -- a test has one answer where it has one value or one failure
 pub judged_agrees : {A E : Type 0} (R : A → A → Type 0) (Is : A → Type 0) (IsNot : E → Type 0) (refusal : E → Refusal)
     → ((a b : A) → Is a → Is b → R a b) → ((a : A) (e : E) → Is a → IsNot e → ⊥) → ((e h : E) → IsNot e → IsNot h → e ≡ h)
-    → Agree R (judged Is IsNot refusal) (judged Is IsNot refusal)
+    → AnswersAgree R (judged Is IsNot refusal) (judged Is IsNot refusal)
 judged_agrees R Is IsNot refusal one not same (Ok a) (Ok b) p q = one a b p q
 judged_agrees R Is IsNot refusal one not same (Ok a) (Err r) p (inl x) = absurd (not a x.0 p x.1)
 judged_agrees R Is IsNot refusal one not same (Ok a) (Err r) p (inr e) = e
@@ -71,7 +68,7 @@ long_of o bytes e long = subst (λ (x : Option (List ℕ)). IsSomeAnd x (λ bs. 
 none_long : (o : Option (List ℕ)) → o ≡ None → IsSomeAnd o (λ bs. FILE_MAX < length bs) → ⊥
 none_long o e long = subst (λ (x : Option (List ℕ)). IsSomeAnd x (λ bs. FILE_MAX < length bs)) e long
 
-pub file_agrees : (names : Names) (name : List ℕ) → Agree SameBytes (file (steady names) name) (file (steady names) name)
+pub file_agrees : (names : Names) (name : List ℕ) → AnswersAgree SameBytes (file (steady names) name) (file (steady names) name)
 file_agrees names name = judged_agrees SameBytes _ _ _ one not same where
   one : (a b : Vec ℕ) → IsRead (steady names) name a → IsRead (steady names) name b → a.items ≡ b.items
   one a b p q = let e : Some a.items ≡ Some b.items = sym p.1 ∙ q.1 in cc
@@ -88,8 +85,8 @@ file_agrees names name = judged_agrees SameBytes _ _ _ one not same where
 
 -- ---- machines
 
-described_agrees : (bytes : List ℕ) → Agree ◌≡◌ (described bytes) (described bytes)
-described_agrees bytes = judged_agrees ◌≡◌ _ _ _ one not same where
+machine_text_agrees : (bytes : List ℕ) → AnswersAgree ◌≡◌ (machine_text bytes) (machine_text bytes)
+machine_text_agrees bytes = judged_agrees ◌≡◌ _ _ _ one not same where
   one : (a b : Description) → description_of bytes ≡ Ok (parts_of a) → description_of bytes ≡ Ok (parts_of b) → a ≡ b
   one a b p q = let e : parts_of a ≡ parts_of b = cc in parts_of-same a b e
 
@@ -99,31 +96,31 @@ described_agrees bytes = judged_agrees ◌≡◌ _ _ _ one not same where
   same : (e h : DescriptionCause) → description_of bytes ≡ Err (fault_told e) → description_of bytes ≡ Err (fault_told h) → e ≡ h
   same e h p q = let is : fault_told e ≡ fault_told h = cc in fault_told-once e h is
 
-built_in_agrees : Agree ◌≡◌ built_in built_in
+built_in_agrees : AnswersAgree ◌≡◌ built_in built_in
 built_in_agrees (Ok a) (Ok b) p q = parts_of-same a b (p ∙ sym q)
 built_in_agrees (Ok a) (Err r) p q = q
 built_in_agrees (Err r) (Ok b) p q = p
 built_in_agrees (Err r) (Err t) p q = inr (inl p)
 
-pub machine_agrees : (names : Names) (word : List ℕ) → Agree ◌≡◌ (machine (steady names) word) (machine (steady names) word)
+pub machine_agrees : (names : Names) (word : List ℕ) → AnswersAgree ◌≡◌ (machine (steady names) word) (machine (steady names) word)
 machine_agrees names word x y (inl p) (inl q) = built_in_agrees x y p.1 q.1
 machine_agrees names word x y (inl p) (inr q) = absurd (q.0 p.0)
 machine_agrees names word x y (inr p) (inl q) = absurd (p.0 q.0)
 machine_agrees names word x y (inr p) (inr q) =
     then_agrees SameBytes ◌≡◌ _ _ _ _ (file_agrees names word)
-    (λ a b e. subst (λ (bs : List ℕ). Agree ◌≡◌ (described a.items) (described bs)) (same a b e) (described_agrees a.items)) x y p.1 q.1 where
+    (λ a b e. subst (λ (bs : List ℕ). AnswersAgree ◌≡◌ (machine_text a.items) (machine_text bs)) (same a b e) (machine_text_agrees a.items)) x y p.1 q.1 where
       same : (a b : Vec ℕ) → SameBytes a b → a.items ≡ b.items
       same a b e = e
 
 -- ---- commands
 
-pub writes_agree : (bytes : List ℕ) → Agree SameText (writes bytes) (writes bytes)
+pub writes_agree : (bytes : List ℕ) → AnswersAgree SameText (writes bytes) (writes bytes)
 writes_agree bytes (Ok a) (Ok b) p q = p ∙ sym q
 writes_agree bytes (Ok a) (Err r) p q = q
 writes_agree bytes (Err r) (Ok b) p q = p
 writes_agree bytes (Err r) (Err t) p q = inr (inl p)
 
-pub table_agrees : (names : Names) (vm : List ℕ) → Agree SameText (table (steady names) vm) (table (steady names) vm)
+pub table_agrees : (names : Names) (vm : List ℕ) → AnswersAgree SameText (opcode_table (steady names) vm) (opcode_table (steady names) vm)
 table_agrees names vm =
     then_agrees ◌≡◌ SameText _ _ _ _ (machine_agrees names vm)
-    (λ a b e. subst (λ (d : Description). Agree SameText (writes (table_text a)) (writes (table_text d))) e (writes_agree (table_text a)))
+    (λ a b e. subst (λ (d : Description). AnswersAgree SameText (writes (table_text a)) (writes (table_text d))) e (writes_agree (table_text a)))

@@ -13,7 +13,6 @@ use Rattle.code_verifier.specs.Verified.{VerifiedCode, IsVerifiedCode, marks_of}
 use Rattle.code_verifier.specs.declared.fault.VerifyFault.{VerifyFault}
 use Rattle.code_verifier.specs.declared.fault.VerifyFault.TheVariants as verify
 use Rattle.mate_code.specs.BytesVerification.{bytes_verification}
-use Rattle.mate_code.specs.Run.{Code}
 use Rattle.mate_code.specs.Verification as refusal
 use Rattle.mate_num.specs.declared.shape.Shape.{Shape}
 use Rattle.mate_files.specs.Files.{Names}
@@ -22,9 +21,9 @@ use Rattle.vm_desc.specs.Shapes.{shape_of}
 use Rattle.vm_desc.specs.declared.description.Description.{Description}
 use Rattle.mate_refusals.specs.declared.capsule_cause.CapsuleCause.{CapsuleCause}
 use Rattle.mate_refusals.specs.declared.capsule_cause.CapsuleCause.TheVariants.{Digits, Image, Code as BadCode}
-use Rattle.mate_cli.specs.CapsuleFiles.{SpellsCapsule, SpellsVerified, SpellsNoCapsule, SpellsUnverified, RefusesText}
+use Rattle.mate_cli.specs.CapsuleFiles.{SpellsCapsule, SpellsVerified, SpellsNoCapsule, RefusesText}
 use Rattle.mate_cli.specs.Check.{spelled_capsule, capsule}
-use Rattle.mate_cli.specs.OneAnswer.{Agree, steady}
+use Rattle.mate_cli.specs.OneAnswer.{AnswersAgree, steady}
 use Rattle.mate_cli.proofs.OneAnswer.{then_agrees, judged_agrees, SameBytes, file_agrees}
 
 -- the same capsule, with the same verified code
@@ -132,12 +131,12 @@ refused_so d bytes (BadCode f) (BadCode g) p q =
     let y = subst (λ (c : CapsuleParts). bytes_verification (shape_of d) c.code ≡ Err (refusal_of g)) (sym same) q.refused in
     ap BadCode (refused_once (shape_of d) p.capsule.code f g p.refused y)
 
-spelled_agrees : (d : Description) (name bytes : List ℕ) → Agree SameCapsule (spelled_capsule d name bytes) (spelled_capsule d name bytes)
+spelled_agrees : (d : Description) (name bytes : List ℕ) → AnswersAgree SameCapsule (spelled_capsule d name bytes) (spelled_capsule d name bytes)
 spelled_agrees d name bytes = judged_agrees SameCapsule _ _ _ (one d bytes) (not_refused d bytes) (refused_so d bytes)
 
-pub capsule_agrees : (names : Names) (d : Description) (name : List ℕ) → Agree SameCapsule (capsule (steady names) d name) (capsule (steady names) d name)
+pub capsule_agrees : (names : Names) (d : Description) (name : List ℕ) → AnswersAgree SameCapsule (capsule (steady names) d name) (capsule (steady names) d name)
 capsule_agrees names d name =
     then_agrees SameBytes SameCapsule _ _ _ _ (file_agrees names name)
-    (λ a b e. subst (λ (bs : List ℕ). Agree SameCapsule (spelled_capsule d name a.items) (spelled_capsule d name bs)) (same a b e) (spelled_agrees d name a.items)) where
+    (λ a b e. subst (λ (bs : List ℕ). AnswersAgree SameCapsule (spelled_capsule d name a.items) (spelled_capsule d name bs)) (same a b e) (spelled_agrees d name a.items)) where
       same : (a b : Vec ℕ) → SameBytes a b → a.items ≡ b.items
       same a b e = e

@@ -1,5 +1,5 @@
 -- A source has one answer.
-use Rattle.std.proofs.Common.{◌≡◌, ◌⊎◌, inl, inr, ℕ, ◌<◌, ◌≤◌, Bool, List, Option, Some, None, Result, Ok, Err, refl, sym, ◌∙◌, ap, subst, arith}
+use Rattle.std.proofs.Common.{◌≡◌, ℕ, Bool, List, Err, sym, ◌∙◌, ap, subst, arith}
 use Rattle.std.specs.Global.{Vec}
 use Rattle.arrayvec.specs.ArrayVec.{ArrayVec}
 use Rattle.mate_num.specs.declared.shape.Shape.{Shape}
@@ -9,18 +9,20 @@ use Rattle.ts_compiler.specs.declared.fault.CompileFault.{CompileFault}
 use Rattle.ts_compiler.specs.declared.fault.CompileFault.TheVariants.{StackDepth, TooLong}
 use Rattle.ts_checker.specs.Accepted.{IsAccepted}
 use Rattle.ts_source.proofs.AcceptanceLemmas.{one_tree, one_refusal, apart}
-use Rattle.source_code.specs.SourceCode.{IsCodeOf, HasNoCode, compiled_tree}
+use Rattle.source_code.specs.SourceCode.{IsCompiledOf, HasNoCode, compiled_tree}
+use Rattle.source_code.specs.declared.code.CompiledScript.{CompiledScript}
+use Rattle.ts_syntax.specs.Checked.{tree_of}
 use Rattle.vm_desc.specs.Shapes.{shape_of}
 use Rattle.vm_desc.specs.declared.description.Description.{Description}
 use Rattle.mate_files.specs.Files.{Names}
 use Rattle.mate_refusals.specs.SourceCauses.{IsBadSource, refusal_told}
 use Rattle.mate_refusals.proofs.CauseLemmas.{refusal_told-once}
 use Rattle.mate_refusals.specs.declared.source_cause.SourceCause.{SourceCause}
-use Rattle.mate_cli.specs.OneAnswer.{Agree, steady}
-use Rattle.mate_cli.specs.Sources.{accepted, compiled, code_in, source}
+use Rattle.mate_cli.specs.OneAnswer.{AnswersAgree, steady}
+use Rattle.mate_cli.specs.Sources.{accepted, compiled, compiled_bytes, source}
 use Rattle.mate_cli.proofs.OneAnswer.{then_agrees, judged_agrees, SameBytes, file_agrees}
 
-accepted_agrees : (d : Description) (name bytes : List ℕ) → Agree ◌≡◌ (accepted d name bytes) (accepted d name bytes)
+accepted_agrees : (d : Description) (name bytes : List ℕ) → AnswersAgree ◌≡◌ (accepted d name bytes) (accepted d name bytes)
 accepted_agrees d name bytes = judged_agrees ◌≡◌ _ _ _ (one_tree d bytes) not same where
   not : (a : Block) (e : SourceCause) → IsAccepted d bytes a → IsBadSource d bytes e → ⊥
   not a e p q = apart d bytes a (refusal_told e) p q
@@ -40,25 +42,33 @@ compiles_once shape tree (StackDepth m) (TooLong n) p q = absurd (omega (arith, 
 compiles_once shape tree (TooLong m) (StackDepth n) p q = absurd (omega (arith, p.fits, q.over))
 compiles_once shape tree (TooLong m) (TooLong n) p q = ap TooLong (p.size_is ∙ sym q.size_is)
 
-compiled_agrees : (d : Description) (fold : Bool) (name : List ℕ) (tree : Block) → Agree ◌≡◌ (compiled d fold name tree) (compiled d fold name tree)
-compiled_agrees d fold name tree = judged_agrees ◌≡◌ _ _ _ one not same where
-  one : (a b : ArrayVec ℕ) → IsCodeOf (shape_of d) fold tree a → IsCodeOf (shape_of d) fold tree b → a ≡ b
-  one a b p q = ap (λ (bytes : List ℕ). let v : ArrayVec ℕ = record { items = bytes } in v) (p.compiled.code ∙ sym q.compiled.code)
+-- the same tree, with the same code
+pub record SameCompiled (a b : CompiledScript) : Type 0 where
+  pub tree : tree_of a.script ≡ tree_of b.script
+  pub code : a.code ≡ b.code
 
-  not : (a : ArrayVec ℕ) (e : CompileFault) → IsCodeOf (shape_of d) fold tree a → HasNoCode (shape_of d) fold tree e → ⊥
-  not a e p q = compiles_apart (shape_of d) (compiled_tree fold tree) a e p.compiled q
+compiled_agrees : (d : Description) (fold : Bool) (name : List ℕ) (tree : Block) → AnswersAgree SameCompiled (compiled d fold name tree) (compiled d fold name tree)
+compiled_agrees d fold name tree = judged_agrees SameCompiled _ _ _ one not same where
+  one : (a b : CompiledScript) → IsCompiledOf (shape_of d) fold tree a → IsCompiledOf (shape_of d) fold tree b → SameCompiled a b
+  one a b p q = record {
+    tree = p.tree_is ∙ sym q.tree_is;
+    code = ap (λ (bytes : List ℕ). let v : ArrayVec ℕ = record { items = bytes } in v) (p.code_is.compiled.code ∙ sym q.code_is.compiled.code);
+  }
+
+  not : (a : CompiledScript) (e : CompileFault) → IsCompiledOf (shape_of d) fold tree a → HasNoCode (shape_of d) fold tree e → ⊥
+  not a e p q = compiles_apart (shape_of d) (compiled_tree fold tree) a.code e p.code_is.compiled q
 
   same : (e h : CompileFault) → HasNoCode (shape_of d) fold tree e → HasNoCode (shape_of d) fold tree h → e ≡ h
   same e h p q = compiles_once (shape_of d) (compiled_tree fold tree) e h p q
 
-code_in_agrees : (d : Description) (fold : Bool) (name bytes : List ℕ) → Agree ◌≡◌ (code_in d fold name bytes) (code_in d fold name bytes)
-code_in_agrees d fold name bytes =
-    then_agrees ◌≡◌ ◌≡◌ _ _ _ _ (accepted_agrees d name bytes)
-    (λ a b e. subst (λ (tree : Block). Agree ◌≡◌ (compiled d fold name a) (compiled d fold name tree)) e (compiled_agrees d fold name a))
+compiled_bytes_agrees : (d : Description) (fold : Bool) (name bytes : List ℕ) → AnswersAgree SameCompiled (compiled_bytes d fold name bytes) (compiled_bytes d fold name bytes)
+compiled_bytes_agrees d fold name bytes =
+    then_agrees ◌≡◌ SameCompiled _ _ _ _ (accepted_agrees d name bytes)
+    (λ a b e. subst (λ (tree : Block). AnswersAgree SameCompiled (compiled d fold name a) (compiled d fold name tree)) e (compiled_agrees d fold name a))
 
-pub source_agrees : (names : Names) (d : Description) (fold : Bool) (name : List ℕ) → Agree ◌≡◌ (source (steady names) d fold name) (source (steady names) d fold name)
+pub source_agrees : (names : Names) (d : Description) (fold : Bool) (name : List ℕ) → AnswersAgree SameCompiled (source (steady names) d fold name) (source (steady names) d fold name)
 source_agrees names d fold name =
-    then_agrees SameBytes ◌≡◌ _ _ _ _ (file_agrees names name)
-    (λ a b e. subst (λ (bytes : List ℕ). Agree ◌≡◌ (code_in d fold name a.items) (code_in d fold name bytes)) (same a b e) (code_in_agrees d fold name a.items)) where
+    then_agrees SameBytes SameCompiled _ _ _ _ (file_agrees names name)
+    (λ a b e. subst (λ (bytes : List ℕ). AnswersAgree SameCompiled (compiled_bytes d fold name a.items) (compiled_bytes d fold name bytes)) (same a b e) (compiled_bytes_agrees d fold name a.items)) where
       same : (a b : Vec ℕ) → SameBytes a b → a.items ≡ b.items
       same a b e = e

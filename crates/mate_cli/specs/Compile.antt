@@ -18,4 +18,4 @@ capsule_hex d h version code = encode_lower (image_of (record { vm_id = d.vm_id;
 
 abbrev pub compile : Folder → Bool → (vm h : List ℕ) → ℕ → List ℕ → Result Output Refusal → Type 0
 compile f fold vm h version name =
-    machine f vm ▸ λ d. handler d h ▸ λ k. source f d fold name ▸ λ code. writes (capsule_hex d k version code)
+    machine f vm ▸ λ d. handler d h ▸ λ k. source f d fold name ▸ λ c. writes (capsule_hex d k version c.code)

@@ -8,9 +8,9 @@ use Rattle.vm_desc.specs.declared.description.Description.{Description}
 use Rattle.mate_cli.specs.Sources.{accepted}
 use Rattle.first_runs.specs.FirstRun.{IsFirstReport}
 use Rattle.first_runs.specs.FirstScript.{IsFirstScript}
-use Rattle.mate_cli.specs.Outputs.{text_of}
+use Rattle.mate_cli.specs.Outputs.{output_text}
 use Rattle.mate_cli.specs.Parts.{Folder, file, built_in}
-use Rattle.mate_cli.specs.Steps.{judged, found, ◌▸◌}
+use Rattle.mate_cli.specs.Steps.{judged, obtained, ◌▸◌}
 use Rattle.mate_cli.specs.declared.output.Output.{Output}
 use Rattle.mate_refusals.specs.declared.cause.Cause.TheVariants as cause
 use Rattle.mate_refusals.specs.declared.refusal.Refusal.{Refusal}
@@ -24,9 +24,9 @@ first_script name bytes = judged (λ s. IsFirstScript bytes s.0 s.1) (λ (_ : �
 pub record WritesRun (d : Description) (version : ℕ) (tree : Block) (o : Output) : Type 0 where
   pub report : Report
   pub is : IsFirstReport d version (shape_of d) tree report
-  pub text_is : text_of o ≡ text d report
+  pub text_is : output_text o ≡ text d report
 
 abbrev pub node : Folder → List ℕ → Result Output Refusal → Type 0
 node f script =
     built_in ▸ λ d. file f script ▸ λ bytes. first_script script bytes.items ▸ λ s.
-    file f s.1 ▸ λ source. accepted d s.1 source.items ▸ λ tree. found (WritesRun d s.0 tree)
+    file f s.1 ▸ λ source. accepted d s.1 source.items ▸ λ tree. obtained (WritesRun d s.0 tree)

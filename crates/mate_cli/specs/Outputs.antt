@@ -11,20 +11,20 @@ use Rattle.mate_cli.specs.declared.output.Output.TheVariants as output
 use Rattle.mate_refusals.specs.declared.refusal.Refusal.{Refusal}
 use Rattle.mate_refusals.specs.declared.refusal.Refusal.TheVariants.{NoMemory}
 
-abbrev pub text_of : Output → List ℕ
-text_of (output.Report d r) = text d r
-text_of (output.OpcodeTable d) = table_text d
-text_of (output.Capsule image) = encode_lower image.items ++ codes "\n"
-text_of (output.Listing d c v) = capsule_text d (capsule_parts c) v.code
+abbrev pub output_text : Output → List ℕ
+output_text (output.Report d r) = text d r
+output_text (output.OpcodeTable d) = table_text d
+output_text (output.Capsule image) = encode_lower image.items ++ codes "\n"
+output_text (output.Listing d c v) = capsule_text d (capsule_parts c) v.code
 
 -- it can be written
-abbrev pub IsWritable : Output → Type 0
-IsWritable (output.Report d r) = IsTidy d r
-IsWritable (output.OpcodeTable d) = ⊤
-IsWritable (output.Capsule image) = ⊤
-IsWritable (output.Listing d c v) = IsVerifiedFor d (capsule_parts c) v
+abbrev pub CanBeWritten : Output → Type 0
+CanBeWritten (output.Report d r) = IsTidy d r
+CanBeWritten (output.OpcodeTable d) = ⊤
+CanBeWritten (output.Capsule image) = ⊤
+CanBeWritten (output.Listing d c v) = IsVerifiedFor d (capsule_parts c) v
 
 -- the text is to be written
 abbrev pub writes : List ℕ → Result Output Refusal → Type 0
-writes bytes (Ok o) = text_of o ≡ bytes
+writes bytes (Ok o) = output_text o ≡ bytes
 writes bytes (Err r) = r ≡ NoMemory

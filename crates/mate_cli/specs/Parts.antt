@@ -17,7 +17,7 @@ use Rattle.mate_refusals.specs.declared.cause.Cause.{Cause}
 use Rattle.mate_refusals.specs.declared.cause.Cause.TheVariants as cause
 use Rattle.mate_refusals.specs.declared.refusal.Refusal.{Refusal}
 use Rattle.mate_refusals.specs.declared.refusal.Refusal.TheVariants.{Usage, BadDescription, InFile}
-use Rattle.mate_cli.specs.Steps.{judged, found, ◌▸◌}
+use Rattle.mate_cli.specs.Steps.{judged, obtained, ◌▸◌}
 
 -- ---- files
 
@@ -54,7 +54,7 @@ IsUnreadAnswer (Err (InFile name why)) = IsUnreadCause why
 IsUnreadAnswer (Err _) = ⊥
 
 -- a call that reads files leaves them as they are, and can't read one only where their count of faults rose in it
-pub record Reads {A : Type 0} (told : Option Names) (steady : Bool) (faults : ℕ) (told' : Option Names) (steady' : Bool) (faults' : ℕ) (answer : Result A Refusal) : Type 0 where
+pub record ReadsFiles {A : Type 0} (told : Option Names) (steady : Bool) (faults : ℕ) (told' : Option Names) (steady' : Bool) (faults' : ℕ) (answer : Result A Refusal) : Type 0 where
   pub same_told : told' ≡ told
   pub same_steady : steady' ≡ steady
   pub later : faults ≤ faults'
@@ -64,23 +64,23 @@ pub record Reads {A : Type 0} (told : Option Names) (steady : Bool) (faults : �
 
 -- the built-in machine
 abbrev pub built_in : Result Description Refusal → Type 0
-built_in = found (λ d. parts_of d ≡ builtin_parts)
+built_in = obtained (λ d. parts_of d ≡ builtin_parts)
 
 -- the machine that a text describes
-abbrev pub described : List ℕ → Result Description Refusal → Type 0
-described bytes = judged (IsDescribed bytes) (λ why. description_of bytes ≡ Err (fault_told why)) BadDescription
+abbrev pub machine_text : List ℕ → Result Description Refusal → Type 0
+machine_text bytes = judged (IsDescribed bytes) (λ why. description_of bytes ≡ Err (fault_told why)) BadDescription
 
 -- the machine that a file describes
-abbrev pub described_in : Folder → List ℕ → Result Description Refusal → Type 0
-described_in f name = file f name ▸ λ bytes. described bytes.items
+abbrev pub machine_file : Folder → List ℕ → Result Description Refusal → Type 0
+machine_file f name = file f name ▸ λ bytes. machine_text bytes.items
 
 -- the machine of a word
 abbrev pub machine : Folder → List ℕ → Result Description Refusal → Type 0
-machine f word answer = ((word ≡ builtin_word) × built_in answer) ⊎ ((word ≢ builtin_word) × described_in f word answer)
+machine f word answer = ((word ≡ builtin_word) × built_in answer) ⊎ ((word ≢ builtin_word) × machine_file f word answer)
 
 -- the position of the machine's handler of this name
-abbrev pub handler_in : Description → List ℕ → Option ℕ
-handler_in d name = position (λ h. bytes_eq h.name name) d.handlers.items
+abbrev pub handler_named : Description → List ℕ → Option ℕ
+handler_named d name = position (λ h. bytes_eq h.name name) d.handlers.items
 
 abbrev pub handler : Description → List ℕ → Result HandlerId Refusal → Type 0
-handler d name = judged (λ h. handler_in d name ≡ Some h.0) (λ (_ : ⊤). handler_in d name ≡ None) (λ _. Usage)
+handler d name = judged (λ h. handler_named d name ≡ Some h.0) (λ (_ : ⊤). handler_named d name ≡ None) (λ _. Usage)

@@ -1,12 +1,12 @@
 -- A command is its steps, in the order in which it refuses.
-use Rattle.std.specs.Prelude.{◌≡◌, Result, Ok, Err, ◌⊎◌, ⊤}
+use Rattle.std.specs.Prelude.{◌≡◌, Result, Ok, Err, ◌⊎◌}
 use Rattle.mate_refusals.specs.declared.refusal.Refusal.{Refusal}
 use Rattle.mate_refusals.specs.declared.refusal.Refusal.TheVariants.{NoMemory}
 
 -- a value for which this holds; or memory is wanting
-abbrev pub found : {A : Type 0} → (A → Type 0) → Result A Refusal → Type 0
-found Is (Ok a) = Is a
-found Is (Err r) = r ≡ NoMemory
+abbrev pub obtained : {A : Type 0} → (A → Type 0) → Result A Refusal → Type 0
+obtained Is (Ok a) = Is a
+obtained Is (Err r) = r ≡ NoMemory
 
 -- a value for which the test holds; or why it fails, which is the refusal; or memory is wanting
 abbrev pub judged : {A E : Type 0} → (A → Type 0) → (E → Type 0) → (E → Refusal) → Result A Refusal → Type 0

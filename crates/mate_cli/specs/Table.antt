@@ -7,5 +7,5 @@ use Rattle.mate_cli.specs.Steps.{◌▸◌}
 use Rattle.mate_cli.specs.declared.output.Output.{Output}
 use Rattle.mate_refusals.specs.declared.refusal.Refusal.{Refusal}
 
-abbrev pub table : Folder → List ℕ → Result Output Refusal → Type 0
-table f vm = machine f vm ▸ λ d. writes (table_text d)
+abbrev pub opcode_table : Folder → List ℕ → Result Output Refusal → Type 0
+opcode_table f vm = machine f vm ▸ λ d. writes (table_text d)

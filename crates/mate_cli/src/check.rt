@@ -1,8 +1,8 @@
 //! The command `check`.
 
 ghost use Rattle.std.specs.Prelude.{◌≡◌, IfOk};
-ghost use Rattle.mate_cli.specs.Outputs.{IsWritable};
-ghost use Rattle.mate_cli.specs.Parts.{Reads};
+ghost use Rattle.mate_cli.specs.Outputs.{CanBeWritten};
+ghost use Rattle.mate_cli.specs.Parts.{ReadsFiles};
 ghost use Rattle.mate_cli.specs.Check.{check, capsule};
 
 use crate::capsule_file::read_capsule;
@@ -23,8 +23,8 @@ pub fn output<F: Files>(
     name: &str,
 ) -> Result<Output, Refusal>
     ensures does { check (record { told = F.contents files.old; steady = F.steady files.old }) vm.now name.now result }
-    ensures reads { Reads (F.contents files.old) (F.steady files.old) (F.faults files.old) (F.contents files.new) (F.steady files.new) (F.faults files.new) result }
-    ensures writable { IfOk result IsWritable }
+    ensures reads { ReadsFiles (F.contents files.old) (F.steady files.old) (F.faults files.old) (F.contents files.new) (F.steady files.new) (F.faults files.new) result }
+    ensures writable { IfOk result CanBeWritten }
 {
     let desc = machine_of(alloc, files, vm)?;
     let (capsule, code) = capsule_of(alloc, files, &desc, name)?;
@@ -39,7 +39,7 @@ pub fn capsule_of<F: Files>(
     name: &str,
 ) -> Result<(Capsule, Verified), Refusal>
     ensures does { capsule (record { told = F.contents files.old; steady = F.steady files.old }) desc.now name.now result }
-    ensures reads { Reads (F.contents files.old) (F.steady files.old) (F.faults files.old) (F.contents files.new) (F.steady files.new) (F.faults files.new) result }
+    ensures reads { ReadsFiles (F.contents files.old) (F.steady files.old) (F.faults files.old) (F.contents files.new) (F.steady files.new) (F.faults files.new) result }
 {
     let text = read_file(alloc, files, name)?;
     match read_capsule(desc, text.as_slice()) {

@@ -5,25 +5,25 @@ ghost use Rattle.mate_files.specs.Files.{Names};
 ghost use Rattle.mate_cli.specs.Check.{check};
 ghost use Rattle.mate_cli.specs.Compile.{compile};
 ghost use Rattle.mate_cli.specs.Ends.{task};
-ghost use Rattle.mate_cli.specs.OneAnswer.{Agree, SameText, steady};
-ghost use Rattle.mate_cli.specs.Table.{table};
+ghost use Rattle.mate_cli.specs.OneAnswer.{AnswersAgree, SameText, steady};
+ghost use Rattle.mate_cli.specs.Table.{opcode_table};
 
 /// Words say one task, or none.
 pub fn words_have_one_task()
-    ensures { (words : List (List ℕ)) → Agree ◌≡◌ (task words) (task words) }
+    ensures { (words : List (List ℕ)) → AnswersAgree ◌≡◌ (task words) (task words) }
 {}
 
 /// The command `table` has one answer but for want of memory, where the files are steady.
 pub fn table_has_one_answer()
-    ensures { (names : Names) (vm : List ℕ) → Agree SameText (table (steady names) vm) (table (steady names) vm) }
+    ensures { (names : Names) (vm : List ℕ) → AnswersAgree SameText (opcode_table (steady names) vm) (opcode_table (steady names) vm) }
 {}
 
 /// The command `compile` has one answer but for want of memory, where the files are steady.
 pub fn compile_has_one_answer()
-    ensures { (names : Names) (fold : Bool) (vm handler : List ℕ) (version : ℕ) (name : List ℕ) → Agree SameText (compile (steady names) fold vm handler version name) (compile (steady names) fold vm handler version name) }
+    ensures { (names : Names) (fold : Bool) (vm handler : List ℕ) (version : ℕ) (name : List ℕ) → AnswersAgree SameText (compile (steady names) fold vm handler version name) (compile (steady names) fold vm handler version name) }
 {}
 
 /// The command `check` has one answer but for want of memory, where the files are steady.
 pub fn check_has_one_answer()
-    ensures { (names : Names) (vm name : List ℕ) → Agree SameText (check (steady names) vm name) (check (steady names) vm name) }
+    ensures { (names : Names) (vm name : List ℕ) → AnswersAgree SameText (check (steady names) vm name) (check (steady names) vm name) }
 {}

@@ -1,8 +1,8 @@
 //! The command `node`, on the built-in machine and with scripts of one form, until the reader of all scripts stands.
 
 ghost use Rattle.std.specs.Prelude.{◌≡◌, IfOk};
-ghost use Rattle.mate_cli.specs.Outputs.{IsWritable};
-ghost use Rattle.mate_cli.specs.Parts.{Reads};
+ghost use Rattle.mate_cli.specs.Outputs.{CanBeWritten};
+ghost use Rattle.mate_cli.specs.Parts.{ReadsFiles};
 ghost use Rattle.mate_cli.specs.Node.{node};
 
 use crate::output::Output;
@@ -18,8 +18,8 @@ use vm_desc::builtin;
 /// The report of a script's run on the built-in machine.
 pub fn output<F: Files>(alloc: Global, files: &mut F, script: &str) -> Result<Output, Refusal>
     ensures does { node (record { told = F.contents files.old; steady = F.steady files.old }) script.now result }
-    ensures reads { Reads (F.contents files.old) (F.steady files.old) (F.faults files.old) (F.contents files.new) (F.steady files.new) (F.faults files.new) result }
-    ensures writable { IfOk result IsWritable }
+    ensures reads { ReadsFiles (F.contents files.old) (F.steady files.old) (F.faults files.old) (F.contents files.new) (F.steady files.new) (F.faults files.new) result }
+    ensures writable { IfOk result CanBeWritten }
 {
     let desc = builtin();
     let bytes = read_file(alloc, files, script)?;

@@ -3,49 +3,48 @@
 ghost use Rattle.std.specs.Prelude.{◌≡◌, ◌≤◌, length, IfOk};
 ghost use Rattle.ts_syntax.specs.Checked.{tree_of, shape_of as shape_of_script};
 ghost use Rattle.vm_desc.specs.Shapes.{shape_of};
-ghost use Rattle.mate_cli.specs.Parts.{Reads};
-ghost use Rattle.mate_cli.specs.Sources.{source, code_in, accepted, compiled, tree_in};
+ghost use Rattle.mate_cli.specs.Parts.{ReadsFiles};
+ghost use Rattle.mate_cli.specs.Sources.{source, compiled_bytes, accepted, compiled, tree_in};
 
 use crate::parts::read_file;
 use mate_files::Files;
-use mate_num::Code;
 use mate_refusals::{Cause, Refusal, SourceCause, in_file};
-use source_code::{CodeFault, code_of};
+use source_code::{CodeFault, CompiledScript, compiled_script};
 use std::alloc::Global;
 use ts_source::accept;
 use ts_syntax::Checked;
 use vm_desc::Description;
 
-/// The code of a source, folded before it is compiled where `fold` says so.
+/// The compiled script of a source with its code, folded before it is compiled where `fold` says so.
 pub fn source_of<F: Files>(
     alloc: Global,
     files: &mut F,
     desc: &Description,
     fold: bool,
     name: &str,
-) -> Result<Code, Refusal>
+) -> Result<CompiledScript, Refusal>
     ensures does { source (record { told = F.contents files.old; steady = F.steady files.old }) desc.now fold name.now result }
-    ensures reads { Reads (F.contents files.old) (F.steady files.old) (F.faults files.old) (F.contents files.new) (F.steady files.new) (F.faults files.new) result }
-    ensures filled { IfOk result (λ code. 1 ≤ length code.items) }
+    ensures reads { ReadsFiles (F.contents files.old) (F.steady files.old) (F.faults files.old) (F.contents files.new) (F.steady files.new) (F.faults files.new) result }
+    ensures filled { IfOk result (λ c. 1 ≤ length c.code.items) }
 {
     let bytes = read_file(alloc, files, name)?;
-    code_in(alloc, desc, fold, name, bytes.as_slice())
+    compiled_bytes(alloc, desc, fold, name, bytes.as_slice())
 }
 
-/// The code of the bytes of the source `name`.
-fn code_in(
+/// That of the bytes of the source `name`.
+fn compiled_bytes(
     alloc: Global,
     desc: &Description,
     fold: bool,
     name: &str,
     bytes: &[u8],
-) -> Result<Code, Refusal>
+) -> Result<CompiledScript, Refusal>
     requires { length bytes.now ≤ 1048576 }
-    ensures does { code_in desc.now fold name.now bytes.now result }
-    ensures filled { IfOk result (λ code. 1 ≤ length code.items) }
+    ensures does { compiled_bytes desc.now fold name.now bytes.now result }
+    ensures filled { IfOk result (λ c. 1 ≤ length c.code.items) }
 {
     let script = accepted(alloc, desc, name, bytes)?;
-    compiled(alloc, desc, fold, name, &script)
+    compiled(alloc, desc, fold, name, script)
 }
 
 /// The script that the bytes of the source `name` spell.
@@ -68,20 +67,20 @@ pub fn accepted(
     }
 }
 
-/// The code of the script of the source `name`.
+/// The compiled script of the script of the source `name`.
 fn compiled(
     alloc: Global,
     desc: &Description,
     fold: bool,
     name: &str,
-    script: &Checked,
-) -> Result<Code, Refusal>
-    requires { shape_of_script script.now ≡ shape_of desc.now }
-    ensures does { compiled desc.now fold name.now (tree_of script.now) result }
-    ensures filled { IfOk result (λ code. 1 ≤ length code.items) }
+    script: Checked,
+) -> Result<CompiledScript, Refusal>
+    requires { shape_of_script script ≡ shape_of desc.now }
+    ensures does { compiled desc.now fold name.now (tree_of script) result }
+    ensures filled { IfOk result (λ c. 1 ≤ length c.code.items) }
 {
-    match code_of(alloc, desc, fold, script) {
-        Ok(code) => Ok(code),
+    match compiled_script(alloc, desc, fold, script) {
+        Ok(compiled) => Ok(compiled),
         Err(CodeFault::Uncompiled(fault)) => Err(in_file(alloc, name, Cause::Code(fault))),
         Err(CodeFault::NoMemory) => Err(Refusal::NoMemory),
     }

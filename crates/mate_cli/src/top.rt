@@ -1,10 +1,10 @@
 //! The top call: from words and files to what is written.
 
 ghost use Rattle.std.specs.Prelude.{◌≡◌, map, string_bytes, IfOk};
-ghost use Rattle.mate_commands.specs.Words.{seen};
-ghost use Rattle.mate_cli.specs.Ends.{Ends, IsWritten, Owes, command};
-ghost use Rattle.mate_cli.specs.Outputs.{IsWritable, text_of};
-ghost use Rattle.mate_cli.specs.Parts.{Reads};
+ghost use Rattle.mate_commands.specs.Words.{task_held};
+ghost use Rattle.mate_cli.specs.Ends.{CallEnds, IsWritten, Owes, command};
+ghost use Rattle.mate_cli.specs.Outputs.{CanBeWritten, output_text};
+ghost use Rattle.mate_cli.specs.Parts.{ReadsFiles};
 
 use crate::output::Output;
 use crate::{check, compile, node, table};
@@ -34,7 +34,7 @@ pub fn mate<F: Files, S: Sink, E: Sink>(
     out: &mut S,
     err: &mut E,
 ) -> Status
-    ensures { Ends (record { told = F.contents files.old; steady = F.steady files.old }) (map string_bytes words.now.items) (F.faults files.old) (F.faults files.new)
+    ensures { CallEnds (record { told = F.contents files.old; steady = F.steady files.old }) (map string_bytes words.now.items) (F.faults files.old) (F.faults files.new)
         (record { out = S.written out.old; out_faults = S.faults out.old; err = E.written err.old; err_faults = E.faults err.old })
         (record { out = S.written out.new; out_faults = S.faults out.new; err = E.written err.new; err_faults = E.faults err.new }) result }
 {
@@ -46,8 +46,8 @@ pub fn mate<F: Files, S: Sink, E: Sink>(
 
 /// Writes an output.
 fn written<S: Sink, E: Sink>(output: &Output, out: &mut S, err: &mut E) -> Status
-    requires { IsWritable output.now }
-    ensures { IsWritten (text_of output.now)
+    requires { CanBeWritten output.now }
+    ensures { IsWritten (output_text output.now)
         (record { out = S.written out.old; out_faults = S.faults out.old; err = E.written err.old; err_faults = E.faults err.old })
         (record { out = S.written out.new; out_faults = S.faults out.new; err = E.written err.new; err_faults = E.faults err.new }) result }
 {
@@ -61,8 +61,8 @@ fn written<S: Sink, E: Sink>(output: &Output, out: &mut S, err: &mut E) -> Statu
 /// What the command of the words is to write.
 fn output_of<F: Files>(alloc: Global, files: &mut F, words: &Vec<String>) -> Result<Output, Refusal>
     ensures does { Owes (record { told = F.contents files.old; steady = F.steady files.old }) (map string_bytes words.now.items) result }
-    ensures reads { Reads (F.contents files.old) (F.steady files.old) (F.faults files.old) (F.contents files.new) (F.steady files.new) (F.faults files.new) result }
-    ensures writable { IfOk result IsWritable }
+    ensures reads { ReadsFiles (F.contents files.old) (F.steady files.old) (F.faults files.old) (F.contents files.new) (F.steady files.new) (F.faults files.new) result }
+    ensures writable { IfOk result CanBeWritten }
 {
     let line = match command_line::read(alloc, words.as_slice()) {
         Ok(line) => line,
@@ -77,9 +77,9 @@ fn output_of<F: Files>(alloc: Global, files: &mut F, words: &Vec<String>) -> Res
 
 /// What a command is to write.
 fn task_output<F: Files>(alloc: Global, files: &mut F, task: Command<'_>) -> Result<Output, Refusal>
-    ensures does { command (record { told = F.contents files.old; steady = F.steady files.old }) (seen task.entry) result }
-    ensures reads { Reads (F.contents files.old) (F.steady files.old) (F.faults files.old) (F.contents files.new) (F.steady files.new) (F.faults files.new) result }
-    ensures writable { IfOk result IsWritable }
+    ensures does { command (record { told = F.contents files.old; steady = F.steady files.old }) (task_held task.entry) result }
+    ensures reads { ReadsFiles (F.contents files.old) (F.steady files.old) (F.faults files.old) (F.contents files.new) (F.steady files.new) (F.faults files.new) result }
+    ensures writable { IfOk result CanBeWritten }
 {
     match task {
         Command::Node { script } => node::output(alloc, files, script),

@@ -9,7 +9,7 @@ use Rattle.std.proofs.lemmas.Bool.{and_parts, and_from, cases_lt, false≢true, 
 use Rattle.std.proofs.lemmas.Fmt.{decimal-digits_value, decimal_digit}
 use Rattle.std.proofs.lemmas.Result.{OkIff-at_ok, OkIff-at_err}
 use Rattle.std.proofs.lemmas.Str.Parse.{IsNumeralModel, numerals_by_value, tells_all_ascii_digits, parse_digits}
-use Rattle.mate_commands.specs.Words.{is_counting, version_in}
+use Rattle.mate_commands.specs.Words.{is_counting, version_said}
 
 digits_agree : (ds : List ℕ) → list_all is_ascii_digit ds ≡ all_ascii_digits ds
 digits_agree [] = refl
@@ -57,17 +57,17 @@ counting-low ds h small = of (digits_value 10 ds) refl where
   of (suc n) e = omega arith
 
 pub parsed_version : {E : Type 0} (ds : List ℕ) (r : Result ℕ E) (v : ℕ) → is_counting ds ≡ true → ParsesUnsigned 32 10 ds r → r ≡ Ok v
-    → (version_in ds ≡ Some v) × (1 ≤ v)
+    → (version_said ds ≡ Some v) × (1 ≤ v)
 parsed_version ds r v h parses e =
     let c = counting ds h in
     let P : Type 0 = (0 < length ds) × (digits_value 10 ds < 2 ^ 32) in
     let at = OkIff-at_ok r P (digits_value 10 ds) v (parse_digits model 32 ds r parses c.digits) e in
     let small : nat_lt (digits_value 10 ds) (2 ^ 32) ≡ true = lt-ltb (digits_value 10 ds) (2 ^ 32) at.0.1 in
-    let value : version_in ds ≡ Some (digits_value 10 ds) = rw (h, small) refl in
-    (subst (λ n. version_in ds ≡ Some n) (sym at.1) value, subst (λ n. 1 ≤ n) (sym at.1) (counting-low ds h at.0.1))
+    let value : version_said ds ≡ Some (digits_value 10 ds) = rw (h, small) refl in
+    (subst (λ n. version_said ds ≡ Some n) (sym at.1) value, subst (λ n. 1 ≤ n) (sym at.1) (counting-low ds h at.0.1))
 
 pub unparsed_version : {E : Type 0} (ds : List ℕ) (r : Result ℕ E) (fault : E) → is_counting ds ≡ true → ParsesUnsigned 32 10 ds r → r ≡ Err fault
-    → version_in ds ≡ None
+    → version_said ds ≡ None
 unparsed_version ds r fault h parses e =
     let c = counting ds h in
     let P : Type 0 = (0 < length ds) × (digits_value 10 ds < 2 ^ 32) in

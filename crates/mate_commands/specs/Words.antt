@@ -39,11 +39,11 @@ is_counting [] = false
 is_counting (digit ∷ digits) = is_in_range 49 57 digit && list_all is_ascii_digit digits
 
 -- the version that the word says: from 1 to 4294967295, with no sign and no 0 before it
-abbrev pub version_in : List ℕ → Option ℕ
-version_in word = if is_counting word && nat_lt (digits_value 10 word) (2 ^ 32) then Some (digits_value 10 word) else None
+abbrev pub version_said : List ℕ → Option ℕ
+version_said word = if is_counting word && nat_lt (digits_value 10 word) (2 ^ 32) then Some (digits_value 10 word) else None
 
 abbrev pub compile_task : Bool → List (List ℕ) → Option Task
-compile_task fold (machine ∷ handler ∷ version ∷ source ∷ []) = option_map (λ v. Compile fold machine handler v source) (version_in version)
+compile_task fold (machine ∷ handler ∷ version ∷ source ∷ []) = option_map (λ v. Compile fold machine handler v source) (version_said version)
 compile_task fold words = None
 
 abbrev pub check_task : List (List ℕ) → Option Task
@@ -71,11 +71,11 @@ SaysNothing words = (task : Task) → Says words task → ⊥
 
 -- ---- what the program holds of them
 
-abbrev pub line_of : CommandLine → Line
-line_of l = record { brief = l.brief; fold = l.fold; command = l.command.now; args = map (λ w. w.now) l.args.items }
+abbrev pub line_said : CommandLine → Line
+line_said l = record { brief = l.brief; fold = l.fold; command = l.command.now; args = map (λ w. w.now) l.args.items }
 
-abbrev pub seen : Command → Task
-seen (command.Node script) = Node script.now
-seen (command.Table machine) = Table machine.now
-seen (command.Compile c) = Compile c.fold c.machine.now c.handler.now c.version c.source.now
-seen (command.Check machine file) = Check machine.now file.now
+abbrev pub task_held : Command → Task
+task_held (command.Node script) = Node script.now
+task_held (command.Table machine) = Table machine.now
+task_held (command.Compile c) = Compile c.fold c.machine.now c.handler.now c.version c.source.now
+task_held (command.Check machine file) = Check machine.now file.now

@@ -3,7 +3,7 @@
 ghost use Rattle.std.specs.Prelude.{◌≡◌, ◌≤◌, map, option_map, IfSome};
 ghost use Rattle.std.specs.Char.{is_ascii_digit};
 ghost use Rattle.std.specs.List.{list_all};
-ghost use Rattle.mate_commands.specs.Words.{seen, line_of, task_of, node_task, table_task, compile_task, check_task, version_in, is_counting};
+ghost use Rattle.mate_commands.specs.Words.{task_held, line_said, task_of, node_task, table_task, compile_task, check_task, version_said, is_counting};
 
 use crate::compilation::Compilation;
 use command_line::CommandLine;
@@ -23,7 +23,7 @@ pub enum Command<'a> {
 
 /// The command of a line; None where its word is unknown, or has other words or flags than the command takes.
 pub fn command_of<'a>(line: &CommandLine<'a>) -> Option<Command<'a>>
-    ensures { option_map seen result ≡ task_of (line_of line.now) }
+    ensures { option_map task_held result ≡ task_of (line_said line.now) }
 {
     if line.command == "compile" && !line.brief {
         return compile(line.args.as_slice(), line.fold);
@@ -44,7 +44,7 @@ pub fn command_of<'a>(line: &CommandLine<'a>) -> Option<Command<'a>>
 }
 
 fn node<'a>(args: &[&'a str]) -> Option<Command<'a>>
-    ensures { option_map seen result ≡ node_task (map (λ w. w.now) args.now) }
+    ensures { option_map task_held result ≡ node_task (map (λ w. w.now) args.now) }
 {
     let [machine, script] = args else {
         return None;
@@ -57,7 +57,7 @@ fn node<'a>(args: &[&'a str]) -> Option<Command<'a>>
 }
 
 fn table<'a>(args: &[&'a str]) -> Option<Command<'a>>
-    ensures { option_map seen result ≡ table_task (map (λ w. w.now) args.now) }
+    ensures { option_map task_held result ≡ table_task (map (λ w. w.now) args.now) }
 {
     let [machine] = args else {
         return None;
@@ -66,7 +66,7 @@ fn table<'a>(args: &[&'a str]) -> Option<Command<'a>>
 }
 
 fn compile<'a>(args: &[&'a str], fold: bool) -> Option<Command<'a>>
-    ensures { option_map seen result ≡ compile_task fold (map (λ w. w.now) args.now) }
+    ensures { option_map task_held result ≡ compile_task fold (map (λ w. w.now) args.now) }
 {
     let [machine, handler, version, source] = args else {
         return None;
@@ -82,7 +82,7 @@ fn compile<'a>(args: &[&'a str], fold: bool) -> Option<Command<'a>>
 }
 
 fn check<'a>(args: &[&'a str]) -> Option<Command<'a>>
-    ensures { option_map seen result ≡ check_task (map (λ w. w.now) args.now) }
+    ensures { option_map task_held result ≡ check_task (map (λ w. w.now) args.now) }
 {
     let [machine, capsule] = args else {
         return None;
@@ -92,7 +92,7 @@ fn check<'a>(args: &[&'a str]) -> Option<Command<'a>>
 
 /// A version in decimal digits, from 1 to 4294967295, with no sign and no 0 before it.
 fn version_of(word: &str) -> Option<u32>
-    ensures value { result ≡ version_in word.now }
+    ensures value { result ≡ version_said word.now }
     ensures low { IfSome result (λ version. 1 ≤ version) }
 {
     if !is_counting(word.as_bytes()) {

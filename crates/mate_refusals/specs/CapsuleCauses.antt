@@ -6,7 +6,7 @@ use Rattle.capsule_codec.specs.declared.hex_text.HexFault.{HexFault}
 use Rattle.capsule_codec.specs.declared.hex_text.HexFault.TheVariants as hex
 use Rattle.code_verifier.specs.declared.fault.VerifyFault.{VerifyFault}
 use Rattle.code_verifier.specs.declared.fault.VerifyFault.TheVariants as verify
-use Rattle.mate_refusals.specs.LineEnds.{numbered}
+use Rattle.mate_refusals.specs.LineEnds.{number_line}
 use Rattle.mate_refusals.specs.declared.capsule_cause.CapsuleCause.{CapsuleCause}
 use Rattle.mate_refusals.specs.declared.capsule_cause.CapsuleCause.TheVariants.{Digits, Image, Code}
 
@@ -24,13 +24,13 @@ image_words BadVersion = codes "version\n"
 
 -- no capsule has code that is too long
 abbrev pub verify_words : VerifyFault → List ℕ
-verify_words (verify.Decode place) = numbered (codes "decode ") place
-verify_words (verify.BadTarget place) = numbered (codes "target ") place
-verify_words (verify.BackJump place) = numbered (codes "back ") place
-verify_words (verify.Underflow place) = numbered (codes "underflow ") place
-verify_words (verify.Overflow place) = numbered (codes "overflow ") place
-verify_words (verify.DepthDiffers place) = numbered (codes "differs ") place
-verify_words (verify.BadIndex place) = numbered (codes "index ") place
+verify_words (verify.Decode place) = number_line (codes "decode ") place
+verify_words (verify.BadTarget place) = number_line (codes "target ") place
+verify_words (verify.BackJump place) = number_line (codes "back ") place
+verify_words (verify.Underflow place) = number_line (codes "underflow ") place
+verify_words (verify.Overflow place) = number_line (codes "overflow ") place
+verify_words (verify.DepthDiffers place) = number_line (codes "differs ") place
+verify_words (verify.BadIndex place) = number_line (codes "index ") place
 verify_words verify.NoHalt = codes "nohalt\n"
 verify_words (verify.TooLong len) = codes "length\n"
 

@@ -3,7 +3,7 @@ use Rattle.std.specs.Prelude.{ℕ, List, ◌++◌, codes, decimal}
 use Rattle.vm_desc.specs.Keys.{word_of}
 use Rattle.vm_desc.specs.declared.fault.DescFault.{DescFault}
 use Rattle.vm_desc.specs.declared.fault.DescFault.TheVariants as desc
-use Rattle.mate_refusals.specs.LineEnds.{about}
+use Rattle.mate_refusals.specs.LineEnds.{name_line}
 use Rattle.mate_refusals.specs.declared.description_cause.DescriptionCause.{DescriptionCause}
 use Rattle.mate_refusals.specs.declared.description_cause.DescriptionCause.TheVariants as cause
 
@@ -17,7 +17,7 @@ fault_told (cause.SlowImax need have) = desc.SlowImax need have
 
 abbrev pub description_words : DescriptionCause → List ℕ
 description_words cause.NotToml = codes "toml\n"
-description_words (cause.BadField key) = about (codes "field ") (word_of key)
-description_words (cause.OverLimit key) = about (codes "limit ") (word_of key)
-description_words (cause.Duplicate name) = about (codes "duplicate ") name
+description_words (cause.BadField key) = name_line (codes "field ") (word_of key)
+description_words (cause.OverLimit key) = name_line (codes "limit ") (word_of key)
+description_words (cause.Duplicate name) = name_line (codes "duplicate ") name
 description_words (cause.SlowImax need have) = codes "slow " ++ decimal need ++ codes " " ++ decimal have ++ codes "\n"

@@ -2,9 +2,9 @@
 use Rattle.std.specs.Prelude.{ℕ, List, ◌++◌, codes, decimal}
 
 -- a word, a number and a line feed
-abbrev pub numbered : List ℕ → ℕ → List ℕ
-numbered word n = word ++ decimal n ++ codes "\n"
+abbrev pub number_line : List ℕ → ℕ → List ℕ
+number_line word n = word ++ decimal n ++ codes "\n"
 
 -- a word, a name and a line feed
-abbrev pub about : List ℕ → List ℕ → List ℕ
-about word name = word ++ name ++ codes "\n"
+abbrev pub name_line : List ℕ → List ℕ → List ℕ
+name_line word name = word ++ name ++ codes "\n"

@@ -6,7 +6,7 @@ use Rattle.ts_checker.specs.Accepted.{Refusal, IsRefusedBy, by_bytes, unexpected
 use Rattle.ts_checker.specs.declared.fault.CheckFault.TheVariants as check
 use Rattle.ts_compiler.specs.declared.fault.CompileFault.{CompileFault}
 use Rattle.ts_compiler.specs.declared.fault.CompileFault.TheVariants.{StackDepth, TooLong}
-use Rattle.mate_refusals.specs.LineEnds.{numbered, about}
+use Rattle.mate_refusals.specs.LineEnds.{number_line, name_line}
 use Rattle.mate_refusals.specs.declared.source_cause.SourceCause.{SourceCause}
 use Rattle.mate_refusals.specs.declared.source_cause.SourceCause.TheVariants as cause
 
@@ -28,18 +28,18 @@ abbrev pub IsBadSource : Description → List ℕ → SourceCause → Type 0
 IsBadSource d bytes why = IsRefusedBy d bytes (refusal_told why)
 
 abbrev pub source_words : SourceCause → List ℕ
-source_words (cause.BadByte place) = numbered (codes "byte ") place
-source_words (cause.BigLiteral place) = numbered (codes "literal ") place
-source_words (cause.Unexpected place) = numbered (codes "unexpected ") place
-source_words (cause.TooDeep place) = numbered (codes "deep ") place
-source_words (cause.Undeclared name place) = codes "undeclared " ++ name ++ numbered (codes " ") place
-source_words (cause.NotInVm name) = about (codes "notinvm ") name
-source_words (cause.Twice name) = about (codes "twice ") name
-source_words (cause.Kind place) = numbered (codes "kind ") place
-source_words (cause.Arity place) = numbered (codes "arity ") place
+source_words (cause.BadByte place) = number_line (codes "byte ") place
+source_words (cause.BigLiteral place) = number_line (codes "literal ") place
+source_words (cause.Unexpected place) = number_line (codes "unexpected ") place
+source_words (cause.TooDeep place) = number_line (codes "deep ") place
+source_words (cause.Undeclared name place) = codes "undeclared " ++ name ++ number_line (codes " ") place
+source_words (cause.NotInVm name) = name_line (codes "notinvm ") name
+source_words (cause.Twice name) = name_line (codes "twice ") name
+source_words (cause.Kind place) = number_line (codes "kind ") place
+source_words (cause.Arity place) = number_line (codes "arity ") place
 source_words cause.TooManyPrivates = codes "privates\n"
 
 -- a script that has no code
 abbrev pub code_words : CompileFault → List ℕ
-code_words (StackDepth need) = numbered (codes "depth ") need
-code_words (TooLong size) = numbered (codes "size ") size
+code_words (StackDepth need) = number_line (codes "depth ") need
+code_words (TooLong size) = number_line (codes "size ") size

@@ -3,17 +3,17 @@ use Rattle.std.specs.Prelude.{ℕ}
 use Rattle.mate_refusals.specs.declared.status.Status.{Status}
 use Rattle.mate_refusals.specs.declared.status.Status.TheVariants as status
 
-abbrev pub code_of : Status → ℕ
-code_of status.Ok = 0
-code_of status.Usage = 2
-code_of status.FileFault = 3
-code_of status.BadDescription = 4
-code_of status.BadSource = 5
-code_of status.BadScript = 6
-code_of status.BadCapsule = 7
-code_of status.LogFull = 8
-code_of status.SinkFault = 9
-code_of status.NoMemory = 10
-code_of status.Refuted = 11
-code_of status.BadStream = 12
-code_of status.Unbuilt = 13
+abbrev pub status_code : Status → ℕ
+status_code status.Ok = 0
+status_code status.Usage = 2
+status_code status.FileFault = 3
+status_code status.BadDescription = 4
+status_code status.BadSource = 5
+status_code status.BadScript = 6
+status_code status.BadCapsule = 7
+status_code status.LogFull = 8
+status_code status.SinkFault = 9
+status_code status.NoMemory = 10
+status_code status.Refuted = 11
+status_code status.BadStream = 12
+status_code status.Unbuilt = 13

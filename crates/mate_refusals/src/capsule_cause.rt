@@ -4,7 +4,7 @@ ghost use Rattle.std.specs.Prelude.{codes};
 ghost use Rattle.mate_files.specs.Pen.{Prints};
 ghost use Rattle.mate_refusals.specs.CapsuleCauses.{digit_words, image_words, verify_words, capsule_words};
 
-use crate::numbered::print_numbered;
+use crate::line_ends::print_numbered;
 use capsule_codec::{CapsuleFault, HexFault};
 use code_verifier::VerifyFault;
 use mate_files::{Pen, Sink};

@@ -3,11 +3,11 @@
 ghost use Rattle.std.specs.Prelude.{◌≡◌, ◌++◌, codes};
 ghost use Rattle.mate_files.specs.Pen.{Prints};
 ghost use Rattle.mate_refusals.specs.CapsuleCauses.{capsule_words};
-ghost use Rattle.mate_refusals.specs.LineEnds.{about};
+ghost use Rattle.mate_refusals.specs.LineEnds.{name_line};
 ghost use Rattle.mate_refusals.specs.SourceCauses.{source_words, code_words};
 
 use crate::capsule_cause::CapsuleCause;
-use crate::numbered::{print_about, print_numbered};
+use crate::line_ends::{print_about, print_numbered};
 use crate::source_cause::SourceCause;
 use crate::status::Status;
 use mate_files::{Pen, Sink};
@@ -37,10 +37,10 @@ pub enum Cause {
 }
 
 impl Cause {
-    ghost use Rattle.mate_refusals.specs.Refusals.{status_in, file_line};
+    ghost use Rattle.mate_refusals.specs.Refusals.{cause_status, file_line};
 
     pub(crate) fn status(&self) -> Status
-        ensures { result ≡ status_in self.now }
+        ensures { result ≡ cause_status self.now }
     {
         match self {
             Cause::Unread(_) => Status::FileFault,

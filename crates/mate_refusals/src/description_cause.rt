@@ -4,7 +4,7 @@ ghost use Rattle.std.specs.Prelude.{◌≡◌, ◌++◌, ⊤, MatchOption, codes
 ghost use Rattle.mate_files.specs.Pen.{Prints};
 ghost use Rattle.mate_refusals.specs.DescriptionCauses.{description_words, fault_told};
 
-use crate::numbered::print_about;
+use crate::line_ends::print_about;
 use mate_files::{Pen, Sink};
 use mate_num::Name;
 use vm_desc::{DescFault, Key};

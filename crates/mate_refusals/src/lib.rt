@@ -4,7 +4,7 @@
 pub mod capsule_cause;
 pub mod cause;
 pub mod description_cause;
-mod numbered;
+mod line_ends;
 pub mod refusal;
 pub mod source_cause;
 pub mod status;

@@ -26,7 +26,7 @@ pub enum Refusal {
 }
 
 impl Refusal {
-    ghost use Rattle.mate_refusals.specs.Refusals.{status_of, line_of, Refuses};
+    ghost use Rattle.mate_refusals.specs.Refusals.{status_of, line_of, TellsRefusal};
 
     fn status(&self) -> Status
         ensures { result ≡ status_of self.now }
@@ -63,7 +63,7 @@ impl Refusal {
     /// Writes the refusal's line to `err` and answers its status. A failing `err` changes nothing; where it wants
     /// memory, the status is that of no memory.
     pub fn refuse<E: Sink>(&self, err: &mut E) -> Status
-        ensures { Refuses (E.written err.old) (E.faults err.old) (E.written err.new) (E.faults err.new) self.now result }
+        ensures { TellsRefusal (E.written err.old) (E.faults err.old) (E.written err.new) (E.faults err.new) self.now result }
     {
         match self.tell(err) {
             Ok(()) => self.status(),

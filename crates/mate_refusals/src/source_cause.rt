@@ -4,10 +4,10 @@ ghost use Rattle.std.specs.Prelude.{◌≡◌, ◌++◌, ℕ, List, codes, ⊤, 
 ghost use Rattle.mate_files.specs.Pen.{Prints};
 ghost use Rattle.vm_desc.specs.declared.description.Description.{Description as DescriptionValue};
 ghost use Rattle.ts_source.specs.Answers.{IsRefused, IsMisspelt, IsUnmeant};
-ghost use Rattle.mate_refusals.specs.LineEnds.{numbered};
+ghost use Rattle.mate_refusals.specs.LineEnds.{number_line};
 ghost use Rattle.mate_refusals.specs.SourceCauses.{source_words, IsBadSource};
 
-use crate::numbered::{print_about, print_numbered};
+use crate::line_ends::{print_about, print_numbered};
 use mate_files::{Pen, Sink};
 use mate_num::Name;
 use ts_checker::CheckFault;
@@ -94,7 +94,7 @@ fn meaning_cause(fault: CheckFault) -> Option<SourceCause>
 }
 
 fn print_undeclared<E: Sink>(pen: &mut Pen, err: &mut E, name: &Name, place: u32)
-    ensures { Prints (E.written err.old) (E.faults err.old) pen.old.result (E.written err.new) (E.faults err.new) pen.new.result (codes "undeclared " ++ name.now ++ numbered (codes " ") place) }
+    ensures { Prints (E.written err.old) (E.faults err.old) pen.old.result (E.written err.new) (E.faults err.new) pen.new.result (codes "undeclared " ++ name.now ++ number_line (codes " ") place) }
 {
     pen.text(err, "undeclared ");
     pen.text(err, name.as_str());

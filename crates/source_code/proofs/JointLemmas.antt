@@ -7,7 +7,6 @@ use Rattle.mate_num.specs.declared.shape.Shape.{Shape}
 use Rattle.mate_code.specs.BytesVerification.{bytes_verification}
 use Rattle.ts_syntax.specs.Statement.{Block}
 use Rattle.ts_meaning.specs.Uses.{uses_of}
-use Rattle.ts_translation.specs.Laws.{UsesAsItsScript}
 use Rattle.ts_translation.specs.Translation.{code_of}
 use Rattle.ts_translation.proofs.UsesLemmas.{UsesAsItsScript-script_code}
 use Rattle.ts_compiler.specs.Compiled.{AreAccepted}

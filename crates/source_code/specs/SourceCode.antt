@@ -5,6 +5,7 @@ use Rattle.mate_num.specs.declared.shape.Shape.{Shape}
 use Rattle.mate_num.specs.declared.store.Store.{Store}
 use Rattle.mate_code.specs.Run.{code_run}
 use Rattle.ts_syntax.specs.Statement.{Block}
+use Rattle.ts_syntax.specs.Checked.{shape_of, tree_of}
 use Rattle.ts_meaning.specs.Meaning.{run_of}
 use Rattle.ts_translation.specs.Laws.{UsesAsItsScript, as_played}
 use Rattle.ts_translation.specs.Translation.{code_of}
@@ -12,6 +13,7 @@ use Rattle.ts_compiler.specs.Compiled.{IsCompiled, Compiles, AreAccepted}
 use Rattle.ts_compiler.specs.declared.fault.CompileFault.{CompileFault}
 use Rattle.ts_fold.specs.Folded.{folded}
 use Rattle.ts_fold.specs.Laws.{UsesNoMore}
+use Rattle.source_code.specs.declared.code.CompiledScript.{CompiledScript}
 use Rattle.source_code.specs.declared.code.CodeFault.{CodeFault}
 use Rattle.source_code.specs.declared.code.CodeFault.TheVariants.{NoMemory, Uncompiled}
 
@@ -39,8 +41,14 @@ pub record IsCodeOf (shape : Shape) (fold : Bool) (tree : Block) (code : ArrayVe
 abbrev pub HasNoCode : Shape → Bool → Block → CompileFault → Type 0
 HasNoCode shape fold tree fault = Compiles shape (compiled_tree fold tree) (Err fault)
 
--- the code of an accepted tree, or why there is none
-abbrev pub GivesCode : Shape → Bool → Block → Result (ArrayVec ℕ) CodeFault → Type 0
-GivesCode shape fold tree (Ok code) = IsCodeOf shape fold tree code
+-- the compiled script of an accepted tree, with its code
+pub record IsCompiledOf (shape : Shape) (fold : Bool) (tree : Block) (c : CompiledScript) : Type 0 where
+  pub shape_is : shape_of c.script ≡ shape
+  pub tree_is : tree_of c.script ≡ compiled_tree fold tree
+  pub code_is : IsCodeOf shape fold tree c.code
+
+-- the compiled script of an accepted tree, or why there is none
+abbrev pub GivesCode : Shape → Bool → Block → Result CompiledScript CodeFault → Type 0
+GivesCode shape fold tree (Ok c) = IsCompiledOf shape fold tree c
 GivesCode shape fold tree (Err (Uncompiled fault)) = HasNoCode shape fold tree fault
 GivesCode shape fold tree (Err NoMemory) = Unit {0}

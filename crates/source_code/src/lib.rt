@@ -4,5 +4,5 @@
 pub mod code;
 pub mod laws;
 
-pub use code::{CodeFault, code_of};
+pub use code::{CodeFault, CompiledScript, compiled_script};
 pub use laws::{compiled_code_is_verified, locks_of_compiled_code};

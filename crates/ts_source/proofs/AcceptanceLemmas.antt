@@ -1,5 +1,5 @@
 -- What is said of a source's bytes is what the cut of the bytes, the verdict on their tokens and the checks give.
-use Rattle.std.proofs.Common.{◌≡◌, ℕ, List, length, Result, Ok, Err, ◌⊎◌, inl, inr, refl, sym, ◌∙◌, ap, subst}
+use Rattle.std.proofs.Common.{◌≡◌, ◌≢◌, ℕ, List, length, Result, Ok, Err, ◌⊎◌, inl, inr, refl, sym, ◌∙◌, ap, subst}
 use Rattle.vm_desc.specs.declared.description.Description.{Description}
 use Rattle.ts_syntax.specs.Cut.{cut, CutFault}
 use Rattle.ts_syntax.specs.Statement.{Block}
@@ -10,6 +10,8 @@ use Rattle.ts_parser.proofs.VerdictLemmas.{one_verdict, some_verdict}
 use Rattle.ts_checker.specs.Accepted.{IsAccepted, IsRefusedBy, Refusal, by_bytes, unexpected, too_deep, by_check}
 use Rattle.ts_checker.specs.Checks.{checked_source}
 use Rattle.ts_checker.specs.declared.fault.CheckFault.{CheckFault}
+use Rattle.ts_checker.specs.declared.fault.CheckFault.TheVariants.{NoMemory}
+use Rattle.ts_checker.proofs.ToldLemmas.{checks_told}
 
 -- the tree is accepted, or the refusal is the first
 IsSaid : Description → List ℕ → Result Block Refusal → Type 0
@@ -61,23 +63,26 @@ pub apart : (d : Description) (bytes : List ℕ) (tree : Block) (r : Refusal) �
 unfolding IsSaid
 apart d bytes tree r p q = let e = said_once d bytes (Ok tree) (Err r) p q in cc
 
--- ---- something is said
+-- ---- something is said, and want of memory never is
 
 Said : Description → List ℕ → Type 0
-Said d bytes = ((tree : Block) × IsAccepted d bytes tree) ⊎ ((r : Refusal) × IsRefusedBy d bytes r)
+Said d bytes = ((tree : Block) × IsAccepted d bytes tree) ⊎ ((r : Refusal) × IsRefusedBy d bytes r × (r ≢ by_check NoMemory))
+
+fault_same : (f : CheckFault) → by_check f ≡ by_check NoMemory → f ≡ NoMemory
+fault_same f e = cc
 
 of_spelled : (d : Description) (bytes : List ℕ) (tokens : List Token) (v : Verdict) → cut bytes ≡ Ok tokens → IsSo tokens (length bytes) v → Said d bytes
 unfolding Said
 of_spelled d bytes ts (verdict.spelled s) e so = by (checked_source d s) refl where
   by : (o : Result Block CheckFault) → checked_source d s ≡ o → Said d bytes
   by (Ok tree) h = inl (tree, record { tokens = ts; source = s; cuts = e; spells = so; checks = h })
-  by (Err f) h = inr (by_check f, record { tokens = ts; source = s; cuts = e; spells = so; checks = h })
-of_spelled d bytes ts (verdict.unexpected place) e so = inr (unexpected place, record { tokens = ts; cuts = e; stops = so })
-of_spelled d bytes ts (verdict.too_deep place) e so = inr (too_deep place, record { tokens = ts; cuts = e; deep = so })
+  by (Err f) h = inr (by_check f, record { tokens = ts; source = s; cuts = e; spells = so; checks = h }, λ is. checks_told d s (h ∙ ap Err (fault_same f is)))
+of_spelled d bytes ts (verdict.unexpected place) e so = inr (unexpected place, record { tokens = ts; cuts = e; stops = so }, λ is. cc)
+of_spelled d bytes ts (verdict.too_deep place) e so = inr (too_deep place, record { tokens = ts; cuts = e; deep = so }, λ is. cc)
 
-pub some : (d : Description) (bytes : List ℕ) → ((tree : Block) × IsAccepted d bytes tree) ⊎ ((r : Refusal) × IsRefusedBy d bytes r)
+pub some : (d : Description) (bytes : List ℕ) → ((tree : Block) × IsAccepted d bytes tree) ⊎ ((r : Refusal) × IsRefusedBy d bytes r × (r ≢ by_check NoMemory))
 unfolding Said
 some d bytes = by (cut bytes) refl where
-  by : (o : Result (List Token) CutFault) → cut bytes ≡ o → ((tree : Block) × IsAccepted d bytes tree) ⊎ ((r : Refusal) × IsRefusedBy d bytes r)
+  by : (o : Result (List Token) CutFault) → cut bytes ≡ o → ((tree : Block) × IsAccepted d bytes tree) ⊎ ((r : Refusal) × IsRefusedBy d bytes r × (r ≢ by_check NoMemory))
   by (Ok ts) e = let v = some_verdict ts (length bytes) in of_spelled d bytes ts v.0 e v.1
-  by (Err fault) e = inr (by_bytes fault, e)
+  by (Err fault) e = inr (by_bytes fault, e, λ is. cc)

@@ -1,7 +1,7 @@
 use Rattle.std.proofs.Common.{inl, inr, refl, List, map, subst, string_bytes, String, rules}
 use Rattle.std.specs.Global.{Global}
 use Rattle.command_line.specs.Words.{HasNoLine}
-use Rattle.mate_commands.specs.Words.{Task, seen, Says, SaysNothing}
+use Rattle.mate_commands.specs.Words.{Task, task_held, Says, SaysNothing}
 use Rattle.mate_cli.specs.Steps.{goes_on, stops}
 use Rattle.mate_refusals.specs.declared.refusal.Refusal.TheVariants.{Usage, NoMemory}
 use Rattle.mate_cli.proofs.top.output_of.Goals as goal
@@ -17,7 +17,7 @@ returns-in-Err-NoMemory-clause-does g c = stops NoMemory (inr refl) refl
 
 pub returns-in-Some-clause-does : goal.returns-in-Some-clause-does
 returns-in-Some-clause-does g c =
-    let task : Task = seen c.in-Some.task in
+    let task : Task = task_held c.in-Some.task in
     let Q : List (String Global) → Type 0 = λ ws. Says (map string_bytes ws) task in
     let says : Says (map string_bytes c.as_slice.result.now) task = record { line = _; is = c.in-Ok.ensures; task_is = search rules } in
     goes_on task (subst Q c.as_slice.ensures.value says) c.task_output.ensures.does

@@ -1,7 +1,7 @@
 use Rattle.ts_syntax.specs.Checked.{tree_of}
 use Rattle.mate_cli.specs.Steps.{goes_on}
 use Rattle.mate_cli.proofs.Laws.{stops_by}
-use Rattle.mate_cli.proofs.source.code_in.Goals as goal
+use Rattle.mate_cli.proofs.source.compiled_bytes.Goals as goal
 
 pub returns-in_err-script-clause-does : goal.returns-in_err-script-clause-does
 returns-in_err-script-clause-does c = stops_by c.in_err-script.field-0.0 c.from_residual.result c.in_err-script.ensures.does c.from_residual.ensures.1

@@ -2,13 +2,13 @@
 
 ghost use Rattle.std.specs.Prelude.{◌++◌, codes};
 ghost use Rattle.mate_files.specs.Pen.{Prints};
-ghost use Rattle.mate_refusals.specs.LineEnds.{numbered, about};
+ghost use Rattle.mate_refusals.specs.LineEnds.{number_line, name_line};
 
 use mate_files::{Pen, Sink};
 
 /// A word, a number and a line feed.
 pub fn print_numbered<E: Sink>(pen: &mut Pen, err: &mut E, word: &str, number: u32)
-    ensures { Prints (E.written err.old) (E.faults err.old) pen.old.result (E.written err.new) (E.faults err.new) pen.new.result (numbered word.now number) }
+    ensures { Prints (E.written err.old) (E.faults err.old) pen.old.result (E.written err.new) (E.faults err.new) pen.new.result (number_line word.now number) }
 {
     pen.text(err, word);
     pen.number(err, number as u64);
@@ -17,7 +17,7 @@ pub fn print_numbered<E: Sink>(pen: &mut Pen, err: &mut E, word: &str, number: u
 
 /// A word, a name and a line feed.
 pub fn print_about<E: Sink>(pen: &mut Pen, err: &mut E, word: &str, name: &str)
-    ensures { Prints (E.written err.old) (E.faults err.old) pen.old.result (E.written err.new) (E.faults err.new) pen.new.result (about word.now name.now) }
+    ensures { Prints (E.written err.old) (E.faults err.old) pen.old.result (E.written err.new) (E.faults err.new) pen.new.result (name_line word.now name.now) }
 {
     pen.text(err, word);
     pen.text(err, name);
