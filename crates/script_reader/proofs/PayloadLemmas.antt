@@ -12,7 +12,7 @@ pub record IsReadTo (all : List (List ℕ)) (values : List ℤ) (rest : List (Li
   pub whole : values_from [] (take 10 all) ≡ values_from values (take (10 - length values) rest)
   pub after : drop 10 all ≡ drop (10 - length values) rest
 
-abbrev with_rest : List (List ℕ) → Result (Taken ℤ) Cause → Result (Taken ℤ) Cause
+abbrev pub with_rest : List (List ℕ) → Result (Taken ℤ) Cause → Result (Taken ℤ) Cause
 with_rest words (Ok t) = Ok (record { value = t.value; rest = words })
 with_rest words (Err cause) = Err cause
 
@@ -21,7 +21,7 @@ found_again (Ok v) words = refl
 found_again (Err cause) words = refl
 
 -- what a word is doesn't depend on the words behind it
-one_value : (w : List ℕ) (words : List (List ℕ)) → a_value (w ∷ words) ≡ with_rest words (a_value (w ∷ []))
+pub one_value : (w : List ℕ) (words : List (List ℕ)) → a_value (w ∷ words) ≡ with_rest words (a_value (w ∷ []))
 unfolding a_value
 one_value w words = by (printed w)
   where
@@ -29,7 +29,7 @@ one_value w words = by (printed w)
     by (Ok text) = found_again (value_of text) words
     by (Err cause) = refl
 
-nothing_to_read : (r : Result (Taken ℤ) Cause) → a_value [] ≡ r → r ≡ Err Word
+pub nothing_to_read : (r : Result (Taken ℤ) Cause) → a_value [] ≡ r → r ≡ Err Word
 unfolding a_value
 nothing_to_read r e = sym e
 
@@ -41,12 +41,12 @@ abbrev rest_or : List (List ℕ) → Result (Taken ℤ) Cause → List (List ℕ
 rest_or other (Ok t) = t.rest
 rest_or other (Err cause) = other
 
-by_value : (next : ℤ → Result (List ℤ) Cause) (r : Result (Taken ℤ) Cause) (words rest : List (List ℕ)) (v : ℤ) → with_rest words r ≡ Ok (record { value = v; rest = rest })
+pub by_value : (next : ℤ → Result (List ℤ) Cause) (r : Result (Taken ℤ) Cause) (words rest : List (List ℕ)) (v : ℤ) → with_rest words r ≡ Ok (record { value = v; rest = rest })
     → (then_more next r ≡ next v) × (words ≡ rest)
 by_value next (Ok t) words rest v e = (ap next (ap (value_or v) e), ap (rest_or rest) e)
 by_value next (Err cause) words rest v e = absurd cc
 
-by_fault : (next : ℤ → Result (List ℤ) Cause) (r : Result (Taken ℤ) Cause) (words : List (List ℕ)) (cause : Cause) → with_rest words r ≡ Err cause
+pub by_fault : (next : ℤ → Result (List ℤ) Cause) (r : Result (Taken ℤ) Cause) (words : List (List ℕ)) (cause : Cause) → with_rest words r ≡ Err cause
     → then_more next r ≡ Err cause
 by_fault next (Ok t) words cause e = absurd cc
 by_fault next (Err fault) words cause e = cc

@@ -137,3 +137,7 @@ line_is_last text (b ∷ line) [] front back none some =
   where
     one : (b : ℕ) (line : List ℕ) → lines_of_parts ((b ∷ line) ∷ []) ≡ (b ∷ line) ∷ []
     one b line = let e : (length (b ∷ line) == 0) ≡ false = grind arith in rw e refl
+
+pub no_line : (text : List ℕ) → length text ≡ 0 → lines text ≡ []
+no_line [] none = refl
+no_line (byte ∷ bytes) none = absurd (omega arith)

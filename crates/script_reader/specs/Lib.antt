@@ -2,5 +2,6 @@ pub mod Lines
 pub mod Words
 pub mod Script
 pub mod Steps
+pub mod World
 pub mod NodeScript
 pub mod NodeReader

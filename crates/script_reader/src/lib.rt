@@ -2,13 +2,17 @@
 #![tactic(auto)]
 
 pub mod fault;
-mod lines;
+pub mod lines;
 pub mod node;
 pub mod steps;
 #[cfg(test)]
 mod tests;
-mod words;
+pub mod words;
+pub mod world;
 
 pub use fault::{Cause, ScriptFault};
+pub use lines::Lines;
 pub use node::node_script;
 pub use steps::{Step, Steps};
+pub use words::Words;
+pub use world::{Link, Links, Plan, Planned, Series, SeriesList, Values, What, World};

@@ -4,23 +4,34 @@ ghost use Rattle.std.specs.Prelude.{◌≡◌, ◌<◌, ◌≤◌, ◌∷◌, []
 ghost use Rattle.std.specs.List.{prefix_len};
 ghost use Rattle.std.specs.Str.Lines.{lines, strip_carriage_return};
 
-/// The lines of a text that are still to be read.
+use std::marker::Model;
+
+/// The lines of a text that are still to be read. Contracts see the bytes that are left.
 #[derive(Drop)]
 pub struct Lines<'a> {
     rest: &'a [u8],
 }
 
+impl<'a> Model for Lines<'a> {
+    ghost use Rattle.std.specs.Prelude.{List, ℕ};
+
+    ghost Value = { List ℕ };
+
+    ghost view = { λ l. l.rest.now };
+}
+
 impl<'a> Lines<'a> {
+    /// The lines of `text`.
     pub fn of(text: &'a [u8]) -> Lines<'a>
-        ensures { result.rest.now ≡ text.now }
+        ensures { result ≡ text.now }
     {
         Lines { rest: text }
     }
 
-    /// The next line.
+    /// The next line, without its end; None exactly where no line is left.
     pub fn next(&mut self) -> Option<&'a [u8]>
-        ensures line { MatchOption result (lines self.old.rest.now ≡ []) (λ line. lines self.old.rest.now ≡ line.now ∷ lines self.new.rest.now) }
-        ensures shorter { IfSome result (λ _. length self.new.rest.now < length self.old.rest.now) }
+        ensures line { MatchOption result (lines self.old ≡ []) (λ line. lines self.old ≡ line.now ∷ lines self.new) }
+        ensures shorter { IfSome result (λ _. length self.new < length self.old) }
     {
         let (line, rest) = self.rest.split_at(line_len(self.rest));
         match rest {

@@ -127,7 +127,7 @@ fn line_in<'a>(
     files: u32,
     words: &mut Words<'a>,
 ) -> Result<Said<'a>, Cause>
-    ensures value { Reads said_of (a_line desc.now newest.now files) (words_of words.old.rest.now) result (words_of words.new.rest.now) }
+    ensures value { Reads said_of (a_line desc.now newest.now files) (words_of words.old) result (words_of words.new) }
     ensures right { IfOk result (λ said. IsRightSaid desc.now newest.now files (said_of said)) }
 {
     let verb = words.word()?;
@@ -149,7 +149,7 @@ fn behind<'a>(
     verb: &str,
     words: &mut Words<'a>,
 ) -> Result<Said<'a>, Cause>
-    ensures value { Reads said_of (behind desc.now newest.now files verb.now) (words_of words.old.rest.now) result (words_of words.new.rest.now) }
+    ensures value { Reads said_of (behind desc.now newest.now files verb.now) (words_of words.old) result (words_of words.new) }
     ensures right { IfOk result (λ said. IsRightSaid desc.now newest.now files (said_of said)) }
 {
     if verb == "install" {
@@ -189,7 +189,7 @@ fn install_in<'a>(
     files: u32,
     words: &mut Words<'a>,
 ) -> Result<Said<'a>, Cause>
-    ensures value { Reads said_of (an_install desc.now newest.now files) (words_of words.old.rest.now) result (words_of words.new.rest.now) }
+    ensures value { Reads said_of (an_install desc.now newest.now files) (words_of words.old) result (words_of words.new) }
     ensures right { IfOk result (λ said. IsRightSaid desc.now newest.now files (said_of said)) }
 {
     let handler = words.handler(desc)?;
@@ -218,7 +218,7 @@ fn newest_of(newest: &[u32; 8], handler: HandlerId) -> u32
 
 #[tactic(auto, unfolding(crate::specs::NodeScript::a_load))]
 fn load_in<'a>(files: u32, words: &mut Words<'a>) -> Result<Said<'a>, Cause>
-    ensures value { Reads said_of (a_load files) (words_of words.old.rest.now) result (words_of words.new.rest.now) }
+    ensures value { Reads said_of (a_load files) (words_of words.old) result (words_of words.new) }
     ensures right { IfOk result (λ said. (d : Description) (newest : List ℕ) → IsRightSaid d newest files (said_of said)) }
 {
     let file = words.word()?;
@@ -230,7 +230,7 @@ fn load_in<'a>(files: u32, words: &mut Words<'a>) -> Result<Said<'a>, Cause>
 
 #[tactic(auto, unfolding(crate::specs::NodeScript::a_post))]
 fn post_in<'a>(desc: &Description, words: &mut Words<'a>) -> Result<Said<'a>, Cause>
-    ensures value { Reads said_of (a_post desc.now) (words_of words.old.rest.now) result (words_of words.new.rest.now) }
+    ensures value { Reads said_of (a_post desc.now) (words_of words.old) result (words_of words.new) }
     ensures right { IfOk result (λ said. (newest : List ℕ) (files : ℕ) → IsRightSaid desc.now newest files (said_of said)) }
 {
     let handler = words.handler(desc)?;
@@ -241,7 +241,7 @@ fn post_in<'a>(desc: &Description, words: &mut Words<'a>) -> Result<Said<'a>, Ca
 
 #[tactic(auto, unfolding(crate::specs::NodeScript::a_step))]
 fn step_in<'a>(desc: &Description, words: &mut Words<'a>) -> Result<Said<'a>, Cause>
-    ensures value { Reads said_of (a_step desc.now) (words_of words.old.rest.now) result (words_of words.new.rest.now) }
+    ensures value { Reads said_of (a_step desc.now) (words_of words.old) result (words_of words.new) }
     ensures right { IfOk result (λ said. (newest : List ℕ) (files : ℕ) → IsRightSaid desc.now newest files (said_of said)) }
 {
     let ctx = words.context(desc)?;
@@ -252,7 +252,7 @@ fn step_in<'a>(desc: &Description, words: &mut Words<'a>) -> Result<Said<'a>, Ca
 
 #[tactic(auto, unfolding(crate::specs::NodeScript::an_answer))]
 fn answer_in<'a>(desc: &Description, words: &mut Words<'a>) -> Result<Said<'a>, Cause>
-    ensures value { Reads said_of (an_answer desc.now) (words_of words.old.rest.now) result (words_of words.new.rest.now) }
+    ensures value { Reads said_of (an_answer desc.now) (words_of words.old) result (words_of words.new) }
     ensures right { IfOk result (λ said. (newest : List ℕ) (files : ℕ) → IsRightSaid desc.now newest files (said_of said)) }
 {
     let ctx = words.context(desc)?;

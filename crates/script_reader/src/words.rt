@@ -10,24 +10,34 @@ ghost use Rattle.script_reader.specs.Words.{Reads, is_printable, printed, a_word
 
 use crate::fault::Cause;
 use mate_num::{ContextId, HandlerId, Payload};
+use std::marker::Model;
 use vm_desc::Description;
 
-/// The words of a line that are still to be read.
+/// The words of a line that are still to be read. Contracts see the bytes that are left.
 #[derive(Drop)]
 pub struct Words<'a> {
     rest: &'a [u8],
 }
 
+impl<'a> Model for Words<'a> {
+    ghost use Rattle.std.specs.Prelude.{List, ℕ};
+
+    ghost Value = { List ℕ };
+
+    ghost view = { λ w. w.rest.now };
+}
+
 impl<'a> Words<'a> {
+    /// The words of `line`.
     pub fn of(line: &'a [u8]) -> Words<'a>
-        ensures { result.rest.now ≡ line.now }
+        ensures { result ≡ line.now }
     {
         Words { rest: line }
     }
 
     /// The next word, whatever its bytes are.
     fn next(&mut self) -> Option<&'a [u8]>
-        ensures { MatchOption result ((words_of self.old.rest.now ≡ []) × (words_of self.new.rest.now ≡ [])) (λ w. words_of self.old.rest.now ≡ w.now ∷ words_of self.new.rest.now) }
+        ensures { MatchOption result ((words_of self.old ≡ []) × (words_of self.new ≡ [])) (λ w. words_of self.old ≡ w.now ∷ words_of self.new) }
     {
         let (_, rest) = self.rest.split_at(blanks_len(self.rest));
         let (word, rest) = rest.split_at(word_len(rest));
@@ -37,7 +47,7 @@ impl<'a> Words<'a> {
 
     /// Whether no word is left.
     pub fn is_done(&self) -> bool
-        ensures { result ≡ (length (words_of self.now.rest.now) == 0) }
+        ensures { result ≡ (length (words_of self.now) == 0) }
     {
         let mut ahead = Words { rest: self.rest };
         match ahead.next() {
@@ -48,7 +58,7 @@ impl<'a> Words<'a> {
 
     /// Whether the line says nothing: it has no word, or its first word begins with `#`.
     pub fn is_skipped(&self) -> bool
-        ensures { result ≡ is_skipped (words_of self.now.rest.now) }
+        ensures { result ≡ is_skipped (words_of self.now) }
     {
         let mut ahead = Words { rest: self.rest };
         match ahead.next() {
@@ -59,7 +69,7 @@ impl<'a> Words<'a> {
 
     /// The next word, of printable characters.
     pub fn word(&mut self) -> Result<&'a str, Cause>
-        ensures { Reads (λ w. w.now) a_word (words_of self.old.rest.now) result (words_of self.new.rest.now) }
+        ensures { Reads (λ w. w.now) a_word (words_of self.old) result (words_of self.new) }
     {
         match self.next() {
             Some(word) => printed(word),
@@ -69,7 +79,7 @@ impl<'a> Words<'a> {
 
     /// Refuses a word that is left.
     pub fn finish(&mut self) -> Result<(), Cause>
-        ensures { Reads (λ u. u) nothing_more (words_of self.old.rest.now) result (words_of self.new.rest.now) }
+        ensures { Reads (λ u. u) nothing_more (words_of self.old) result (words_of self.new) }
     {
         match self.next() {
             Some(_) => Err(Cause::Word),
@@ -80,7 +90,7 @@ impl<'a> Words<'a> {
     /// A number from `low` to `high`; one that is outside is refused with `outside`.
     #[tactic(auto, unfolding(crate::specs::Words::a_number))]
     pub fn number(&mut self, low: u64, high: u64, outside: Cause) -> Result<u64, Cause>
-        ensures value { Reads (λ n. n) (a_number low high outside) (words_of self.old.rest.now) result (words_of self.new.rest.now) }
+        ensures value { Reads (λ n. n) (a_number low high outside) (words_of self.old) result (words_of self.new) }
         ensures low { IfOk result (λ n. low ≤ n) }
         ensures high { IfOk result (λ n. n ≤ high) }
     {
@@ -91,7 +101,7 @@ impl<'a> Words<'a> {
     /// A value of a script.
     #[tactic(auto, unfolding(crate::specs::Words::a_value))]
     pub fn value(&mut self) -> Result<i16, Cause>
-        ensures { Reads (λ v. v) a_value (words_of self.old.rest.now) result (words_of self.new.rest.now) }
+        ensures { Reads (λ v. v) a_value (words_of self.old) result (words_of self.new) }
     {
         let word = self.word()?;
         value_in(word)
@@ -99,7 +109,7 @@ impl<'a> Words<'a> {
 
     /// The values of the words that are left, but of no more than ten.
     pub fn payload(&mut self) -> Result<Payload, Cause>
-        ensures value { Reads (λ p. p) a_payload (words_of self.old.rest.now) result (words_of self.new.rest.now) }
+        ensures value { Reads (λ p. p) a_payload (words_of self.old) result (words_of self.new) }
         ensures few { IfOk result (λ p. length p.items ≤ 10) }
     {
         let mut values = Payload::new();
@@ -113,7 +123,7 @@ impl<'a> Words<'a> {
     /// A handler of the machine, by its name.
     #[tactic(auto, unfolding(crate::specs::Words::a_handler))]
     pub fn handler(&mut self, desc: &Description) -> Result<HandlerId, Cause>
-        ensures value { Reads (λ h. h) (a_handler desc.now) (words_of self.old.rest.now) result (words_of self.new.rest.now) }
+        ensures value { Reads (λ h. h) (a_handler desc.now) (words_of self.old) result (words_of self.new) }
         ensures below { IfOk result (λ h. h.0 < length desc.now.handlers.items) }
     {
         let word = self.word()?;
@@ -123,7 +133,7 @@ impl<'a> Words<'a> {
     /// A version that is newer than `newest`.
     #[tactic(auto, unfolding(crate::specs::Words::a_version))]
     pub fn version(&mut self, newest: u32) -> Result<u32, Cause>
-        ensures value { Reads (λ v. v) (a_version newest) (words_of self.old.rest.now) result (words_of self.new.rest.now) }
+        ensures value { Reads (λ v. v) (a_version newest) (words_of self.old) result (words_of self.new) }
         ensures low { IfOk result (λ v. 1 ≤ v) }
         ensures high { IfOk result (λ v. v ≤ 4294967295) }
         ensures newer { IfOk result (λ v. newest < v) }
@@ -135,7 +145,7 @@ impl<'a> Words<'a> {
     /// The number of a context of the machine.
     #[tactic(auto, unfolding(crate::specs::Words::a_context))]
     pub fn context(&mut self, desc: &Description) -> Result<ContextId, Cause>
-        ensures value { Reads (λ c. c) (a_context desc.now) (words_of self.old.rest.now) result (words_of self.new.rest.now) }
+        ensures value { Reads (λ c. c) (a_context desc.now) (words_of self.old) result (words_of self.new) }
         ensures below { IfOk result (λ c. c.0 < context_count desc.now) }
     {
         let last = u64::from(desc.contexts() - 1);

@@ -4,7 +4,7 @@ use Rattle.script_reader.proofs.NodeLemmas.{IsAtLine}
 use Rattle.script_reader.proofs.node.node_script.Given as goal
 
 abbrev pub invariant-lines : goal.invariant-lines
-invariant-lines l = IsAtLine l.desc l.bytes l.number (progress_of l.reader) l.lines.rest.now
+invariant-lines l = IsAtLine l.desc l.bytes l.number (progress_of l.reader) l.lines
 
 abbrev pub decreases-lines : goal.decreases-lines
-decreases-lines l = length l.lines.rest.now
+decreases-lines l = length l.lines
