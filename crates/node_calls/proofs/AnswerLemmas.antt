@@ -39,8 +39,8 @@ use Rattle.node_invariant.specs.Agrees.{code_for, uses_for, own_run, own_in, IsO
 use Rattle.node_invariant.specs.Keeps.{reading, Keeps, IsTimely}
 use Rattle.node_invariant.specs.Continues.{Continues}
 use Rattle.node_invariant.proofs.FitLemmas.{HasSeat, IsAlone}
-use Rattle.node_invariant.proofs.KeepLemmas.{IsPrepared-same}
-use Rattle.node_invariant.proofs.MoveLemmas.{alone-seat, answering, was_waiting, stood_waiting, waits-in, Fits-answered, none_waits}
+use Rattle.node_invariant.proofs.KeepLemmas.{IsPrepared-same, AddsTidily-plain}
+use Rattle.node_invariant.proofs.MoveLemmas.{alone-seat, answering, was_waiting, stood_waiting, waits-in, Fits-answered}
 use Rattle.node_invariant.proofs.AgreeLemmas.{Agrees-moves}
 use Rattle.node_grants.specs.Queue.{number_at, number_in}
 use Rattle.mate_journal.specs.Pace.{Pace, paced}
@@ -49,7 +49,7 @@ use Rattle.node_grants.specs.Starting.{KeepsOrder, Rests}
 use Rattle.node_grants.proofs.WaiterLemmas.{all-held-moves}
 use Rattle.node_grants.proofs.OrderLemmas.{IsQueue-becomes, KeepsOrder-push, heard-by, grows-by}
 use Rattle.node_grants.proofs.StartLemmas.{map-same}
-use Rattle.node_calls.specs.Calls.{RestsAgain, NobodyWaits}
+use Rattle.node_calls.specs.Calls.{RestsAgain}
 
 -- ---- the run goes on
 
@@ -171,10 +171,10 @@ module _ (d : Description) (old : Parts) (contexts : Contexts) (log : Log) (stam
     Continues-answered =
         let n = keeps.numbers in
         record {
-          prepared = IsPrepared-same d old keeps;
+          prepared = IsPrepared-same old.log;
           pushed = pushed;
           tells = refl;
-          named = tt;
+          tidily = AddsTidily-plain d old.log log stamp (entry.Answer one.seat.inv value) pushed (record { image = refl; store = refl; in_range = tt });
           timely = timely;
           follows = record { fun = call.0; args = call.1; waits = waits };
           ends = tt;
@@ -273,7 +273,3 @@ CanAnswer-waiting d s c call rests small is_waiting =
       waits = waits-in (machine_in d) held r s.contexts c call fits is_waiting;
       absent = ap (λ (a : At). a.ready) (stood_waiting (machine_in d) held r s.contexts c call fits is_waiting);
     }
-
--- nobody waits where no call is pending
-pub NobodyWaits-none : (d : Description) (s : Parts) (c : ContextId) → Rests d s → (at s.contexts c).call ≡ None → NobodyWaits (reading d s.log) c
-NobodyWaits-none d s c rests none n waits context = none_waits (held_at s.handlers.programs) (reading d s.log) s.contexts c rests.order.keeps.fits none n waits.fun waits.args waits.waits context
