@@ -3,7 +3,8 @@
 use std::alloc::{AllocError, Global};
 use std::rt::Files;
 use std::{fs, io};
-use vm_desc::{Description, builtin, read};
+use vm_desc::{Description, builtin};
+use vm_reader::read;
 
 /// What answers the cases of a program's tables.
 pub trait Answers {

@@ -6,7 +6,7 @@ use mate_num::{End, Payload, Store};
 use std::alloc::{AllocError, Global};
 use ts_meaning::play;
 use ts_source::accept;
-use vm_desc::read;
+use vm_reader::read;
 
 /// What the message holds.
 const MESSAGE: [i16; 3] = [3, -1, 500];

@@ -380,3 +380,12 @@ first_below_total next heads c list head view linked within read some =
     let below = first_below next heads list head linked within (omega (arith, len_is, some)) read in
     let total : length next ≡ c.total = ap (λ (d : Places). d.total) view in
     omega (arith, below, total)
+
+length-listed : (n : ℕ) (f : ℕ → ℕ) → length (listed n f) ≡ n
+length-listed zero f = refl
+length-listed (suc n) f = ap suc (length-listed n (λ p. f (suc p)))
+
+pub length_seen : (next : List ℕ) (heads : List Head) (c : Places) (list : ℕ) (head : Head) → places_of next heads ≡ c → list < length heads → head ≡ get_or heads list head → head.len ≡ length (list_at c list)
+length_seen next heads c list head view within read =
+    let is : head ≡ head_of heads list = head_read heads list head within read in
+    ap (λ (h : Head). h.len) is ∙ sym (length-listed (head_of heads list).len (place_at next heads list)) ∙ ap (λ (xs : List ℕ). length xs) (sym (seen next heads c list view))

@@ -19,6 +19,11 @@ inserted x (y ∷ ys) = if nat_le y.time x.time then y ∷ inserted x ys else x 
 abbrev pub scheduled : {T : Type 0} → Agenda T → ℕ → T → Agenda T
 scheduled q time item = if nat_le time q.until then record q { items = inserted (record { time = time; item = item }) q.items } else q
 
+-- items more at one time, in their order
+abbrev pub scheduled_all : {T : Type 0} → Agenda T → ℕ → List T → Agenda T
+scheduled_all q time [] = q
+scheduled_all q time (item ∷ items) = scheduled_all (scheduled q time item) time items
+
 -- the item isn't of the group
 abbrev pub is_other : {T : Type 0} → (T → Option ℕ) → ℕ → Timed T → Bool
 is_other group g x = not (is_in group g x.item)
@@ -33,6 +38,11 @@ due_at t xs = filter_map (item_at t) xs
 -- at its time the item comes last, and at other times what came there
 pub record Adds {T : Type 0} (old : Agenda T) (time : ℕ) (item : T) (new : Agenda T) : Type 0 where
   pub last : time ≤ old.until → due_at time new.items ≡ due_at time old.items ++ item ∷ []
+  pub others : (t : ℕ) → t ≢ time → due_at t new.items ≡ due_at t old.items
+
+-- at one time the items come last, in their order, and at other times what came there
+pub record AddsAll {T : Type 0} (old : Agenda T) (time : ℕ) (items : List T) (new : Agenda T) : Type 0 where
+  pub last : time ≤ old.until → due_at time new.items ≡ due_at time old.items ++ items
   pub others : (t : ℕ) → t ≢ time → due_at t new.items ≡ due_at t old.items
 
 -- the first item came

@@ -87,6 +87,13 @@ pub record Puts {T : Type 0} (group : T → Option ℕ) (old : Wheel T) (time : 
   pub last : due group new time ≡ due group old time ++ item ∷ []
   pub others : (t : ℕ) → t ≢ time → due group new t ≡ due group old t
 
+-- a wheel has items more, last at one time
+pub record PutsAll {T : Type 0} (group : T → Option ℕ) (old : Wheel T) (time : ℕ) (items : List T) (new : Wheel T) : Type 0 where
+  pub right : IsWheel group new
+  pub at : new.at ≡ old.at
+  pub last : due group new time ≡ due group old time ++ items
+  pub others : (t : ℕ) → t ≢ time → due group new t ≡ due group old t
+
 -- nothing changed
 pub record Keeps {T : Type 0} (group : T → Option ℕ) (old new : Wheel T) : Type 0 where
   pub right : IsWheel group new

@@ -104,6 +104,14 @@ impl Chains {
         self.next.len()
     }
 
+    /// How many places a list has.
+    pub fn len(&self, list: usize) -> usize
+        requires { list < length self.now.lists }
+        ensures { result ≡ length (list_at self.now list) }
+    {
+        self.heads[list].len as usize
+    }
+
     /// The first place of a list, if it has one.
     pub fn first(&self, list: usize) -> Option<u32>
         requires { list < length self.now.lists }

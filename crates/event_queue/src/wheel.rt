@@ -2,14 +2,15 @@
 //! the wheel stands, and the far level one for each block to come. A far slot is spread over the near ones when its block
 //! comes. Slots are lists of places, so that memory is taken only where more items wait than ever before.
 
-ghost use Rattle.std.specs.Prelude.{◌≡◌, ◌≢◌, ◌+◌, ◌/◌, ◌%◌, ◌<◌, ◌≤◌, ℕ, [], true, length, map, IfNone, MatchResult, OnOk, IfOk};
+ghost use Rattle.std.specs.Prelude.{◌≡◌, ◌≢◌, ◌+◌, ◌/◌, ◌%◌, ◌<◌, ◌≤◌, ℕ, [], true, length, map, IfSome, IfNone, MatchResult, OnOk, IfOk};
 ghost use Rattle.event_queue.specs.Links.{list_at};
-ghost use Rattle.event_queue.specs.Wheel.{is_current, live_item, list_for, IsPast, due, near, far, IsWheel, IsTurning, Puts, Keeps, Takes, Turns, Cancels, cleared, cleared_item};
+ghost use Rattle.event_queue.specs.Wheel.{is_current, live_item, list_for, IsPast, due, near, far, IsWheel, IsTurning, Puts, PutsAll, Keeps, Takes, Turns, Cancels, cleared, cleared_item};
 
 use crate::chains::Chains;
-use crate::group::Grouped;
+use crate::group::{GROUPS, Grouped};
 use mate_num::NoMemory;
 use std::alloc::Global;
+use std::collections::VecDeque;
 
 /// How many slots a level has, and how many ms a block.
 const SLOTS: u32 = 2048;
@@ -35,7 +36,7 @@ pub struct Wheel<T: Grouped> {
     pub chains: Chains,
     pub entries: Vec<Entry<T>>,
     /// How often each group was cancelled.
-    pub generations: [u32; 256],
+    pub generations: [u32; GROUPS],
 }
 
 /// The list of the near slot of a time.
@@ -70,7 +71,8 @@ fn list_for(at: u32, time: u32) -> usize
 }
 
 /// The generation of an item of a group that comes now.
-fn generation_of(generations: &[u32; 256], group: Option<u8>) -> u32
+fn generation_of(generations: &[u32; GROUPS], group: Option<u16>) -> u32
+    requires { IfSome group (λ g. g < 1024) }
     ensures current { is_current generations.now group result ≡ true }
     ensures past { IsPast generations.now result group }
 {
@@ -81,7 +83,8 @@ fn generation_of(generations: &[u32; 256], group: Option<u8>) -> u32
 }
 
 /// Whether an item of this group and generation was not cancelled.
-fn is_current(generations: &[u32; 256], group: Option<u8>, generation: u32) -> bool
+fn is_current(generations: &[u32; GROUPS], group: Option<u16>, generation: u32) -> bool
+    requires { IfSome group (λ g. g < 1024) }
     ensures { result ≡ is_current generations.now group generation }
 {
     match group {
@@ -91,7 +94,7 @@ fn is_current(generations: &[u32; 256], group: Option<u8>, generation: u32) -> b
 }
 
 /// The item that waited at a place, unless it was cancelled.
-fn live<T: Grouped>(generations: &[u32; 256], generation: u32, item: Option<T>) -> Option<T>
+fn live<T: Grouped>(generations: &[u32; GROUPS], generation: u32, item: Option<T>) -> Option<T>
     ensures { result ≡ live_item T.group_of generations.now generation item }
 {
     let item = item?;
@@ -114,7 +117,7 @@ impl<T: Grouped> Wheel<T> {
             at: 0,
             chains,
             entries: Vec::new(alloc),
-            generations: [0; 256],
+            generations: [0; GROUPS],
         })
     }
 
@@ -152,6 +155,37 @@ impl<T: Grouped> Wheel<T> {
         Ok(())
     }
 
+    /// Makes sure that there are so many free places.
+    pub fn reserve_all(&mut self, count: usize) -> Result<(), NoMemory>
+        requires { IsWheel T.group_of self.old }
+        ensures keeps { Keeps T.group_of self.old self.new }
+        ensures free { OnOk result (count ≤ length (list_at self.new.chains 0)) }
+    {
+        while self.chains.len(FREE) < count {
+            self.add_entry()?;
+            self.chains.grow(FREE)?;
+        }
+        Ok(())
+    }
+
+    /// Puts an item last at a time that hasn't passed, where there is a free place.
+    fn put_free(&mut self, time: u32, item: T)
+        requires right { IsWheel T.group_of self.old }
+        requires free { list_at self.old.chains 0 ≢ [] }
+        requires ahead { self.old.at ≤ time }
+        requires below { time < 4194304 }
+        ensures puts { Puts T.group_of self.old time item self.new }
+        ensures free { length (list_at self.old.chains 0) ≡ length (list_at self.new.chains 0) + 1 }
+    {
+        let generation = generation_of(&self.generations, item.group());
+        let place = self.chains.move_first(FREE, list_for(self.at, time));
+        self.entries[place as usize] = Entry {
+            time,
+            generation,
+            item: Some(item),
+        };
+    }
+
     /// Puts an item last at a time that hasn't passed.
     pub fn put(&mut self, time: u32, item: T) -> Result<(), NoMemory>
         requires right { IsWheel T.group_of self.old }
@@ -160,14 +194,22 @@ impl<T: Grouped> Wheel<T> {
         ensures { MatchResult result (λ _. Puts T.group_of self.old time item self.new) (λ _. Keeps T.group_of self.old self.new) }
     {
         self.reserve()?;
-        let generation = generation_of(&self.generations, item.group());
-        let place = self.chains.move_first(FREE, list_for(self.at, time));
-        self.entries[place as usize] = Entry {
-            time,
-            generation,
-            item: Some(item),
-        };
+        self.put_free(time, item);
         Ok(())
+    }
+
+    /// Puts items last at a time that hasn't passed, in their order, where there are free places for all.
+    pub fn put_all(&mut self, time: u32, items: &mut VecDeque<T>)
+        requires right { IsWheel T.group_of self.old }
+        requires free { length items.old.items ≤ length (list_at self.old.chains 0) }
+        requires ahead { self.old.at ≤ time }
+        requires below { time < 4194304 }
+        ensures puts { PutsAll T.group_of self.old time items.old.items self.new }
+        ensures taken { items.new.items ≡ [] }
+    {
+        while let Some(item) = items.pop_front() {
+            self.put_free(time, item);
+        }
     }
 
     /// Empties the first place of the time at which the wheel stands.
@@ -235,8 +277,9 @@ impl<T: Grouped> Wheel<T> {
     }
 
     /// Cancels the items of a group: those that come later are of the next generation.
-    pub fn cancel(&mut self, group: u8)
-        requires { IsWheel T.group_of self.old }
+    pub fn cancel(&mut self, group: u16)
+        requires right { IsWheel T.group_of self.old }
+        requires below { group < 1024 }
         ensures { Cancels T.group_of self.old group self.new }
     {
         let generation = self.generations[group as usize];
@@ -250,7 +293,7 @@ impl<T: Grouped> Wheel<T> {
 }
 
 /// The item, unless it is of the group.
-fn without<T: Grouped>(item: Option<T>, group: u8) -> Option<T>
+fn without<T: Grouped>(item: Option<T>, group: u16) -> Option<T>
     ensures { result ≡ cleared_item T.group_of group item }
 {
     let item = item?;
@@ -262,7 +305,7 @@ fn without<T: Grouped>(item: Option<T>, group: u8) -> Option<T>
 }
 
 /// Clears the items of a group, so that its generations can begin anew.
-fn clear<T: Grouped>(entries: &mut Vec<Entry<T>>, group: u8)
+fn clear<T: Grouped>(entries: &mut Vec<Entry<T>>, group: u16)
     ensures { entries.new.items ≡ map (cleared T.group_of group) entries.old.items }
 {
     for entry in entries.iter_mut() {

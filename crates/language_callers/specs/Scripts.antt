@@ -1,11 +1,9 @@
 -- Small scripts, of which contracts of other crates fix what becomes of them.
-use Rattle.std.specs.Prelude.{ℕ, ℤ, pos, negsuc, List, [], ◌∷◌}
-use Rattle.mate_num.specs.declared.id.VarId.{VarId}
+use Rattle.std.specs.Prelude.{ℕ, ℤ, pos}
 use Rattle.mate_num.specs.declared.id.BufId.{BufId}
 use Rattle.mate_num.specs.declared.id.FunId.{FunId}
-use Rattle.ts_syntax.specs.Expression.{Expression, no_arguments, Num, MsgSize, Call, Two}
-use Rattle.ts_syntax.specs.Statement.{Statement, Block, no_statements, statement, Set, Append, Clear, Do, DoSend, If, IfElse, For, While}
-use Rattle.ts_syntax.specs.declared.bin_op.BinOp.{BinOp}
+use Rattle.ts_syntax.specs.Expression.{Expression, no_arguments, Num, Call, Two}
+use Rattle.ts_syntax.specs.Statement.{Statement, Block, no_statements, statement, Set, Append, Clear, Do, IfElse, For, While}
 use Rattle.ts_syntax.specs.declared.bin_op.BinOp.TheVariants.{And, Gt}
 use Rattle.ts_syntax.specs.declared.checked_stmt.CVar.{CVar}
 use Rattle.ts_syntax.specs.declared.checked_stmt.CVar.TheVariants as variable
@@ -32,10 +30,6 @@ without_end p = only (While (whole 1) (only (Clear p)))
 -- `x = 0 and f();`
 abbrev pub false_and_call : CVar → FunId → Block
 false_and_call x f = only (Set x (Two And (whole 0) (asking f)))
-
--- `for x = 1 to 1 f(); next x`
-abbrev pub once_round : CVar → FunId → Block
-once_round x f = only (For x (whole 1) (whole 1) (pos 1) (only (Do f no_arguments)))
 
 -- `private 8 = 0;`
 abbrev pub ninth_private : Block

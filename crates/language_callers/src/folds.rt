@@ -2,7 +2,7 @@
 
 ghost use Rattle.std.specs.Prelude.{◌≡◌, IfOk};
 ghost use Rattle.ts_syntax.specs.Checked.{tree_of};
-ghost use Rattle.ts_syntax.specs.Expression.{Num, MsgSize};
+ghost use Rattle.ts_syntax.specs.Expression.{MsgSize};
 ghost use Rattle.ts_syntax.specs.Statement.{no_statements, Append, Clear};
 ghost use Rattle.language_callers.specs.Scripts.{two_calls, cleared_by, clearing, call_in_limit, compared, only, whole};
 

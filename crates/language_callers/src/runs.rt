@@ -5,7 +5,7 @@ ghost use Rattle.mate_num.specs.declared.call.End.TheVariants.{Halt, Fault, Want
 ghost use Rattle.mate_num.specs.declared.call.FaultKind.TheVariants.{Overrun};
 ghost use Rattle.ts_syntax.specs.Checked.{tree_of};
 ghost use Rattle.ts_syntax.specs.Statement.{no_statements};
-ghost use Rattle.language_callers.specs.Scripts.{two_calls, without_end, false_and_call, once_round};
+ghost use Rattle.language_callers.specs.Scripts.{two_calls, without_end, false_and_call};
 
 use mate_num::{BufId, FunId, NoMemory, Payload, Store};
 use std::alloc::Global;

@@ -3,7 +3,8 @@
 use crate::texts::bytes_of;
 use mate_num::{ContextId, HandlerId};
 use std::alloc::{AllocError, Global};
-use vm_desc::{Description, read, shape};
+use vm_desc::{Description, shape};
+use vm_reader::read;
 
 /// The number of instructions that the machine of a case has, or why its text describes none: there are 28,
 /// six more with a buffer, and one a function. Behind the text stands the end of its line.

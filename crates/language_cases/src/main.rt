@@ -62,10 +62,10 @@ const TABLES: [(&str, Question); 18] = [
 fn main(rt: HostRuntime) -> io::Result<()> {
     let names = fs::read(&rt, "names.toml")?;
     let station = fs::read(&rt, "station.toml")?;
-    let Ok(names) = vm_desc::read(rt.alloc(), names.as_slice()) else {
+    let Ok(names) = vm_reader::read(rt.alloc(), names.as_slice()) else {
         return println!(rt; "names.toml describes no machine");
     };
-    let Ok(station) = vm_desc::read(rt.alloc(), station.as_slice()) else {
+    let Ok(station) = vm_reader::read(rt.alloc(), station.as_slice()) else {
         return println!(rt; "station.toml describes no machine");
     };
     for (file, question) in TABLES {

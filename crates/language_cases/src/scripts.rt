@@ -4,7 +4,8 @@ use crate::texts::bytes_of;
 use mate_files::MemSink;
 use std::alloc::{AllocError, Global};
 use ts_parser::{SourceFault, parse, tokens};
-use ts_syntax::{Script, print};
+use ts_printer::print;
+use ts_syntax::Script;
 
 /// That a source is a script, or its first fault.
 pub fn answer(alloc: Global, case: &str) -> Result<String, AllocError> {

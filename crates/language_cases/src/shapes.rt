@@ -5,7 +5,8 @@ use crate::texts::bytes_of;
 use mate_num::{FunId, Shape, VarId};
 use std::alloc::{AllocError, Global};
 use ts_syntax::{CArgs, CBlock, CExpr, CForHead, CStmt, CVar, is_right};
-use vm_desc::{Description, read, shape};
+use vm_desc::{Description, shape};
+use vm_reader::read;
 
 /// Whether the body of a case `DESCRIPTION | SOURCE`, in which the source is one for `machine`, is right for the machine
 /// of the description.

@@ -9,12 +9,12 @@ use Rattle.ts_syntax.specs.declared.token.TokenKind.{TokenKind}
 use Rattle.ts_syntax.specs.Seen.{act_of, acts_of, source_of}
 use Rattle.ts_syntax.specs.Spelling.{kinds}
 use Rattle.ts_syntax.specs.Tree.{Acts, no_acts}
-use Rattle.ts_parser.specs.declared.halt.Halt.{Halt}
-use Rattle.ts_parser.specs.declared.halt.Halt.TheVariants as halt
-use Rattle.ts_parser.specs.Machine.{Frame, top, State, decls, block, with_act, start}
-use Rattle.ts_parser.specs.Parsing.{Gives, reads, Reads, Lacks, Takes}
+use Rattle.ts_machine.specs.declared.halt.Halt.{Halt}
+use Rattle.ts_machine.specs.declared.halt.Halt.TheVariants as halt
+use Rattle.ts_machine.specs.Machine.{Frame, top, State, decls, block, with_act, start}
+use Rattle.ts_machine.specs.Parsing.{Gives, reads, Reads, Lacks, Takes}
 use Rattle.ts_parser.specs.Statements.{ReadsStmt, LacksDecl, ReadsScript}
-use Rattle.ts_parser.proofs.Parts.{halts}
+use Rattle.ts_machine.proofs.Parts.{halts}
 use Rattle.ts_parser.proofs.StmtLemmas.{script_begins}
 
 -- where a fault of one result is that of another

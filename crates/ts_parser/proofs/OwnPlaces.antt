@@ -7,10 +7,10 @@ use Rattle.ts_syntax.specs.declared.token.Token.{Token}
 use Rattle.ts_syntax.specs.Tree.{Tree, number, variable, item, size, message_item, message_size, call, negative, inverse, two, paren, Trees, no_trees, tree_then, Act, set, set_item, append, take_last, clear, call_alone, if_then, if_else, for_next, while_do, Acts, no_acts, act_then, Source}
 use Rattle.ts_syntax.specs.Spelling.{places, args_places, step_places, act_places, acts_places, decls_places, source_places, noted}
 use Rattle.ts_syntax.specs.Faults.{Spells}
-use Rattle.ts_parser.specs.Machine.{other_places, run, start}
-use Rattle.ts_parser.proofs.Placed.{word_at, left, args_left, step_left, act_left, acts_left, decls_left, source_left, placed, args_placed, step_placed, act_placed, acts_placed, decl_placed, decls_placed, source_placed}
-use Rattle.ts_parser.proofs.CompleteStmt.{source_read}
-use Rattle.ts_parser.proofs.Exact.{whole, whole_same}
+use Rattle.ts_machine.specs.Machine.{other_places, run, start}
+use Rattle.ts_machine.proofs.Placed.{word_at, left, args_left, step_left, act_left, acts_left, decls_left, source_left, placed, args_placed, step_placed, act_placed, acts_placed, decl_placed, decls_placed, source_placed}
+use Rattle.ts_machine.proofs.CompleteStmt.{source_read}
+use Rattle.ts_machine.proofs.Exact.{whole, whole_same}
 
 -- what a part makes of its own places, and of those behind them
 record Own {T : Type 0} (made : List ℕ → T) (leaves : List ℕ → List ℕ) (its : List ℕ) (t : T) : Type 0 where

@@ -10,12 +10,12 @@ use Rattle.ts_syntax.specs.Seen.{act_of, acts, acts_of}
 use Rattle.ts_syntax.specs.Spelling.{kinds, note}
 use Rattle.ts_syntax.specs.Tree.{Tree, Act, Acts, no_acts, act_then}
 use Rattle.ts_parser.specs.declared.opening.Opening.{Opening}
-use Rattle.ts_parser.specs.Code.{code_of}
-use Rattle.ts_parser.specs.Machine.{Frame, top, then_part, while_part, in_index, in_if, in_from, in_to, in_while, State, decls, have, block, stmt_named, boxed, append_to, item_indexed, call_opened, closed, for_word, for_named, word, with_act, expr_due, step, step_frame, step_semi, takes, places_after, first_place, finish, going, run, start}
-use Rattle.ts_parser.specs.Parsing.{noted_then, reads, Starts, Lacks, StartsName}
+use Rattle.ts_machine.specs.Code.{code_of}
+use Rattle.ts_machine.specs.Machine.{Frame, top, then_part, while_part, in_index, in_if, in_from, in_to, in_while, State, decls, have, block, stmt_named, boxed, append_to, item_indexed, call_opened, closed, for_word, for_named, word, with_act, expr_due, step, step_frame, step_semi, takes, places_after, first_place, finish, going, run, start}
+use Rattle.ts_machine.specs.Parsing.{noted_then, reads, Starts, Lacks, StartsName}
 use Rattle.ts_parser.specs.Statements.{opening_of, opened_by, StartsStmt, LacksStmt, decl_kind, LacksDecl}
 use Rattle.ts_parser.proofs.DeepLemmas.{some_same}
-use Rattle.ts_parser.proofs.Reading.{sign_read, name_read, stops, agree}
+use Rattle.ts_machine.proofs.Reading.{sign_read, name_read, stops, agree}
 
 -- ---- one token that a state takes, and others
 

@@ -7,16 +7,16 @@ use Rattle.ts_syntax.specs.Spelling.{kinds}
 use Rattle.ts_syntax.specs.Script.{IsScript, BeginsScript}
 use Rattle.ts_syntax.specs.Depth.{first_deep}
 use Rattle.ts_syntax.specs.Faults.{Spells, Stops, place_of, IsUnexpected, IsTooDeep}
-use Rattle.ts_parser.specs.Machine.{Outcome, start, run}
-use Rattle.ts_parser.specs.Parsing.{noted_then, reads}
+use Rattle.ts_machine.specs.Machine.{Outcome, start, run}
+use Rattle.ts_machine.specs.Parsing.{noted_then, reads}
 use Rattle.ts_parser.specs.Verdict.{Verdict, spelled, unexpected, too_deep, IsSo}
 use Rattle.ts_parser.proofs.AllPlaces.{all_taken}
-use Rattle.ts_parser.proofs.CompleteStmt.{source_read}
+use Rattle.ts_machine.proofs.CompleteStmt.{source_read}
 use Rattle.ts_parser.proofs.DeepLemmas.{some_same, same_in_front, deep_within}
-use Rattle.ts_parser.proofs.Exact.{whole, left_same}
-use Rattle.ts_parser.proofs.MachineLemmas.{read_derived}
+use Rattle.ts_machine.proofs.Exact.{whole, left_same}
+use Rattle.ts_machine.proofs.MachineLemmas.{read_derived}
 use Rattle.ts_parser.proofs.OwnPlaces.{one_tree}
-use Rattle.ts_parser.proofs.Placed.{source_placed, source_left}
+use Rattle.ts_machine.proofs.Placed.{source_placed, source_left}
 use Rattle.ts_parser.proofs.ParseLemmas as parse
 use Rattle.ts_parser.proofs.ParseLemmas.{At, at, cut_length}
 

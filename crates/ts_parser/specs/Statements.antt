@@ -14,12 +14,12 @@ use Rattle.ts_syntax.specs.declared.token.TokenKind.TheVariants as kind
 use Rattle.ts_syntax.specs.Seen.{tree_of, act_of, acts_of, source_of}
 use Rattle.ts_syntax.specs.Spelling.{kinds}
 use Rattle.ts_syntax.specs.Tree.{Tree, Act, append, set_item, if_then, if_else, for_next, while_do, Acts, no_acts}
-use Rattle.ts_parser.specs.declared.halt.Halt.{Halt}
-use Rattle.ts_parser.specs.declared.halt.Halt.TheVariants as halt
+use Rattle.ts_machine.specs.declared.halt.Halt.{Halt}
+use Rattle.ts_machine.specs.declared.halt.Halt.TheVariants as halt
 use Rattle.ts_parser.specs.declared.opening.Opening.{Opening}
 use Rattle.ts_parser.specs.declared.opening.Opening.TheVariants as opening
-use Rattle.ts_parser.specs.Machine.{Frame, then_part, for_part, while_part, Whole, in_set, in_set_item, in_append, in_if, in_to, in_while, State, have, block, stmt_named, set_to, set_taken, append_to, item_indexed, cleared, for_word, word, expr_due, with_act, start}
-use Rattle.ts_parser.specs.Parsing.{Gives, Reads, reads, Starts, Lacks}
+use Rattle.ts_machine.specs.Machine.{Frame, then_part, for_part, while_part, Whole, in_set, in_set_item, in_append, in_if, in_to, in_while, State, have, block, stmt_named, set_to, set_taken, append_to, item_indexed, cleared, for_word, word, expr_due, with_act, start}
+use Rattle.ts_machine.specs.Parsing.{Gives, Reads, reads, Starts, Lacks}
 
 -- the first token, where there is one, begins a statement
 abbrev pub opening_of : Token → TokenKind → Option Opening

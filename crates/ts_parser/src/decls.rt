@@ -1,14 +1,14 @@
 //! Declarations.
 
 ghost use Rattle.std.specs.Prelude.{◌≡◌, ◌≤◌, ◌<◌, length, IfOk, [], true};
-ghost use Rattle.ts_parser.specs.Machine.{decls, decl_name};
-ghost use Rattle.ts_parser.specs.Parsing.{Gives, reads};
+ghost use Rattle.ts_machine.specs.Machine.{decls, decl_name};
+ghost use Rattle.ts_machine.specs.Parsing.{Gives, reads};
 ghost use Rattle.ts_parser.specs.Statements.{FindsDecl, LacksDecl, Passes, decl_kind};
 ghost use Rattle.ts_syntax.specs.Spelling.{kinds};
 
-use crate::expect::{after, expect, name};
-use crate::halt::Halt;
 use std::alloc::Global;
+use ts_machine::Halt;
+use ts_machine::expect::{after, expect, name};
 use ts_syntax::{Decl, DeclKind, Decls, Token, TokenKind};
 
 fn kind_of(token: &TokenKind) -> Option<DeclKind>

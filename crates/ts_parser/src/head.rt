@@ -1,17 +1,17 @@
 //! The head of a `for`.
 
 ghost use Rattle.std.specs.Prelude.{◌≤◌, ◌<◌, length, IfOk};
-ghost use Rattle.ts_parser.specs.Machine.{Frame, for_word};
-ghost use Rattle.ts_parser.specs.Parsing.{Reads, Lacks};
+ghost use Rattle.ts_machine.specs.Machine.{Frame, for_word};
+ghost use Rattle.ts_machine.specs.Parsing.{Reads, Lacks};
 ghost use Rattle.ts_parser.specs.Statements.{Bound, limit_due, limit_read, limited, head_read, Limit, FindsMinus, TakesNumber};
 ghost use Rattle.ts_syntax.specs.Seen.{tree_of};
 ghost use Rattle.ts_syntax.specs.Tree.{Acts};
 ghost use Rattle.ts_syntax.specs.declared.token.TokenKind.TheVariants as kind;
 
-use crate::expect::{after, expect, name};
-use crate::expression::expr;
-use crate::halt::Halt;
 use std::alloc::Global;
+use ts_expressions::expr;
+use ts_machine::Halt;
+use ts_machine::expect::{after, expect, name};
 use ts_syntax::{Expr, ForHead, Step, Token, TokenKind};
 
 /// Reads the head of a `for` behind that keyword.

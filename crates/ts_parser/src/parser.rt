@@ -10,9 +10,9 @@ ghost use Rattle.ts_syntax.specs.Spelling.{kinds};
 use crate::decls::declarations;
 use crate::depth::first_deep;
 use crate::fault::SourceFault;
-use crate::halt::Halt;
 use crate::stmt::block;
 use std::alloc::Global;
+use ts_machine::Halt;
 use ts_syntax::{Script, Token, Tokens};
 
 /// The script that the tokens of a source spell; `len` is the source's length in bytes.

@@ -1,15 +1,15 @@
 //! Statements that hold no block.
 
 ghost use Rattle.std.specs.Prelude.{◌<◌, length, IfOk, IfSome};
-ghost use Rattle.ts_parser.specs.Machine.{stmt_named, set_to, boxed, cleared};
-ghost use Rattle.ts_parser.specs.Parsing.{Reads};
+ghost use Rattle.ts_machine.specs.Machine.{stmt_named, set_to, boxed, cleared};
+ghost use Rattle.ts_machine.specs.Parsing.{Reads};
 ghost use Rattle.ts_parser.specs.Statements.{ReadsStmt, FindsTaken, Target, value_due, value_set};
 ghost use Rattle.ts_syntax.specs.Seen.{tree_of};
 
-use crate::expect::{after, expect, name};
-use crate::expression::{arguments, expr};
-use crate::halt::Halt;
 use std::alloc::Global;
+use ts_expressions::{arguments, expr};
+use ts_machine::Halt;
+use ts_machine::expect::{after, expect, name};
 use ts_syntax::{Expr, Stmt, Token, TokenKind, Word};
 
 /// Reads on behind the first name of a statement.

@@ -1,19 +1,19 @@
 //! Statements and blocks, by recursive descent: loops for lists, recursion for nested blocks.
 
 ghost use Rattle.std.specs.Prelude.{◌≤◌, ◌<◌, length, IfOk};
-ghost use Rattle.ts_parser.specs.Machine.{Frame, block, for_word, expr_due, in_if, in_while};
-ghost use Rattle.ts_parser.specs.Parsing.{Reads};
+ghost use Rattle.ts_machine.specs.Machine.{Frame, block, for_word, expr_due, in_if, in_while};
+ghost use Rattle.ts_machine.specs.Parsing.{Reads};
 ghost use Rattle.ts_parser.specs.Statements.{ReadsStmt, LacksStmt, opened_by, Choice, then_block, choice_made, Branch, branch_due, Repetition, repeated_block, repetition_made, Count, counted_block, count_made};
 ghost use Rattle.ts_syntax.specs.Seen.{acts_of};
 ghost use Rattle.ts_syntax.specs.Tree.{no_acts};
 
-use crate::expect::{after, expect, name};
-use crate::expression::expr;
-use crate::halt::Halt;
 use crate::head::for_head;
 use crate::opening::{Opening, after_opening};
 use crate::simple::{behind_name, clearing};
 use std::alloc::Global;
+use ts_expressions::expr;
+use ts_machine::Halt;
+use ts_machine::expect::{after, expect, name};
 use ts_syntax::{Block, Stmt, Token, TokenKind, Word};
 
 /// Reads statements up to the first token that begins none: they, and the tokens from that one on.

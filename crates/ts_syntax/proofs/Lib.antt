@@ -3,7 +3,6 @@ pub mod Examples
 pub mod FromTree
 pub mod GrammarLemmas
 pub mod ListLemmas
-pub mod PrintLemmas
 pub mod RightLemmas
 pub mod SeenLemmas
 pub mod ToTree

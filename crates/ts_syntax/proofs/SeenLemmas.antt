@@ -18,7 +18,6 @@ use Rattle.ts_syntax.specs.declared.stmt.Stmt.TheVariants as does
 use Rattle.ts_syntax.specs.declared.stmt.Stmt.TheFolds.{fold-roll-Stmt}
 use Rattle.ts_syntax.specs.Tree.{Act, set, set_item, append, take_last, clear, call_alone, if_then, if_else, for_next, while_do}
 use Rattle.ts_syntax.specs.Spelling.{name, act_spelled, acts_spelled, spelled, step_spelled}
-use Rattle.ts_syntax.specs.Print.{head_spelled}
 use Rattle.ts_syntax.specs.Seen.{tree_step, tree_of, trees_of, act_step, act_of, acts_of}
 
 pub tree_number : (n : ℕ) → tree_of (of.Num n) ≡ number n
@@ -83,13 +82,3 @@ act_for_next h a v = ap act_of (sym (does.rolls-For h a v)) ∙ fold-roll-Stmt A
 
 pub act_while_do : (e : Expr) (a : List Stmt) → act_of (does.While e a) ≡ while_do (tree_of e) (acts_of a)
 act_while_do e a = ap act_of (sym (does.rolls-While e a)) ∙ fold-roll-Stmt Act act_step (Stmt-F.While e a)
-
--- a `for`, with its head
-pub for_spelled : (h : ForHead) (a : List Stmt) (v : Word) → act_spelled (act_of (does.For h a v)) ≡ head_spelled h ++ (acts_spelled (acts_of a) ++ kind.Next ∷ name v ∷ [])
-for_spelled h a v =
-    let rest : List TokenKind = acts_spelled (acts_of a) ++ kind.Next ∷ name v ∷ [] in
-    let to : List TokenKind = spelled (tree_of h.to) in
-    let from : List TokenKind = spelled (tree_of h.from) in
-    ap act_spelled (act_for_next h a v)
-    ∙ sym (ap (λ z. kind.For ∷ name h.var ∷ kind.Eq ∷ z)
-    (append_assoc from (kind.To ∷ (to ++ step_spelled h.step)) rest ∙ ap (λ z. from ++ (kind.To ∷ z)) (append_assoc to (step_spelled h.step) rest)))

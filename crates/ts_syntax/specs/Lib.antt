@@ -5,7 +5,6 @@ pub mod Derived
 pub mod Expression
 pub mod Faults
 pub mod Grammar
-pub mod Print
 pub mod Right
 pub mod Script
 pub mod Seen

@@ -1,4 +1,4 @@
-//! TinyScript's syntax: tokens, trees, the grammar that both follow, checked trees, and how a tree is printed.
+//! TinyScript's syntax: tokens, trees, the grammar that both follow, and checked trees.
 #![tactic(auto)]
 
 pub mod bin_op;
@@ -7,7 +7,6 @@ pub mod checked_expr;
 pub mod checked_stmt;
 pub mod expr;
 pub mod grammar;
-pub mod printer;
 pub mod right;
 pub mod script;
 pub mod stmt;
@@ -20,7 +19,6 @@ pub use checked_expr::{CArgs, CExpr};
 pub use checked_stmt::{CBlock, CForHead, CStmt, CVar};
 pub use expr::{Args, Expr};
 pub use grammar::grammar_law;
-pub use printer::print;
 pub use right::is_right;
 pub use script::{Decl, DeclKind, Decls, Script};
 pub use stmt::{Block, ForHead, Step, Stmt};

@@ -1,4 +1,1 @@
 pub mod DescriptionLemmas
-pub mod FieldLemmas
-pub mod Fronts
-pub mod ReadingLemmas

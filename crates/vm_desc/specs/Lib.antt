@@ -5,6 +5,4 @@ pub mod Shapes
 pub mod Whole
 pub mod Bounds
 pub mod Keys
-pub mod Fields
-pub mod Reading
-pub mod Text
+pub mod Rules

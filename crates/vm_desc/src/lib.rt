@@ -4,17 +4,13 @@
 pub mod built_in;
 pub mod description;
 pub mod fault;
-mod fields;
 pub mod function;
 pub mod handler;
 pub mod key;
-mod known;
-mod names;
-mod parts;
-pub mod reading;
+pub mod names;
+pub mod rules;
 pub mod settings;
 pub mod shape_of;
-mod whole;
 
 pub use built_in::builtin;
 pub use description::Description;
@@ -22,6 +18,6 @@ pub use fault::DescFault;
 pub use function::{FunKind, Function};
 pub use handler::{Handler, HandlerKind};
 pub use key::Key;
-pub use reading::read;
+pub use names::name_of;
 pub use settings::{RadioSet, TrickleSet};
 pub use shape_of::shape;

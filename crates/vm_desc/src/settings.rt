@@ -36,8 +36,8 @@ impl TrickleSet {
     }
 }
 
-/// `imin`, doubled `doublings` times.
-pub(crate) fn doubled(imin: u32, doublings: u32) -> u32
+/// `imin`, doubled `doublings` times: the longest interval of settings that have them.
+pub fn doubled(imin: u32, doublings: u32) -> u32
     requires imin { imin ≤ 60000 }
     requires doublings { doublings ≤ 16 }
     ensures { result ≡ imin * 2 ^ doublings }

@@ -1,6 +1,6 @@
 use Rattle.std.proofs.Common.{◌≡◌, [], length}
-use Rattle.ts_parser.specs.Machine.{decls}
-use Rattle.ts_parser.specs.Parsing.{reads}
+use Rattle.ts_machine.specs.Machine.{decls}
+use Rattle.ts_machine.specs.Parsing.{reads}
 use Rattle.ts_parser.proofs.decls.declarations.Given as goal
 
 -- the declarations so far were read

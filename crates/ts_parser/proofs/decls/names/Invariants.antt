@@ -1,6 +1,6 @@
 use Rattle.std.proofs.Common.{◌≡◌, ◌≤◌, true, length}
-use Rattle.ts_parser.specs.Machine.{decl_name}
-use Rattle.ts_parser.specs.Parsing.{reads}
+use Rattle.ts_machine.specs.Machine.{decl_name}
+use Rattle.ts_machine.specs.Parsing.{reads}
 use Rattle.ts_parser.proofs.decls.names.Given as goal
 
 -- the names so far were read

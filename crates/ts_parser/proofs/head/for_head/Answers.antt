@@ -7,10 +7,10 @@ use Rattle.ts_syntax.specs.declared.token.TokenKind.TheVariants as kind
 use Rattle.ts_syntax.specs.declared.word.Word.{Word}
 use Rattle.ts_syntax.specs.Seen.{tree_of}
 use Rattle.ts_syntax.specs.Tree.{Tree, Acts}
-use Rattle.ts_parser.specs.Machine.{Frame, Whole, for_word, expr_due, have, in_from, in_to}
-use Rattle.ts_parser.specs.Parsing.{reads, Starts, StartsName}
+use Rattle.ts_machine.specs.Machine.{Frame, Whole, for_word, expr_due, have, in_from, in_to}
+use Rattle.ts_machine.specs.Parsing.{reads, Starts, StartsName}
 use Rattle.ts_parser.specs.Statements.{Bound, limit_due, limited, head_read}
-use Rattle.ts_parser.proofs.Parts.{halts}
+use Rattle.ts_machine.proofs.Parts.{halts}
 use Rattle.ts_parser.proofs.StmtLemmas.{var_read, from_begins, to_read}
 use Rattle.ts_parser.proofs.head.for_head.Goals as goal
 

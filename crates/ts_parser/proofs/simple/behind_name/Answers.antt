@@ -4,8 +4,8 @@ use Rattle.ts_syntax.specs.declared.token.TokenKind.TheVariants as kind
 use Rattle.ts_syntax.specs.Seen.{trees_of}
 use Rattle.ts_syntax.specs.Tree.{call_alone}
 use Rattle.ts_syntax.proofs.SeenLemmas.{act_call_alone}
-use Rattle.ts_parser.specs.Machine.{block, stmt_named, with_act}
-use Rattle.ts_parser.specs.Parsing.{reads, Caller, of_stmt, called_open, called}
+use Rattle.ts_machine.specs.Machine.{block, stmt_named, with_act}
+use Rattle.ts_machine.specs.Parsing.{reads, Caller, of_stmt, called_open, called}
 use Rattle.ts_parser.proofs.Halting.{stmt_halts, stmt_misses}
 use Rattle.ts_parser.proofs.StmtLemmas.{call_read, closed_read, closed_stops}
 use Rattle.ts_parser.proofs.simple.behind_name.Goals as goal

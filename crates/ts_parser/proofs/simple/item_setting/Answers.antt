@@ -3,8 +3,8 @@ use Rattle.ts_syntax.specs.declared.expr.Expr.{Expr}
 use Rattle.ts_syntax.specs.declared.token.TokenKind.TheVariants as kind
 use Rattle.ts_syntax.specs.Seen.{tree_of}
 use Rattle.ts_syntax.proofs.SeenLemmas.{act_append, act_set_item}
-use Rattle.ts_parser.specs.Machine.{Whole, in_index, have, block, boxed, expr_due, with_act}
-use Rattle.ts_parser.specs.Parsing.{reads}
+use Rattle.ts_machine.specs.Machine.{Whole, in_index, have, block, boxed, expr_due, with_act}
+use Rattle.ts_machine.specs.Parsing.{reads}
 use Rattle.ts_parser.specs.Statements.{Target, of_append, of_item, value_due, value_set}
 use Rattle.ts_parser.proofs.Halting.{stmt_halts, stmt_misses}
 use Rattle.ts_parser.proofs.StmtLemmas.{append_read, index_due, index_read, index_stops}

@@ -6,11 +6,11 @@ use Rattle.ts_syntax.specs.declared.word.Word.{Word}
 use Rattle.ts_syntax.specs.Seen.{tree_of, act_of, acts_of}
 use Rattle.ts_syntax.specs.Tree.{Acts, no_acts}
 use Rattle.ts_syntax.proofs.SeenLemmas.{act_if_then, act_if_else, act_for_next, act_while_do}
-use Rattle.ts_parser.specs.Machine.{Frame, then_part, in_if, in_while, block, for_word, expr_due, with_act}
-use Rattle.ts_parser.specs.Parsing.{reads}
+use Rattle.ts_machine.specs.Machine.{Frame, then_part, in_if, in_while, block, for_word, expr_due, with_act}
+use Rattle.ts_machine.specs.Parsing.{reads}
 use Rattle.ts_parser.specs.Statements.{opened_by, Choice, if_made, then_block, choice_made, Branch, branch_due, Repetition, repeated_block, repetition_made, Count, counted_block, count_made}
 use Rattle.ts_parser.proofs.Halting.{stmt_halts}
-use Rattle.ts_parser.proofs.Parts.{halts}
+use Rattle.ts_machine.proofs.Parts.{halts}
 use Rattle.ts_parser.proofs.StmtLemmas.{stmt_opens, opens_shorter, acts_of_push, then_read, body_due}
 use Rattle.ts_parser.proofs.stmt.+stmt.Goals as goal
 

@@ -1,8 +1,8 @@
 use Rattle.std.proofs.Common.{◌≡◌, ◌≤◌, ◌+◌, ◌*◌, length}
 use Rattle.ts_syntax.specs.Seen.{acts_of}
 use Rattle.ts_syntax.specs.Tree.{no_acts}
-use Rattle.ts_parser.specs.Machine.{Frame, block}
-use Rattle.ts_parser.specs.Parsing.{reads}
+use Rattle.ts_machine.specs.Machine.{Frame, block}
+use Rattle.ts_machine.specs.Parsing.{reads}
 use Rattle.ts_parser.proofs.stmt.+stmt.Given as goal
 
 -- each part of a statement begins with a part of less, or behind a token

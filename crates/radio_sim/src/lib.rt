@@ -1,0 +1,9 @@
+//! The radio of a world: events that wait for their times, transmissions over its links, and what happened on the air.
+#![tactic(auto)]
+
+pub mod event;
+pub mod radio;
+mod wire;
+
+pub use event::{Cancel, Event};
+pub use radio::Radio;

@@ -1,0 +1,77 @@
+-- Reading expressions: the tokens that the states take, and where two states take the next token alike.
+use Rattle.std.proofs.Common.{◌≡◌, ℕ, List, [], ◌∷◌, ◌++◌, None, Result, Err, Bor, refl, sym, ◌∙◌, ap}
+use Rattle.ts_syntax.specs.declared.word.Word.{Word}
+use Rattle.ts_syntax.specs.declared.token.Token.{Token}
+use Rattle.ts_syntax.specs.declared.token.TokenKind.{TokenKind}
+use Rattle.ts_syntax.specs.declared.token.TokenKind.TheVariants as kind
+use Rattle.ts_syntax.specs.Tree.{Tree, variable, call, call_alone, negative, Trees, tree_then}
+use Rattle.ts_syntax.specs.declared.expr.Expr.{Expr}
+use Rattle.ts_syntax.specs.Seen.{tree_of, trees_of}
+use Rattle.std.specs.Result.{IsErrAnd}
+use Rattle.ts_machine.specs.declared.halt.Halt.{Halt}
+use Rattle.ts_machine.specs.Code.{code_of}
+use Rattle.ts_machine.specs.Machine.{Operand, in_negative, first_product, in_product, Inverse, in_inverse, in_and, Conjunction, in_args, in_call, want, want_inverse, named, opened, have_inverse, have_and, have, closed, with_tree, inverse_due, expr_due, give, step, finish}
+use Rattle.ts_machine.specs.Parsing.{reads, Reads, Starts, Lacks, Caller, of_operand, of_stmt, called_open, called_with, called}
+use Rattle.ts_machine.proofs.Turns.{given_step, given_size}
+use Rattle.ts_machine.proofs.Parts.{halts, ends_as}
+use Rattle.ts_machine.proofs.Reading.{sign_read, alike_at, alike_end}
+
+-- `not`, or a comparison
+pub not_read : (k : Inverse) {ts rest : List Token} → Starts kind.Not ts rest → reads ts (want_inverse k) ≡ reads rest (want_inverse (in_inverse k))
+not_read k s = sign_read kind.Not s tt (want_inverse k) (want_inverse (in_inverse k)) (λ p. refl)
+
+not_left : (k : Inverse) (m : TokenKind) → (code_of m ≡ code_of kind.Not → ⊥) → (p : ℕ) → step (want_inverse k) m p ≡ step (want (inverse_due k)) m p
+not_left k kind.Not h p = absurd (h refl)
+not_left k m h p = refl
+
+comparison_due : (k : Inverse) (ts : List Token) → Lacks kind.Not ts → reads ts (want_inverse k) ≡ reads ts (want (inverse_due k))
+comparison_due k [] h = refl
+comparison_due k (t ∷ ts) h = alike_at t ts (want_inverse k) (want (inverse_due k)) (not_left k t.kind h) refl
+
+pub comparison_read : (ts : List Token) → Lacks kind.Not ts → (r : Result (Expr × Bor (List Token)) Halt) → Reads {X = Expr} {K = Inverse} ts (λ k. want (inverse_due k)) (λ e k. have_inverse (tree_of e) k) r → Reads {X = Expr} {K = Inverse} ts (λ k. want_inverse k) (λ e k. have_inverse (tree_of e) k) r
+comparison_read ts l =
+    ends_as Expr Inverse Inverse ts ts (λ k. want (inverse_due k)) (λ e k. have_inverse (tree_of e) k) (λ k. want_inverse k) (λ e k. have_inverse (tree_of e) k) (λ k. k) (λ k. comparison_due k ts l) (λ x ms k. refl)
+
+-- `and`
+pub and_read : (e : Tree) (k : Conjunction) {ts rest : List Token} → Starts kind.And ts rest → reads ts (have_and e k) ≡ reads rest (want_inverse (in_and e k))
+and_read e k s = sign_read kind.And s tt (have_and e k) (want_inverse (in_and e k)) (λ p. refl)
+
+-- a call
+pub call_read : (w : Word) (k : Operand) {ts rest : List Token} → Starts kind.Open ts rest → reads ts (named w k) ≡ reads rest (opened w k)
+call_read w k s = sign_read kind.Open s tt (named w k) (opened w k) (λ p. refl)
+
+pub call_halts : (w : Word) {ts rest : List Token} → Starts kind.Open ts rest → (r : Result (Expr × Bor (List Token)) Halt) (e : Halt) → IsErrAnd r (λ x. x ≡ e) → Reads {X = List Expr} {K = Caller} rest (λ k. called_open k) (λ es k. called k (trees_of es)) (Err e) → Reads {X = Expr} {K = Operand} ts (λ k. named w k) (λ d k. give k (tree_of d)) r
+call_halts w {ts} {rest} s =
+    halts (List Expr) Expr Caller Operand ts rest (λ k. called_open k) (λ es k. called k (trees_of es)) (λ k. named w k) (λ d k. give k (tree_of d)) (λ k. of_operand w k) (λ k. call_read w k s)
+
+-- a variable
+variable_left : (w : Word) (k : Operand) (m : TokenKind) → (code_of m ≡ code_of kind.Open → ⊥) → (code_of m ≡ code_of kind.OpenBox → ⊥) → (p : ℕ) → step (named w k) m p ≡ step (give k (variable w)) m p
+variable_left w k kind.Open h b p = absurd (h refl)
+variable_left w k kind.OpenBox h b p = absurd (b refl)
+variable_left w k m h b p = sym (given_step k (variable w) m p)
+
+given_end : (k : Operand) (e : Tree) → None ≡ finish (give k e)
+given_end (in_negative k) e = given_end k (negative e)
+given_end (first_product k) e = refl
+given_end (in_product o l k) e = refl
+
+pub variable_read : (w : Word) (k : Operand) (ts : List Token) → Lacks kind.Open ts → Lacks kind.OpenBox ts → reads ts (named w k) ≡ reads ts (give k (variable w))
+variable_read w k [] h b = alike_end (named w k) (give k (variable w)) (given_end k (variable w))
+variable_read w k (t ∷ ts) h b = alike_at t ts (named w k) (give k (variable w)) (variable_left w k t.kind h b) (sym (given_size k (variable w)))
+
+-- behind an argument
+pub comma_read : (c : Caller) (es : Trees) (e : Tree) {ts rest : List Token} → Starts kind.Comma ts rest → reads ts (have e (called_with c es)) ≡ reads rest (expr_due (called_with c (with_tree es e)))
+comma_read (of_operand w k) es e s = sign_read kind.Comma s tt (have e (in_args w es k)) (expr_due (in_args w (with_tree es e) k)) (λ p. refl)
+comma_read (of_stmt w a f) es e s = sign_read kind.Comma s tt (have e (in_call w es a f)) (expr_due (in_call w (with_tree es e) a f)) (λ p. refl)
+
+pub arguments_closed : (c : Caller) (es : Trees) (e : Tree) {ts rest : List Token} → Starts kind.Close ts rest → reads ts (have e (called_with c es)) ≡ reads rest (called c (with_tree es e))
+arguments_closed (of_operand w k) es e s = sign_read kind.Close s tt (have e (in_args w es k)) (give k (call w (with_tree es e))) (λ p. refl)
+arguments_closed (of_stmt w a f) es e s = sign_read kind.Close s tt (have e (in_call w es a f)) (closed (call_alone w (with_tree es e)) a f) (λ p. refl)
+
+-- one more argument, where the program pushed it
+trees_pushed : (es : List Expr) (e : Expr) → trees_of (es ++ e ∷ []) ≡ with_tree (trees_of es) (tree_of e)
+trees_pushed [] e = refl
+trees_pushed (d ∷ es) e = ap (λ x. tree_then (tree_of d) x) (trees_pushed es e)
+
+pub trees_more : (es : List Expr) (e : Expr) {fs : List Expr} → fs ≡ es ++ e ∷ [] → trees_of fs ≡ with_tree (trees_of es) (tree_of e)
+trees_more es e h = ap trees_of h ∙ trees_pushed es e

@@ -1,0 +1,70 @@
+use Rattle.std.proofs.Common.{◌<◌, ◌≤◌, length, ◌≡◌, ◌+◌, ◌*◌}
+use Rattle.ts_machine.specs.Machine.{Product, Sum, Conjunction, Whole, want, want_inverse, first_product, first_and, sum_due, expr_due, have_product, have_sum, have_and, have}
+use Rattle.ts_machine.specs.Parsing.{reads, Caller, called_open, called_with}
+use Rattle.ts_syntax.specs.Seen.{tree_of, trees_of}
+use Rattle.ts_expressions.proofs.expression.+expr.Given as goal
+
+-- each part of an expression begins with a tighter part, or behind a token
+abbrev pub decreases-behind_name : goal.decreases-behind_name
+decreases-behind_name l = 8 * length l.tokens.now
+
+abbrev pub decreases-operand : goal.decreases-operand
+decreases-operand l = 8 * length l.tokens.now
+
+abbrev pub decreases-product : goal.decreases-product
+decreases-product l = 8 * length l.tokens.now + 1
+
+abbrev pub decreases-sum : goal.decreases-sum
+decreases-sum l = 8 * length l.tokens.now + 2
+
+abbrev pub decreases-comparison : goal.decreases-comparison
+decreases-comparison l = 8 * length l.tokens.now + 3
+
+abbrev pub decreases-inversion : goal.decreases-inversion
+decreases-inversion l = 8 * length l.tokens.now + 4
+
+abbrev pub decreases-conjunction : goal.decreases-conjunction
+decreases-conjunction l = 8 * length l.tokens.now + 5
+
+abbrev pub decreases-expr : goal.decreases-expr
+decreases-expr l = 8 * length l.tokens.now + 6
+
+abbrev pub decreases-arguments : goal.decreases-arguments
+decreases-arguments l = 8 * length l.tokens.now + 7
+
+-- a chain so far: it was read up to the rest
+abbrev pub invariant-product-loop-op : goal.invariant-product-loop-op
+invariant-product-loop-op l =
+    (length l.rest < length l.tokens) × ((k : Product) → reads l.tokens (want (first_product k)) ≡ reads l.rest (have_product (tree_of l.left) k))
+
+abbrev pub decreases-product-loop-op : goal.decreases-product-loop-op
+decreases-product-loop-op l = length l.rest
+
+abbrev pub invariant-sum-loop-op : goal.invariant-sum-loop-op
+invariant-sum-loop-op l =
+    (length l.rest < length l.tokens) × ((k : Sum) → reads l.tokens (want (sum_due k)) ≡ reads l.rest (have_sum (tree_of l.left) k))
+
+abbrev pub decreases-sum-loop-op : goal.decreases-sum-loop-op
+decreases-sum-loop-op l = length l.rest
+
+abbrev pub invariant-conjunction-loop-behind : goal.invariant-conjunction-loop-behind
+invariant-conjunction-loop-behind l =
+    (length l.rest < length l.tokens) × ((k : Conjunction) → reads l.tokens (want_inverse (first_and k)) ≡ reads l.rest (have_and (tree_of l.left) k))
+
+abbrev pub decreases-conjunction-loop-behind : goal.decreases-conjunction-loop-behind
+decreases-conjunction-loop-behind l = length l.rest
+
+abbrev pub invariant-expr-loop-behind : goal.invariant-expr-loop-behind
+invariant-expr-loop-behind l =
+    (length l.rest < length l.tokens) × ((k : Whole) → reads l.tokens (expr_due k) ≡ reads l.rest (have (tree_of l.left) k))
+
+abbrev pub decreases-expr-loop-behind : goal.decreases-expr-loop-behind
+decreases-expr-loop-behind l = length l.rest
+
+-- an argument is due behind those that were read
+abbrev pub invariant-arguments-loop-args : goal.invariant-arguments-loop-args
+invariant-arguments-loop-args l =
+    (length l.rest ≤ length l.tokens) × ((k : Caller) → reads l.tokens (called_open k) ≡ reads l.rest (expr_due (called_with k (trees_of l.args))))
+
+abbrev pub decreases-arguments-loop-args : goal.decreases-arguments-loop-args
+decreases-arguments-loop-args l = length l.rest

@@ -1,0 +1,213 @@
+//! Expressions, by recursive descent: loops for chains and arguments, recursion for nesting.
+
+ghost use Rattle.std.specs.Prelude.{◌<◌, ◌≤◌, length, IfOk};
+ghost use Rattle.ts_machine.specs.Machine.{Operand, Product, Sum, Inverse, Conjunction, Whole, want, want_inverse, named, sized, size_opened, size_named, first_product, first_and, sum_due, inverse_due, expr_due, give, have_product, have_sum, have_inverse, have_and, have};
+ghost use Rattle.ts_machine.specs.Parsing.{Reads, Lacks, LacksOperator, product_sign, sum_sign, Caller, called_open, called};
+ghost use Rattle.ts_syntax.specs.Seen.{tree_of, trees_of};
+ghost use Rattle.ts_syntax.specs.declared.token.TokenKind.TheVariants as kind;
+
+use crate::node::{inverse, item, message_item, negative, paren, two};
+use std::alloc::Global;
+use ts_machine::Halt;
+use ts_machine::expect::{
+    after, after_comparison_sign, after_product_sign, after_sum_sign, expect, name,
+};
+use ts_syntax::{Args, BinOp, Expr, Token, TokenKind, Word};
+
+/// Reads an expression, with all the operators that follow its parts: it, and the tokens behind it, of which the first is
+/// no `or`. It stops at the first token that doesn't fit, or behind all tokens where they end too early.
+#[cycle(expr)]
+pub fn expr<'a>(alloc: Global, tokens: &'a [Token]) -> Result<(Expr, &'a [Token]), Halt<'a>>
+    ensures reads { Reads {K = Whole} tokens.now (λ k. expr_due k) (λ e k. have (tree_of e) k) result }
+    ensures over { IfOk result (λ x. Lacks kind.Or x.1.now) }
+    ensures shorter { IfOk result (λ x. length x.1.now < length tokens.now) }
+{
+    let (mut left, mut rest) = conjunction(alloc, tokens)?;
+    while let Some(behind) = after(rest, &TokenKind::Or) {
+        let (right, then) = conjunction(alloc, behind)?;
+        left = two(alloc, BinOp::Or, left, right)?;
+        rest = then;
+    }
+    Ok((left, rest))
+}
+
+/// Reads the arguments of a call, from behind its `(` up to and with its `)`: they, and the tokens behind them. It stops at
+/// the first token that doesn't fit, or behind all tokens where they end too early.
+#[cycle(expr)]
+pub fn arguments<'a>(alloc: Global, tokens: &'a [Token]) -> Result<(Args, &'a [Token]), Halt<'a>>
+    ensures reads { Reads {K = Caller} tokens.now (λ k. called_open k) (λ es k. called k (trees_of es)) result }
+    ensures shorter { IfOk result (λ x. length x.1.now < length tokens.now) }
+{
+    let mut args = Args::new(alloc);
+    if let Some(rest) = after(tokens, &TokenKind::Close) {
+        return Ok((args, rest));
+    }
+    let mut rest = tokens;
+    loop {
+        let (arg, behind) = expr(alloc, rest)?;
+        args.push(arg)?;
+        let Some(next) = after(behind, &TokenKind::Comma) else {
+            let behind = expect(behind, &TokenKind::Close)?;
+            return Ok((args, behind));
+        };
+        rest = next;
+    }
+}
+
+/// Reads a chain of `and`.
+#[cycle(expr)]
+fn conjunction<'a>(alloc: Global, tokens: &'a [Token]) -> Result<(Expr, &'a [Token]), Halt<'a>>
+    ensures reads { Reads {K = Conjunction} tokens.now (λ k. want_inverse (first_and k)) (λ e k. have_and (tree_of e) k) result }
+    ensures over { IfOk result (λ x. Lacks kind.And x.1.now) }
+    ensures shorter { IfOk result (λ x. length x.1.now < length tokens.now) }
+{
+    let (mut left, mut rest) = inversion(alloc, tokens)?;
+    while let Some(behind) = after(rest, &TokenKind::And) {
+        let (right, then) = inversion(alloc, behind)?;
+        left = two(alloc, BinOp::And, left, right)?;
+        rest = then;
+    }
+    Ok((left, rest))
+}
+
+/// Reads a comparison, or `not` before one.
+#[cycle(expr)]
+fn inversion<'a>(alloc: Global, tokens: &'a [Token]) -> Result<(Expr, &'a [Token]), Halt<'a>>
+    ensures reads { Reads {K = Inverse} tokens.now (λ k. want_inverse k) (λ e k. have_inverse (tree_of e) k) result }
+    ensures shorter { IfOk result (λ x. length x.1.now < length tokens.now) }
+{
+    let Some(behind) = after(tokens, &TokenKind::Not) else {
+        return comparison(alloc, tokens);
+    };
+    let (of, rest) = inversion(alloc, behind)?;
+    Ok((inverse(alloc, of)?, rest))
+}
+
+/// Reads a sum, or two with one sign of comparison between them.
+#[cycle(expr)]
+fn comparison<'a>(alloc: Global, tokens: &'a [Token]) -> Result<(Expr, &'a [Token]), Halt<'a>>
+    ensures reads { Reads {K = Inverse} tokens.now (λ k. want (inverse_due k)) (λ e k. have_inverse (tree_of e) k) result }
+    ensures shorter { IfOk result (λ x. length x.1.now < length tokens.now) }
+{
+    let (left, rest) = sum(alloc, tokens)?;
+    let Some((op, behind)) = after_comparison_sign(rest) else {
+        return Ok((left, rest));
+    };
+    let (right, rest) = sum(alloc, behind)?;
+    Ok((two(alloc, op, left, right)?, rest))
+}
+
+/// Reads a chain of `+` and `-`.
+#[cycle(expr)]
+fn sum<'a>(alloc: Global, tokens: &'a [Token]) -> Result<(Expr, &'a [Token]), Halt<'a>>
+    ensures reads { Reads {K = Sum} tokens.now (λ k. want (sum_due k)) (λ e k. have_sum (tree_of e) k) result }
+    ensures over { IfOk result (λ x. LacksOperator sum_sign x.1.now) }
+    ensures shorter { IfOk result (λ x. length x.1.now < length tokens.now) }
+{
+    let (mut left, mut rest) = product(alloc, tokens)?;
+    while let Some((op, behind)) = after_sum_sign(rest) {
+        let (right, then) = product(alloc, behind)?;
+        left = two(alloc, op, left, right)?;
+        rest = then;
+    }
+    Ok((left, rest))
+}
+
+/// Reads a chain of `*`, `/` and `%`.
+#[cycle(expr)]
+fn product<'a>(alloc: Global, tokens: &'a [Token]) -> Result<(Expr, &'a [Token]), Halt<'a>>
+    ensures reads { Reads {K = Product} tokens.now (λ k. want (first_product k)) (λ e k. have_product (tree_of e) k) result }
+    ensures over { IfOk result (λ x. LacksOperator product_sign x.1.now) }
+    ensures shorter { IfOk result (λ x. length x.1.now < length tokens.now) }
+{
+    let (mut left, mut rest) = operand(alloc, tokens)?;
+    while let Some((op, behind)) = after_product_sign(rest) {
+        let (right, then) = operand(alloc, behind)?;
+        left = two(alloc, op, left, right)?;
+        rest = then;
+    }
+    Ok((left, rest))
+}
+
+/// Reads what binds tightest, or `-` before it.
+#[cycle(expr)]
+fn operand<'a>(alloc: Global, tokens: &'a [Token]) -> Result<(Expr, &'a [Token]), Halt<'a>>
+    ensures reads { Reads {K = Operand} tokens.now (λ k. want k) (λ e k. give k (tree_of e)) result }
+    ensures shorter { IfOk result (λ x. length x.1.now < length tokens.now) }
+{
+    let Some((first, rest)) = tokens.split_first() else {
+        return Err(Halt::At(tokens));
+    };
+    match &first.kind {
+        TokenKind::Minus => {
+            let (of, rest) = operand(alloc, rest)?;
+            Ok((negative(alloc, of)?, rest))
+        }
+        TokenKind::Num(value) => Ok((Expr::Num(*value), rest)),
+        TokenKind::Name(name) => {
+            let word = Word {
+                name: name.copy(),
+                place: first.from,
+            };
+            behind_name(alloc, word, rest)
+        }
+        TokenKind::Size => size(rest),
+        TokenKind::Msg => {
+            let rest = expect(rest, &TokenKind::OpenBox)?;
+            let (index, rest) = expr(alloc, rest)?;
+            let rest = expect(rest, &TokenKind::CloseBox)?;
+            Ok((message_item(alloc, index)?, rest))
+        }
+        TokenKind::Open => {
+            let (of, rest) = expr(alloc, rest)?;
+            let rest = expect(rest, &TokenKind::Close)?;
+            Ok((paren(alloc, of)?, rest))
+        }
+        _ => Err(Halt::At(tokens)),
+    }
+}
+
+/// Reads on behind a name: a call, a buffer's item, or a variable where neither follows.
+#[cycle(expr)]
+fn behind_name<'a>(
+    alloc: Global,
+    word: Word,
+    tokens: &'a [Token],
+) -> Result<(Expr, &'a [Token]), Halt<'a>>
+    ensures reads { Reads {K = Operand} tokens.now (λ k. named word k) (λ e k. give k (tree_of e)) result }
+    ensures shorter { IfOk result (λ x. length x.1.now ≤ length tokens.now) }
+{
+    if let Some(rest) = after(tokens, &TokenKind::Open) {
+        let (args, rest) = arguments(alloc, rest)?;
+        return Ok((Expr::Call(word, args), rest));
+    }
+    if let Some(rest) = after(tokens, &TokenKind::OpenBox) {
+        let (index, rest) = expr(alloc, rest)?;
+        let rest = expect(rest, &TokenKind::CloseBox)?;
+        return Ok((item(alloc, word, index)?, rest));
+    }
+    Ok((Expr::Var(word), tokens))
+}
+
+/// Reads on behind `size`: a buffer's name or `msg`, in parentheses.
+fn size<'a>(tokens: &'a [Token]) -> Result<(Expr, &'a [Token]), Halt<'a>>
+    ensures reads { Reads {K = Operand} tokens.now (λ k. sized k) (λ e k. give k (tree_of e)) result }
+    ensures shorter { IfOk result (λ x. length x.1.now < length tokens.now) }
+{
+    let rest = expect(tokens, &TokenKind::Open)?;
+    let (of, rest) = size_of(rest)?;
+    let rest = expect(rest, &TokenKind::Close)?;
+    Ok((of, rest))
+}
+
+/// Reads what `size` is asked of: a buffer's name, or `msg`.
+fn size_of<'a>(tokens: &'a [Token]) -> Result<(Expr, &'a [Token]), Halt<'a>>
+    ensures reads { Reads {K = Operand} tokens.now (λ k. size_opened k) (λ e k. size_named (tree_of e) k) result }
+    ensures shorter { IfOk result (λ x. length x.1.now < length tokens.now) }
+{
+    if let Some(rest) = after(tokens, &TokenKind::Msg) {
+        return Ok((Expr::MsgSize, rest));
+    }
+    let (word, rest) = name(tokens)?;
+    Ok((Expr::Size(word), rest))
+}

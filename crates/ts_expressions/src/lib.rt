@@ -1,0 +1,7 @@
+//! The parser of TinyScript's expressions.
+#![tactic(auto)]
+
+pub mod expression;
+pub mod node;
+
+pub use expression::{arguments, expr};

@@ -1,0 +1,13 @@
+pub mod CodeLemmas
+pub mod CompleteExpr
+pub mod CompleteStmt
+pub mod Exact
+pub mod Finish
+pub mod MachineLemmas
+pub mod Parts
+pub mod Past
+pub mod Placed
+pub mod Places
+pub mod Reading
+pub mod Sound
+pub mod Turns

@@ -1,0 +1,4 @@
+pub mod Answers
+pub mod Code
+pub mod Machine
+pub mod Parsing

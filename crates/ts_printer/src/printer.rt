@@ -1,0 +1,372 @@
+//! A script's text: its tokens, with one space between two.
+
+ghost use Rattle.std.specs.Prelude.{◌≡◌, ◌∷◌, ◌++◌, [], ◌&&◌};
+ghost use Rattle.mate_files.specs.Sink.{Puts};
+ghost use Rattle.ts_syntax.specs.declared.token.TokenKind.{TokenKind};
+ghost use Rattle.ts_syntax.specs.declared.token.TokenKind.TheVariants as kind;
+ghost use Rattle.ts_printer.specs.Print.{PrintsTokens, comma_before, head_spelled, closing};
+ghost use Rattle.ts_syntax.specs.Seen.{tree_of, trees_of, act_of, acts_of, source_of};
+ghost use Rattle.ts_syntax.specs.Spelling.{sign, name, decl_keyword, decl_start, spelled, args_spelled, minus_spelled, step_spelled, act_spelled, acts_spelled, decls_spelled, source_spelled};
+ghost use Rattle.ts_syntax.specs.Text.{space, token_text, text_of};
+
+use mate_files::{Pen, Sink, SinkFault};
+use ts_syntax::{Args, BinOp, Block, Decl, DeclKind, Expr, ForHead, Script, Step, Stmt, Word};
+
+/// Prints tokens with one space between two.
+#[derive(Drop)]
+struct Printer {
+    pen: Pen,
+    /// Whether a token was printed.
+    begun: bool,
+}
+
+/// What stands before a token: a space where another one stands before it.
+fn gap(begun: bool) -> &'static str
+    ensures { result.now ≡ space begun }
+{
+    if begun { " " } else { "" }
+}
+
+fn sign_text(op: BinOp) -> &'static str
+    ensures { result.now ≡ token_text (sign op) }
+{
+    match op {
+        BinOp::Or => "or",
+        BinOp::And => "and",
+        BinOp::Eq => "=",
+        BinOp::Ne => "<>",
+        BinOp::Lt => "<",
+        BinOp::Gt => ">",
+        BinOp::Le => "<=",
+        BinOp::Ge => ">=",
+        BinOp::Add => "+",
+        BinOp::Sub => "-",
+        BinOp::Mul => "*",
+        BinOp::Div => "/",
+        BinOp::Rem => "%",
+    }
+}
+
+fn keyword_text(kind: DeclKind) -> &'static str
+    ensures { result.now ≡ token_text (decl_keyword kind) }
+{
+    match kind {
+        DeclKind::Shared => "shared",
+        DeclKind::Private => "private",
+        DeclKind::Buffer => "buffer",
+    }
+}
+
+/// Whether a declaration ends before a name: one stands before it, and the name is the first of another.
+fn ends(behind: bool, first: bool) -> bool
+    ensures { result ≡ (behind && first) }
+{
+    behind && first
+}
+
+/// What stands before a declared name.
+fn start_text(first: bool, kind: DeclKind) -> &'static str
+    ensures { result.now ≡ token_text (decl_start first kind) }
+{
+    if first { keyword_text(kind) } else { "," }
+}
+
+impl Printer {
+    /// Prints a token by its text.
+    fn token<S: Sink>(&mut self, out: &mut S, text: &str)
+        ensures { (k : TokenKind) → text.now ≡ token_text k → PrintsTokens (S.written out.old) (S.faults out.old) self.old
+            (S.written out.new) (S.faults out.new) self.new (k ∷ []) }
+    {
+        self.pen.text(out, gap(self.begun));
+        self.pen.text(out, text);
+        self.begun = true;
+    }
+
+    /// Prints a literal: its value in decimal.
+    fn number<S: Sink>(&mut self, out: &mut S, value: u16)
+        ensures { PrintsTokens (S.written out.old) (S.faults out.old) self.old
+            (S.written out.new) (S.faults out.new) self.new (kind.Num value ∷ []) }
+    {
+        self.pen.text(out, gap(self.begun));
+        self.pen.number(out, value as u64);
+        self.begun = true;
+    }
+
+    fn name<S: Sink>(&mut self, out: &mut S, word: &Word)
+        ensures { PrintsTokens (S.written out.old) (S.faults out.old) self.old
+            (S.written out.new) (S.faults out.new) self.new (name word.now ∷ []) }
+    {
+        self.token(out, word.name.as_str());
+    }
+
+    #[cycle(print_expr)]
+    fn expr<S: Sink>(&mut self, out: &mut S, expr: &Expr)
+        ensures { PrintsTokens (S.written out.old) (S.faults out.old) self.old
+            (S.written out.new) (S.faults out.new) self.new (spelled (tree_of expr.now)) }
+    {
+        match expr {
+            Expr::Num(value) => {
+                self.number(out, *value);
+            }
+            Expr::Var(word) => {
+                self.name(out, word);
+            }
+            Expr::Item(word, index) => {
+                self.name(out, word);
+                self.token(out, "[");
+                self.expr(out, index);
+                self.token(out, "]");
+            }
+            Expr::Size(word) => {
+                self.token(out, "size");
+                self.token(out, "(");
+                self.name(out, word);
+                self.token(out, ")");
+            }
+            Expr::MsgItem(index) => {
+                self.token(out, "msg");
+                self.token(out, "[");
+                self.expr(out, index);
+                self.token(out, "]");
+            }
+            Expr::MsgSize => {
+                self.token(out, "size");
+                self.token(out, "(");
+                self.token(out, "msg");
+                self.token(out, ")");
+            }
+            Expr::Call(word, args) => {
+                self.name(out, word);
+                self.token(out, "(");
+                self.args(out, args);
+                self.token(out, ")");
+            }
+            Expr::Neg(of) => {
+                self.token(out, "-");
+                self.expr(out, of);
+            }
+            Expr::Not(of) => {
+                self.token(out, "not");
+                self.expr(out, of);
+            }
+            Expr::Two(op, left, right) => {
+                self.expr(out, left);
+                self.token(out, sign_text(*op));
+                self.expr(out, right);
+            }
+            Expr::Paren(of) => {
+                self.token(out, "(");
+                self.expr(out, of);
+                self.token(out, ")");
+            }
+        }
+    }
+
+    /// Prints the comma before an argument that isn't the first.
+    fn comma<S: Sink>(&mut self, out: &mut S, first: bool)
+        ensures { PrintsTokens (S.written out.old) (S.faults out.old) self.old
+            (S.written out.new) (S.faults out.new) self.new (comma_before first) }
+    {
+        if !first {
+            self.token(out, ",");
+        }
+    }
+
+    #[cycle(print_expr)]
+    fn args<S: Sink>(&mut self, out: &mut S, args: &Args)
+        ensures { PrintsTokens (S.written out.old) (S.faults out.old) self.old
+            (S.written out.new) (S.faults out.new) self.new (args_spelled (trees_of args.now)) }
+    {
+        let mut first = true;
+        for arg in args.as_slice() {
+            self.comma(out, first);
+            self.expr(out, arg);
+            first = false;
+        }
+    }
+
+    fn step<S: Sink>(&mut self, out: &mut S, step: Option<Step>)
+        ensures { PrintsTokens (S.written out.old) (S.faults out.old) self.old
+            (S.written out.new) (S.faults out.new) self.new (step_spelled step) }
+    {
+        match step {
+            None => {}
+            Some(step) => {
+                self.token(out, "step");
+                self.minus(out, step.minus);
+                self.number(out, step.size);
+            }
+        }
+    }
+
+    fn minus<S: Sink>(&mut self, out: &mut S, minus: bool)
+        ensures { PrintsTokens (S.written out.old) (S.faults out.old) self.old
+            (S.written out.new) (S.faults out.new) self.new (minus_spelled minus) }
+    {
+        if minus {
+            self.token(out, "-");
+        }
+    }
+
+    fn head<S: Sink>(&mut self, out: &mut S, head: &ForHead)
+        ensures { PrintsTokens (S.written out.old) (S.faults out.old) self.old
+            (S.written out.new) (S.faults out.new) self.new (head_spelled head.now) }
+    {
+        self.token(out, "for");
+        self.name(out, &head.var);
+        self.token(out, "=");
+        self.expr(out, &head.from);
+        self.token(out, "to");
+        self.expr(out, &head.to);
+        self.step(out, head.step);
+    }
+
+    /// Prints the end of a block that `keyword` opened.
+    fn end<S: Sink>(&mut self, out: &mut S, keyword: &str)
+        ensures { (k : TokenKind) → keyword.now ≡ token_text k → PrintsTokens (S.written out.old) (S.faults out.old) self.old
+            (S.written out.new) (S.faults out.new) self.new (kind.End ∷ k ∷ []) }
+    {
+        self.token(out, "end");
+        self.token(out, keyword);
+    }
+
+    #[cycle(print_stmt)]
+    fn stmt<S: Sink>(&mut self, out: &mut S, stmt: &Stmt)
+        ensures { PrintsTokens (S.written out.old) (S.faults out.old) self.old
+            (S.written out.new) (S.faults out.new) self.new (act_spelled (act_of stmt.now)) }
+    {
+        match stmt {
+            Stmt::Set(word, value) => {
+                self.name(out, word);
+                self.token(out, "=");
+                self.expr(out, value);
+                self.token(out, ";");
+            }
+            Stmt::SetItem(word, index, value) => {
+                self.name(out, word);
+                self.token(out, "[");
+                self.expr(out, index);
+                self.token(out, "]");
+                self.token(out, "=");
+                self.expr(out, value);
+                self.token(out, ";");
+            }
+            Stmt::Append(word, value) => {
+                self.name(out, word);
+                self.token(out, "[");
+                self.token(out, "]");
+                self.token(out, "=");
+                self.expr(out, value);
+                self.token(out, ";");
+            }
+            Stmt::Take(word, buffer) => {
+                self.name(out, word);
+                self.token(out, "=");
+                self.name(out, buffer);
+                self.token(out, "[");
+                self.token(out, "]");
+                self.token(out, ";");
+            }
+            Stmt::Clear(word) => {
+                self.token(out, "clear");
+                self.token(out, "(");
+                self.name(out, word);
+                self.token(out, ")");
+                self.token(out, ";");
+            }
+            Stmt::Do(word, args) => {
+                self.name(out, word);
+                self.token(out, "(");
+                self.args(out, args);
+                self.token(out, ")");
+                self.token(out, ";");
+            }
+            Stmt::If(condition, block, otherwise) => {
+                self.token(out, "if");
+                self.expr(out, condition);
+                self.token(out, "then");
+                self.block(out, block);
+                match otherwise {
+                    None => {
+                        self.end(out, "if");
+                    }
+                    Some(otherwise) => {
+                        self.token(out, "else");
+                        self.block(out, otherwise);
+                        self.end(out, "if");
+                    }
+                }
+            }
+            Stmt::For(head, body, word) => {
+                self.head(out, head);
+                self.block(out, body);
+                self.token(out, "next");
+                self.name(out, word);
+            }
+            Stmt::While(condition, body) => {
+                self.token(out, "while");
+                self.expr(out, condition);
+                self.block(out, body);
+                self.end(out, "while");
+            }
+        }
+    }
+
+    #[cycle(print_stmt)]
+    fn block<S: Sink>(&mut self, out: &mut S, block: &Block)
+        ensures { PrintsTokens (S.written out.old) (S.faults out.old) self.old
+            (S.written out.new) (S.faults out.new) self.new (acts_spelled (acts_of block.now)) }
+    {
+        for stmt in block.as_slice() {
+            self.stmt(out, stmt);
+        }
+    }
+
+    /// Prints the `;` of a declaration that is open, where the next name begins another one.
+    fn close<S: Sink>(&mut self, out: &mut S, behind: bool)
+        ensures { PrintsTokens (S.written out.old) (S.faults out.old) self.old
+            (S.written out.new) (S.faults out.new) self.new (closing behind) }
+    {
+        if behind {
+            self.token(out, ";");
+        }
+    }
+
+    /// Prints a declared name; `behind` says whether another one stands before it.
+    fn decl<S: Sink>(&mut self, out: &mut S, behind: bool, decl: &Decl)
+        ensures { PrintsTokens (S.written out.old) (S.faults out.old) self.old
+            (S.written out.new) (S.faults out.new) self.new (closing (behind && decl.now.first) ++ (decl_start decl.now.first decl.now.kind ∷ name decl.now.word ∷ [])) }
+    {
+        self.close(out, ends(behind, decl.first));
+        self.token(out, start_text(decl.first, decl.kind));
+        self.name(out, &decl.word);
+    }
+
+    fn decls<S: Sink>(&mut self, out: &mut S, decls: &[Decl])
+        ensures { PrintsTokens (S.written out.old) (S.faults out.old) self.old
+            (S.written out.new) (S.faults out.new) self.new (decls_spelled decls.now) }
+    {
+        let mut behind = false;
+        for decl in decls {
+            self.decl(out, behind, decl);
+            behind = true;
+        }
+        self.close(out, behind);
+    }
+}
+
+/// Writes the tokens of `script` with one space between two: keywords, names and signs as they are, literals in
+/// decimal. Parentheses are kept. It takes no memory; a refusal leaves a prefix of the text in the sink.
+pub fn print<S: Sink>(script: &Script, out: &mut S) -> Result<(), SinkFault>
+    ensures { Puts (S.written out.old) (S.faults out.old) (S.written out.new) (S.faults out.new) result
+        (text_of (source_spelled (source_of script.now))) }
+{
+    let mut printer = Printer {
+        pen: Pen::new(),
+        begun: false,
+    };
+    printer.decls(out, script.decls.as_slice());
+    printer.block(out, &script.body);
+    let Printer { pen, .. } = printer;
+    pen.finish()
+}

@@ -1,0 +1,78 @@
+-- What is read from a text keeps the rules of a description, and bytes beside the text in them.
+use Rattle.std.proofs.Common.{◌≡◌, ℕ, ◌≤◌, List, length, Bool, true, ◌&&◌, is_none, Option, None, Result, Ok, Err, IsUtf8, refl, inl, inr}
+use Rattle.std.proofs.lemmas.Bool.{le-leb, cases_Bool}
+use Rattle.std.proofs.lemmas.Str.{IsUtf8-from_is_utf8, is_utf8-from_IsUtf8}
+use Rattle.std.specs.List.{list_all}
+use Rattle.std.specs.Str.{is_utf8}
+use Rattle.toml.specs.Parse.{parse_document}
+use Rattle.vm_desc.specs.Names.{is_name}
+use Rattle.vm_desc.specs.Limits.{Parts, is_valid, is_handler, is_function, is_trickle, is_radio, context_sum, duplicate_of, round_time, longest}
+use Rattle.vm_reader.specs.Text.{description_of, of_document, Reads}
+use Rattle.vm_desc.specs.declared.fault.DescFault.TheVariants.{NotToml, BadField, OverLimit, Duplicate, SlowImax, NoMemory}
+use Rattle.vm_desc.specs.declared.fault.DescFault.{DescFault}
+use Rattle.vm_desc.specs.declared.description.Description.{Description}
+use Rattle.vm_desc.specs.Whole.{parts_of}
+use Rattle.vm_reader.specs.Fields.{Gives}
+
+-- the rules of a description, each by its name
+pub record Keeps (p : Parts) : Type 0 where
+  pub vm_id : p.vm_id ≤ 4294967295
+  pub some_handlers : 1 ≤ length p.handlers
+  pub few_handlers : length p.handlers ≤ 8
+  pub each_handler : list_all is_handler p.handlers ≡ true
+  pub few_contexts : context_sum p.handlers ≤ 16
+  pub few_functions : length p.functions ≤ 32
+  pub each_function : list_all (is_function (length p.devices)) p.functions ≡ true
+  pub few_shared : length p.shared ≤ 16
+  pub each_shared : list_all is_name p.shared ≡ true
+  pub few_buffers : length p.buffers ≤ 8
+  pub each_buffer : list_all is_name p.buffers ≡ true
+  pub few_devices : length p.devices ≤ 8
+  pub each_device : list_all is_name p.devices ≡ true
+  pub turns : p.turns ≤ 1000000
+  pub quantum_low : 1 ≤ p.quantum
+  pub quantum_high : p.quantum ≤ 10000
+  pub trickle : is_trickle p.trickle ≡ true
+  pub radio : is_radio p.radio ≡ true
+  pub distinct : duplicate_of p ≡ None
+  pub timely : round_time (length p.handlers) p.radio ≤ longest p.trickle
+
+both : (a b : Bool) → a ≡ true → b ≡ true → (a && b) ≡ true
+both a b p q = rw (p, q) refl
+
+none : {A : Type 0} (o : Option A) → o ≡ None → is_none o ≡ true
+none o e = rw e refl
+
+pub is_valid-from : (p : Parts) → Keeps p → is_valid p ≡ true
+is_valid-from p k =
+    let le = le-leb in
+    both _ _
+    (both _ _
+    (both _ _ (both _ _ (both _ _ (both _ _ (le _ _ k.some_handlers) (le _ _ k.few_handlers)) k.each_handler) (le _ _ k.few_contexts))
+    (both _ _ (le _ _ k.few_functions) k.each_function))
+    (both _ _
+    (both _ _ (both _ _ (both _ _ (le _ _ k.few_shared) k.each_shared) (both _ _ (le _ _ k.few_buffers) k.each_buffer)) (both _ _ (le _ _ k.few_devices) k.each_device))
+    (both _ _ (both _ _ (both _ _ (le _ _ k.vm_id) (le _ _ k.turns)) (both _ _ (le _ _ k.quantum_low) (le _ _ k.quantum_high))) (both _ _ k.trickle k.radio))))
+    (both _ _ (none (duplicate_of p) k.distinct) (le _ _ k.timely))
+
+-- bytes that are no text
+pub description_of-bytes : (bytes : List ℕ) → (IsUtf8 bytes → ⊥) → description_of bytes ≡ Err NotToml
+description_of-bytes bytes no_text =
+    elim (cases_Bool (is_utf8 bytes)) [
+      | inl one ↦ absurd (no_text (IsUtf8-from_is_utf8 bytes one))
+      | inr not_one ↦ rw not_one refl
+    ]
+
+-- bytes that are a text
+pub description_of-text : (bytes : List ℕ) → IsUtf8 bytes → description_of bytes ≡ of_document (parse_document bytes)
+description_of-text bytes text = rw (is_utf8-from_IsUtf8 bytes text) refl
+
+-- what gives a reading reads it
+pub reads-from : (r : Result Description DescFault) (reading : Result Parts DescFault) → Gives parts_of r reading → Reads r reading
+reads-from (Ok d) reading e = e
+reads-from (Err NotToml) reading e = e
+reads-from (Err (BadField key)) reading e = e
+reads-from (Err (OverLimit key)) reading e = e
+reads-from (Err (Duplicate name)) reading e = e
+reads-from (Err (SlowImax need have)) reading e = e
+reads-from (Err NoMemory) reading e = tt

@@ -1,0 +1,15 @@
+//! The keys of a description before the handlers.
+
+use arrayvec::ArrayVec;
+use mate_num::Name;
+
+/// What the keys before the handlers give.
+#[derive(Drop)]
+pub struct Opening {
+    pub vm_id: u32,
+    pub shared: ArrayVec<Name, 16>,
+    pub buffers: ArrayVec<Name, 8>,
+    pub devices: ArrayVec<Name, 8>,
+    pub turns: u32,
+    pub quantum: u32,
+}

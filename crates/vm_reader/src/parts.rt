@@ -1,0 +1,295 @@
+//! The handlers, functions and settings that a description's tables give.
+
+ghost use Rattle.std.specs.Prelude.{◌≡◌, ◌≤◌, ◌<◌, ◌*◌, ◌^◌, Some, None, true, length, IfOk, IfSome, IsTrue};
+ghost use Rattle.std.specs.List.{list_all};
+ghost use Rattle.toml.specs.View.{view, array_view, table_view};
+ghost use Rattle.vm_desc.specs.Limits.{is_kind, is_handler, args_of, is_device, is_function, is_trickle, is_radio};
+ghost use Rattle.vm_reader.specs.Fields.{Gives, field, word_as, each, seen, seen_table, tables, tables_in, are_tables};
+ghost use Rattle.vm_reader.specs.Reading.{handler_kind, with_period, handler_at, handlers_at, fun_kind, with_args, place_of, device, function_at, functions_at, trickle_at, radio_at};
+
+use crate::fields::{allowed, at, list_at, name, number, taken, within};
+use arrayvec::ArrayVec;
+use mate_num::{DeviceId, Name};
+use toml::value::Array;
+use toml::{Table, Value};
+use vm_desc::settings::doubled;
+use vm_desc::{DescFault, FunKind, Function, Handler, HandlerKind, Key, RadioSet, TrickleSet};
+
+/// The handlers in `value`: one to eight.
+#[tactic(auto, unfolding(crate::specs::Reading::handlers_at))]
+pub fn handlers_in(value: Option<&Value>) -> Result<ArrayVec<Handler, 8>, DescFault>
+    ensures value { Gives (λ v. v.items) result (handlers_at (seen value.entry)) }
+    ensures some { IfOk result (λ v. 1 ≤ length v.items) }
+    ensures few { IfOk result (λ v. length v.items ≤ 8) }
+    ensures rules { IfOk result (λ v. IsTrue (list_all is_handler v.items)) }
+{
+    let value = taken(Key::Handler, value)?;
+    let items = tables(Key::Handler, 8, value)?;
+    allowed(Key::Handler, !items.is_empty())?;
+    each_handler(items)
+}
+
+fn each_handler(items: &Array) -> Result<ArrayVec<Handler, 8>, DescFault>
+    requires few { length items.now.items ≤ 8 }
+    requires tables { are_tables (array_view items.now) ≡ true }
+    ensures value { Gives (λ v. v.items) result (each handler_at (tables_in (array_view items.now))) }
+    ensures count { IfOk result (λ v. length v.items ≡ length items.now.items) }
+    ensures rules { IfOk result (λ v. IsTrue (list_all is_handler v.items)) }
+{
+    let mut handlers: ArrayVec<Handler, 8> = ArrayVec::new();
+    for item in items {
+        let Some(table) = item.as_table() else {
+            unreachable!()
+        };
+        handlers.push(handler_in(table)?);
+    }
+    Ok(handlers)
+}
+
+/// The functions in `value`: at most 32, and none where it is absent.
+#[tactic(auto, unfolding(crate::specs::Reading::functions_at))]
+pub fn functions_in(
+    devices: &ArrayVec<Name, 8>,
+    value: Option<&Value>,
+) -> Result<ArrayVec<Function, 32>, DescFault>
+    ensures value { Gives (λ v. v.items) result (functions_at devices.now.items (seen value.entry)) }
+    ensures few { IfOk result (λ v. length v.items ≤ 32) }
+    ensures rules { IfOk result (λ v. IsTrue (list_all (is_function (length devices.now.items)) v.items)) }
+{
+    match value {
+        Some(value) => each_function(devices.as_slice(), tables(Key::Function, 32, value)?),
+        None => Ok(ArrayVec::new()),
+    }
+}
+
+fn each_function(devices: &[Name], items: &Array) -> Result<ArrayVec<Function, 32>, DescFault>
+    requires devices { length devices.now ≤ 8 }
+    requires few { length items.now.items ≤ 32 }
+    requires tables { are_tables (array_view items.now) ≡ true }
+    ensures value { Gives (λ v. v.items) result (each (function_at devices.now) (tables_in (array_view items.now))) }
+    ensures count { IfOk result (λ v. length v.items ≡ length items.now.items) }
+    ensures rules { IfOk result (λ v. IsTrue (list_all (is_function (length devices.now)) v.items)) }
+{
+    let mut functions: ArrayVec<Function, 32> = ArrayVec::new();
+    for item in items {
+        let Some(table) = item.as_table() else {
+            unreachable!()
+        };
+        functions.push(function_in(devices, table)?);
+    }
+    Ok(functions)
+}
+
+/// The list in `value`, of at most `most` items, all of them tables.
+fn tables<'a>(key: Key, most: usize, value: &'a Value) -> Result<&'a Array, DescFault>
+    ensures value { Gives (λ v. tables_in (array_view v.now)) result (tables key most (view value.now)) }
+    ensures tables { IfOk result (λ v. are_tables (array_view v.now) ≡ true) }
+    ensures few { IfOk result (λ v. length v.now.items ≤ most) }
+    ensures count { IfOk result (λ v. length (tables_in (array_view v.now)) ≡ length v.now.items) }
+{
+    let items = list_at(key, most, value)?;
+    allowed(key, are_tables(items))?;
+    Ok(items)
+}
+
+fn are_tables(items: &Array) -> bool
+    ensures { result ≡ are_tables (array_view items.now) }
+{
+    for item in items {
+        if !item.is_table() {
+            return false;
+        }
+    }
+    true
+}
+
+#[tactic(auto, unfolding(crate::specs::Reading::handler_at))]
+fn handler_in(table: &Table) -> Result<Handler, DescFault>
+    ensures value { result ≡ handler_at (table_view table.now) }
+    ensures rules { IfOk result (λ h. IsTrue (is_handler h)) }
+{
+    let name = name(Key::HandlerName, at(table, "name"))?;
+    let kind = handler_kind(at(table, "kind"))?;
+    let contexts = number(Key::HandlerContexts, 1, 4, Some(1), at(table, "contexts"))?;
+    let kind = with_period(kind, at(table, "period"))?;
+    Ok(Handler {
+        name,
+        kind,
+        contexts: contexts as u8,
+    })
+}
+
+fn handler_kind(value: Option<&Value>) -> Result<HandlerKind, DescFault>
+    ensures { result ≡ field Key.HandlerKind (word_as handler_kind) (Some HandlerKind.Plain) (seen value.entry) }
+{
+    match value {
+        Some(Value::String(word)) => taken(Key::HandlerKind, handler_kind_of(word.as_str())),
+        Some(_) => Err(DescFault::BadField {
+            key: Key::HandlerKind,
+        }),
+        None => Ok(HandlerKind::Plain),
+    }
+}
+
+fn handler_kind_of(word: &str) -> Option<HandlerKind>
+    ensures { result ≡ handler_kind word.now }
+{
+    match word {
+        "plain" => Some(HandlerKind::Plain),
+        "timer" => Some(HandlerKind::Timer { period: 0 }),
+        "receive" => Some(HandlerKind::Receive),
+        "once" => Some(HandlerKind::Once),
+        _ => None,
+    }
+}
+
+fn with_period(kind: HandlerKind, value: Option<&Value>) -> Result<HandlerKind, DescFault>
+    ensures value { result ≡ with_period kind (seen value.entry) }
+    ensures rules { IfOk result (λ k. IsTrue (is_kind k)) }
+{
+    match (kind, value) {
+        (HandlerKind::Timer { .. }, _) => {
+            let period = number(Key::HandlerPeriod, 1, 3_600_000, None, value)?;
+            Ok(HandlerKind::Timer { period })
+        }
+        (_, None) => Ok(kind),
+        (_, Some(_)) => Err(DescFault::BadField {
+            key: Key::HandlerPeriod,
+        }),
+    }
+}
+
+#[tactic(auto, unfolding(crate::specs::Reading::function_at))]
+fn function_in(devices: &[Name], table: &Table) -> Result<Function, DescFault>
+    requires { length devices.now ≤ 8 }
+    ensures value { result ≡ function_at devices.now (table_view table.now) }
+    ensures rules { IfOk result (λ f. IsTrue (is_function (length devices.now) f)) }
+{
+    let name = name(Key::FunctionName, at(table, "name"))?;
+    let kind = fun_kind(at(table, "kind"))?;
+    let kind = with_args(kind, at(table, "args"))?;
+    let device = device(devices, at(table, "device"))?;
+    let latency = number(
+        Key::FunctionLatency,
+        1,
+        60_000,
+        Some(1),
+        at(table, "latency"),
+    )?;
+    Ok(Function {
+        name,
+        kind,
+        device,
+        latency,
+    })
+}
+
+fn fun_kind(value: Option<&Value>) -> Result<FunKind, DescFault>
+    ensures { result ≡ field Key.FunctionKind (word_as fun_kind) None (seen value.entry) }
+{
+    match value {
+        Some(Value::String(word)) => taken(Key::FunctionKind, fun_kind_of(word.as_str())),
+        _ => Err(DescFault::BadField {
+            key: Key::FunctionKind,
+        }),
+    }
+}
+
+fn fun_kind_of(word: &str) -> Option<FunKind>
+    ensures { result ≡ fun_kind word.now }
+{
+    match word {
+        "sense" => Some(FunKind::Sense),
+        "act" => Some(FunKind::Act { args: 0 }),
+        "send" => Some(FunKind::Send),
+        "id" => Some(FunKind::Id),
+        "rand" => Some(FunKind::Rand),
+        "clock" => Some(FunKind::Clock),
+        _ => None,
+    }
+}
+
+fn with_args(kind: FunKind, value: Option<&Value>) -> Result<FunKind, DescFault>
+    ensures value { result ≡ with_args kind (seen value.entry) }
+    ensures rules { IfOk result (λ k. args_of k ≤ 4) }
+{
+    match (kind, value) {
+        (FunKind::Act { .. }, _) => {
+            let args = number(Key::FunctionArgs, 0, 4, Some(0), value)?;
+            Ok(FunKind::Act { args: args as u8 })
+        }
+        (_, None) => Ok(kind),
+        (_, Some(_)) => Err(DescFault::BadField {
+            key: Key::FunctionArgs,
+        }),
+    }
+}
+
+fn device(devices: &[Name], value: Option<&Value>) -> Result<Option<DeviceId>, DescFault>
+    requires { length devices.now ≤ 8 }
+    ensures value { result ≡ field Key.FunctionDevice (device devices.now) (Some None) (seen value.entry) }
+    ensures rules { IfOk result (λ d. IsTrue (is_device (length devices.now) d)) }
+{
+    let key = Key::FunctionDevice;
+    match value {
+        Some(Value::String(text)) => match place_of(text.as_str(), devices) {
+            Some(place) => Ok(Some(DeviceId(place as u8))),
+            None => Err(DescFault::BadField { key }),
+        },
+        Some(_) => Err(DescFault::BadField { key }),
+        None => Ok(None),
+    }
+}
+
+fn place_of(text: &str, names: &[Name]) -> Option<usize>
+    ensures value { result ≡ place_of text.now names.now }
+    ensures within { IfSome result (λ n. n < length names.now) }
+{
+    for (place, name) in names.iter().enumerate() {
+        if text == name.as_str() {
+            return Some(place);
+        }
+    }
+    None
+}
+
+/// The settings of the Trickle timer in `table`.
+#[tactic(auto, unfolding(crate::specs::Reading::trickle_at))]
+pub fn trickle_in(table: Option<&Table>) -> Result<TrickleSet, DescFault>
+    ensures value { result ≡ trickle_at (seen_table table.entry) }
+    ensures rules { IfOk result (λ t. IsTrue (is_trickle t)) }
+{
+    let imin = number(
+        Key::TrickleImin,
+        2,
+        60_000,
+        Some(1_000),
+        within(table, "imin"),
+    )?;
+    allowed(Key::TrickleImin, imin % 2 == 0)?;
+    let doublings = number(
+        Key::TrickleDoublings,
+        0,
+        16,
+        Some(4),
+        within(table, "doublings"),
+    )?;
+    allowed(Key::TrickleDoublings, doubled(imin, doublings) <= 3_600_000)?;
+    let k = number(Key::TrickleK, 1, 255, Some(2), within(table, "k"))?;
+    Ok(TrickleSet {
+        imin,
+        doublings: doublings as u8,
+        k: k as u8,
+    })
+}
+
+/// The settings of the radio in `table`.
+#[tactic(auto, unfolding(crate::specs::Reading::radio_at))]
+pub fn radio_in(table: Option<&Table>) -> Result<RadioSet, DescFault>
+    ensures value { result ≡ radio_at (seen_table table.entry) }
+    ensures rules { IfOk result (λ r. IsTrue (is_radio r)) }
+{
+    let delay = number(Key::RadioDelay, 1, 10_000, Some(5), within(table, "delay"))?;
+    let gap = number(Key::RadioGap, 1, 10_000, Some(50), within(table, "gap"))?;
+    Ok(RadioSet { delay, gap })
+}

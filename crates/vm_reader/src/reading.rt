@@ -1,0 +1,104 @@
+//! The description in a text.
+
+ghost use Rattle.std.specs.Prelude.{◌≡◌, IfOk};
+ghost use Rattle.toml.specs.View.{table_view};
+ghost use Rattle.vm_reader.specs.Fields.{Gives};
+ghost use Rattle.vm_desc.specs.Whole.{parts_of};
+ghost use Rattle.vm_reader.specs.Reading.{opening_at, from_handlers_at, description_at};
+ghost use Rattle.vm_reader.specs.Openings.{opening_of, IsOpening};
+ghost use Rattle.vm_reader.specs.Text.{Reads, description_of};
+
+use crate::fields::{at, names, number, section};
+use crate::known::{Place, members_are_known};
+use crate::opening::Opening;
+use crate::parts::{functions_in, handlers_in, radio_in, trickle_in};
+use std::alloc::Global;
+use toml::Table;
+use vm_desc::rules::{few_contexts, in_time, no_repeat};
+use vm_desc::{DescFault, Description, Key};
+
+/// The description in `bytes`, a TOML document. `DescFault` says when each refusal comes; of
+/// several the first in its order is given, and `NoMemory` may come in place of any answer.
+pub fn read(alloc: Global, bytes: &[u8]) -> Result<Description, DescFault>
+    ensures { Reads result (description_of bytes.now) }
+{
+    let Ok(text) = str::from_utf8(bytes) else {
+        return Err(DescFault::NotToml);
+    };
+    let document = match toml::table_from_str(alloc, text) {
+        Ok(document) => document,
+        Err(fault) if fault.is_memory() => return Err(DescFault::NoMemory),
+        Err(_) => return Err(DescFault::NotToml),
+    };
+    if !members_are_known(Place::Document, &document) {
+        return Err(DescFault::BadField { key: Key::Unknown });
+    }
+    description(&document)
+}
+
+fn description(document: &Table) -> Result<Description, DescFault>
+    ensures { Gives parts_of result (description_at (table_view document.now)) }
+{
+    from_handlers(opening(document)?, document)
+}
+
+#[tactic(auto, unfolding(crate::specs::Reading::opening_at))]
+fn opening(document: &Table) -> Result<Opening, DescFault>
+    ensures value { Gives opening_of result (opening_at (table_view document.now)) }
+    ensures rules { IfOk result IsOpening }
+{
+    let vm_id = number(Key::Vm, 0, u32::MAX, None, at(document, "vm"))?;
+    let shared = names(Key::Shared, at(document, "shared"))?;
+    let buffers = names(Key::Buffers, at(document, "buffers"))?;
+    let devices = names(Key::Devices, at(document, "devices"))?;
+    let turns = number(
+        Key::Turns,
+        0,
+        1_000_000,
+        Some(10_000),
+        at(document, "turns"),
+    )?;
+    let quantum = number(Key::Quantum, 1, 10_000, Some(16), at(document, "quantum"))?;
+    Ok(Opening {
+        vm_id,
+        shared,
+        buffers,
+        devices,
+        turns,
+        quantum,
+    })
+}
+
+#[tactic(auto, unfolding(crate::specs::Reading::from_handlers_at, crate::specs::Reading::whole))]
+fn from_handlers(opening: Opening, document: &Table) -> Result<Description, DescFault>
+    requires { IsOpening opening }
+    ensures { Gives parts_of result (from_handlers_at (opening_of opening) (table_view document.now)) }
+{
+    let Opening {
+        vm_id,
+        shared,
+        buffers,
+        devices,
+        turns,
+        quantum,
+    } = opening;
+    let handlers = handlers_in(at(document, "handler"))?;
+    let functions = functions_in(&devices, at(document, "function"))?;
+    let trickle = trickle_in(section(Key::TrickleImin, at(document, "trickle"))?)?;
+    let radio = radio_in(section(Key::RadioDelay, at(document, "radio"))?)?;
+    few_contexts(&handlers)?;
+    no_repeat(&shared, &buffers, &devices, &handlers, &functions)?;
+    in_time(handlers.len(), trickle, radio)?;
+    Ok(Description {
+        vm_id,
+        handlers,
+        functions,
+        shared,
+        buffers,
+        devices,
+        turns,
+        quantum,
+        trickle,
+        radio,
+    })
+}
