@@ -112,18 +112,18 @@ pub record Resets (k : Clock) (m : Machine) (r : Reading) (p : Pace) (entries : 
   pub made : entries ≡ Seen seen ∷ Reset ∷ []
 
 -- the entries change the pace one by one: no instruction is executed
-abbrev pub IsPacedBy : Pace → List Event → Pace → Type 0
-IsPacedBy p es q = q ≡ paced_all p (told_by es)
+abbrev pub IsPacedBy : Pace → List Told → Pace → Type 0
+IsPacedBy p told q = q ≡ paced_all p told
 
--- what a step makes, at what was heard before it and the pace before it, and the pace after it
-abbrev pub Makes : Clock → Machine → Reading → Pace → Step → List Event → Pace → Type 0
-Makes k m r p (Install x) es q = (Installs k m r p x (told_by es) ⊎ IsNotNewer r x (told_by es)) × IsPacedBy p es q
-Makes k m r p (Post h payload) es q = Occasion m r h payload (told_by es) × IsPacedBy p es q
-Makes k m r p (StepIn c n) es q = TurnsIn k m r p c n (told_by es) q ⊎ (IsNotReady r c (told_by es) × IsPacedBy p es q)
-Makes k m r p Run es q = Settles k m r p (told_by es) q
-Makes k m r p (Answer c value) es q = (Answers r c value (told_by es) ⊎ IsNotWaiting r c (told_by es)) × IsPacedBy p es q
-Makes k m r p Show es q = ShowsOnce k m r p (told_by es) × IsPacedBy p es q
-Makes k m r p ResetNode es q = Resets k m r p (told_by es) × IsPacedBy p es q
+-- what a step tells, at what was heard before it and the pace before it, and the pace after it
+abbrev pub Makes : Clock → Machine → Reading → Pace → Step → List Told → Pace → Type 0
+Makes k m r p (Install x) told q = (Installs k m r p x told ⊎ IsNotNewer r x told) × IsPacedBy p told q
+Makes k m r p (Post h payload) told q = Occasion m r h payload told × IsPacedBy p told q
+Makes k m r p (StepIn c n) told q = TurnsIn k m r p c n told q ⊎ (IsNotReady r c told × IsPacedBy p told q)
+Makes k m r p Run told q = Settles k m r p told q
+Makes k m r p (Answer c value) told q = (Answers r c value told ⊎ IsNotWaiting r c told) × IsPacedBy p told q
+Makes k m r p Show told q = ShowsOnce k m r p told × IsPacedBy p told q
+Makes k m r p ResetNode told q = Resets k m r p told × IsPacedBy p told q
 
 -- all of one event, at time 0
 abbrev pub AreOfEvent : ℕ → List Event → Type 0
@@ -140,7 +140,7 @@ HaveMade k m records n r p (step ∷ steps) es q =
     × (then : Pace)
     × (es ≡ front ++ rest)
     × AreOfEvent n front
-    × Makes k m r p step front then
+    × Makes k m r p step (told_by front) then
     × HaveMade k m (records + length front) (suc n) (heard_all m r front) then steps rest q
 
 -- how a run ends: it is whole, its log is full, or it was cut from outside after a step
