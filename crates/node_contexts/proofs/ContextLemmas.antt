@@ -103,7 +103,7 @@ seats-twice : (old : Contexts) (ctx : ContextId) (place : ℕ) (mid o : Option S
 seats-twice old ctx place mid o same = set-twice old.seats place mid o ∙ ap (λ (p : ℕ). set old.seats p o) same
 
 -- whoever has a place in the list stands within it
-some-within : {A : Type 0} (xs : List (Option A)) (k : ℕ) (x : A) → slice_index_or xs k None ≡ Some x → k < length xs
+pub some-within : {A : Type 0} (xs : List (Option A)) (k : ℕ) (x : A) → slice_index_or xs k None ≡ Some x → k < length xs
 some-within [] k x is = absurd (let f : None ≡ Some x = is in cc)
 some-within (y ∷ xs) zero x is = omega arith
 some-within (y ∷ xs) (suc k) x is = let h = some-within xs k x is in omega arith

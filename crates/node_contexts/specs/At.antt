@@ -1,5 +1,5 @@
 -- What stands at a context: its invocation, its locks, whether it is ready, and the call that it waits with.
-use Rattle.std.specs.Prelude.{◌≡◌, ◌≢◌, ◌<◌, ℕ, [], ◌∷◌, ◌++◌, Bool, true, false, List, Option, Some, None, slice_index_or}
+use Rattle.std.specs.Prelude.{◌≡◌, ◌≢◌, ◌<◌, ℕ, [], ◌∷◌, ◌++◌, Bool, true, false, List, Option, Some, None, IsSome, slice_index_or}
 use Rattle.mate_num.specs.declared.id.ContextId.{ContextId}
 use Rattle.mate_num.specs.declared.lock_set.LockSet.{LockSet}
 use Rattle.lock_manager.specs.Claims.{set_of, no_claims, Grants, Releases}
@@ -82,3 +82,12 @@ pub record GivesWay (old new : Contexts) (c : ContextId) : Type 0 where
   pub seats : new.seats ≡ old.seats
   pub locks : new.locks ≡ old.locks
   pub ring : new.ring ≡ without old.ring c ++ c ∷ []
+
+-- the context waits for the answer to a call
+pub record IsAsking (s : Contexts) (c : ContextId) : Type 0 where
+  pub small : c.0 < 16
+  pub asks : IsSome (at s c).call
+
+-- no invocation does
+pub record IsNoneAsking (s : Contexts) : Type 0 where
+  pub none : (c : ContextId) (seat : Seat) → (at s c).seat ≡ Some seat → (at s c).call ≡ None

@@ -24,7 +24,7 @@ pub struct Contexts {
 }
 
 impl Contexts {
-    ghost use Rattle.node_contexts.specs.At.{at, idle, queued, ready, waiting, seat_at, Becomes, AreIdle, CanStart, Starts, Asks, Ends, GivesWay};
+    ghost use Rattle.node_contexts.specs.At.{at, idle, queued, ready, waiting, seat_at, Becomes, AreIdle, CanStart, Starts, Asks, Ends, GivesWay, IsAsking, IsNoneAsking};
 
     /// All contexts are idle. No other call takes memory.
     pub fn new(alloc: Global) -> Result<Contexts, NoMemory>
@@ -108,6 +108,26 @@ impl Contexts {
         self.seats[usize::from(ctx.0)] = None;
         self.locks.release(ctx);
         self.ring.remove(ctx);
+    }
+
+    /// Whether the invocation of the context is ready.
+    pub fn is_ready(&self, ctx: ContextId) -> bool
+        ensures { result ≡ (at self.now ctx).ready }
+    {
+        self.ring.contains(ctx)
+    }
+
+    /// The lowest context that waits for the answer to a call; None exactly where no invocation does.
+    pub fn first_waiting(&self) -> Option<ContextId>
+        ensures { MatchOption result (IsNoneAsking self.now) (IsAsking self.now) }
+    {
+        let _last = self.seats[15].is_none();
+        for place in 0..16 {
+            if self.asked(ContextId(place)).is_some() {
+                return Some(ContextId(place));
+            }
+        }
+        None
     }
 
     /// The ready context that has the next turn; None exactly where none is ready.

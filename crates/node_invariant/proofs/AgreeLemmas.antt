@@ -1,37 +1,30 @@
 -- The heap goes on agreeing with the runs of the started invocations.
-use Rattle.std.proofs.Common.{◌≡◌, ◌≢◌, ◌⊎◌, ℕ, suc, ◌+◌, ◌<◌, ◌≤◌, ℤ, Bool, true, false, ◌||◌, List, [], ◌∷◌, ◌++◌, Option, Some, None, refl, sym, ◌∙◌, ap, subst, arith, inl, inr, map, add-one}
+use Rattle.std.proofs.Common.{◌≡◌, ◌≢◌, ◌⊎◌, ℕ, suc, ◌+◌, ℤ, Bool, true, false, ◌||◌, List, [], Some, refl, sym, ◌∙◌, ap, subst, inl, inr, add-one}
 use Rattle.std.proofs.lemmas.Bool.{cases_eq, cases_Bool}
-use Rattle.arrayvec.specs.ArrayVec.{ArrayVec}
-use Rattle.mate_num.specs.Uses.{Uses, uses, ConflictsAt, IsCompatible}
+use Rattle.mate_num.specs.Uses.{Uses, uses, IsCompatible}
 use Rattle.mate_num.specs.declared.call.Call.{Call}
-use Rattle.mate_num.specs.declared.call.End.{End}
-use Rattle.mate_num.specs.declared.call.End.TheVariants as end
 use Rattle.mate_num.specs.declared.id.ContextId.{ContextId}
-use Rattle.mate_num.specs.declared.id.FunId.{FunId}
 use Rattle.mate_num.specs.declared.resource.Resource.{Resource}
 use Rattle.mate_num.specs.declared.shape.Shape.{Shape}
 use Rattle.mate_num.specs.declared.store.Store.{Store}
 use Rattle.lock_manager.proofs.ClaimLemmas.{same_context}
 use Rattle.mate_code.specs.Cells.{read, AreAsLong, Agree}
 use Rattle.mate_code.specs.CodeUses.{uses_of}
-use Rattle.mate_code.specs.Effect.{Private, push}
-use Rattle.mate_code.specs.Run.{Code, Status, Going, Over, Stuck, Own, Run, after, begun, bound, step, end_of, size_of_code}
-use Rattle.mate_code.proofs.BoundLemmas.{verified-EndsInTime, going-count}
-use Rattle.mate_code.proofs.RunLemmas.{Matches, step-Matches, after-Matches, step-other, step-AreAsLong, after-other, after-AreAsLong, one_end, after-given, more}
-use Rattle.code_verifier.specs.Verified.{VerifiedCode, IsVerifiedCode, marks_of}
+use Rattle.mate_code.specs.Effect.{Private}
+use Rattle.mate_code.specs.Run.{Code, Own, Run, after, begun, step}
+use Rattle.mate_code.proofs.RunLemmas.{Matches, step-Matches, after-Matches, step-other, step-AreAsLong}
+use Rattle.code_verifier.specs.Verified.{VerifiedCode}
 use Rattle.exec_unit.specs.declared.step_end.StepEnd.{StepEnd}
-use Rattle.exec_unit.specs.declared.step_end.StepEnd.TheVariants.{Next, Ask, Halt, Fault}
 use Rattle.exec_unit.specs.Step.{IsStep, going, own_after}
 use Rattle.vm_desc.specs.declared.description.Description.{Description}
 use Rattle.vm_desc.specs.Shapes.{shape_of}
-use Rattle.mate_journal.specs.Journal.{Phase, Unposted, Queued, Ready, Waiting, Over as Gone, is_started, in_phase, Invocation, Reading, changed}
-use Rattle.node_contexts.specs.declared.handlers.Held.{Held}
+use Rattle.mate_journal.specs.Journal.{Phase, Unposted, Queued, Ready, Waiting, Over as Gone, is_started, Invocation, Reading, changed}
 use Rattle.node_contexts.specs.declared.seat.Seat.{Seat}
 use Rattle.node_contexts.specs.declared.contexts.Contexts.{Contexts}
 use Rattle.node_contexts.specs.At.{At, at, Becomes}
 use Rattle.node_invariant.specs.Meaning.{code_of}
-use Rattle.node_invariant.specs.Fits.{IsHeld}
-use Rattle.node_invariant.specs.Agrees.{code_for, uses_for, answers_of, own_run, status_in, own_in, IsOwnRun, IsFresh, RunsOwn, Agrees}
+use Rattle.mate_journal.specs.Journal.{answers_of}
+use Rattle.node_invariant.specs.Agrees.{code_for, uses_for, own_run, status_in, own_in, IsOwnRun, RunsOwn, Agrees}
 use Rattle.node_invariant.proofs.FitLemmas.{changed-here, changed-other, IsAlone}
 
 -- ---- stores that agree

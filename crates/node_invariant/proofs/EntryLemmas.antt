@@ -1,19 +1,16 @@
 -- What each thing that happens asks of the parts: starts, instructions, calls and ends.
-use Rattle.std.proofs.Common.{◌≡◌, ◌≢◌, ◌⊎◌, ℕ, suc, ◌+◌, ◌<◌, ◌≤◌, ℤ, Bool, true, false, List, [], ◌∷◌, ◌++◌, Option, Some, None, refl, sym, ◌∙◌, ap, subst, arith, inl, inr, length, map}
-use Rattle.lock_manager.specs.declared.claim.Claim.{Claim}
+use Rattle.std.proofs.Common.{◌≡◌, ℕ, ◌+◌, ℤ, true, false, [], Some, None, refl, sym, ◌∙◌, ap, subst, arith, inl, inr, length}
 use Rattle.lock_manager.specs.Claims.{set_of}
 use Rattle.lock_manager.proofs.GrantLemmas.{Contains-set_of}
 use Rattle.arrayvec.specs.ArrayVec.{ArrayVec}
 use Rattle.mate_num.specs.Locks as locks
 use Rattle.mate_num.specs.Uses.{Uses, uses, ConflictsAt, IsCompatible, IsSameUses}
-use Rattle.mate_num.specs.declared.call.Call.{Call}
 use Rattle.mate_num.specs.declared.call.End.{End}
 use Rattle.mate_num.specs.declared.call.End.TheVariants as end
 use Rattle.mate_num.specs.declared.call.FaultKind.{FaultKind}
 use Rattle.mate_num.specs.declared.call.Stamp.{Stamp}
 use Rattle.mate_num.specs.declared.id.ContextId.{ContextId}
 use Rattle.mate_num.specs.declared.id.FunId.{FunId}
-use Rattle.mate_num.specs.declared.id.HandlerId.{HandlerId}
 use Rattle.mate_num.specs.declared.lock_set.LockSet.{LockSet}
 use Rattle.mate_num.specs.declared.resource.Resource.{Resource}
 use Rattle.mate_num.specs.declared.shape.Shape.{Shape}
@@ -21,12 +18,12 @@ use Rattle.mate_num.specs.declared.store.Store.{Store}
 use Rattle.mate_code.specs.Cells.{Agree}
 use Rattle.mate_code.specs.CodeUses.{uses_of}
 use Rattle.mate_code.specs.Effect.{Private}
-use Rattle.mate_code.specs.Run.{Own, Run, Status, Going, Over, begun, bound, after, end_of}
+use Rattle.mate_code.specs.Run.{Own, Run, Status, Going, Over, begun, bound, end_of}
 use Rattle.mate_code.proofs.RunLemmas.{Matches, after-other, after-AreAsLong}
 use Rattle.code_verifier.specs.Verified.{Fits as FitsCode}
 use Rattle.exec_unit.specs.declared.step_end.StepEnd.{StepEnd}
 use Rattle.exec_unit.specs.declared.step_end.StepEnd.TheVariants.{Next, Ask, Halt, Fault}
-use Rattle.exec_unit.specs.Step.{HasLengths, IsStep, Waits, going, own_after, FitsAfter as FitsCodeAfter}
+use Rattle.exec_unit.specs.Step.{HasLengths, IsStep, Waits, own_after, FitsAfter as FitsCodeAfter}
 use Rattle.vm_desc.specs.declared.description.Description.{Description}
 use Rattle.vm_desc.specs.Shapes.{shape_of}
 use Rattle.mate_journal.specs.declared.entry.Entry.{Entry}
@@ -35,21 +32,22 @@ use Rattle.journal_laws.specs.Growth.{IsPushed, IsNamedBelow}
 use Rattle.mate_journal.specs.WellFormed.{Closes}
 use Rattle.mate_journal.specs.Serial.{EndsAsRun}
 use Rattle.mate_journal.specs.Log.{Log}
-use Rattle.mate_journal.specs.Machine.{HeldProgram, Machine}
-use Rattle.mate_journal.specs.Journal.{Told, told_of, Started, Asked as AskedTold, Ended, Phase, Unposted, Queued, Ready, Waiting, Over as Gone, is_started, in_phase, heard, whole_run, Invocation, Reading, changed}
+use Rattle.mate_journal.specs.Machine.{HeldProgram}
+use Rattle.mate_journal.specs.Journal.{told_of, Started, Asked as AskedTold, Ended, Phase, Unposted, Queued, Ready, Waiting, Over as Gone, is_started, in_phase, Invocation, Reading}
 use Rattle.node_contexts.specs.declared.handlers.Held.{Held}
 use Rattle.node_contexts.specs.declared.seat.Seat.{Seat}
 use Rattle.node_contexts.specs.declared.contexts.Contexts.{Contexts}
 use Rattle.node_contexts.specs.At.{At, idle, ready, waiting, at, Becomes, Starts, Asks, Ends}
 use Rattle.node_contexts.specs.Programs.{Programs, held_at}
-use Rattle.node_contexts.specs.Executing.{IsSameSeat, Executes}
+use Rattle.node_contexts.specs.Executing.{Executes}
 use Rattle.node_invariant.specs.declared.parts.Parts.{Parts}
 use Rattle.node_invariant.specs.Standing.{standing}
 use Rattle.node_invariant.specs.Meaning.{machine_in, code_of}
-use Rattle.node_invariant.specs.Fits.{program_of, IsHeld, AreInstalled, IsSeated, Fits}
-use Rattle.node_invariant.specs.Agrees.{code_for, uses_for, answers_of, own_run, own_in, IsOwnRun, RunsOwn, Agrees}
+use Rattle.node_invariant.specs.Fits.{IsHeld, IsSeated}
+use Rattle.mate_journal.specs.Journal.{answers_of}
+use Rattle.node_invariant.specs.Agrees.{code_for, uses_for, own_run, own_in, IsOwnRun, RunsOwn, Agrees}
 use Rattle.node_invariant.specs.Keeps.{reading, Keeps, IsTimely}
-use Rattle.node_invariant.specs.Continues.{FitsAfter, Continues}
+use Rattle.node_invariant.specs.Continues.{Continues}
 use Rattle.node_invariant.proofs.FitLemmas.{HasSeat, by_seat, IsAlone}
 use Rattle.node_invariant.proofs.KeepLemmas.{IsPrepared-same}
 use Rattle.node_invariant.proofs.MoveLemmas.{alone-seat, changed-same, starting, stood, start-seat, start-queued, Fits-started, running, was_ready, stood_ready, Fits-executed, Fits-asked, Fits-ended}

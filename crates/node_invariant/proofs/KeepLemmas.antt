@@ -1,5 +1,5 @@
 -- The parts of a node go on keeping what they keep, entry by entry.
-use Rattle.std.proofs.Common.{◌≡◌, ℕ, ◌+◌, ◌≤◌, false, List, [], ◌∷◌, ◌++◌, length, map, refl, sym, ◌∙◌, ap, subst, arith, length-append, append_assoc}
+use Rattle.std.proofs.Common.{◌≡◌, ◌+◌, ◌≤◌, false, List, [], ◌∷◌, ◌++◌, length, map, refl, sym, ◌∙◌, ap, subst, arith, length-append, append_assoc}
 use Rattle.std.proofs.lemmas.List.{map-append, append-nil}
 use Rattle.mate_num.specs.declared.call.Stamp.{Stamp}
 use Rattle.mate_journal.specs.declared.entry.Entry.{Entry}
@@ -7,7 +7,7 @@ use Rattle.mate_journal.specs.declared.entry.Stamped.{Stamped}
 use Rattle.mate_journal.specs.Log.{Log}
 use Rattle.mate_journal.specs.Machine.{Machine}
 use Rattle.mate_journal.specs.Journal.{Told, told_of, Event, journal_of, Reading, heard, heard_all, nothing_heard}
-use Rattle.journal_laws.specs.Growth.{event_of, NamesInLog, IsNamedBelow, IsPushed, last_stamp, last_is_seen}
+use Rattle.journal_laws.specs.Growth.{event_of, IsNamedBelow, IsPushed, last_stamp, last_is_seen}
 use Rattle.mate_journal.specs.WellFormed.{MayFollow, NotBefore, IsWellFormed, start}
 use Rattle.mate_journal.specs.Serial.{EndsAsRun, RunsSoFar, IsSerial}
 use Rattle.mate_journal.specs.Stores.{ShowsStore, IsSeenBefore, ShowsStores}

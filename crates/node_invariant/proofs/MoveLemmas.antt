@@ -1,6 +1,6 @@
 -- Posts, starts, instructions, calls, answers and ends: what each makes of the contexts agrees with what is heard of it.
 use Rattle.std.proofs.lemmas.Bool.{cases_eq}
-use Rattle.std.proofs.Common.{cond, ◌≡◌, ◌≢◌, ◌⊎◌, ℕ, suc, ◌+◌, ◌<◌, ◌≤◌, ℤ, Bool, true, false, Option, Some, None, refl, sym, ◌∙◌, ap, subst, arith, inl, inr, [], lit≤}
+use Rattle.std.proofs.Common.{cond, ◌≡◌, ℕ, suc, ℤ, true, false, Option, Some, None, refl, sym, ◌∙◌, ap, subst, arith, inl, inr}
 use Rattle.std.specs.Prelude.{unwrap_or, IsSome}
 use Rattle.std.specs.Option.{option_map}
 use Rattle.arrayvec.specs.ArrayVec.{ArrayVec}
@@ -15,7 +15,7 @@ use Rattle.exec_unit.specs.Step.{Waits}
 use Rattle.mate_journal.specs.Machine.{HeldProgram, Machine}
 use Rattle.mate_journal.specs.WellFormed.{IsIdle, IsBusy}
 use Rattle.mate_journal.specs.NodeScript.{IsReadyIn}
-use Rattle.mate_journal.specs.Journal.{Told, Posted, Started, Asked as AskedTold, Answered, Ended, Installed, Reset, Phase, Unposted, Queued, Ready, Waiting, Over, is_live, in_phase, cut, heard, Invocation, Reading, changed}
+use Rattle.mate_journal.specs.Journal.{Posted, Started, Asked as AskedTold, Answered, Ended, Phase, Unposted, Queued, Ready, Waiting, Over, is_live, in_phase, cut, heard, Invocation, Reading, changed}
 use Rattle.vm_desc.specs.declared.description.Description.{Description}
 use Rattle.node_contexts.specs.declared.handlers.Held.{Held}
 use Rattle.node_contexts.specs.declared.seat.Seat.{Seat}
@@ -23,8 +23,8 @@ use Rattle.node_contexts.specs.declared.contexts.Contexts.{Contexts}
 use Rattle.node_contexts.specs.At.{At, idle, queued, ready, waiting, at, Becomes, AreIdle, Starts, IsPlaced}
 use Rattle.node_contexts.specs.Programs.{Programs}
 use Rattle.node_invariant.specs.Standing.{standing}
-use Rattle.node_invariant.specs.Fits.{program_of, AreInstalled, FitsIn, IsSeated, IsRightWith, IsRight, Fits}
-use Rattle.node_invariant.proofs.FitLemmas.{changed-here, changed-other, HasSeat, idle_or_seat, by_seat, queued-by_waits, ready-by_ready, waiting-by_call, seat-by, seat-by_ready, IsNow, IsAlone, Fits-one}
+use Rattle.node_invariant.specs.Fits.{program_of, AreInstalled, FitsIn, IsRight, Fits}
+use Rattle.node_invariant.proofs.FitLemmas.{changed-here, changed-other, HasSeat, by_seat, queued-by_waits, ready-by_ready, waiting-by_call, seat-by, seat-by_ready, IsNow, IsAlone, Fits-one}
 
 -- the one that has the context has no other, and nobody else has it
 pub alone-seat : (held : Programs) (r : Reading) (old : Contexts) (c : ContextId) → Fits held r old → (h : HasSeat held r c (at old c)) → IsAlone old h.seat.inv c

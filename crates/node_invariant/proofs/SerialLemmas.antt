@@ -1,22 +1,17 @@
 -- Where the heap agrees with the runs of the started invocations, the journal is serial and shows stores as they are.
-use Rattle.std.proofs.Common.{◌≡◌, ◌≢◌, ◌⊎◌, ℕ, zero, suc, ◌+◌, ◌-◌, ◌*◌, ◌<◌, ◌≤◌, ℤ, pos, Bool, true, false, List, [], ◌∷◌, ◌++◌, Option, Some, None, refl, sym, ◌∙◌, ap, subst, arith, inl, inr, map, length, get_or, take, drop, replicate, drop-cons}
-use Rattle.std.proofs.lemmas.Bool.{cases_eq, cases_lt, cases_Bool}
+use Rattle.std.proofs.Common.{◌≡◌, ℕ, zero, suc, ◌+◌, ◌-◌, ◌*◌, ◌<◌, ◌≤◌, ℤ, pos, true, false, List, [], ◌∷◌, Option, Some, None, refl, sym, ◌∙◌, ap, subst, arith, inl, inr, length, get_or, take, drop, drop-cons}
+use Rattle.std.proofs.lemmas.Bool.{cases_lt, cases_Bool}
 use Rattle.std.proofs.Math.ListN.{length-replicate}
 use Rattle.std.proofs.lemmas.List.{drop_all}
-use Rattle.mate_num.specs.Uses.{Uses, uses}
 use Rattle.mate_num.specs.Store.{value_at}
-use Rattle.mate_num.specs.declared.call.Call.{Call}
 use Rattle.mate_num.specs.declared.call.End.{End}
 use Rattle.mate_num.specs.declared.call.End.TheVariants as end
 use Rattle.mate_num.specs.declared.id.ContextId.{ContextId}
-use Rattle.mate_num.specs.declared.id.FunId.{FunId}
 use Rattle.mate_num.specs.declared.resource.Resource.{Resource}
 use Rattle.mate_num.specs.declared.resource.Resource.TheVariants.{Shared, Buffer, Device}
 use Rattle.mate_num.specs.declared.shape.Shape.{Shape}
 use Rattle.mate_num.specs.declared.store.Store.{Store}
-use Rattle.arrayvec.specs.ArrayVec.{ArrayVec}
-use Rattle.mate_code.specs.Cells.{read, AreAsLong, Agree}
-use Rattle.mate_code.specs.CodeUses.{uses_of, use_of}
+use Rattle.mate_code.specs.Cells.{read, AreAsLong}
 use Rattle.mate_code.specs.Effect.{Effect, Goes, Writes as WritesCell, Asks, Halts, Faults, Sticks}
 use Rattle.mate_code.specs.Run.{Code, Status, Going, Over, Stuck, Own, Run, asked, own_after, effect_in, executed_at, step_at, step, after, bound, fetch, size_of_code, end_of}
 use Rattle.mate_code.specs.declared.instr.Instr.{Instr}
@@ -27,8 +22,7 @@ use Rattle.code_verifier.specs.Verified.{VerifiedCode, IsVerifiedCode, marks_of}
 use Rattle.exec_unit.specs.Step.{HasLengths}
 use Rattle.vm_desc.specs.declared.description.Description.{Description}
 use Rattle.vm_desc.specs.Shapes.{shape_of}
-use Rattle.mate_journal.specs.Journal.{Phase, Unposted, Queued, Ready, Waiting, Over as Gone, is_started, is_live, Invocation, Reading, whole_run}
-use Rattle.mate_journal.specs.WellFormed.{IsWaiting}
+use Rattle.mate_journal.specs.Journal.{Phase, Unposted, Queued, Ready, Waiting, Over as Gone, is_started, is_live, Invocation, Reading}
 use Rattle.mate_journal.specs.Serial.{RunsSoFar}
 use Rattle.mate_journal.specs.Stores.{values_at, Writes, IsShown}
 use Rattle.node_contexts.specs.declared.handlers.Held.{Held}
@@ -38,7 +32,8 @@ use Rattle.node_contexts.specs.At.{At, at}
 use Rattle.node_invariant.specs.Meaning.{machine_in, code_of}
 use Rattle.node_contexts.specs.Programs.{Programs}
 use Rattle.node_invariant.specs.Fits.{IsHeld, IsSeated, Fits}
-use Rattle.node_invariant.specs.Agrees.{code_for, uses_for, answers_of, own_run, own_in, IsOwnRun, RunsOwn, Agrees}
+use Rattle.mate_journal.specs.Journal.{answers_of}
+use Rattle.node_invariant.specs.Agrees.{code_for, uses_for, own_run, own_in, IsOwnRun, RunsOwn, Agrees}
 use Rattle.node_invariant.proofs.FitLemmas.{by_seat}
 use Rattle.node_invariant.proofs.AgreeLemmas.{or-right}
 
@@ -202,7 +197,7 @@ one_value xs ys v as_long same =
       | inr beyond ↦ ap (take 1) (drop_all v xs (omega arith) ∙ sym (drop_all v ys (omega arith)))
     ]
 
-values-read : (s t : Store) (q : Resource) → AreAsLong s t → read s q ≡ read t q → values_at s q ≡ values_at t q
+pub values-read : (s t : Store) (q : Resource) → AreAsLong s t → read s q ≡ read t q → values_at s q ≡ values_at t q
 values-read s t (Shared v) as_long same = one_value s.shared.items t.shared.items v.0 as_long.shared (let e : value_at s v.0 ∷ [] ≡ value_at t v.0 ∷ [] = same in cc)
 values-read s t (Buffer b) as_long same = same
 values-read s t (Device d) as_long same = refl

@@ -1,5 +1,5 @@
 -- Starts, ends and eras: the heap goes on agreeing with the runs of the started invocations.
-use Rattle.std.proofs.Common.{◌≡◌, ◌≢◌, ◌⊎◌, ℕ, suc, ◌+◌, ◌<◌, ◌≤◌, ℤ, Bool, true, false, List, [], ◌∷◌, ◌++◌, Option, Some, None, refl, sym, ◌∙◌, ap, subst, arith, inl, inr, map, length}
+use Rattle.std.proofs.Common.{◌≡◌, ◌≢◌, ◌⊎◌, ℕ, ℤ, true, false, List, [], Some, None, refl, sym, ◌∙◌, ap, subst, inl, inr, map, length}
 use Rattle.std.proofs.lemmas.Bool.{cases_eq, cases_Bool}
 use Rattle.lock_manager.proofs.ClaimLemmas.{same_context}
 use Rattle.mate_num.specs.Uses.{Uses, uses, ConflictsAt, IsCompatible}
@@ -7,22 +7,19 @@ use Rattle.mate_num.specs.declared.call.Call.{Call}
 use Rattle.mate_num.specs.declared.id.ContextId.{ContextId}
 use Rattle.mate_num.specs.declared.resource.Resource.{Resource}
 use Rattle.mate_num.specs.declared.store.Store.{Store}
-use Rattle.mate_code.specs.Cells.{read, AreAsLong, Agree}
-use Rattle.mate_code.specs.CodeUses.{uses_of}
+use Rattle.mate_code.specs.Cells.{read, Agree}
 use Rattle.mate_code.specs.Effect.{Private}
-use Rattle.mate_code.specs.Run.{Own, Run, Going, begun, bound, after}
-use Rattle.mate_code.proofs.RunLemmas.{Matches, after-Matches, after-other, after-AreAsLong}
-use Rattle.exec_unit.specs.Machine as machine
+use Rattle.mate_code.specs.Run.{Own, Run, Going, begun, after}
 use Rattle.vm_desc.specs.declared.description.Description.{Description}
 use Rattle.vm_desc.specs.Shapes.{shape_of}
-use Rattle.mate_journal.specs.Journal.{Phase, Unposted, Queued, Ready, Waiting, Over as Gone, is_started, in_phase, Invocation, Reading, changed}
+use Rattle.mate_journal.specs.Journal.{Phase, Queued, Ready, is_started, in_phase, Invocation, Reading, changed}
 use Rattle.node_contexts.specs.declared.seat.Seat.{Seat}
 use Rattle.node_contexts.specs.declared.contexts.Contexts.{Contexts}
 use Rattle.node_contexts.specs.At.{At, at, Becomes, AreIdle}
-use Rattle.node_invariant.specs.Meaning.{code_of}
-use Rattle.node_invariant.specs.Agrees.{code_for, uses_for, answers_of, own_run, status_in, own_in, IsOwnRun, IsFresh, RunsOwn, Agrees}
+use Rattle.mate_journal.specs.Journal.{answers_of}
+use Rattle.node_invariant.specs.Agrees.{code_for, uses_for, own_run, own_in, IsFresh, RunsOwn, Agrees}
 use Rattle.node_invariant.proofs.FitLemmas.{changed-here, changed-other, IsAlone}
-use Rattle.node_invariant.proofs.AgreeLemmas.{Agree-then, Agree-back, Alters, Agree-altered, or-right, Sits, each-moves, RunsOwn-serial, RunsOwn-heap}
+use Rattle.node_invariant.proofs.AgreeLemmas.{Agree-back, Alters, Agree-altered, or-right, Sits, each-moves, RunsOwn-serial, RunsOwn-heap}
 
 -- two compatible uses, the other way round
 IsCompatible-back : (u w : Uses) → IsCompatible u w → IsCompatible w u

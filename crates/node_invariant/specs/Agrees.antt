@@ -1,7 +1,6 @@
 -- The heap of a node against the serial store: each started invocation runs as if it were alone.
-use Rattle.std.specs.Prelude.{◌≡◌, ◌≢◌, ℕ, ℤ, Bool, true, false, List, [], Option, Some, None, map}
+use Rattle.std.specs.Prelude.{◌≡◌, ◌≢◌, ℕ, true, false, [], Some}
 use Rattle.mate_num.specs.Uses.{Uses, uses, IsCompatible}
-use Rattle.mate_num.specs.declared.call.Call.{Call}
 use Rattle.mate_num.specs.declared.call.End.TheVariants as end
 use Rattle.mate_num.specs.declared.id.ContextId.{ContextId}
 use Rattle.mate_num.specs.declared.resource.Resource.{Resource}
@@ -12,7 +11,7 @@ use Rattle.mate_code.specs.Run.{Code, Status, Going, Over, Own, Run, run_after}
 use Rattle.exec_unit.specs.Machine.{begun}
 use Rattle.vm_desc.specs.declared.description.Description.{Description}
 use Rattle.vm_desc.specs.Shapes.{shape_of}
-use Rattle.mate_journal.specs.Journal.{Phase, Unposted, Queued, Ready, Waiting, Over as Gone, is_started, Invocation, Reading}
+use Rattle.mate_journal.specs.Journal.{Phase, Unposted, Queued, Ready, Waiting, Over as Gone, is_started, Invocation, Reading, answers_of}
 use Rattle.node_contexts.specs.declared.seat.Seat.{Seat}
 use Rattle.node_contexts.specs.declared.contexts.Contexts.{Contexts}
 use Rattle.node_contexts.specs.At.{at}
@@ -24,10 +23,6 @@ code_for d i = code_of (shape_of d) i.program.image
 
 abbrev pub uses_for : Description → Invocation → Uses
 uses_for d i = uses_of (shape_of d) (code_for d i)
-
--- the answers that it got
-abbrev pub answers_of : Invocation → List ℤ
-answers_of i = map (λ (call : Call). call.result) i.calls
 
 -- its run on a store, as if it were alone, after so many instructions
 abbrev pub own_run : Description → Invocation → ℕ → Store → Run

@@ -1,5 +1,5 @@
 -- What one more entry of a node's log asks of the parts that come with it.
-use Rattle.std.specs.Prelude.{◌≡◌, ℕ, ◌+◌, ◌≤◌, false, length}
+use Rattle.std.specs.Prelude.{◌≡◌, ◌+◌, ◌≤◌, false, length}
 use Rattle.mate_num.specs.declared.call.Stamp.{Stamp}
 use Rattle.mate_journal.specs.declared.entry.Entry.{Entry}
 use Rattle.mate_journal.specs.Log.{Log}

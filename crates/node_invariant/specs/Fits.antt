@@ -1,5 +1,5 @@
 -- How the contexts of a node, and what it holds of its handlers, agree with what was heard of it.
-use Rattle.std.specs.Prelude.{◌≡◌, ℕ, ◌<◌, ◌≤◌, Bool, true, IsTrue, Option, Some, None}
+use Rattle.std.specs.Prelude.{◌≡◌, ℕ, ◌<◌, ◌≤◌, true, Option, Some, None}
 use Rattle.std.specs.Option.{option_map}
 use Rattle.mate_num.specs.declared.id.ContextId.{ContextId}
 use Rattle.mate_num.specs.declared.id.HandlerId.{HandlerId}

@@ -1,6 +1,6 @@
 -- What the parts of a node keep: its journal is well formed, is serial and shows stores as they are, and the parts agree with
 -- what was heard.
-use Rattle.std.specs.Prelude.{◌≡◌, ℕ, ◌+◌, ◌≤◌, List, length, map, ◌++◌}
+use Rattle.std.specs.Prelude.{◌≡◌, ◌+◌, ◌≤◌, List, length, map, ◌++◌}
 use Rattle.mate_num.specs.declared.call.Stamp.{Stamp}
 use Rattle.mate_journal.specs.Log.{Log}
 use Rattle.mate_journal.specs.Journal.{Told, Event, journal_of, Reading, nothing_heard, heard_all}

@@ -1,15 +1,16 @@
 -- What the programs of a node mean: the runs of their images' code.
-use Rattle.std.specs.Prelude.{ℕ, ℤ, List, [], Result, Ok, Err, drop}
+use Rattle.std.specs.Prelude.{ℕ, [], Result, Ok, Err, drop}
 use Rattle.arrayvec.specs.ArrayVec.{ArrayVec}
 use Rattle.mate_num.specs.declared.shape.Shape.{Shape}
 use Rattle.mate_code.specs.declared.decoding.DecodeFault.{DecodeFault}
 use Rattle.mate_code.specs.Code.{decoded}
 use Rattle.mate_code.specs.CodeUses.{uses_of}
 use Rattle.mate_code.specs.Run as run
-use Rattle.mate_code.specs.Run.{Code, code_run}
+use Rattle.mate_code.specs.Run.{Code, code_run, next_mark, code_after}
 use Rattle.mate_code.specs.Table.{table_of}
 use Rattle.mate_journal.specs.Described.{machine_of}
-use Rattle.mate_journal.specs.Machine.{Machine, Meaning, HeldProgram, Outcome}
+use Rattle.mate_journal.specs.Machine.{Machine, Meaning, Outcome}
+use Rattle.mate_journal.specs.Turns.{Clock}
 use Rattle.vm_desc.specs.declared.description.Description.{Description}
 use Rattle.vm_desc.specs.Shapes.{shape_of}
 
@@ -34,3 +35,11 @@ meaning_of shape = record {
 -- the machine of a node
 abbrev pub machine_in : Description → Machine
 machine_in d = machine_of d (meaning_of (shape_of d))
+
+-- the runs of a node's programs by instructions
+abbrev pub clock_of : Description → Clock
+clock_of d = record {
+  quantum = d.quantum;
+  mark = λ p store payload answers turns. next_mark (shape_of d) (code_of (shape_of d) p.image) store payload answers turns;
+  after = λ n p store payload answers turns. code_after n (shape_of d) (code_of (shape_of d) p.image) store payload answers turns;
+}

@@ -1,0 +1,301 @@
+-- An install: the program that the bytes are takes the place of what was held, and an era begins.
+use Rattle.std.proofs.Common.{◌≡◌, ◌≢◌, ◌⊎◌, ℕ, ◌+◌, ◌≤◌, ◌<◌, Bool, true, false, cond, eqb, List, [], ◌∷◌, ◌++◌, Option, Some, None, Result, Ok, Err, length, map, set, drop, ℤ, refl, sym, ◌∙◌, ap, subst, arith, inl, inr, length-append, get_or-set_same, get_or-set_other}
+use Rattle.std.specs.Prelude.{IsTrue, nat_lt}
+use Rattle.std.specs.Option.{option_map}
+use Rattle.std.proofs.Math.Seq.{get_or-append_seam}
+use Rattle.std.proofs.lemmas.Bool.Decides.{eqb_tells}
+use Rattle.arrayvec.specs.ArrayVec.{ArrayVec}
+use Rattle.mate_num.specs.Store.{zero_store}
+use Rattle.mate_num.specs.declared.call.Stamp.{Stamp}
+use Rattle.mate_num.specs.declared.id.HandlerId.{HandlerId}
+use Rattle.mate_num.specs.declared.shape.Shape.{Shape}
+use Rattle.mate_num.specs.declared.bounds.TheConstants.{CODE_MAX}
+use Rattle.mate_num.specs.declared.lock_set.LockSet.{LockSet}
+use Rattle.capsule_codec.specs.declared.capsule.Capsule.{Capsule}
+use Rattle.capsule_codec.specs.Image.{CapsuleParts, capsule_parts, image_of, IsOfMachine}
+use Rattle.capsule_codec.specs.Reading.{capsule_in}
+use Rattle.code_verifier.specs.Verified.{VerifiedCode, marks_of, IsOf}
+use Rattle.code_verifier.specs.Faults.{refusal_of}
+use Rattle.code_verifier.specs.declared.fault.VerifyFault.{VerifyFault}
+use Rattle.lock_inference.specs.Locks.{AreLocksOf}
+use Rattle.mate_code.specs.declared.decoding.DecodeFault.{DecodeFault}
+use Rattle.mate_code.specs.declared.decoding.DecodeFault.TheVariants.{BadOpcode, CutShort}
+use Rattle.mate_code.specs.BytesVerification.{with_code, of_decoded, bytes_verification}
+use Rattle.mate_code.specs.Code.{decoded}
+use Rattle.mate_code.specs.Run.{Code}
+use Rattle.mate_code.specs.Table.{table_of}
+use Rattle.mate_code.specs.Verification.{Refusal, Marks, TooLong, verification}
+use Rattle.vm_desc.specs.declared.description.Description.{Description}
+use Rattle.vm_desc.specs.Bounds.{HasBounds}
+use Rattle.vm_desc.specs.Shapes.{shape_of}
+use Rattle.vm_desc.proofs.DescriptionLemmas.{bounds_of}
+use Rattle.mate_journal.specs.declared.entry.Entry.TheVariants as entry
+use Rattle.mate_journal.specs.Log.{Log}
+use Rattle.mate_journal.specs.Machine.{Machine, HeldProgram}
+use Rattle.mate_journal.specs.NodeScript.{Occasion, Installs}
+use Rattle.mate_journal.specs.Journal.{Told, Installed, Seen, Reading, held, heard, heard_all, nothing_heard, journal_of}
+use Rattle.journal_laws.specs.Growth.{AddsImage, last_is_seen}
+use Rattle.journal_laws.proofs.Append.{heard_all-append, journal_of-add_image, NamesInLog-add_image}
+use Rattle.node_contexts.specs.declared.handlers.Handlers.{Handlers}
+use Rattle.node_contexts.specs.declared.handlers.Held.{Held}
+use Rattle.node_contexts.specs.At.{AreIdle}
+use Rattle.node_contexts.specs.Programs.{held_at, version_in}
+use Rattle.node_invariant.specs.declared.parts.Parts.{Parts}
+use Rattle.node_invariant.specs.Meaning.{machine_in, clock_of, code_in, code_of}
+use Rattle.node_invariant.specs.Fits.{program_of, IsHeld, AreInstalled}
+use Rattle.node_invariant.specs.Keeps.{reading, Keeps, IsTimely, event_at, Grows}
+use Rattle.node_invariant.specs.Continues.{IsPrepared}
+use Rattle.node_grants.specs.Starting.{Rests}
+use Rattle.node_calls.specs.declared.installing.Installable.{Installable}
+use Rattle.node_calls.specs.declared.posting.PostAnswer.{PostAnswer}
+use Rattle.node_calls.specs.declared.posting.PostAnswer.TheVariants.{Posted as PostedAnswer, NoCode, AllBusy}
+use Rattle.node_calls.specs.Calls.{RestsAgain, AtPace, TellsStore, IsCleared}
+use Rattle.node_calls.specs.Installing.{IsUnverified, IsNoNewer, IsInstallable, InstallsBytes}
+use Rattle.node_calls.specs.Posting.{PostGives}
+use Rattle.node_calls.proofs.QuietLemmas.{RestsAgain-then, RestsAgain-as}
+use Rattle.node_calls.proofs.EraLemmas.{BeginsEra, RestsAgain-era}
+
+-- ---- from bytes to code
+
+-- the verified code is what the bytes decode to
+decoded-with : (code : Code) (found : Code) (marks : Marks) (o : Result Marks Refusal) → with_code found o ≡ Ok (code, marks) → found ≡ code
+decoded-with code found marks (Ok m) e = let f : (found, m) ≡ (code, marks) = cc in ap (λ (p : Code × Marks). p.0) f
+decoded-with code found marks (Err refusal) e = cc
+
+decoded-of : (shape : Shape) (code : Code) (marks : Marks) (o : Result Code DecodeFault) → of_decoded shape o ≡ Ok (code, marks) → code_in o ≡ code
+decoded-of shape code marks (Ok found) e = decoded-with code found marks (verification shape found) e
+decoded-of shape code marks (Err (BadOpcode place)) e = cc
+decoded-of shape code marks (Err (CutShort place)) e = cc
+
+decoded-if : (b : Bool) (n : ℕ) (shape : Shape) (code : Code) (marks : Marks) (o : Result Code DecodeFault) → cond b (Err (TooLong n)) (of_decoded shape o) ≡ Ok (code, marks) → code_in o ≡ code
+decoded-if true n shape code marks o e = cc
+decoded-if false n shape code marks o e = decoded-of shape code marks o e
+
+-- ---- one program changes
+
+-- what is held is set at one handler
+held-set : (programs : List (Option Held)) (h : HandlerId) (x : Held) → h.0 < length programs → held_at (set programs h.0 (Some x)) h ≡ Some x
+held-set programs h x below = get_or-set_same programs h.0 (Some x) None below
+
+held-other : (programs : List (Option Held)) (h k : HandlerId) (x : Held) → k.0 ≢ h.0 → held_at (set programs h.0 (Some x)) k ≡ held_at programs k
+held-other programs h k x other = get_or-set_other programs h.0 k.0 (Some x) None other
+
+same_handler : (h k : HandlerId) → k.0 ≡ h.0 → k ≡ h
+same_handler h k e = ap (λ (n : ℕ). let j : HandlerId = record { 0 = n } in j) e
+
+-- what is heard to be installed after it
+abbrev pub installed_with : (HandlerId → Option HeldProgram) → HeldProgram → HandlerId → Option HeldProgram
+installed_with installed p k = cond (eqb k.0 p.handler.0) (Some p) (installed k)
+
+pub AreInstalled-with : (d : Description) (installed : HandlerId → Option HeldProgram) (programs : List (Option Held)) (h : HandlerId) (x : Held) → AreInstalled d installed (held_at programs) → IsHeld d x → h.0 < length programs
+    → AreInstalled d (installed_with installed (program_of h x)) (held_at (set programs h.0 (Some x)))
+AreInstalled-with d installed programs h x before held_now below = record { each = λ k y is. each k y is (eqb_tells k.0 h.0); same = λ k. same k (eqb_tells k.0 h.0) } where
+  each : (k : HandlerId) (y : Held) → held_at (set programs h.0 (Some x)) k ≡ Some y → ((eqb k.0 h.0 ≡ true) × (k.0 ≡ h.0)) ⊎ ((eqb k.0 h.0 ≡ false) × (k.0 ≢ h.0)) → IsHeld d y
+  each k y is (inl t) =
+      let P : HandlerId → Type 0 = λ j. held_at (set programs h.0 (Some x)) j ≡ Some y in
+      let f : Some x ≡ Some y = sym (held-set programs h x below) ∙ subst P (same_handler h k t.1) is in
+      let e : x ≡ y = cc in
+      let Q : Held → Type 0 = λ z. IsHeld d z in
+      subst Q e held_now
+  each k y is (inr u) = before.each k y (sym (held-other programs h k x u.1) ∙ is)
+
+  same : (k : HandlerId) → ((eqb k.0 h.0 ≡ true) × (k.0 ≡ h.0)) ⊎ ((eqb k.0 h.0 ≡ false) × (k.0 ≢ h.0)) → installed_with installed (program_of h x) k ≡ option_map (program_of k) (held_at (set programs h.0 (Some x)) k)
+  same k (inl t) =
+      let P : HandlerId → Type 0 = λ j. Some (program_of h x) ≡ option_map (program_of j) (held_at (set programs h.0 (Some x)) j) in
+      ap (λ (b : Bool). cond b (Some (program_of h x)) (installed k)) t.0
+      ∙ subst P (sym (same_handler h k t.1)) (ap (λ (o : Option Held). option_map (program_of h) o) (sym (held-set programs h x below)))
+  same k (inr u) =
+      ap (λ (b : Bool). cond b (Some (program_of h x)) (installed k)) u.0
+      ∙ before.same k
+      ∙ ap (λ (o : Option Held). option_map (program_of k) o) (sym (held-other programs h k x u.1))
+
+-- ---- an era begins with the program
+
+pub BeginsEra-install : (d : Description) (r : Reading) (p : HeldProgram) → BeginsEra d r (Installed p)
+BeginsEra-install d r p = record {
+  serial = refl;
+  cuts = record { posts = refl; each = λ n. refl };
+  follows = tt;
+  ends = tt;
+  shown = tt;
+  granted = λ held last. held;
+  before_era = refl;
+  line = λ q. refl;
+}
+
+-- the log with one more image, and the entry that installs it
+pub record IsInstalledIn (l : Log) (h : HandlerId) (version : ℕ) (image : ArrayVec ℕ) (at : Stamp) (after : Log) : Type 0 where
+  pub entries : after.entries ≡ l.entries ++ record { stamp = at; entry = entry.Install h version (length l.images) } ∷ []
+  pub images : after.images ≡ l.images ++ image ∷ []
+  pub stores : after.stores ≡ l.stores
+
+module _ (d : Description) (old new : Parts) (stamp : Stamp) (h : HandlerId) (x : Held) (rests : Rests d old) (timely : IsTimely stamp old.log) (seen : last_is_seen false (journal_of old.log) ≡ true) where
+  abbrev keeps : Keeps d old
+  keeps = rests.order.keeps
+
+  abbrev before : Log
+  before = record (old.log) { images = old.log.images ++ x.image ∷ [] }
+
+  adds : AddsImage old.log x.image before
+  adds = record { entries = refl; images = refl; stores = refl }
+
+  prepared : IsPrepared old.log before
+  prepared =
+      let images = keeps.images in
+      let stores = keeps.stores in
+      record {
+        journal = journal_of-add_image old.log x.image before keeps.names adds;
+        entries = refl;
+        names = NamesInLog-add_image old.log x.image before keeps.names adds;
+        images = omega (arith, length-append old.log.images (x.image ∷ []));
+        stores = omega arith;
+      }
+
+  pub RestsAgain-installed : IsHeld d x → h.0 < length old.handlers.programs → AreIdle new.contexts → new.heap ≡ zero_store (length d.shared.items) (length d.buffers.items) → new.posts ≡ old.posts
+      → new.handlers.programs ≡ set old.handlers.programs h.0 (Some x) → IsInstalledIn old.log h x.version x.image stamp new.log → old.log.spare ≤ new.log.spare + 1
+      → RestsAgain d old new stamp (λ told. told ≡ Installed (program_of h x) ∷ [])
+  RestsAgain-installed held_now below idles zero posts set_now is room =
+      let P : List (Option Held) → Type 0 = λ programs. AreInstalled d (installed_with (reading d old.log).installed (program_of h x)) (held_at programs) in
+      RestsAgain-era d old new before stamp (entry.Install h x.version (length old.log.images)) (Installed (program_of h x)) rests timely (BeginsEra-install d (reading d old.log) (program_of h x)) seen idles zero posts
+      (subst P (sym set_now) (AreInstalled-with d (reading d old.log).installed old.handlers.programs h x keeps.installed held_now below))
+      prepared (record { entries = is.entries; images = is.images; stores = is.stores })
+      (ap (λ (image : ArrayVec ℕ). Installed (record { handler = h; version = x.version; image = image })) (get_or-append_seam old.log.images x.image [] (record { items = [] })))
+      (omega (arith, length-append old.log.images (x.image ∷ []))) room
+
+-- the image and the program take their places, and all is cleared
+pub RestsAgain-begun : (d : Description) (old mid : Parts) (pushed : Log) (handlers : Handlers) (at_ : Stamp) (h : HandlerId) (x : Held) → Rests d old → IsTimely at_ old.log → last_is_seen false (journal_of old.log) ≡ true → IsHeld d x → h.0 < 8
+    → length old.handlers.programs ≡ 8 → IsInstalledIn old.log h x.version x.image at_ pushed → old.log.spare ≤ pushed.spare + 1 → IsCleared d (record old { log = pushed }) mid → handlers.programs ≡ set mid.handlers.programs h.0 (Some x)
+    → RestsAgain d old (record mid { handlers = handlers }) at_ (λ told. told ≡ Installed (program_of h x) ∷ [])
+RestsAgain-begun d old mid pushed handlers at_ h x rests timely seen held_now small eight is room cleared set_now =
+    let log_is : mid.log ≡ pushed = ap (λ (s : Parts). s.log) cleared.same in
+    let P : Log → Type 0 = λ l. IsInstalledIn old.log h x.version x.image at_ l in
+    let Q : Log → Type 0 = λ l. old.log.spare ≤ l.spare + 1 in
+    RestsAgain-installed d old (record mid { handlers = handlers }) at_ h x rests timely seen held_now (omega arith) cleared.idle cleared.zero (ap (λ (s : Parts). s.posts) cleared.same)
+    (set_now ∙ ap (λ (s : Parts). set s.handlers.programs h.0 (Some x)) cleared.same) (subst P (sym log_is) is) (subst Q (sym log_is) room)
+
+-- ---- versions
+
+-- what is held is what was heard
+pub held-version : (d : Description) (s : Parts) (h : HandlerId) → Rests d s → held (reading d s.log) h ≡ version_in (held_at s.handlers.programs h)
+held-version d s h rests = ap (version h) (rests.order.keeps.installed.same h) ∙ by (held_at s.handlers.programs h) where
+  version : HandlerId → Option HeldProgram → ℕ
+  version k o = held (record (reading d s.log) { installed = λ _. o }) k
+
+  by : (o : Option Held) → version h (option_map (program_of h) o) ≡ version_in o
+  by None = refl
+  by (Some x) = refl
+
+-- ---- what the bytes are
+
+-- the image's code stands behind its first 16 bytes
+code-behind : (c : CapsuleParts) → drop 16 (image_of c) ≡ c.code
+code-behind c = refl
+
+pub IsInstallable-from : (d : Description) (bytes : List ℕ) (c : Capsule) (v : VerifiedCode) (locks : LockSet) (image : ArrayVec ℕ) → capsule_in d bytes ≡ Ok (capsule_parts c) → bytes ≡ image_of (capsule_parts c) → IsOfMachine d (capsule_parts c)
+    → IsOf (shape_of d) c.code.items v → AreLocksOf (shape_of d) v.code locks → image.items ≡ bytes
+    → IsInstallable d bytes record { handler = c.handler; held = record { version = c.version; image = image; code = v; locks = locks } }
+unfolding code_of
+IsInstallable-from d bytes c v locks image decoded_is image_is of_machine is_of are_locks same =
+    let S : Shape → Type 0 = λ shape. bytes_verification shape v.bytes ≡ Ok (v.code, marks_of v) in
+    let B : List ℕ → Type 0 = λ bs. bytes_verification (shape_of d) bs ≡ Ok (v.code, marks_of v) in
+    let accepted : bytes_verification (shape_of d) c.code.items ≡ Ok (v.code, marks_of v) = subst B is_of.bytes_are (subst S is_of.shape_is is_of.is_verified.accepted) in
+    let behind : drop 16 image.items ≡ c.code.items = ap (drop 16) (same ∙ image_is) ∙ code-behind (capsule_parts c) in
+    let code_is : v.code ≡ code_of (shape_of d) image =
+    sym (decoded-if (nat_lt CODE_MAX (length c.code.items)) (length c.code.items) (shape_of d) v.code (marks_of v) (decoded (table_of (shape_of d)) c.code.items) accepted)
+    ∙ ap (λ (bs : List ℕ). code_in (decoded (table_of (shape_of d)) bs)) (sym behind) in
+    let L : Code → Type 0 = λ code. AreLocksOf (shape_of d) code locks in
+    record {
+      capsule = capsule_parts c;
+      right = record { decoded = decoded_is; code = v.code; marks = marks_of v; verified = accepted };
+      is_held = record { shape = is_of.shape_is; code = code_is; verified = is_of.is_verified; locks_are = subst L code_is are_locks; version_is = c.numbered };
+      program = ap (λ (bs : List ℕ). let p : HeldProgram = record { handler = c.handler; version = c.version; image = record { items = bs } } in p) same;
+      handler = of_machine.handler;
+    }
+
+-- the code is refused
+pub IsUnverified-from : (d : Description) (bytes code : List ℕ) (c : Capsule) (fault : VerifyFault) → capsule_in d bytes ≡ Ok (capsule_parts c) → code ≡ c.code.items → bytes_verification (shape_of d) code ≡ Err (refusal_of fault) → IsUnverified d bytes fault
+IsUnverified-from d bytes code c fault decoded_is same refused =
+    let B : List ℕ → Type 0 = λ bs. bytes_verification (shape_of d) bs ≡ Err (refusal_of fault) in
+    record { capsule = capsule_parts c; decoded = decoded_is; refused = subst B same refused }
+
+-- an image has room for the bytes
+pub image-fits : (bytes : List ℕ) (c : Capsule) → bytes ≡ image_of (capsule_parts c) → length c.code.items ≤ 1040 → length bytes ≤ 1056
+image-fits bytes c image_is fits = let e = ap length image_is in omega arith
+
+-- ---- the whole install
+
+-- what is heard after more was told
+reading-grows : (d : Description) (old new : Log) (at_ : Stamp) (told : List Told) → Grows old new at_ told → reading d new ≡ heard_all (machine_in d) (reading d old) (map (event_at at_) told)
+unfolding reading
+reading-grows d old new at_ told grows =
+    ap (heard_all (machine_in d) (nothing_heard (machine_in d))) grows.journal ∙ heard_all-append (machine_in d) (nothing_heard (machine_in d)) (journal_of old) (map (event_at at_) told)
+
+Occasion-gives : (m : Machine) (r : Reading) (h : HandlerId) (payload : ArrayVec ℤ) (answer : PostAnswer) (told : List Told) → PostGives m r h payload answer told → Occasion m r h payload told
+Occasion-gives m r h payload (PostedAnswer inv) told gives = inr (inr gives.1)
+Occasion-gives m r h payload NoCode told gives = inl gives
+Occasion-gives m r h payload AllBusy told gives = inr (inl gives)
+
+module _ (d : Description) (old mid next : Parts) (at_ : Stamp) (bytes : List ℕ) (i : Installable) (can : IsInstallable d bytes i) (newer : held (reading d old.log) i.handler < i.held.version) (seen : TellsStore d old mid at_)
+    (begun_ : RestsAgain d mid next at_ (λ told. told ≡ Installed (program_of i.handler i.held) ∷ [])) where
+  abbrev m : Machine
+  m = machine_in d
+
+  abbrev r : Reading
+  r = reading d old.log
+
+  abbrev p : HeldProgram
+  p = program_of i.handler i.held
+
+  -- the store, and the install
+  both : RestsAgain d old next at_ (λ told. told ≡ Seen old.heap ∷ Installed p ∷ [])
+  both =
+      RestsAgain-then d old mid next at_ (λ told. told ≡ Seen old.heap ∷ []) (λ told. told ≡ Installed p ∷ []) (λ told. told ≡ Seen old.heap ∷ Installed p ∷ []) seen.again begun_
+      (λ xs ys e f. ap (λ (l : List Told). l ++ ys) e ∙ ap (λ (l : List Told). Seen old.heap ∷ l) f)
+
+  heard-next : reading d next.log ≡ heard m r (Installed p)
+  heard-next = reading-grows d old.log next.log at_ both.adds.told both.adds.grows ∙ ap (λ (ts : List Told). heard_all m r (map (event_at at_) ts)) both.adds.made
+
+  installs : (rest told : List Told) → told ≡ Seen old.heap ∷ Installed p ∷ rest → (IsTrue (m.runs_once i.handler) → Occasion m (heard m r (Installed p)) i.handler (record { items = [] }) rest) → ((m.runs_once i.handler ≡ false) → rest ≡ [])
+      → AtPace d old (InstallsBytes d r bytes) told
+  installs rest told made once else_ pace has =
+      let P : HeldProgram → Type 0 = λ x. Installs (clock_of d) m r pace x told in
+      record {
+        capsule = can.capsule;
+        right = can.right;
+        installs = subst P can.program (record { seen = old.heap; rest = rest; shown = seen.shown pace has; newer = newer; made = made; once = once; else = else_ });
+      }
+
+  -- a handler that doesn't run once
+  pub RestsAgain-once_none : m.runs_once i.handler ≡ false → RestsAgain d old next at_ (AtPace d old (InstallsBytes d r bytes))
+  RestsAgain-once_none never =
+      RestsAgain-as d old next at_ (λ told. told ≡ Seen old.heap ∷ Installed p ∷ []) (AtPace d old (InstallsBytes d r bytes)) both
+      (λ told made. installs [] told made (λ is. absurd (let e : false ≡ true = sym never ∙ is in cc)) (λ e. refl))
+
+  -- one that does
+  pub RestsAgain-once : (new : Parts) (payload : ArrayVec ℤ) (answer : PostAnswer) → m.runs_once i.handler ≡ true → payload.items ≡ [] → RestsAgain d next new at_ (PostGives m (reading d next.log) i.handler payload answer)
+      → RestsAgain d old new at_ (AtPace d old (InstallsBytes d r bytes))
+  RestsAgain-once new payload answer always empty posted =
+      RestsAgain-then d old next new at_ (λ told. told ≡ Seen old.heap ∷ Installed p ∷ []) (PostGives m (reading d next.log) i.handler payload answer) (AtPace d old (InstallsBytes d r bytes)) both posted
+      (λ xs ys e gives.
+      (let Q : Reading → Type 0 = λ q. PostGives m q i.handler payload answer ys in
+      let O : List ℤ → Type 0 = λ values. Occasion m (heard m r (Installed p)) i.handler (record { items = values }) ys in
+      installs ys (xs ++ ys) (ap (λ (l : List Told). l ++ ys) e) (λ is. subst O empty (Occasion-gives m (heard m r (Installed p)) i.handler payload answer ys (subst Q heard-next gives)))
+      (λ never. absurd (let f : false ≡ true = sym never ∙ always in cc))))
+
+-- ---- refusals
+
+-- an older capsule, or one of the same version
+pub IsNoNewer-from : (d : Description) (s : Parts) (bytes : List ℕ) (i : Installable) (version : ℕ) → Rests d s → IsInstallable d bytes i → version ≡ version_in (held_at s.handlers.programs i.handler) → i.held.version ≤ version → IsNoNewer d (reading d s.log) bytes version
+IsNoNewer-from d s bytes i version rests can version_is older =
+    let H : HeldProgram → Type 0 = λ p. version ≡ held (reading d s.log) p.handler in
+    let O : HeldProgram → Type 0 = λ p. p.version ≤ held (reading d s.log) p.handler in
+    let same : version ≡ held (reading d s.log) i.handler = version_is ∙ sym (held-version d s i.handler rests) in
+    record { capsule = can.capsule; right = can.right; held_is = subst H can.program same; older = subst O can.program (omega arith) }
+
+-- a newer one
+pub newer-than : (d : Description) (s : Parts) (i : Installable) (version : ℕ) → Rests d s → version ≡ version_in (held_at s.handlers.programs i.handler) → version < i.held.version → held (reading d s.log) i.handler < i.held.version
+newer-than d s i version rests version_is above = let same = held-version d s i.handler rests in omega arith
+
+-- a handler is one of eight
+pub handler-small : (d : Description) (h : HandlerId) → h.0 < length d.handlers.items → h.0 < 8
+handler-small d h below = let all : HasBounds d = bounds_of d in omega arith

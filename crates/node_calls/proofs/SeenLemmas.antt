@@ -1,0 +1,85 @@
+-- Stores that are seen, and steps that do nothing.
+use Rattle.std.proofs.Common.{◌≡◌, ◌+◌, ◌≤◌, [], ◌∷◌, ◌++◌, length, refl, ap, arith, length-append}
+use Rattle.std.proofs.Math.Seq.{get_or-append_seam}
+use Rattle.mate_num.specs.declared.call.Stamp.{Stamp}
+use Rattle.mate_num.specs.declared.store.Store.{Store}
+use Rattle.vm_desc.specs.declared.description.Description.{Description}
+use Rattle.mate_journal.specs.declared.entry.Entry.TheVariants as entry
+use Rattle.mate_journal.specs.declared.entry.VoidCause.{VoidCause}
+use Rattle.mate_journal.specs.declared.entry.DropCause.{DropCause}
+use Rattle.mate_num.specs.declared.id.HandlerId.{HandlerId}
+use Rattle.mate_journal.specs.Log.{Log}
+use Rattle.mate_journal.specs.Journal.{Dropped, Seen, Void}
+use Rattle.journal_laws.specs.Growth.{IsPushed, AddsStore}
+use Rattle.journal_laws.proofs.Append.{journal_of-add_store, NamesInLog-add_store}
+use Rattle.node_contexts.specs.Programs.{held_at}
+use Rattle.node_invariant.specs.declared.parts.Parts.{Parts}
+use Rattle.node_invariant.specs.Keeps.{reading, Keeps, IsTimely}
+use Rattle.node_invariant.specs.Continues.{IsPrepared, Continues}
+use Rattle.node_invariant.proofs.KeepLemmas.{Continues-same}
+use Rattle.node_invariant.proofs.SerialLemmas.{shown}
+use Rattle.node_grants.specs.Starting.{Rests}
+use Rattle.node_calls.specs.Calls.{RestsAgain}
+use Rattle.node_calls.proofs.QuietLemmas.{RestsAgain-quiet}
+
+-- the log with one more store, and an entry that shows it
+pub record IsShownIn (l : Log) (store : Store) (at : Stamp) (after : Log) : Type 0 where
+  pub entries : after.entries ≡ l.entries ++ record { stamp = at; entry = entry.Seen (length l.stores) } ∷ []
+  pub images : after.images ≡ l.images
+  pub stores : after.stores ≡ l.stores ++ store ∷ []
+
+module _ (d : Description) (old : Parts) (log : Log) (stamp : Stamp) (rests : Rests d old) (timely : IsTimely stamp old.log) where
+  abbrev keeps : Keeps d old
+  keeps = rests.order.keeps
+
+  -- a store is seen
+  module _ (is : IsShownIn old.log old.heap stamp log) where
+    abbrev before : Log
+    before = record (old.log) { stores = old.log.stores ++ old.heap ∷ [] }
+
+    adds : AddsStore old.log old.heap before
+    adds = record { entries = refl; images = refl; stores = refl }
+
+    prepared : IsPrepared old.log before
+    prepared =
+        let images = keeps.images in
+        let stores = keeps.stores in
+        record {
+          journal = journal_of-add_store old.log old.heap before keeps.names adds;
+          entries = refl;
+          names = NamesInLog-add_store old.log old.heap before keeps.names adds;
+          images = omega arith;
+          stores = omega (arith, length-append old.log.stores (old.heap ∷ []));
+        }
+
+    pub Continues-seen : Continues d old (record old { log = log }) before stamp (entry.Seen (length old.log.stores)) (Seen old.heap)
+    Continues-seen =
+        let posts = keeps.numbers in
+        record {
+          prepared = prepared;
+          pushed = record { entries = is.entries; images = is.images; stores = is.stores };
+          tells = ap Seen (get_or-append_seam old.log.stores old.heap [] (record { shared = record { items = [] }; buffers = record { items = [] } }));
+          named = omega (arith, length-append old.log.stores (old.heap ∷ []));
+          timely = timely;
+          follows = tt;
+          ends = tt;
+          shown = shown d (reading d old.log) old.contexts (held_at old.handlers.programs) old.heap keeps.fits keeps.installed.each keeps.agrees keeps.lengths;
+          before_era = tt;
+          numbers = omega arith;
+          after = record { posts = keeps.posts; installed = keeps.installed; fits = keeps.fits; lengths = keeps.lengths; agrees = keeps.agrees };
+        }
+
+    pub RestsAgain-seen : old.log.spare ≤ log.spare + 1 → RestsAgain d old (record old { log = log }) stamp (λ told. told ≡ Seen old.heap ∷ [])
+    RestsAgain-seen room = RestsAgain-quiet d old log before stamp (entry.Seen (length old.log.stores)) (Seen old.heap) rests Continues-seen room rests.held refl (λ p. refl)
+
+  -- a step that does nothing
+  pub RestsAgain-void : (cause : VoidCause) → IsPushed old.log record { stamp = stamp; entry = entry.Void cause } log → old.log.spare ≤ log.spare + 1
+      → RestsAgain d old (record old { log = log }) stamp (λ told. told ≡ Void cause ∷ [])
+  RestsAgain-void cause pushed room =
+      RestsAgain-quiet d old log old.log stamp (entry.Void cause) (Void cause) rests (Continues-same d old log stamp (entry.Void cause) (Void cause) keeps timely pushed refl tt tt tt tt tt refl) room rests.held refl (λ p. refl)
+
+  -- an event that becomes no invocation
+  pub RestsAgain-dropped : (h : HandlerId) (cause : DropCause) → IsPushed old.log record { stamp = stamp; entry = entry.Dropped h cause } log → old.log.spare ≤ log.spare + 1
+      → RestsAgain d old (record old { log = log }) stamp (λ told. told ≡ Dropped h cause ∷ [])
+  RestsAgain-dropped h cause pushed room =
+      RestsAgain-quiet d old log old.log stamp (entry.Dropped h cause) (Dropped h cause) rests (Continues-same d old log stamp (entry.Dropped h cause) (Dropped h cause) keeps timely pushed refl tt tt tt tt tt refl) room rests.held refl (λ p. refl)

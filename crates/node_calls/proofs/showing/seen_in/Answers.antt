@@ -1,0 +1,14 @@
+-- The store is told.
+use Rattle.std.proofs.Common.{[], ◌∷◌, ◌++◌, ◌∙◌, ap}
+use Rattle.mate_num.specs.declared.store.Store.{Store}
+use Rattle.node_calls.proofs.ReadyLemmas.{TellsStore-pushed}
+use Rattle.node_calls.proofs.showing.seen_in.Goals as goal
+
+pub returns : goal.returns
+returns c =
+    TellsStore-pushed c.args.description.now c.args.parts.now c.push_seen.new.self c.args.at c.requires.rests c.requires.timely
+    (record {
+      entries = c.push_seen.ensures.entries;
+      images = c.push_seen.ensures.images;
+      stores = c.push_seen.ensures.stores ∙ ap (λ (s : Store). c.args.parts.now.log.stores ++ s ∷ []) c.store.ensures;
+    }) c.push_seen.ensures.spare

@@ -1,0 +1,73 @@
+-- What bytes are to a node that should install them: a capsule with right code, newer than what it holds; or the first refusal.
+use Rattle.std.specs.Prelude.{◌≡◌, ℕ, ◌<◌, ◌≤◌, List, Ok, Err, length}
+use Rattle.mate_num.specs.declared.id.HandlerId.{HandlerId}
+use Rattle.capsule_codec.specs.Image.{CapsuleParts}
+use Rattle.capsule_codec.specs.Reading.{capsule_in}
+use Rattle.code_verifier.specs.Faults.{refusal_of}
+use Rattle.code_verifier.specs.declared.fault.VerifyFault.{VerifyFault}
+use Rattle.mate_code.specs.BytesVerification.{bytes_verification}
+use Rattle.mate_code.specs.Run.{Code as InstrCode}
+use Rattle.mate_code.specs.Verification.{Marks}
+use Rattle.vm_desc.specs.declared.description.Description.{Description}
+use Rattle.vm_desc.specs.Shapes.{shape_of}
+use Rattle.mate_journal.specs.Machine.{HeldProgram}
+use Rattle.mate_journal.specs.Journal.{Told, Reading, held}
+use Rattle.mate_journal.specs.NodeScript.{Installs}
+use Rattle.mate_journal.specs.Pace.{Pace}
+use Rattle.node_invariant.specs.Meaning.{machine_in, clock_of}
+use Rattle.node_invariant.specs.Fits.{IsHeld, program_of}
+use Rattle.node_calls.specs.declared.installing.InstallFault.{InstallFault}
+use Rattle.node_calls.specs.declared.installing.InstallFault.TheVariants.{Capsule, Code, NotNewer}
+use Rattle.node_calls.specs.declared.installing.Installable.{Installable}
+
+-- the bytes are this capsule of the machine, and its code is verified
+pub record IsRightCapsule (d : Description) (bytes : List ℕ) (c : CapsuleParts) : Type 0 where
+  pub decoded : capsule_in d bytes ≡ Ok c
+  pub code : InstrCode
+  pub marks : Marks
+  pub verified : bytes_verification (shape_of d) c.code ≡ Ok (code, marks)
+
+-- the capsule's handler
+abbrev pub handler_of : CapsuleParts → HandlerId
+handler_of c = record { 0 = c.handler }
+
+-- the program of a capsule with these bytes
+abbrev pub program_by : CapsuleParts → List ℕ → HeldProgram
+program_by c bytes = record { handler = handler_of c; version = c.version; image = record { items = bytes } }
+
+-- the bytes are a capsule of the machine, and its code is refused
+pub record IsUnverified (d : Description) (bytes : List ℕ) (fault : VerifyFault) : Type 0 where
+  pub capsule : CapsuleParts
+  pub decoded : capsule_in d bytes ≡ Ok capsule
+  pub refused : bytes_verification (shape_of d) capsule.code ≡ Err (refusal_of fault)
+
+-- the bytes are a right capsule, and the node holds a version that isn't older
+pub record IsNoNewer (d : Description) (r : Reading) (bytes : List ℕ) (version : ℕ) : Type 0 where
+  pub capsule : CapsuleParts
+  pub right : IsRightCapsule d bytes capsule
+  pub held_is : version ≡ held r (handler_of capsule)
+  pub older : capsule.version ≤ held r (handler_of capsule)
+
+-- the first refusal, in this order
+abbrev pub Refuses : Description → Reading → List ℕ → InstallFault → Type 0
+Refuses d r bytes (Capsule fault) = capsule_in d bytes ≡ Err fault
+Refuses d r bytes (Code fault) = IsUnverified d bytes fault
+Refuses d r bytes (NotNewer version) = IsNoNewer d r bytes version
+
+-- the refusal doesn't rest on what the node holds
+abbrev pub RefusesBytes : Description → List ℕ → InstallFault → Type 0
+RefusesBytes d bytes fault = (r : Reading) → Refuses d r bytes fault
+
+-- the bytes are a right capsule, newer than what the node held, and its program was installed with these entries
+pub record InstallsBytes (d : Description) (r : Reading) (bytes : List ℕ) (p : Pace) (told : List Told) : Type 0 where
+  pub capsule : CapsuleParts
+  pub right : IsRightCapsule d bytes capsule
+  pub installs : Installs (clock_of d) (machine_in d) r p (program_by capsule bytes) told
+
+-- this can be installed: it is the program of the right capsule that the bytes are, with its locks
+pub record IsInstallable (d : Description) (bytes : List ℕ) (i : Installable) : Type 0 where
+  pub capsule : CapsuleParts
+  pub right : IsRightCapsule d bytes capsule
+  pub is_held : IsHeld d i.held
+  pub program : program_of i.handler i.held ≡ program_by capsule bytes
+  pub handler : i.handler.0 < length d.handlers.items

@@ -1,0 +1,41 @@
+//! Answers to the calls that a node's invocations wait with.
+
+ghost use Rattle.std.specs.Prelude.{◌≡◌, ◌<◌, ◌≤◌, MatchResult};
+ghost use Rattle.mate_journal.specs.NodeScript.{Answers};
+ghost use Rattle.node_invariant.specs.Keeps.{reading, IsTimely};
+ghost use Rattle.node_grants.specs.Starting.{Rests};
+ghost use Rattle.node_calls.specs.Calls.{RestsAgain, NobodyWaits};
+
+use mate_journal::Entry;
+use mate_num::{ContextId, Stamp};
+use node_contexts::{answer, number};
+use node_invariant::{Parts, tell};
+use split_phase::NotWaiting;
+use vm_desc::Description;
+
+/// The invocation that waits in the context gets the answer to its call, and is ready, behind all others. `NotWaiting`
+/// comes exactly where none waits there, and then nothing changes.
+pub fn answer_in(
+    description: &Description,
+    parts: &mut Parts,
+    ctx: ContextId,
+    value: i16,
+    at: Stamp,
+) -> Result<(), NotWaiting>
+    requires rests { Rests description.now parts.old }
+    requires timely { IsTimely at parts.old.log }
+    requires room { 1 ≤ parts.old.log.spare }
+    requires context { ctx.0 < 16 }
+    ensures { MatchResult result
+        (λ _. RestsAgain description.now parts.old parts.new at (Answers (reading description.now parts.old.log) ctx value))
+        (λ _. NobodyWaits (reading description.now parts.old.log) ctx × (parts.new ≡ parts.old)) }
+{
+    let _description = description;
+    let Some(_) = parts.contexts.asked(ctx) else {
+        return Err(NotWaiting);
+    };
+    answer(&mut parts.contexts, &parts.handlers, ctx, value);
+    let inv = number(&parts.contexts, ctx);
+    tell(&mut parts.log, at, Entry::Answer { inv, value });
+    Ok(())
+}

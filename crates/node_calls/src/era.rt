@@ -1,0 +1,39 @@
+//! The beginning of an era, and resets.
+
+ghost use Rattle.std.specs.Prelude.{◌<◌, ◌≤◌, length};
+ghost use Rattle.mate_journal.specs.NodeScript.{Resets};
+ghost use Rattle.node_invariant.specs.Meaning.{machine_in, clock_of};
+ghost use Rattle.node_invariant.specs.Keeps.{reading, IsTimely};
+ghost use Rattle.node_grants.specs.Starting.{Rests};
+ghost use Rattle.node_calls.specs.Calls.{RestsAgain, AtPace, IsCleared};
+
+use crate::showing::seen_in;
+use mate_journal::Entry;
+use mate_num::Stamp;
+use node_heap::Heap;
+use node_invariant::{Parts, tell};
+use vm_desc::Description;
+
+/// All live invocations are cut, all shared variables are 0, and all buffers are empty.
+pub(crate) fn clear(description: &Description, parts: &mut Parts)
+    ensures { IsCleared description.now parts.old parts.new }
+{
+    let shared = description.shared.len() as u8;
+    let buffers = description.buffers.len() as u8;
+    parts.contexts.clear();
+    parts.heap = Heap::new(shared, buffers);
+}
+
+/// The store is told, and an era begins: all live invocations are cut, all shared variables are 0, and all buffers are
+/// empty. What is installed stays.
+pub fn reset_in(description: &Description, parts: &mut Parts, at: Stamp)
+    requires rests { Rests description.now parts.old }
+    requires timely { IsTimely at parts.old.log }
+    requires room { 2 ≤ parts.old.log.spare }
+    requires few { length parts.old.log.entries < 4100000000 }
+    ensures { RestsAgain description.now parts.old parts.new at (AtPace description.now parts.old (Resets (clock_of description.now) (machine_in description.now) (reading description.now parts.old.log))) }
+{
+    seen_in(description, parts, at);
+    clear(description, parts);
+    tell(&mut parts.log, at, Entry::Reset);
+}

@@ -1,0 +1,130 @@
+//! Events for a handler: each becomes an invocation, or is dropped.
+
+ghost use Rattle.std.specs.Prelude.{◌≡◌, ◌+◌, ◌<◌, ◌≤◌, length, MatchOption};
+ghost use Rattle.node_contexts.specs.At.{at as at_context};
+ghost use Rattle.node_invariant.specs.Keeps.{reading, IsTimely};
+ghost use Rattle.node_invariant.specs.Meaning.{machine_in};
+ghost use Rattle.node_grants.specs.Starting.{Rests};
+ghost use Rattle.node_calls.specs.Calls.{RestsAgain};
+ghost use Rattle.node_calls.specs.Posting.{PostGives, IsFirstFree, HasNoneFree, CanQueue, IsQueued};
+
+use exec_unit::Machine;
+use mate_journal::{DropCause, Entry};
+use mate_num::{ContextId, HandlerId, LockSet, Payload, Stamp, copy_of};
+use node_contexts::{Contexts, Seat};
+use node_grants::start_all;
+use node_invariant::{Parts, tell};
+use vm_desc::Description;
+
+/// What became of an event.
+#[derive(Clone, Copy, PartialEq, Eq, Debug)]
+pub enum PostAnswer {
+    /// It is the invocation of this number.
+    Posted { inv: u32 },
+    /// Nothing is installed for the handler.
+    NoCode,
+    /// Each context of the handler has a live invocation.
+    AllBusy,
+}
+
+/// How many contexts the handler has.
+fn contexts_of(description: &Description, handler: HandlerId) -> u8
+    requires { handler.0 < length description.now.handlers.items }
+    ensures count { result ≡ (machine_in description.now).contexts handler }
+    ensures within { (machine_in description.now).first_context handler + result ≤ 16 }
+{
+    description.handlers.as_slice()[usize::from(handler.0)].contexts
+}
+
+/// The handler's lowest context that no invocation has; None exactly where one has each.
+fn first_free(
+    description: &Description,
+    contexts: &Contexts,
+    handler: HandlerId,
+) -> Option<ContextId>
+    requires { handler.0 < length description.now.handlers.items }
+    ensures { MatchOption result
+        (HasNoneFree (machine_in description.now) contexts.now handler)
+        (IsFirstFree (machine_in description.now) contexts.now handler) }
+{
+    let first = description.first_context(handler).0;
+    for place in first..first + contexts_of(description, handler) {
+        if contexts.is_idle(ContextId(place)) {
+            return Some(ContextId(place));
+        }
+    }
+    None
+}
+
+/// The context takes an invocation of the handler, which waits for these locks behind all that wait; its number is
+/// answered.
+fn queue(
+    description: &Description,
+    parts: &mut Parts,
+    handler: HandlerId,
+    ctx: ContextId,
+    locks: LockSet,
+    payload: &Payload,
+    at: Stamp,
+) -> u32
+    requires can { CanQueue description.now parts.old handler ctx locks }
+    requires timely { IsTimely at parts.old.log }
+    requires room { 1 ≤ parts.old.log.spare }
+    requires few { length parts.old.log.entries < 4100000000 }
+    ensures { IsQueued description.now parts.old parts.new at handler payload.now result }
+{
+    parts.posts += 1;
+    let inv = parts.posts;
+    let seat = Seat {
+        inv,
+        handler,
+        machine: Machine::new(description.turns, copy_of(payload)),
+        count: 0,
+    };
+    parts.contexts.post(ctx, seat, locks);
+    let payload = copy_of(payload);
+    tell(
+        &mut parts.log,
+        at,
+        Entry::Post {
+            inv,
+            handler,
+            ctx,
+            payload,
+        },
+    );
+    inv
+}
+
+/// An event for the handler becomes an invocation in the handler's lowest idle context, which starts where nothing holds
+/// it back. It is dropped with `NoCode` exactly where nothing is installed for the handler, and else with `AllBusy` exactly
+/// where no context of the handler is idle; a `Dropped` entry tells which.
+pub fn post_in(
+    description: &Description,
+    parts: &mut Parts,
+    handler: HandlerId,
+    payload: &Payload,
+    at: Stamp,
+) -> PostAnswer
+    requires rests { Rests description.now parts.old }
+    requires timely { IsTimely at parts.old.log }
+    requires room { 2 ≤ parts.old.log.spare }
+    requires few { length parts.old.log.entries < 4100000000 }
+    requires handler { handler.0 < length description.now.handlers.items }
+    ensures { RestsAgain description.now parts.old parts.new at (PostGives (machine_in description.now) (reading description.now parts.old.log) handler payload.now result) }
+{
+    let Some(held) = parts.handlers.get(handler) else {
+        let cause = DropCause::NoCode;
+        tell(&mut parts.log, at, Entry::Dropped { handler, cause });
+        return PostAnswer::NoCode;
+    };
+    let locks = held.locks;
+    let Some(ctx) = first_free(description, &parts.contexts, handler) else {
+        let cause = DropCause::AllBusy;
+        tell(&mut parts.log, at, Entry::Dropped { handler, cause });
+        return PostAnswer::AllBusy;
+    };
+    let inv = queue(description, parts, handler, ctx, locks, payload, at);
+    start_all(description, parts, at);
+    PostAnswer::Posted { inv }
+}

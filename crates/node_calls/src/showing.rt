@@ -1,0 +1,36 @@
+//! Entries that change nothing of a node: a store that is seen, and a step that could do nothing.
+
+ghost use Rattle.std.specs.Prelude.{◌≡◌, ◌<◌, ◌≤◌, ◌∷◌, [], length};
+ghost use Rattle.mate_journal.specs.Journal.{Void};
+ghost use Rattle.node_invariant.specs.Keeps.{IsTimely};
+ghost use Rattle.node_grants.specs.Starting.{Rests};
+ghost use Rattle.node_calls.specs.Calls.{RestsAgain, TellsStore};
+
+use mate_journal::{Entry, VoidCause};
+use mate_num::Stamp;
+use node_invariant::{Parts, tell};
+use vm_desc::Description;
+
+/// The shared variables and buffers are told as they are.
+pub fn seen_in(description: &Description, parts: &mut Parts, at: Stamp)
+    requires rests { Rests description.now parts.old }
+    requires timely { IsTimely at parts.old.log }
+    requires room { 1 ≤ parts.old.log.spare }
+    requires few { length parts.old.log.entries < 4100000000 }
+    ensures { TellsStore description.now parts.old parts.new at }
+{
+    let _description = description;
+    parts.log.push_seen(at, &parts.heap.store());
+}
+
+/// It is told why a step did nothing.
+pub fn void_in(description: &Description, parts: &mut Parts, cause: VoidCause, at: Stamp)
+    requires rests { Rests description.now parts.old }
+    requires timely { IsTimely at parts.old.log }
+    requires room { 1 ≤ parts.old.log.spare }
+    ensures again { RestsAgain description.now parts.old parts.new at (λ told. told ≡ Void cause ∷ []) }
+    ensures same { parts.new ≡ record (parts.old) { log = parts.new.log } }
+{
+    let _description = description;
+    tell(&mut parts.log, at, Entry::Void { cause });
+}

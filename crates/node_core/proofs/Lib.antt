@@ -1,0 +1,5 @@
+pub mod PaceLemmas
+pub mod JournalLemmas
+pub mod StandingLemmas
+pub mod MadeLemmas
+pub mod CallLemmas

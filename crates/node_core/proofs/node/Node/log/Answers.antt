@@ -1,0 +1,11 @@
+-- What a node that rests keeps.
+use Rattle.std.proofs.Common.{subst}
+use Rattle.node_invariant.specs.Meaning.{machine_in}
+use Rattle.node_core.specs.View.{NodeView}
+use Rattle.node_core.specs.Journal.{KeepsJournal}
+use Rattle.node_core.proofs.node.Node.log.Goals as goal
+
+pub returns-clause-keeps : goal.returns-clause-keeps
+returns-clause-keeps c =
+    let P : NodeView → Type 0 = λ v. KeepsJournal (machine_in v.description) v.log in
+    subst P c.self.view_is c.keeps_journal.ensures

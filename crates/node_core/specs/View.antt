@@ -1,0 +1,45 @@
+-- What contracts see of a node: its machine, its log, the line of its ready invocations, and how many instructions each live one
+-- executed.
+use Rattle.std.specs.Prelude.{◌≡◌, ◌≤◌, ℕ, true, List, slice_index_or}
+use Rattle.mate_num.specs.declared.call.Stamp.{Stamp}
+use Rattle.mate_num.specs.declared.id.ContextId.{ContextId}
+use Rattle.vm_desc.specs.declared.description.Description.{Description}
+use Rattle.mate_journal.specs.Log.{Log, IsSameLog}
+use Rattle.mate_journal.specs.Journal.{Told, is_started, Reading}
+use Rattle.mate_journal.specs.Pace.{Pace}
+use Rattle.node_invariant.specs.Keeps.{reading, Grows}
+
+-- `line` has the ready invocations, the one that has the next turn first. `counts` has for each context the number of its
+-- invocation and how many instructions this one executed, or 0 and 0.
+pub record NodeView : Type 0 where
+  pub description : Description
+  pub log : Log
+  pub line : List ℕ
+  pub counts : List (ℕ × ℕ)
+
+-- what was heard of the node
+abbrev pub heard_of : NodeView → Reading
+heard_of v = reading v.description v.log
+
+abbrev pub count_at : NodeView → ContextId → ℕ × ℕ
+count_at v c = slice_index_or v.counts c.0 (0, 0)
+
+-- the pace of the node
+pub record HasPace (v : NodeView) (p : Pace) : Type 0 where
+  pub line : p.line ≡ v.line
+  pub counts : (c : ContextId) → is_started ((heard_of v).invocations (count_at v c).0).phase ≡ true → (count_at v c).1 ≡ p.counts (count_at v c).0
+
+-- the node tells more with this stamp, and what it tells and the pace after it meet the rule
+pub record Tells (old new : NodeView) (at : Stamp) (Rule : Pace → List Told → Pace → Type 0) : Type 0 where
+  pub told : List Told
+  pub description : new.description ≡ old.description
+  pub grows : Grows old.log new.log at told
+  pub paces : (p : Pace) → HasPace old p → (q : Pace) × Rule p told q × HasPace new q
+
+-- the same node, with as much room or more
+pub record IsSameNode (old new : NodeView) : Type 0 where
+  pub description : new.description ≡ old.description
+  pub log : IsSameLog new.log old.log
+  pub line : new.line ≡ old.line
+  pub counts : new.counts ≡ old.counts
+  pub room : old.log.spare ≤ new.log.spare

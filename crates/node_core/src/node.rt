@@ -1,0 +1,183 @@
+//! A node: its heap and contexts, what is installed for its handlers, and its log.
+
+ghost use Rattle.std.specs.Prelude.{◌≡◌, ◌<◌, ◌≤◌, ◌+◌, ◌*◌, MatchOption, MatchResult, IfOk, OnOk};
+ghost use Rattle.mate_num.specs.declared.bounds.TheConstants.{CODE_MAX};
+ghost use Rattle.mate_journal.specs.Log.{IsEmpty};
+ghost use Rattle.mate_journal.specs.Journal.{held as held_version};
+ghost use Rattle.mate_journal.specs.Pace.{Pace, no_pace};
+ghost use Rattle.mate_journal.specs.NodeScript.{IsReadyIn};
+ghost use Rattle.node_invariant.specs.Meaning.{machine_in, clock_of};
+ghost use Rattle.node_invariant.specs.Keeps.{IsTimely};
+ghost use Rattle.node_grants.specs.Starting.{Rests};
+ghost use Rattle.node_turns.specs.Pacing.{SettlesWithin};
+ghost use Rattle.node_calls.specs.Calls.{NobodyWaits};
+ghost use Rattle.node_core.specs.Journal.{KeepsJournal};
+
+use crate::standing::{Asked, NotReady, Standing};
+use journal_laws::asks_devices_in_order;
+use mate_journal::NodeLog;
+use mate_num::{ContextId, HandlerId, Image, NoMemory, Stamp};
+use node_contexts::{Contexts, Handlers};
+use node_heap::Heap;
+use node_invariant::Parts;
+use node_turns::{settle, take_turn};
+use std::alloc::Global;
+use std::marker::Model;
+use vm_desc::Description;
+
+/// A node. After a `reserve` its calls take no memory.
+///
+/// Each call that takes a stamp has the conditions that neither the event nor the time of the stamp is below those of the
+/// last entry, that the time is the last entry's where the event is, and that there is room for the entries.
+#[derive(Drop)]
+pub struct Node {
+    pub(crate) description: Description,
+    pub(crate) parts: Parts,
+}
+
+impl Model for Node {
+    ghost use Rattle.node_core.specs.View.{NodeView};
+
+    ghost Value = { NodeView };
+
+    ghost use Rattle.node_core.specs.Inside.{view_of, IsRight};
+
+    ghost view = { view_of };
+
+    ghost invariant = { IsRight };
+}
+
+/// What the log of a node that rests keeps.
+fn keeps_journal(description: &Description, parts: &Parts)
+    requires { Rests description.now parts.now }
+    ensures { KeepsJournal (machine_in description.now) parts.now.log }
+{
+    let _description = description;
+    let _parts = parts;
+    asks_devices_in_order();
+}
+
+impl Node {
+    ghost use Rattle.node_core.specs.View.{heard_of, HasPace, Tells, IsSameNode};
+    ghost use Rattle.node_core.specs.Calls.{HasStepped, StandsAs, IsAsked, IsImageOf};
+
+    /// A node of this machine. Nothing is installed, all variables are 0, all buffers are empty, and nothing was told.
+    pub fn new(alloc: Global, description: &Description) -> Result<Node, NoMemory>
+        ensures { IfOk result (λ node. (node.description ≡ description.now) × IsEmpty node.log × HasPace node no_pace) }
+    {
+        Ok(Node {
+            description: description.copy(),
+            parts: Parts {
+                heap: Heap::new(
+                    description.shared.len() as u8,
+                    description.buffers.len() as u8,
+                ),
+                contexts: Contexts::new(alloc)?,
+                handlers: Handlers::new(),
+                posts: 0,
+                log: NodeLog::new(alloc),
+            },
+        })
+    }
+
+    /// Makes room for n more entries. `NoMemory` leaves the node as it was, but for its room.
+    pub fn reserve(&mut self, n: usize) -> Result<(), NoMemory>
+        ensures same { IsSameNode self.old self.new }
+        ensures pace { (p : Pace) → HasPace self.old p → HasPace self.new p }
+        ensures room { OnOk result (n ≤ self.new.log.spare) }
+    {
+        self.parts.log.reserve(n)
+    }
+
+    /// How many entries, of whatever kind, are made without memory.
+    pub fn spare(&self) -> usize
+        ensures { result ≡ self.now.log.spare }
+    {
+        self.parts.log.spare()
+    }
+
+    /// The invocation in the context executes n instructions, or fewer where it asks or is over before. Answers how many.
+    /// `NotReady` comes exactly where no ready invocation is in the context, and leaves the node as it was.
+    pub fn step(&mut self, ctx: ContextId, n: u32, at: Stamp) -> Result<u32, NotReady>
+        requires context { ctx.0 < 16 }
+        requires some { 0 < n }
+        requires timely { IsTimely at self.old.log }
+        requires room { 16 ≤ self.old.log.spare }
+        ensures { MatchResult result
+            (λ ran. Tells self.old self.new at (HasStepped (clock_of self.old.description) (machine_in self.old.description) (heard_of self.old) ctx n ran))
+            (λ _. (IsReadyIn (heard_of self.old) ctx → ⊥) × (self.new ≡ self.old)) }
+    {
+        if !self.parts.contexts.is_ready(ctx) {
+            return Err(NotReady);
+        }
+        Ok(take_turn(&self.description, &mut self.parts, at, ctx, n))
+    }
+
+    /// Turns of the description's quantum follow one another, each to the invocation that is longest without one, until
+    /// none is ready.
+    pub fn settle(&mut self, at: Stamp)
+        requires timely { IsTimely at self.old.log }
+        requires room { 32 ≤ self.old.log.spare }
+        ensures { Tells self.old self.new at (SettlesWithin (clock_of self.old.description) (machine_in self.old.description) ((self.old.description.turns + 1) * CODE_MAX) (heard_of self.old)) }
+    {
+        settle(&self.description, &mut self.parts, at);
+    }
+
+    /// What can go on. A `step` in a context that it names as `Can` is never refused.
+    pub fn standing(&self) -> Standing
+        ensures { StandsAs (heard_of self.now) result }
+    {
+        if let Some(ctx) = self.parts.contexts.first_ready() {
+            return Standing::Can(ctx);
+        }
+        match self.parts.contexts.first_waiting() {
+            Some(ctx) => Standing::Outside(ctx),
+            None => Standing::Idle,
+        }
+    }
+
+    /// The call that the invocation in the context waits with; None exactly where none waits there.
+    pub fn asked(&self, ctx: ContextId) -> Option<Asked>
+        requires { ctx.0 < 16 }
+        ensures { MatchOption result (NobodyWaits (heard_of self.now) ctx) (IsAsked (heard_of self.now) ctx) }
+    {
+        let (fun, args) = self.parts.contexts.asked(ctx)?;
+        let inv = self.parts.contexts.seat(ctx)?.inv;
+        Some(Asked { inv, fun, args })
+    }
+
+    /// The version that is installed for the handler, 0 for none.
+    pub fn held(&self, handler: HandlerId) -> u32
+        ensures { result ≡ held_version (heard_of self.now) handler }
+    {
+        self.parts.handlers.version(handler)
+    }
+
+    /// The image that is installed for the handler; None exactly where none is.
+    pub fn image(&self, handler: HandlerId) -> Option<&Image>
+        ensures { MatchOption result (held_version (heard_of self.now) handler ≡ 0) (λ image. IsImageOf (heard_of self.now) handler image.now) }
+    {
+        match self.parts.handlers.get(handler) {
+            Some(held) => Some(&held.image),
+            None => None,
+        }
+    }
+
+    /// What happened on the node.
+    pub fn log(&self) -> &NodeLog
+        ensures same { result.now ≡ self.now.log }
+        ensures keeps { KeepsJournal (machine_in self.now.description) self.now.log }
+    {
+        keeps_journal(&self.description, &self.parts);
+        &self.parts.log
+    }
+
+    /// What happened on the node, handed out.
+    pub fn into_log(self) -> NodeLog
+        ensures same { result ≡ self.log }
+        ensures keeps { KeepsJournal (machine_in self.description) self.log }
+    {
+        keeps_journal(&self.description, &self.parts);
+        self.parts.log
+    }
+}

@@ -1,0 +1,26 @@
+//! What can go on at a node.
+
+use mate_num::{ContextId, FunId, Payload};
+
+/// What can go on.
+#[derive(Clone, Copy, PartialEq, Eq, Debug)]
+pub enum Standing {
+    /// The invocation in the context is ready to run.
+    Can(ContextId),
+    /// None is ready, and the one in the context waits for an answer from outside.
+    Outside(ContextId),
+    /// No invocation is live.
+    Idle,
+}
+
+/// The call that an invocation waits with.
+#[derive(PartialEq, Eq, Debug, Drop)]
+pub struct Asked {
+    pub inv: u32,
+    pub fun: FunId,
+    pub args: Payload,
+}
+
+/// No ready invocation is in the context.
+#[derive(Clone, Copy, PartialEq, Eq, Debug)]
+pub struct NotReady;

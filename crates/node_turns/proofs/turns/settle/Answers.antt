@@ -1,0 +1,41 @@
+-- The first of the ring goes last, and has a turn.
+use Rattle.std.proofs.Common.{ap, ◌∙◌, ◌<◌, arith}
+use Rattle.node_contexts.specs.At.{At}
+use Rattle.node_turns.specs.Pacing.{most}
+use Rattle.node_grants.specs.Totals.{falls}
+use Rattle.node_turns.proofs.SettleLemmas.{first-ready, Rests-way, owes-way, falls-way, SettlesSome-none, SettlesSome-then, SettlesAll-from, room-turn}
+use Rattle.node_turns.proofs.turns.settle.Goals as goal
+
+pub give_way-requires-clause-ready : goal.give_way-requires-clause-ready
+give_way-requires-clause-ready c = first-ready c.loop-ctx.parts.contexts c.in-Some.ctx c.in-Some.ensures.first
+
+pub take_turn-requires-clause-rests : goal.take_turn-requires-clause-rests
+take_turn-requires-clause-rests c = Rests-way c.args.description.now c.loop-ctx.parts c.give_way.new.self c.in-Some.ctx c.give_way.ensures c.loop-ctx.invariant.rests
+
+pub take_turn-requires-clause-room : goal.take_turn-requires-clause-room
+take_turn-requires-clause-room c =
+    let e = owes-way c.args.description.now c.loop-ctx.parts c.give_way.new.self c.in-Some.ctx c.give_way.ensures in
+    let f = c.loop-ctx.invariant.owed in
+    let g = c.loop-ctx.invariant.grows.spare in
+    let h = c.requires.room in
+    let ready = ap (λ (a : At). a.ready) (c.give_way.ensures.each c.in-Some.ctx) ∙ first-ready c.loop-ctx.parts.contexts c.in-Some.ctx c.in-Some.ensures.first in
+    let k = room-turn c.give_way.new.self c.in-Some.ctx c.in-Some.ensures.small ready in
+    omega arith
+
+pub loop-ctx-smaller : goal.loop-ctx-smaller
+loop-ctx-smaller c =
+    let e = falls-way c.args.description.now c.loop-ctx.parts c.give_way.new.self c.in-Some.ctx c.give_way.ensures in
+    let f = c.take_turn.ensures.falls_by in
+    let d = c.args.description.now in
+    let g : falls (most d) c.take_turn.new.parts.contexts < falls (most d) c.loop-ctx.parts.contexts = omega arith in
+    g
+
+pub loop-ctx-preserved : goal.loop-ctx-preserved
+loop-ctx-preserved c =
+    SettlesSome-then c.args.description.now c.args.parts.now c.loop-ctx.parts c.take_turn.new.parts c.give_way.new.self c.args.at c.in-Some.ctx c.in-Some.ensures.first c.loop-ctx.invariant c.give_way.ensures c.take_turn.result c.take_turn.ensures
+
+pub returns : goal.returns
+returns c = SettlesAll-from c.args.description.now c.args.parts.now c.loop-ctx.parts c.args.at c.loop-ctx.invariant c.in_default.ensures.first
+
+pub loop-ctx-init : goal.loop-ctx-init
+loop-ctx-init c = SettlesSome-none c.args.description.now c.args.parts.now c.args.at c.requires.rests c.requires.timely

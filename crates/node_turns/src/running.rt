@@ -1,0 +1,28 @@
+//! The instructions of a turn, and what the node keeps over them.
+
+ghost use Rattle.std.specs.Prelude.{◌≡◌, ◌<◌, true};
+ghost use Rattle.node_contexts.specs.At.{at};
+ghost use Rattle.node_grants.specs.Starting.{KeepsOrder};
+ghost use Rattle.node_turns.specs.Pacing.{RunsFor};
+
+use mate_num::ContextId;
+use node_contexts::{Ran, turn};
+use node_invariant::Parts;
+use vm_desc::Description;
+
+/// Executes n instructions of the invocation in the context, or fewer where it asks or is over.
+pub fn run_some(description: &Description, parts: &mut Parts, ctx: ContextId, n: u32) -> Ran
+    requires order { KeepsOrder description.now parts.old }
+    requires small { ctx.0 < 16 }
+    requires ready { (at parts.old.contexts ctx).ready ≡ true }
+    ensures { RunsFor description.now parts.old parts.new ctx n result }
+{
+    let _turns = description.turns;
+    turn(
+        &mut parts.contexts,
+        &parts.handlers,
+        &mut parts.heap,
+        ctx,
+        n,
+    )
+}

@@ -1,0 +1,79 @@
+//! Turns, one after another.
+
+ghost use Rattle.std.specs.Prelude.{◌≡◌, ◌<◌, ◌≤◌, ◌+◌, true};
+ghost use Rattle.node_contexts.specs.At.{at as at_context};
+ghost use Rattle.node_invariant.specs.Keeps.{IsTimely};
+ghost use Rattle.node_grants.specs.Totals.{owes, starts_left};
+ghost use Rattle.node_grants.specs.Starting.{Rests};
+ghost use Rattle.node_turns.specs.Pacing.{TakesTurn, SettlesAll};
+
+use crate::running::run_some;
+use exec_unit::StepEnd;
+use mate_journal::Entry;
+use mate_num::{ContextId, Stamp, copy_of};
+use node_contexts::{Ran, number};
+use node_grants::start_all;
+use node_invariant::{Parts, tell};
+use vm_desc::Description;
+
+/// The ready invocation in the context has a turn of n instructions. Where it asks or is over, that is told; where it is
+/// over, whoever it held back starts. Answers how many instructions it executed.
+pub fn take_turn(
+    description: &Description,
+    parts: &mut Parts,
+    at: Stamp,
+    ctx: ContextId,
+    n: u32,
+) -> u32
+    requires rests { Rests description.now parts.old }
+    requires timely { IsTimely at parts.old.log }
+    requires room { starts_left parts.old.contexts + 1 ≤ parts.old.log.spare }
+    requires small { ctx.0 < 16 }
+    requires ready { (at_context parts.old.contexts ctx).ready ≡ true }
+    requires some { 0 < n }
+    ensures { TakesTurn description.now parts.old parts.new at ctx n result }
+{
+    let inv = number(&parts.contexts, ctx);
+    let Ran { instructions, how } = run_some(description, parts, ctx, n);
+    match how {
+        StepEnd::Next => {}
+        StepEnd::Ask { fun, args } => {
+            let told = copy_of(&args);
+            parts.contexts.ask(ctx, fun, args);
+            tell(
+                &mut parts.log,
+                at,
+                Entry::Ask {
+                    inv,
+                    fun,
+                    args: told,
+                },
+            );
+        }
+        StepEnd::Halt => {
+            parts.contexts.finish(ctx);
+            tell(&mut parts.log, at, Entry::Halt { inv });
+            start_all(description, parts, at);
+        }
+        StepEnd::Fault(kind) => {
+            parts.contexts.finish(ctx);
+            tell(&mut parts.log, at, Entry::Fault { inv, kind });
+            start_all(description, parts, at);
+        }
+    }
+    instructions
+}
+
+/// Turns follow one another until nobody is ready.
+pub fn settle(description: &Description, parts: &mut Parts, at: Stamp)
+    requires rests { Rests description.now parts.old }
+    requires timely { IsTimely at parts.old.log }
+    requires room { owes parts.old.contexts ≤ parts.old.log.spare }
+    requires quantum { 0 < description.now.quantum }
+    ensures { SettlesAll description.now parts.old parts.new at }
+{
+    while let Some(ctx) = parts.contexts.first_ready() {
+        parts.contexts.give_way(ctx);
+        let _ = take_turn(description, parts, at, ctx, description.quantum);
+    }
+}
