@@ -7,7 +7,8 @@ use Rattle.mate_journal.specs.Machine.{Machine}
 use Rattle.mate_journal.specs.Journal.{Told, Event, Reading, heard, heard_all, heard_told, told_by}
 use Rattle.mate_journal.specs.Pace.{Pace}
 use Rattle.mate_journal.specs.Turns.{Clock}
-use Rattle.mate_journal.specs.NodeScript.{Step, records_max, AreOfEvent, Makes, HaveMade}
+use Rattle.mate_journal.specs.declared.report.TheConstants.{RECORDS_MAX}
+use Rattle.mate_journal.specs.NodeScript.{Step, AreOfEvent, Makes, HaveMade}
 use Rattle.journal_laws.proofs.Append.{heard_all-append}
 
 -- what was heard by two parts of a list
@@ -21,7 +22,7 @@ heard_all-told m r (e ∷ es) = heard_all-told m (heard m r e.told) es
 
 -- one more step
 pub HaveMade-push : (k : Clock) (m : Machine) (records n : ℕ) (r : Reading) (p : Pace) (steps : List Step) (es : List Event) (q : Pace) (step : Step) (front : List Event) (then : Pace)
-    → HaveMade k m records n r p steps es q → records + length es < records_max → AreOfEvent (n + length steps) front
+    → HaveMade k m records n r p steps es q → records + length es < RECORDS_MAX → AreOfEvent (n + length steps) front
     → Makes k m (heard_all m r es) q step (told_by front) then → HaveMade k m records n r p (steps ++ step ∷ []) (es ++ front) then
 HaveMade-push k m records n r p [] es q step front then made room stamps makes =
     let none : length es ≡ 0 = ap length made.0 in

@@ -4,6 +4,7 @@ use Rattle.arrayvec.specs.ArrayVec.{ArrayVec}
 use Rattle.mate_num.specs.declared.id.HandlerId.{HandlerId}
 use Rattle.mate_num.specs.declared.id.ContextId.{ContextId}
 use Rattle.mate_num.specs.declared.store.Store.{Store}
+use Rattle.mate_journal.specs.declared.report.TheConstants.{RECORDS_MAX}
 use Rattle.mate_journal.specs.declared.entry.DropCause.TheVariants as drop
 use Rattle.mate_journal.specs.declared.entry.VoidCause.TheVariants as void
 use Rattle.mate_journal.specs.Machine.{Machine, HeldProgram, IsContextOf}
@@ -22,10 +23,6 @@ pub data Step : Type 0 where
   Answer : (context : ContextId) (value : ℤ) → Step
   Show : Step
   ResetNode : Step
-
--- the greatest number of records before an event is begun is one less
-abbrev pub records_max : ℕ
-records_max = 1000000
 
 -- c is the handler's lowest context that no live invocation has
 pub record IsFirstIdle (m : Machine) (r : Reading) (h : HandlerId) (c : ContextId) : Type 0 where
@@ -134,7 +131,7 @@ AreOfEvent n es = All (λ (e : Event). e.stamp ≡ record { event = n; time = 0 
 abbrev pub HaveMade : Clock → Machine → ℕ → ℕ → Reading → Pace → List Step → List Event → Pace → Type 0
 HaveMade k m records n r p [] es q = (es ≡ []) × (q ≡ p)
 HaveMade k m records n r p (step ∷ steps) es q =
-    (records < records_max)
+    (records < RECORDS_MAX)
     × (front : List Event)
     × (rest : List Event)
     × (then : Pace)
@@ -153,7 +150,7 @@ pub data RunEnd : Type 0 where
 -- under the next number; a full one stops before a step, where 1,000,000 records stand or more
 abbrev pub EndsRun : Clock → Machine → RunEnd → ℕ → ℕ → Reading → Pace → List Step → List Event → Type 0
 EndsRun k m Whole records n r p left es = (left ≡ []) × ShowsOnce k m r p (told_by es) × AreOfEvent n es
-EndsRun k m Full records n r p left es = (left ≢ []) × (records_max ≤ records) × (es ≡ [])
+EndsRun k m Full records n r p left es = (left ≢ []) × (RECORDS_MAX ≤ records) × (es ≡ [])
 EndsRun k m Cut records n r p left es = es ≡ []
 
 -- the k-th step is event k, at time 0: the steps that were done made the events in front, and the run ends so

@@ -131,6 +131,9 @@ impl Report {
     }
 }
 
+/// An event is begun only where fewer records stand before it.
+pub const RECORDS_MAX: usize = 1_000_000;
+
 /// Why a run gave no whole report.
 #[derive(Drop)]
 pub enum RunFault {
@@ -138,4 +141,15 @@ pub enum RunFault {
     LogFull(Report),
     /// Memory was refused.
     NoMemory,
+}
+
+impl From<NoMemory> for RunFault {
+    ghost use Rattle.std.specs.Prelude.{◌≡◌};
+    ghost use Rattle.mate_journal.specs.declared.report.RunFault.TheVariants.{NoMemory as OutOfMemory};
+
+    ghost from_gives = { λ _ fault. fault ≡ OutOfMemory };
+
+    fn from(_refusal: NoMemory) -> RunFault {
+        RunFault::NoMemory
+    }
 }
