@@ -14,6 +14,3 @@ pub use encoding::encode;
 pub use fragments::{Piece, count, fragment};
 pub use hex_text::{HexFault, from_hex, to_hex};
 pub use laws::{one_image, pieces_make_the_image};
-
-#[cfg(test)]
-mod tests;

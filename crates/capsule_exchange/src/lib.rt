@@ -9,6 +9,3 @@ mod pieces;
 
 pub use exchange::{Exchange, Heard};
 pub use laws::{fragments_go_together, gaps_are_asked_for};
-
-#[cfg(test)]
-mod tests;

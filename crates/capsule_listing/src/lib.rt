@@ -5,6 +5,3 @@ pub mod lock_line;
 pub mod printing;
 
 pub use printing::print_capsule;
-
-#[cfg(test)]
-mod tests;

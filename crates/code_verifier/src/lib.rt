@@ -14,6 +14,3 @@ pub use flow::args;
 pub use placed::Placed;
 pub use verification::verify;
 pub use verified::Verified;
-
-#[cfg(test)]
-mod tests;

@@ -4,6 +4,3 @@
 pub mod words;
 
 pub use words::{CommandLine, WordsFault, read};
-
-#[cfg(test)]
-mod tests;

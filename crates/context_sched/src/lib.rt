@@ -4,6 +4,3 @@
 pub mod ring;
 
 pub use ring::Ring;
-
-#[cfg(test)]
-mod tests;

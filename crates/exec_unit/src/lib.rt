@@ -11,6 +11,3 @@ pub mod stepping;
 pub use machine::Machine;
 pub use step_end::StepEnd;
 pub use stepping::{resume, step};
-
-#[cfg(test)]
-mod tests;

@@ -5,6 +5,3 @@ mod inference;
 mod uses;
 
 pub use inference::locks;
-
-#[cfg(test)]
-mod tests;

@@ -8,6 +8,3 @@ mod search;
 
 pub use claim::Claim;
 pub use locks::Locks;
-
-#[cfg(test)]
-mod tests;

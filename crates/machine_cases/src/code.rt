@@ -3,7 +3,7 @@
 ghost use Rattle.std.specs.Prelude.{◌≡◌, IfOk};
 ghost use Rattle.mate_code.specs.Code.{instrs_of};
 
-use crate::digits::{bytes_of, in_one_line};
+use case_files::{bytes_of, in_one_line};
 use mate_code::{Instr, Instrs, decode, encode, listing};
 use mate_files::MemSink;
 use mate_num::CODE_MAX;

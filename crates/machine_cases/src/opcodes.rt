@@ -1,6 +1,6 @@
 //! The opcode table of a machine, and how many names its functions have.
 
-use crate::digits::in_one_line;
+use case_files::in_one_line;
 use mate_files::MemSink;
 use opcode_gen::{function_names, print_table};
 use std::alloc::{AllocError, Global};

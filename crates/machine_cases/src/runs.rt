@@ -5,7 +5,7 @@ ghost use Rattle.std.specs.Prelude.{IfNone};
 ghost use Rattle.code_verifier.specs.Verified.{Fits};
 ghost use Rattle.exec_unit.specs.Step.{HasLengths};
 
-use crate::digits::bytes_of;
+use case_files::bytes_of;
 use code_verifier::{Verified, verify};
 use exec_unit::{Machine, StepEnd, resume, step};
 use mate_num::Payload;

@@ -1,6 +1,6 @@
 //! What the verifier says of code in hexadecimal digits: its refusal, or `ok`, the number of instructions and the first.
 
-use crate::digits::bytes_of;
+use case_files::bytes_of;
 use code_verifier::{Verified, verify};
 use opcode_gen::table;
 use std::alloc::{AllocError, Global};

@@ -2,26 +2,44 @@
 #![tactic(auto)]
 
 use mate_cli::mate;
-use mate_cli::refusal::Refusal;
-use mate_files::{OsFiles, OsSink};
+use mate_files::{OsFiles, OsSink, Sink};
+use mate_refusals::{Refusal, Status};
+use std::io::{BufWriter, ErrorKind, Write};
 use std::process::ExitCode;
 use std::rt::Env;
 use std::{env, io};
 
 fn main(rt: HostRuntime) -> ExitCode {
-    let mut files = OsFiles::new(rt.alloc(), &rt);
-    let mut out = OsSink::new(io::writer(&rt));
     let mut err = OsSink::new(rt.stderr());
-    let status = match words(&rt) {
-        Ok(words) => mate(rt.alloc(), &words, &mut files, &mut out, &mut err),
-        Err(refusal) => refusal.refuse(&mut err),
+    let status = match (words(&rt), BufWriter::new(rt.alloc(), io::writer(&rt))) {
+        (Ok(words), Ok(writer)) => {
+            let mut files = OsFiles::new(rt.alloc(), &rt);
+            let mut out = OsSink::new(writer);
+            let status = mate(rt.alloc(), &words, &mut files, &mut out, &mut err);
+            flushed(status, out.into_inner(), &mut err)
+        }
+        (Err(refusal), _) => refusal.refuse(&mut err),
+        (_, Err(_)) => Refusal::NoMemory.refuse(&mut err),
     };
     ExitCode::from(status.code())
 }
 
+/// Writes what is left in the buffer of standard output. Where that fails, what was done isn't all written.
+fn flushed<W: Write + Drop, E: Sink>(status: Status, mut writer: W, err: &mut E) -> Status {
+    let flushed = writer.flush().is_ok();
+    match status {
+        Status::Ok if !flushed => Refusal::SinkFault.refuse(err),
+        status => status,
+    }
+}
+
 /// The words of the command line, without the program's own name. Words that aren't UTF-8 are no command's.
 fn words(rt: &(impl Env + AllocGlobal)) -> Result<Vec<String>, Refusal> {
-    let args = env::args(rt).map_err(|_| Refusal::Usage)?;
+    let args = match env::args(rt) {
+        Ok(args) => args,
+        Err(error) if error.kind() == ErrorKind::OutOfMemory => return Err(Refusal::NoMemory),
+        Err(_) => return Err(Refusal::Usage),
+    };
     let mut words = Vec::new(rt.alloc());
     for word in args.skip(1) {
         words.push(word).map_err(|_| Refusal::NoMemory)?;

@@ -1,7 +1,5 @@
-pub mod FirstReport
-pub mod Stripped
-pub mod TopLemmas
-pub mod VersionLemmas
-pub mod CompilationLemmas
-pub mod CapsuleLemmas
-mod NoWants
+pub mod Laws
+pub mod OneAnswer
+pub mod OneSource
+pub mod OneCapsule
+pub mod OneCommand

@@ -1,5 +1,5 @@
 -- What a file is that should hold a capsule in hexadecimal digits: a capsule of the machine with code that the verifier takes, or the first refusal.
-use Rattle.std.specs.Prelude.{◌≡◌, ℕ, List, Option, Result, Ok, Err}
+use Rattle.std.specs.Prelude.{◌≡◌, ℕ, List, Result, Ok, Err}
 use Rattle.arrayvec.specs.ArrayVec.{ArrayVec}
 use Rattle.capsule_codec.specs.Image.{CapsuleParts, capsule_parts, image_of}
 use Rattle.capsule_codec.specs.Reading.{capsule_in}
@@ -13,10 +13,8 @@ use Rattle.code_verifier.specs.declared.fault.VerifyFault.{VerifyFault}
 use Rattle.mate_code.specs.BytesVerification.{bytes_verification}
 use Rattle.vm_desc.specs.Shapes.{shape_of}
 use Rattle.vm_desc.specs.declared.description.Description.{Description}
-use Rattle.mate_files.specs.Files.{Names}
-use Rattle.mate_cli.specs.Machines.{Holds, NamesMachine}
-use Rattle.mate_cli.specs.declared.capsule_file.CapsuleRefusal.{CapsuleRefusal}
-use Rattle.mate_cli.specs.declared.capsule_file.CapsuleRefusal.TheVariants.{Digits, Image, Code}
+use Rattle.mate_refusals.specs.declared.capsule_cause.CapsuleCause.{CapsuleCause}
+use Rattle.mate_refusals.specs.declared.capsule_cause.CapsuleCause.TheVariants.{Digits, Image, Code}
 
 -- ---- texts
 
@@ -46,37 +44,12 @@ pub record SpellsUnverified (d : Description) (text : List ℕ) (fault : VerifyF
   pub refused : bytes_verification (shape_of d) capsule.code ≡ Err (refusal_of fault)
 
 -- the first refusal of a text: of its digits, of the image that they spell, or of the capsule's code
-abbrev pub RefusesText : Description → List ℕ → CapsuleRefusal → Type 0
+abbrev pub RefusesText : Description → List ℕ → CapsuleCause → Type 0
 RefusesText d text (Digits fault) = image_in text ≡ Err fault
 RefusesText d text (Image fault) = SpellsNoCapsule d text fault
 RefusesText d text (Code fault) = SpellsUnverified d text fault
 
 -- the capsule that a text spells with its verified code, or why there is none
-abbrev pub ReadsText : Description → List ℕ → Result (Capsule × VerifiedCode) CapsuleRefusal → Type 0
+abbrev pub ReadsText : Description → List ℕ → Result (Capsule × VerifiedCode) CapsuleCause → Type 0
 ReadsText d text (Ok pair) = SpellsVerified d text (capsule_parts pair.0) pair.1
 ReadsText d text (Err r) = RefusesText d text r
-
--- ---- files
-
--- the machine of the word, and the bytes of the file
-pub record HasParts (told : Option Names) (machine file : List ℕ) (d : Description) (text : List ℕ) : Type 0 where
-  pub names : NamesMachine told machine d
-  pub holds : Holds told file text
-
--- some machine has this name
-pub record KnowsMachine (told : Option Names) (machine : List ℕ) : Type 0 where
-  pub d : Description
-  pub names : NamesMachine told machine d
-
--- the file's bytes spell this capsule of the machine, and the verifier takes its code
-pub record IsCapsuleOf (told : Option Names) (machine file : List ℕ) (d : Description) (c : Capsule) (v : VerifiedCode) : Type 0 where
-  pub text : List ℕ
-  pub parts : HasParts told machine file d text
-  pub spells : SpellsVerified d text (capsule_parts c) v
-
--- the file's bytes are refused so, as a capsule of the machine
-pub record IsNoCapsule (told : Option Names) (machine file : List ℕ) (r : CapsuleRefusal) : Type 0 where
-  pub d : Description
-  pub text : List ℕ
-  pub parts : HasParts told machine file d text
-  pub refused : RefusesText d text r

@@ -2,37 +2,27 @@
 
 ghost use Rattle.mate_cli.specs.CapsuleFiles.{ReadsText};
 
-use capsule_codec::{Capsule, CapsuleFault, HexFault, decode, from_hex};
-use code_verifier::{Verified, VerifyFault, verify};
+use capsule_codec::{Capsule, decode, from_hex};
+use code_verifier::{Verified, verify};
+use mate_refusals::CapsuleCause;
 use opcode_gen::table;
 use vm_desc::Description;
 
-/// Why a text is no capsule of a machine.
-#[derive(Clone, Copy, PartialEq, Eq, Debug)]
-pub enum CapsuleRefusal {
-    /// It isn't the hexadecimal digits of an image.
-    Digits(HexFault),
-    /// The image is no capsule of the machine.
-    Image(CapsuleFault),
-    /// The verifier refuses the capsule's code.
-    Code(VerifyFault),
-}
-
 /// The capsule of the machine whose image the text spells in hexadecimal digits, with its verified code; or the first
 /// refusal: of the digits, then of the image, then of the code. It takes no memory.
-pub fn read_capsule(desc: &Description, text: &[u8]) -> Result<(Capsule, Verified), CapsuleRefusal>
+pub fn read_capsule(desc: &Description, text: &[u8]) -> Result<(Capsule, Verified), CapsuleCause>
     ensures { ReadsText desc.now text.now result }
 {
     let image = match from_hex(text) {
         Ok(image) => image,
-        Err(fault) => return Err(CapsuleRefusal::Digits(fault)),
+        Err(fault) => return Err(CapsuleCause::Digits(fault)),
     };
     let capsule = match decode(desc, image.as_slice()) {
         Ok(capsule) => capsule,
-        Err(fault) => return Err(CapsuleRefusal::Image(fault)),
+        Err(fault) => return Err(CapsuleCause::Image(fault)),
     };
     match verify(&table(desc), desc, capsule.code.as_slice()) {
         Ok(code) => Ok((capsule, code)),
-        Err(fault) => Err(CapsuleRefusal::Code(fault)),
+        Err(fault) => Err(CapsuleCause::Code(fault)),
     }
 }

@@ -1,25 +1,16 @@
-//! The commands of the program `mate`: from words and files to what is written.
+//! The top call of the program `mate`: from words and files to what is written.
 #![tactic(auto)]
 
 mod capsule_file;
-mod capsule_words;
-pub mod command;
-pub mod compilation;
-mod first_run;
-mod first_script;
+mod check;
+mod compile;
+pub mod completeness;
+mod node;
 mod output;
-pub mod refusal;
-mod source_code;
-mod source_words;
-pub mod status;
+mod parts;
+mod source;
+mod table;
 pub mod top;
 
-pub use status::Status;
+pub use mate_refusals::Status;
 pub use top::mate;
-
-#[cfg(test)]
-mod check_tests;
-#[cfg(test)]
-mod source_tests;
-#[cfg(test)]
-mod tests;

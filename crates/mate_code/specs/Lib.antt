@@ -10,5 +10,4 @@ pub mod Run
 pub mod Flow
 pub mod Verification
 pub mod Laws
-pub mod Examples
 pub mod BytesVerification

@@ -23,8 +23,3 @@ pub use laws::{
 };
 pub use printing::listing;
 pub use table::Table;
-
-#[cfg(test)]
-mod meaning_tests;
-#[cfg(test)]
-mod tests;

@@ -16,6 +16,3 @@ pub use os_files::OsFiles;
 pub use os_sink::OsSink;
 pub use pen::Pen;
 pub use sink::{Sink, SinkFault};
-
-#[cfg(test)]
-mod tests;

@@ -11,7 +11,4 @@ pub use air::{Air, Aired, Airs};
 pub use entry::{DropCause, Entry, Stamped, VoidCause};
 pub use node_log::NodeLog;
 pub use program::{Program, Programs};
-pub use report::{NodeLogs, RECORDS_MAX, Report, RunFault};
-
-#[cfg(test)]
-mod tests;
+pub use report::{IntoFault, NodeLogs, RECORDS_MAX, Report, RunFault};

@@ -26,6 +26,3 @@ pub use resource::Resource;
 pub use shape::{FunShape, Shape};
 pub use store::{Store, copy_of};
 pub use text::{Text, Texts};
-
-#[cfg(test)]
-mod tests;

@@ -3,8 +3,8 @@
 
 ghost use Rattle.std.specs.Prelude.{◌<◌};
 
-use crate::digits::bytes_of;
 use capsule_codec::to_hex;
+use case_files::bytes_of;
 use slip_gateway::{Frame, Frames, Slip};
 use std::alloc::{AllocError, Global};
 

@@ -34,11 +34,8 @@ fn taken(
 ) -> Result<String, AllocError> {
     let mut words = step.split(' ');
     let verb = words.next().unwrap_or("");
-    let node = if words.next() == Some("1") {
-        &mut nodes[1]
-    } else {
-        &mut nodes[0]
-    };
+    let place = if words.next() == Some("1") { 1 } else { 0 };
+    let node = &mut nodes[place];
     match verb {
         "vector" => format!(in alloc; "{:?}", node.vector()),
         "marked" => node.marked().to_string(alloc),

@@ -1,6 +1,6 @@
 //! Packets in hexadecimal digits: the packet, or the fault.
 
-use crate::digits::bytes_of;
+use case_files::bytes_of;
 use packet_codec::{decode, encode};
 use std::alloc::{AllocError, Global};
 use vm_desc::Description;

@@ -10,6 +10,3 @@ pub use contexts::Contexts;
 pub use executing::{Ran, answer, number, turn};
 pub use handlers::{Handlers, Held};
 pub use seat::Seat;
-
-#[cfg(test)]
-mod tests;

@@ -50,7 +50,7 @@ impl Model for Node {
 /// What the log of a node that rests keeps.
 fn keeps_journal(description: &Description, parts: &Parts)
     requires { Rests description.now parts.now }
-    ensures { KeepsJournal (machine_in description.now) parts.now.log }
+    ensures { KeepsJournal description.now (machine_in description.now) parts.now.log }
 {
     let _description = description;
     let _parts = parts;
@@ -166,7 +166,7 @@ impl Node {
     /// What happened on the node.
     pub fn log(&self) -> &NodeLog
         ensures same { result.now ≡ self.now.log }
-        ensures keeps { KeepsJournal (machine_in self.now.description) self.now.log }
+        ensures keeps { KeepsJournal self.now.description (machine_in self.now.description) self.now.log }
     {
         keeps_journal(&self.description, &self.parts);
         &self.parts.log
@@ -175,7 +175,7 @@ impl Node {
     /// What happened on the node, handed out.
     pub fn into_log(self) -> NodeLog
         ensures same { result ≡ self.log }
-        ensures keeps { KeepsJournal (machine_in self.description) self.log }
+        ensures keeps { KeepsJournal self.description (machine_in self.description) self.log }
     {
         keeps_journal(&self.description, &self.parts);
         self.parts.log

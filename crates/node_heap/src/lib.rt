@@ -4,6 +4,3 @@
 pub mod heap;
 
 pub use heap::Heap;
-
-#[cfg(test)]
-mod tests;

@@ -4,6 +4,3 @@
 pub mod generate;
 
 pub use generate::{function_names, print_table, table};
-
-#[cfg(test)]
-mod tests;

@@ -10,6 +10,3 @@ pub use decoding::{PacketFault, decode};
 pub use encoding::encode;
 pub use laws::one_form;
 pub use packet::Packet;
-
-#[cfg(test)]
-mod tests;

@@ -11,6 +11,3 @@ pub mod verb;
 pub mod words;
 
 pub use line::{Line, Told, line_of};
-
-#[cfg(test)]
-mod tests;

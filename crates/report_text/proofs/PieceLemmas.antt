@@ -6,7 +6,7 @@ use Rattle.std.proofs.lemmas.Grind.{flat_map-append}
 use Rattle.std.proofs.lemmas.List.Elements.{All-nil, All-head, All-tail, All-same, All-weaker, All-append, All-map, All-set, All-filter, filter-append}
 use Rattle.std.proofs.Math.Seq.{drop-append_seam}
 use Rattle.vm_desc.specs.declared.description.Description.{Description}
-use Rattle.mate_journal.specs.Log.{Log}
+use Rattle.mate_journal.specs.Log.{Log, GoesOn}
 use Rattle.mate_journal.specs.declared.air.Aired.{Aired}
 use Rattle.mate_journal.specs.declared.entry.Entry.{Entry}
 use Rattle.mate_journal.specs.declared.entry.Entry.TheVariants as entry
@@ -16,7 +16,7 @@ use Rattle.report_text.specs.Words.{entry_words, stamp_words, seen_words, image_
 use Rattle.mate_journal.specs.Tidy.{below, entry_event}
 use Rattle.report_text.specs.Text.{air_line, entry_line, entry_lines, event_lines, event_piece, events_end, lines}
 use Rattle.report_text.specs.Progress.{air_event, at_event}
-use Rattle.report_text.specs.Pieces.{IsNamed, GoesOn, IsBefore, AddsPiece}
+use Rattle.report_text.specs.Pieces.{IsNamed, IsBefore, AddsPiece}
 use Rattle.report_text.proofs.EventLemmas.{at_event-none, flat_map-skip, flat_map-below_next}
 use Rattle.report_text.proofs.TextLemmas.{below_end}
 use Rattle.report_text.proofs.MergeLemmas.{below_end-air, entry_lines-none}

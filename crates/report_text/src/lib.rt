@@ -13,6 +13,3 @@ mod words;
 pub use laws::node_report_is_tidy;
 pub use summary::brief;
 pub use text::{write, write_end, write_event};
-
-#[cfg(test)]
-mod tests;

@@ -94,7 +94,7 @@ pub length-with_file : (files : List (List ℕ)) (file : Option (List ℕ)) → 
 length-with_file files None = refl
 length-with_file files (Some file) = length-append files (file ∷ [])
 
-files_grow : (n : ℕ) (file : Option (List ℕ)) → n ≤ files_after n file
+pub files_grow : (n : ℕ) (file : Option (List ℕ)) → n ≤ files_after n file
 files_grow n None = omega arith
 files_grow n (Some file) = omega arith
 

@@ -5,8 +5,6 @@ pub mod fault;
 pub mod lines;
 pub mod node;
 pub mod steps;
-#[cfg(test)]
-mod tests;
 pub mod words;
 pub mod world;
 

@@ -3,8 +3,6 @@
 
 pub mod frames;
 pub mod slip;
-#[cfg(test)]
-mod tests;
 
 pub use frames::{Frame, Frames};
 pub use slip::{Slip, frames_compose};

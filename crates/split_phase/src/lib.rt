@@ -4,6 +4,3 @@
 pub mod pending;
 
 pub use pending::{NotWaiting, Pending};
-
-#[cfg(test)]
-mod tests;

@@ -4,6 +4,3 @@
 pub mod timer;
 
 pub use timer::{Fire, Trickle};
-
-#[cfg(test)]
-mod tests;

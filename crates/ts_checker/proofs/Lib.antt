@@ -3,3 +3,4 @@ pub mod CallLemmas
 pub mod RoomLemmas
 pub mod LoopLemmas
 pub mod RightLemmas
+pub mod ToldLemmas

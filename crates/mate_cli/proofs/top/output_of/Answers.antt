@@ -1,19 +1,28 @@
-use Rattle.std.proofs.Common.{inl, List, map, subst, string_bytes, String, rules}
+use Rattle.std.proofs.Common.{inl, inr, refl, List, map, subst, string_bytes, String, rules}
 use Rattle.std.specs.Global.{Global}
 use Rattle.command_line.specs.Words.{HasNoLine}
-use Rattle.mate_cli.specs.Commands.{Task, seen, Says}
-use Rattle.mate_cli.proofs.TopLemmas.{outputs}
+use Rattle.mate_commands.specs.Words.{Task, task_held, Says, SaysNothing}
+use Rattle.mate_cli.specs.Steps.{goes_on, stops}
+use Rattle.mate_refusals.specs.declared.refusal.Refusal.TheVariants.{Usage, NoMemory}
 use Rattle.mate_cli.proofs.top.output_of.Goals as goal
 
-pub returns-in-Err-NotTaken : goal.returns-in-Err-NotTaken
-returns-in-Err-NotTaken g c =
+pub returns-in-Err-NotTaken-clause-does : goal.returns-in-Err-NotTaken-clause-does
+returns-in-Err-NotTaken-clause-does g c =
     let none = rw c.in-Err-NotTaken.field-0-is at c.in-Err-NotTaken.ensures in
     let Q : List (String Global) → Type 0 = λ ws. HasNoLine (map string_bytes ws) in
-    inl λ task says. subst Q c.as_slice.ensures.value none says.line says.is
+    stops Usage (inl (tt, λ task says. subst Q c.as_slice.ensures.value none says.line says.is, refl)) refl
 
-pub returns-in-Some : goal.returns-in-Some
-returns-in-Some g c =
-    let task : Task = seen c.in-Some.command in
+pub returns-in-Err-NoMemory-clause-does : goal.returns-in-Err-NoMemory-clause-does
+returns-in-Err-NoMemory-clause-does g c = stops NoMemory (inr refl) refl
+
+pub returns-in-Some-clause-does : goal.returns-in-Some-clause-does
+returns-in-Some-clause-does g c =
+    let task : Task = task_held c.in-Some.task in
     let Q : List (String Global) → Type 0 = λ ws. Says (map string_bytes ws) task in
     let says : Says (map string_bytes c.as_slice.result.now) task = record { line = _; is = c.in-Ok.ensures; task_is = search rules } in
-    outputs _ _ task _ _ c.task_output.result (subst Q c.as_slice.ensures.value says) c.task_output.ensures
+    goes_on task (subst Q c.as_slice.ensures.value says) c.task_output.ensures.does
+
+pub returns-clause-does : goal.returns-clause-does
+returns-clause-does g c =
+    let none : SaysNothing (map string_bytes c.args.words.now.items) = search rules in
+    stops Usage (inl (tt, none, refl)) refl

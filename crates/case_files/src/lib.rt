@@ -1,0 +1,8 @@
+//! Files of cases, a line a case, and what a program prints of them: each line with its answer.
+#![tactic(auto)]
+
+mod bytes;
+mod tables;
+
+pub use bytes::{bytes_of, in_one_line};
+pub use tables::{Answers, print_tables};

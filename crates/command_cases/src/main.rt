@@ -1,0 +1,54 @@
+//! Cases of the commands of `mate`, over files and sinks in memory.
+//!
+//! A case is a line: the words of the command line, and behind ` | ` what it is run on. `NAME=TEXT` is a file in memory, beside
+//! `v.toml` and `m.toml`, which are handed in with each case; `fail out 2` makes the second write to standard output fail, and
+//! so do `fail err` and `fail read` for the line of a refusal and the reading of files. In a text `\n`, `\t`, `\r` are
+//! control characters, `\q` is a backquote, `\p` a bar and `\s` a backslash; what stands between backquotes is a number and
+//! a piece that stands there so many times. For each case the program prints its line, the status, and what was written to
+//! standard output and standard error.
+#![tactic(auto)]
+
+mod cases;
+mod machines;
+mod runs;
+mod texts;
+
+use crate::machines::Machines;
+use std::{fs, io};
+
+/// The tables of cases; those of refusals begin with `bad-`.
+const TABLES: [&str; 13] = [
+    "table",
+    "bad-table",
+    "compile",
+    "bad-compile",
+    "codes",
+    "bad-codes",
+    "accepted-sources",
+    "bad-sources",
+    "check",
+    "bad-check",
+    "node",
+    "bad-node",
+    "bad-words",
+];
+
+fn main(rt: HostRuntime) -> io::Result<()> {
+    let machines = Machines {
+        own: fs::read_to_string(&rt, "v.toml")?,
+        mixed: fs::read_to_string(&rt, "m.toml")?,
+    };
+    for table in TABLES {
+        let lines = fs::read_to_string(&rt, table)?;
+        for case in lines.lines() {
+            let answer = cases::answer(rt.alloc(), &machines, case)?;
+            print!(rt; "{case}\n{answer}")?;
+        }
+    }
+    let lines = fs::read_to_string(&rt, "runs")?;
+    for source in lines.lines() {
+        let answer = runs::answer(rt.alloc(), machines.mixed.as_str(), source)?;
+        println!(rt; "{source} => {answer}")?;
+    }
+    Ok(())
+}

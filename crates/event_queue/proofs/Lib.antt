@@ -1,0 +1,5 @@
+pub mod LinkLemmas
+pub mod WheelLemmas
+pub mod CancelLemmas
+pub mod AgendaLemmas
+pub mod QueueLemmas

@@ -1,0 +1,5 @@
+pub mod Links
+pub mod Group
+pub mod Wheel
+pub mod Agenda
+pub mod View

@@ -1,0 +1,10 @@
+//! Items that wait for their times, and come out in order.
+#![tactic(auto)]
+
+mod chains;
+pub mod group;
+pub mod queue;
+mod wheel;
+
+pub use group::Grouped;
+pub use queue::{Queue, Timed};

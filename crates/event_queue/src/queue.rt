@@ -1,0 +1,106 @@
+//! The queue: items and their times, in order.
+
+ghost use Rattle.std.specs.Prelude.{◌≡◌, ◌<◌, ◌≤◌, [], filter, MatchOption, MatchResult, OnOk, IfNone, IfOk};
+ghost use Rattle.event_queue.specs.Agenda.{scheduled, is_other, Adds, Comes};
+ghost use Rattle.event_queue.specs.Wheel.{IsWheel, Seeks};
+
+use crate::group::Grouped;
+use crate::wheel::Wheel;
+use mate_num::NoMemory;
+use std::alloc::Global;
+use std::marker::Model;
+
+/// An item that comes at a time, in ms.
+#[derive(Drop)]
+pub struct Timed<T: Grouped> {
+    pub time: u32,
+    pub item: T,
+}
+
+/// Items that wait for their times, up to `until` ms. Contracts see them as a list in order of time, and at one time in the
+/// order in which they were scheduled, with the time of the last one that came.
+#[derive(Drop)]
+pub struct Queue<T: Grouped> {
+    until: u32,
+    wheel: Wheel<T>,
+}
+
+impl<T: Grouped> Model for Queue<T> {
+    ghost use Rattle.event_queue.specs.Agenda.{Agenda};
+    ghost use Rattle.event_queue.specs.View.{agenda_of, IsRightQueue};
+
+    ghost Value = { Agenda T };
+
+    ghost view = { λ q. agenda_of T.group_of q.until q.wheel };
+
+    ghost invariant = { λ q. IsRightQueue T.group_of q.until q.wheel };
+}
+
+impl<T: Grouped> Queue<T> {
+    /// An empty queue, which keeps what is scheduled up to `until`.
+    pub fn new(alloc: Global, until: u32) -> Result<Queue<T>, NoMemory>
+        requires { until < 4194304 }
+        ensures { IfOk result (λ q. q ≡ record { until = until; now = 0; items = [] }) }
+    {
+        let wheel = Wheel::new(alloc)?;
+        Ok(Queue { until, wheel })
+    }
+
+    /// Schedules an item, behind all that come by its time. One that would come after `until` is not kept. `NoMemory` leaves
+    /// the queue as it was.
+    pub fn schedule(&mut self, time: u32, item: T) -> Result<(), NoMemory>
+        requires { self.old.now ≤ time }
+        ensures list { MatchResult result (λ _. self.new ≡ scheduled self.old time item) (λ _. self.new ≡ self.old) }
+        ensures due { OnOk result (Adds self.old time item self.new) }
+    {
+        if time > self.until {
+            return Ok(());
+        }
+        self.wheel.put(time, item)
+    }
+
+    /// Takes out the first item with its time. None where there is no item, which changes nothing.
+    pub fn next(&mut self) -> Option<Timed<T>>
+        ensures first { MatchOption result (self.old.items ≡ []) (λ first. Comes self.old first self.new) }
+        ensures none { IfNone result (self.new ≡ self.old) }
+    {
+        let now = self.wheel.at;
+        let item = seek(&mut self.wheel, self.until);
+        match item {
+            Some(item) => Some(Timed {
+                time: self.wheel.at,
+                item,
+            }),
+            None => {
+                self.wheel.rewind(now);
+                None
+            }
+        }
+    }
+
+    /// Cancels the items of a group: the others stay, in their order.
+    pub fn cancel(&mut self, group: u8)
+        ensures { self.new ≡ record self.old { items = filter (is_other T.group_of group) self.old.items } }
+    {
+        self.wheel.cancel(group);
+    }
+}
+
+/// Turns the wheel to the first item by `until`, and takes it.
+fn seek<T: Grouped>(wheel: &mut Wheel<T>, until: u32) -> Option<T>
+    requires right { IsWheel T.group_of wheel.old }
+    requires ahead { wheel.old.at ≤ until }
+    requires below { until < 4194304 }
+    ensures { Seeks T.group_of until wheel.old result wheel.new }
+{
+    loop {
+        let item = wheel.take_first();
+        if item.is_some() {
+            return item;
+        }
+        if wheel.at >= until {
+            return None;
+        }
+        wheel.advance();
+    }
+}

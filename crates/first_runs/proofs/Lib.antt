@@ -1,0 +1,3 @@
+pub mod FirstReport
+pub mod Stripped
+mod NoWants

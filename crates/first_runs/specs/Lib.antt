@@ -1,0 +1,2 @@
+pub mod FirstScript
+pub mod FirstRun

@@ -1,0 +1,126 @@
+//! The parts of a node: its heap, its ring of ready contexts, its pending calls and its locks.
+
+ghost use Rattle.std.specs.Prelude.{◌≡◌, pos, Ok, Err, Some, None, IfOk, false};
+ghost use Rattle.mate_num.specs.declared.call.FaultKind.TheVariants.{Index, BufferEmpty};
+
+use context_sched::Ring;
+use lock_manager::Locks;
+use mate_num::{BufId, ContextId, FaultKind, FunId, LockSet, NoMemory, Payload, VarId};
+use node_heap::Heap;
+use split_phase::Pending;
+use std::alloc::Global;
+
+pub fn variables_stand_apart() -> i16
+    ensures { result ≡ pos 0 }
+{
+    let mut heap = Heap::new(2, 1);
+    heap.put(VarId(0), 5);
+    heap.get(VarId(1))
+}
+
+pub fn a_variable_holds_what_was_put() -> i16
+    ensures { result ≡ pos 5 }
+{
+    let mut heap = Heap::new(2, 1);
+    heap.put(VarId(1), 5);
+    heap.get(VarId(1))
+}
+
+pub fn the_last_value_is_taken() -> Result<i16, FaultKind>
+    ensures { result ≡ Ok (pos 6) }
+{
+    let mut heap = Heap::new(0, 1);
+    heap.append(BufId(0), 5)?;
+    heap.append(BufId(0), 6)?;
+    heap.take(BufId(0))
+}
+
+pub fn a_taken_value_is_gone() -> Result<i16, FaultKind>
+    ensures { result ≡ Err BufferEmpty }
+{
+    let mut heap = Heap::new(0, 1);
+    heap.append(BufId(0), 5)?;
+    heap.take(BufId(0))?;
+    heap.take(BufId(0))
+}
+
+pub fn the_size_is_no_index() -> Result<i16, FaultKind>
+    ensures { result ≡ Err Index }
+{
+    let mut heap = Heap::new(0, 1);
+    heap.append(BufId(0), 5)?;
+    heap.item(BufId(0), 1)
+}
+
+pub fn buffers_stand_apart() -> Result<i16, FaultKind>
+    ensures { result ≡ Ok (pos 0) }
+{
+    let mut heap = Heap::new(0, 2);
+    heap.append(BufId(0), 5)?;
+    Ok(heap.size(BufId(1)))
+}
+
+pub fn a_cleared_buffer_is_empty() -> Result<i16, FaultKind>
+    ensures { result ≡ Ok (pos 0) }
+{
+    let mut heap = Heap::new(0, 1);
+    heap.append(BufId(0), 5)?;
+    heap.clear(BufId(0));
+    Ok(heap.size(BufId(0)))
+}
+
+pub fn the_first_ready_context_has_the_first_turn(
+    alloc: Global,
+) -> Result<Option<ContextId>, NoMemory>
+    ensures { IfOk result (λ ctx. ctx ≡ Some (record { 0 = 7 })) }
+{
+    let mut ring = Ring::new(alloc)?;
+    ring.ready(ContextId(7));
+    ring.ready(ContextId(3));
+    Ok(ring.next())
+}
+
+pub fn a_removed_context_has_no_turn(alloc: Global) -> Result<Option<ContextId>, NoMemory>
+    ensures { IfOk result (λ ctx. ctx ≡ Some (record { 0 = 3 })) }
+{
+    let mut ring = Ring::new(alloc)?;
+    ring.ready(ContextId(7));
+    ring.ready(ContextId(3));
+    ring.remove(ContextId(7));
+    Ok(ring.next())
+}
+
+pub fn a_cleared_ring_has_no_turn(alloc: Global) -> Result<Option<ContextId>, NoMemory>
+    ensures { IfOk result (λ ctx. ctx ≡ None) }
+{
+    let mut ring = Ring::new(alloc)?;
+    ring.ready(ContextId(7));
+    ring.clear();
+    Ok(ring.next())
+}
+
+pub fn a_call_is_answered_at_its_context() -> bool
+    ensures { result ≡ false }
+{
+    let mut pending = Pending::new();
+    pending.ask(ContextId(3), FunId(1), Payload::new());
+    pending.asked(ContextId(4)).is_some()
+}
+
+pub fn a_cancelled_call_is_gone() -> bool
+    ensures { result ≡ false }
+{
+    let mut pending = Pending::new();
+    pending.ask(ContextId(3), FunId(1), Payload::new());
+    pending.cancel();
+    pending.answer(ContextId(3)).is_ok()
+}
+
+pub fn a_cleared_waiter_is_gone() -> bool
+    ensures { result ≡ false }
+{
+    let mut locks = Locks::new();
+    locks.enqueue(ContextId(3), LockSet::empty());
+    locks.clear();
+    locks.is_waiting(ContextId(3))
+}

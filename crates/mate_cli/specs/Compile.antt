@@ -1,0 +1,21 @@
+-- The command `compile`: the image of a source's capsule, in hexadecimal digits.
+use Rattle.std.specs.Prelude.{ℕ, Bool, List, ◌++◌, codes, Result}
+use Rattle.arrayvec.specs.ArrayVec.{ArrayVec}
+use Rattle.hex.specs.Hex.{encode_lower}
+use Rattle.mate_num.specs.declared.id.HandlerId.{HandlerId}
+use Rattle.vm_desc.specs.declared.description.Description.{Description}
+use Rattle.capsule_codec.specs.Image.{image_of}
+use Rattle.mate_refusals.specs.declared.refusal.Refusal.{Refusal}
+use Rattle.mate_cli.specs.Outputs.{writes}
+use Rattle.mate_cli.specs.Parts.{Folder, machine, handler}
+use Rattle.mate_cli.specs.Sources.{source}
+use Rattle.mate_cli.specs.Steps.{◌▸◌}
+use Rattle.mate_cli.specs.declared.output.Output.{Output}
+
+-- the image of the capsule with the machine's number, in hexadecimal digits, and a line feed
+abbrev pub capsule_hex : Description → HandlerId → ℕ → ArrayVec ℕ → List ℕ
+capsule_hex d h version code = encode_lower (image_of (record { vm_id = d.vm_id; handler = h.0; version = version; code = code.items })) ++ codes "\n"
+
+abbrev pub compile : Folder → Bool → (vm h : List ℕ) → ℕ → List ℕ → Result Output Refusal → Type 0
+compile f fold vm h version name =
+    machine f vm ▸ λ d. handler d h ▸ λ k. source f d fold name ▸ λ c. writes (capsule_hex d k version c.code)

@@ -1,0 +1,59 @@
+//! The command `compile`.
+
+ghost use Rattle.std.specs.Prelude.{◌≡◌, ◌≤◌, option_map, IfSome, IfOk};
+ghost use Rattle.mate_cli.specs.Compile.{compile};
+ghost use Rattle.mate_cli.specs.Outputs.{CanBeWritten};
+ghost use Rattle.mate_cli.specs.Parts.{ReadsFiles, handler_named};
+
+use crate::output::Output;
+use crate::parts::machine_of;
+use crate::source::source_of;
+use capsule_codec::{Capsule, encode};
+use mate_commands::Compilation;
+use mate_files::Files;
+use mate_num::HandlerId;
+use mate_refusals::Refusal;
+use std::alloc::Global;
+use vm_desc::Description;
+
+/// The image of a source's capsule.
+pub fn output<F: Files>(
+    alloc: Global,
+    files: &mut F,
+    words: Compilation<'_>,
+) -> Result<Output, Refusal>
+    ensures does { compile (record { told = F.contents files.old; steady = F.steady files.old }) words.entry.fold words.entry.machine.now words.entry.handler.now words.entry.version words.entry.source.now result }
+    ensures reads { ReadsFiles (F.contents files.old) (F.steady files.old) (F.faults files.old) (F.contents files.new) (F.steady files.new) (F.faults files.new) result }
+    ensures writable { IfOk result CanBeWritten }
+{
+    let desc = machine_of(alloc, files, words.machine)?;
+    let Some(handler) = handler_of(&desc, words.handler) else {
+        return Err(Refusal::Usage);
+    };
+    let source = source_of(alloc, files, &desc, words.fold, words.source)?;
+    let capsule = Capsule {
+        vm_id: desc.vm_id,
+        handler,
+        version: words.version,
+        code: source.code,
+    };
+    Ok(Output::Capsule(encode(&capsule)))
+}
+
+/// The machine's handler of this name.
+fn handler_of(desc: &Description, name: &str) -> Option<HandlerId>
+    ensures { option_map (λ h. h.0) result ≡ handler_named desc.now name.now }
+{
+    let place = place_of(desc, name)?;
+    Some(HandlerId(place as u8))
+}
+
+fn place_of(desc: &Description, name: &str) -> Option<usize>
+    ensures value { result ≡ handler_named desc.now name.now }
+    ensures small { IfSome result (λ place. place ≤ 8) }
+{
+    desc.handlers
+        .as_slice()
+        .iter()
+        .position(|handler| handler.name.as_str() == name)
+}

@@ -1,0 +1,17 @@
+//! What the command `compile` is asked for.
+
+ghost use Rattle.std.specs.Prelude.{◌≤◌};
+
+/// What to compile: the source in a file, as a version for the handler of this name.
+#[derive(Clone, Copy, Debug)]
+pub struct Compilation<'a> {
+    /// A description's file, or `builtin`.
+    pub machine: &'a str,
+    pub handler: &'a str,
+    /// From 1 on.
+    pub version: u32,
+    pub source: &'a str,
+    /// Whether the source is folded before it is compiled.
+    pub fold: bool,
+    pub ghost numbered: { 1 ≤ version },
+}

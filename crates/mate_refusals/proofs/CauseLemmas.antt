@@ -1,0 +1,63 @@
+-- A refusal is told by one cause.
+use Rattle.std.proofs.Common.{◌≡◌, Option, Some, None, refl, sym, ap, ◌∙◌}
+use Rattle.vm_desc.specs.declared.fault.DescFault.{DescFault}
+use Rattle.vm_desc.specs.declared.fault.DescFault.TheVariants as desc
+use Rattle.ts_syntax.specs.Cut.{bad_byte, big_literal}
+use Rattle.ts_checker.specs.Accepted.{Refusal, by_bytes, unexpected, too_deep, by_check}
+use Rattle.ts_checker.specs.declared.fault.CheckFault.TheVariants as check
+use Rattle.mate_refusals.specs.DescriptionCauses.{fault_told}
+use Rattle.mate_refusals.specs.SourceCauses.{refusal_told}
+use Rattle.mate_refusals.specs.declared.description_cause.DescriptionCause.{DescriptionCause}
+use Rattle.mate_refusals.specs.declared.description_cause.DescriptionCause.TheVariants as description
+use Rattle.mate_refusals.specs.declared.source_cause.SourceCause.{SourceCause}
+use Rattle.mate_refusals.specs.declared.source_cause.SourceCause.TheVariants as source
+
+-- what tells a fault of a description, but want of memory
+description_in : DescFault → Option DescriptionCause
+description_in desc.NotToml = Some description.NotToml
+description_in (desc.BadField key) = Some (description.BadField key)
+description_in (desc.OverLimit key) = Some (description.OverLimit key)
+description_in (desc.Duplicate name) = Some (description.Duplicate name)
+description_in (desc.SlowImax need have) = Some (description.SlowImax need have)
+description_in desc.NoMemory = None
+
+description_in-told : (a : DescriptionCause) → description_in (fault_told a) ≡ Some a
+unfolding description_in
+description_in-told description.NotToml = refl
+description_in-told (description.BadField key) = refl
+description_in-told (description.OverLimit key) = refl
+description_in-told (description.Duplicate name) = refl
+description_in-told (description.SlowImax need have) = refl
+
+pub fault_told-once : (a b : DescriptionCause) → fault_told a ≡ fault_told b → a ≡ b
+fault_told-once a b e = let h : Some a ≡ Some b = sym (description_in-told a) ∙ ap description_in e ∙ description_in-told b in cc
+
+-- what tells a refusal of a source, but want of memory
+source_in : Refusal → Option SourceCause
+source_in (by_bytes (bad_byte place)) = Some (source.BadByte place)
+source_in (by_bytes (big_literal place)) = Some (source.BigLiteral place)
+source_in (unexpected place) = Some (source.Unexpected place)
+source_in (too_deep place) = Some (source.TooDeep place)
+source_in (by_check (check.Undeclared name place)) = Some (source.Undeclared name place)
+source_in (by_check (check.NotInVm name)) = Some (source.NotInVm name)
+source_in (by_check (check.Twice name)) = Some (source.Twice name)
+source_in (by_check (check.Kind place)) = Some (source.Kind place)
+source_in (by_check (check.Arity place)) = Some (source.Arity place)
+source_in (by_check check.TooManyPrivates) = Some source.TooManyPrivates
+source_in (by_check check.NoMemory) = None
+
+source_in-told : (a : SourceCause) → source_in (refusal_told a) ≡ Some a
+unfolding source_in
+source_in-told (source.BadByte place) = refl
+source_in-told (source.BigLiteral place) = refl
+source_in-told (source.Unexpected place) = refl
+source_in-told (source.TooDeep place) = refl
+source_in-told (source.Undeclared name place) = refl
+source_in-told (source.NotInVm name) = refl
+source_in-told (source.Twice name) = refl
+source_in-told (source.Kind place) = refl
+source_in-told (source.Arity place) = refl
+source_in-told source.TooManyPrivates = refl
+
+pub refusal_told-once : (a b : SourceCause) → refusal_told a ≡ refusal_told b → a ≡ b
+refusal_told-once a b e = let h : Some a ≡ Some b = sym (source_in-told a) ∙ ap source_in e ∙ source_in-told b in cc

@@ -1,0 +1,6 @@
+pub mod LineEnds
+pub mod Statuses
+pub mod SourceCauses
+pub mod DescriptionCauses
+pub mod CapsuleCauses
+pub mod Refusals

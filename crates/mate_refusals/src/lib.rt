@@ -1,0 +1,17 @@
+//! What the program refuses: the causes, and for each refusal its status and its line.
+#![tactic(auto)]
+
+pub mod capsule_cause;
+pub mod cause;
+pub mod description_cause;
+mod line_ends;
+pub mod refusal;
+pub mod source_cause;
+pub mod status;
+
+pub use capsule_cause::CapsuleCause;
+pub use cause::{Cause, Unread};
+pub use description_cause::DescriptionCause;
+pub use refusal::{Refusal, in_file};
+pub use source_cause::SourceCause;
+pub use status::Status;

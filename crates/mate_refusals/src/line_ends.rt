@@ -1,0 +1,25 @@
+//! The ends of lines.
+
+ghost use Rattle.std.specs.Prelude.{◌++◌, codes};
+ghost use Rattle.mate_files.specs.Pen.{Prints};
+ghost use Rattle.mate_refusals.specs.LineEnds.{number_line, name_line};
+
+use mate_files::{Pen, Sink};
+
+/// A word, a number and a line feed.
+pub fn print_numbered<E: Sink>(pen: &mut Pen, err: &mut E, word: &str, number: u32)
+    ensures { Prints (E.written err.old) (E.faults err.old) pen.old.result (E.written err.new) (E.faults err.new) pen.new.result (number_line word.now number) }
+{
+    pen.text(err, word);
+    pen.number(err, number as u64);
+    pen.text(err, "\n");
+}
+
+/// A word, a name and a line feed.
+pub fn print_about<E: Sink>(pen: &mut Pen, err: &mut E, word: &str, name: &str)
+    ensures { Prints (E.written err.old) (E.faults err.old) pen.old.result (E.written err.new) (E.faults err.new) pen.new.result (name_line word.now name.now) }
+{
+    pen.text(err, word);
+    pen.text(err, name);
+    pen.text(err, "\n");
+}

@@ -1,0 +1,91 @@
+//! What the program refuses, and the line that tells of it.
+
+ghost use Rattle.std.specs.Prelude.{◌≡◌, ◌++◌, ◌⊎◌, codes};
+ghost use Rattle.mate_files.specs.Pen.{Prints};
+ghost use Rattle.mate_files.specs.Sink.{Puts};
+ghost use Rattle.mate_refusals.specs.DescriptionCauses.{description_words};
+ghost use Rattle.mate_refusals.specs.declared.refusal.Refusal.TheVariants.{InFile, NoMemory};
+
+use crate::cause::Cause;
+use crate::description_cause::DescriptionCause;
+use crate::status::Status;
+use mate_files::{Pen, Sink, SinkFault};
+use mate_num::Text;
+use std::alloc::Global;
+
+/// Why a call of the program did not do its work.
+#[derive(Debug, Drop)]
+pub enum Refusal {
+    Usage,
+    /// The machine's description is refused, for this cause.
+    BadDescription(DescriptionCause),
+    /// The file of this name is refused, for this cause.
+    InFile(Text, Cause),
+    SinkFault,
+    NoMemory,
+}
+
+impl Refusal {
+    ghost use Rattle.mate_refusals.specs.Refusals.{status_of, line_of, TellsRefusal};
+
+    fn status(&self) -> Status
+        ensures { result ≡ status_of self.now }
+    {
+        match self {
+            Refusal::Usage => Status::Usage,
+            Refusal::BadDescription(_) => Status::BadDescription,
+            Refusal::InFile(_, cause) => cause.status(),
+            Refusal::SinkFault => Status::SinkFault,
+            Refusal::NoMemory => Status::NoMemory,
+        }
+    }
+
+    fn print<E: Sink>(&self, pen: &mut Pen, err: &mut E)
+        ensures { Prints (E.written err.old) (E.faults err.old) pen.old.result (E.written err.new) (E.faults err.new) pen.new.result (line_of self.now) }
+    {
+        match self {
+            Refusal::Usage => pen.text(err, "usage\n"),
+            Refusal::BadDescription(cause) => bad_description(pen, err, cause),
+            Refusal::InFile(name, cause) => cause.print(pen, err, name.as_str()),
+            Refusal::SinkFault => pen.text(err, "sink fault\n"),
+            Refusal::NoMemory => pen.text(err, "no memory\n"),
+        }
+    }
+
+    fn tell<E: Sink>(&self, err: &mut E) -> Result<(), SinkFault>
+        ensures { Puts (E.written err.old) (E.faults err.old) (E.written err.new) (E.faults err.new) result (line_of self.now) }
+    {
+        let mut pen = Pen::new();
+        self.print(&mut pen, err);
+        pen.finish()
+    }
+
+    /// Writes the refusal's line to `err` and answers its status. A failing `err` changes nothing; where it wants
+    /// memory, the status is that of no memory.
+    pub fn refuse<E: Sink>(&self, err: &mut E) -> Status
+        ensures { TellsRefusal (E.written err.old) (E.faults err.old) (E.written err.new) (E.faults err.new) self.now result }
+    {
+        match self.tell(err) {
+            Ok(()) => self.status(),
+            Err(SinkFault::Failed) => self.status(),
+            Err(SinkFault::NoMemory) => Status::NoMemory,
+        }
+    }
+}
+
+fn bad_description<E: Sink>(pen: &mut Pen, err: &mut E, cause: &DescriptionCause)
+    ensures { Prints (E.written err.old) (E.faults err.old) pen.old.result (E.written err.new) (E.faults err.new) pen.new.result (codes "bad description " ++ description_words cause.now) }
+{
+    pen.text(err, "bad description ");
+    cause.print(pen, err);
+}
+
+/// The refusal of the file `name` for this cause, unless memory is wanting for its name.
+pub fn in_file(alloc: Global, name: &str, cause: Cause) -> Refusal
+    ensures { (result ≡ InFile name.now cause) ⊎ (result ≡ NoMemory) }
+{
+    match Text::of(alloc, name) {
+        Ok(name) => Refusal::InFile(name, cause),
+        Err(_) => Refusal::NoMemory,
+    }
+}

@@ -1,0 +1,39 @@
+//! The text of a capsule, into a sink that fails.
+
+use capsule_codec::{decode, from_hex};
+use capsule_listing::print_capsule;
+use code_verifier::verify;
+use mate_files::{MemSink, SinkFault};
+use opcode_gen::table;
+use std::test::Fail;
+use vm_desc::{Description, builtin};
+
+/// Writes the text of the capsule with this image, and answers what the sink did.
+fn print(
+    desc: &Description,
+    digits: &str,
+    sink: &mut MemSink,
+) -> Result<Result<(), SinkFault>, Fail> {
+    let image = from_hex(digits.as_bytes())?;
+    let capsule = decode(desc, image.as_slice())?;
+    let Ok(code) = verify(&table(desc), desc, capsule.code.as_slice()) else {
+        return Err("code that is refused".into());
+    };
+    Ok(print_capsule(desc, &capsule, &code, sink))
+}
+
+#[test]
+fn faults_leave_a_prefix(rt: HostRuntime) -> Result<(), Fail> {
+    let desc = builtin();
+    let digits = "4d4154450100000000010000000100080207020609040000";
+    let mut whole = MemSink::new(rt.alloc());
+    print(&desc, digits, &mut whole)??;
+    for call in 1..20 {
+        let mut sink = MemSink::new(rt.alloc());
+        sink.fail_at(call)?;
+        let failed = print(&desc, digits, &mut sink)? == Err(SinkFault::Failed);
+        let shorter = sink.bytes().len() < whole.bytes().len();
+        assert!(rt; failed && shorter && whole.bytes().starts_with(sink.bytes()));
+    }
+    Ok(())
+}

@@ -1,0 +1,4 @@
+pub mod ValueLemmas
+pub mod SeriesLemmas
+pub mod KeepsLemmas
+pub mod LineEnd

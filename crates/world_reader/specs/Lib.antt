@@ -1,0 +1,3 @@
+pub mod WorldWords
+pub mod WorldScript
+pub mod WorldReader
