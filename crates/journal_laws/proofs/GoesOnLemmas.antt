@@ -1,5 +1,5 @@
 -- A log whose images and stores are numbered in order is told by its journal: where its journal goes on, it goes on.
-use Rattle.std.proofs.Common.{◌≡◌, ◌<◌, ◌≤◌, ℕ, zero, suc, ◌+◌, Bool, true, false, List, [], ◌∷◌, ◌++◌, Option, None, Some, length, map, take, get_or, refl, sym, ◌∙◌, ap, subst, arith, append-nil, append_assoc, length-append, drop}
+use Rattle.std.proofs.Common.{◌≡◌, ◌<◌, ◌≤◌, ℕ, zero, suc, ◌+◌, List, [], ◌∷◌, ◌++◌, Option, None, Some, length, map, take, refl, sym, ◌∙◌, ap, arith, append-nil, append_assoc, length-append, drop}
 use Rattle.std.specs.Prelude.{flat_map, option_to_list, is_some, slice_index_or}
 use Rattle.std.proofs.lemmas.List.{take_all}
 use Rattle.arrayvec.specs.ArrayVec.{ArrayVec}
@@ -86,7 +86,7 @@ told-all : {A : Type 0} (l : Log) (told : Told → Option A) (named : Entry → 
     → ((e : Entry) → option_to_list (told (told_of l e)) ≡ map (λ k. slice_index_or xs k d) (option_to_list (named e)))
     → names_in named l.entries ≡ below (length xs) → all_told told (journal_of l) ≡ xs
 told-all l told named xs d each in_order =
-    told-named l told named xs d each l.entries ∙ ap (map (λ k. slice_index_or xs k d)) in_order ∙ items-below xs d (length xs) (omega arith) ∙ take_all xs
+    told-named l told named xs d each l.entries ∙ ap (map (λ k. slice_index_or xs k d)) in_order ∙ items-below xs d (length xs) (omega arith) ∙ take_all (length xs) xs (omega arith)
 
 -- ---- the entries
 
@@ -121,9 +121,9 @@ entry-told l (entry.Seen store) = refl
 entry-told l (entry.Void cause) = refl
 
 -- one list of names begins another
-pub record Begins (is js : List ℕ) : Type 0 where
+pub record Begins (first all : List ℕ) : Type 0 where
   pub rest : List ℕ
-  pub is : js ≡ is ++ rest
+  pub is : all ≡ first ++ rest
 
 -- two that name or don't, each the next
 same-next : (a b : Option ℕ) (is js : List ℕ) → is_some a ≡ is_some b → Begins (option_to_list a ++ is) (option_to_list b ++ js) → (a ≡ b) × Begins is js

@@ -9,3 +9,4 @@ pub mod Fresh
 pub mod ScriptRuns
 pub mod TidyLemmas
 pub mod GoesOnLemmas
+pub mod FewLemmas

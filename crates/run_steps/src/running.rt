@@ -49,7 +49,8 @@ pub fn run_steps(
     let logs = NodeLogs::empty(alloc, 1)?;
     let mut node = Node::new(alloc, desc)?;
     let mut events = 0;
-    for step in steps.steps() {
+    let list = steps.steps();
+    for step in list {
         if is_full(&node) {
             return Err(RunFault::LogFull(report_of(alloc, logs, node, events, false)));
         }
@@ -62,6 +63,7 @@ pub fn run_steps(
         make_step(&mut node, step, programs, at);
     }
     node.reserve(1)?;
+    let _log = node.log();
     let at = Stamp {
         event: events + 1,
         time: 0,
