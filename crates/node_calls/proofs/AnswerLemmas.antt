@@ -42,7 +42,7 @@ use Rattle.node_invariant.proofs.FitLemmas.{HasSeat, IsAlone}
 use Rattle.node_invariant.proofs.KeepLemmas.{IsPrepared-same, AddsTidily-plain}
 use Rattle.node_invariant.proofs.MoveLemmas.{alone-seat, answering, was_waiting, stood_waiting, waits-in, Fits-answered}
 use Rattle.node_invariant.proofs.AgreeLemmas.{Agrees-moves}
-use Rattle.node_grants.specs.Queue.{number_at, number_in}
+use Rattle.node_grants.specs.Queue.{number_at, invocation_in}
 use Rattle.mate_journal.specs.Pace.{Pace, paced}
 use Rattle.node_grants.specs.Pace.{IsPace}
 use Rattle.node_grants.specs.Starting.{KeepsOrder, Rests}
@@ -205,11 +205,11 @@ module _ (d : Description) (old : Parts) (contexts : Contexts) (log : Log) (stam
 
     -- ---- the pace
 
-    number-same : (k : ContextId) → number_in old.contexts k ≡ number_in contexts k
+    number-same : (k : ContextId) → invocation_in old.contexts k ≡ invocation_in contexts k
     number-same k = by (cases_eq k.0 c.0) where
-      by : (k.0 ≡ c.0) ⊎ (k.0 ≡ c.0 → ⊥) → number_in old.contexts k ≡ number_in contexts k
+      by : (k.0 ≡ c.0) ⊎ (k.0 ≡ c.0 → ⊥) → invocation_in old.contexts k ≡ invocation_in contexts k
       by (inl e) =
-          let P : ContextId → Type 0 = λ j. number_in old.contexts j ≡ number_in contexts j in
+          let P : ContextId → Type 0 = λ j. invocation_in old.contexts j ≡ invocation_in contexts j in
           subst P (sym (same_context k c e)) (ap number_at one.is ∙ sym now-inv ∙ ap (λ (a : At). number_at a.seat) (sym becomes-ready.here))
       by (inr other) = ap (λ (a : At). number_at a.seat) (sym (becomes-ready.others k other))
 
@@ -217,10 +217,10 @@ module _ (d : Description) (old : Parts) (contexts : Contexts) (log : Log) (stam
     pace-heard p pace = record {
       line =
           ap (λ (l : List ℕ). l ++ one.seat.inv ∷ []) pace.line
-          ∙ ap (λ (n : ℕ). map (number_in old.contexts) old.contexts.ring ++ n ∷ []) (ap number_at (sym one.is))
-          ∙ sym (map-append (number_in old.contexts) old.contexts.ring (c ∷ []))
-          ∙ ap (map (number_in old.contexts)) (sym answers.ring)
-          ∙ map-same (number_in old.contexts) (number_in contexts) contexts.ring number-same;
+          ∙ ap (λ (n : ℕ). map (invocation_in old.contexts) old.contexts.ring ++ n ∷ []) (ap number_at (sym one.is))
+          ∙ sym (map-append (invocation_in old.contexts) old.contexts.ring (c ∷ []))
+          ∙ ap (map (invocation_in old.contexts)) (sym answers.ring)
+          ∙ map-same (invocation_in old.contexts) (invocation_in contexts) contexts.ring number-same;
       counts = λ k t e is. by k t e is (cases_eq k.0 c.0);
     } where
       by : (k : ContextId) (t : Seat) → (at contexts k).seat ≡ Some t → is_started ((heard (machine_in d) r (Answered one.seat.inv value)).invocations t.inv).phase ≡ true → (k.0 ≡ c.0) ⊎ (k.0 ≡ c.0 → ⊥) → t.count ≡ p.counts t.inv

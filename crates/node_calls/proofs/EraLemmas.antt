@@ -30,7 +30,7 @@ use Rattle.node_invariant.proofs.SerialLemmas.{started-live}
 use Rattle.node_invariant.proofs.KeepLemmas.{IsPrepared-same, AddsTidily-plain}
 use Rattle.node_invariant.proofs.MoveLemmas.{Fits-idle, cut-dead}
 use Rattle.node_invariant.proofs.StartLemmas.{Agrees-idle}
-use Rattle.node_grants.specs.Queue.{number_in}
+use Rattle.node_grants.specs.Queue.{invocation_in}
 use Rattle.mate_journal.specs.Pace.{Pace, paced}
 use Rattle.node_grants.specs.Pace.{IsPace}
 use Rattle.node_grants.specs.Starting.{last_started, Rests}
@@ -111,7 +111,7 @@ module _ (d : Description) (old new : Parts) (before : Log) (stamp : Stamp) (e :
 
   pace-now : (p : Pace) → IsPace later new.contexts (paced p told)
   pace-now p = record {
-    line = era.line p ∙ ap (map (number_in new.contexts)) (sym idles.ring);
+    line = era.line p ∙ ap (map (invocation_in new.contexts)) (sym idles.ring);
     counts = λ c t e started. absurd (let f : None ≡ Some t = ap (λ (a : At). a.seat) (sym (idles.each c)) ∙ e in cc);
   }
 

@@ -42,7 +42,7 @@ use Rattle.node_invariant.specs.Continues.{Continues}
 use Rattle.node_invariant.proofs.FitLemmas.{no_seat, by_seat}
 use Rattle.node_invariant.proofs.MoveLemmas.{some-map}
 use Rattle.node_invariant.proofs.KeepLemmas.{Grows-then}
-use Rattle.node_grants.specs.Queue.{number_at, number_in}
+use Rattle.node_grants.specs.Queue.{number_at, invocation_in}
 use Rattle.mate_journal.specs.Pace.{Pace}
 use Rattle.node_grants.specs.Pace.{IsPace}
 use Rattle.node_grants.specs.Starting.{Rests, IsStarting, IsRoomForAll, StartsAll}
@@ -164,8 +164,8 @@ module _ (d : Description) (old : Parts) (contexts : Contexts) (log : Log) (stam
   pace-post p pace = record {
     line =
         pace.line
-        ∙ map-without (number_in old.contexts) (number_in contexts) old.contexts.ring c (ap (λ (a : At). a.ready) free) (λ k other. ap (λ (a : At). number_at a.seat) (sym (becomes.others k other)))
-        ∙ ap (map (number_in contexts)) (sym ring);
+        ∙ map-without (invocation_in old.contexts) (invocation_in contexts) old.contexts.ring c (ap (λ (a : At). a.ready) free) (λ k other. ap (λ (a : At). number_at a.seat) (sym (becomes.others k other)))
+        ∙ ap (map (invocation_in contexts)) (sym ring);
     counts = λ k t e started. by k t e started (cases_eq k.0 c.0) (cases_eq t.inv posts);
   } where
     later : Reading

@@ -12,7 +12,7 @@ use Rattle.node_contexts.specs.At.{At, at, AreIdle}
 use Rattle.node_invariant.specs.declared.parts.Parts.{Parts}
 use Rattle.node_invariant.specs.Meaning.{machine_in, clock_of}
 use Rattle.node_invariant.specs.Keeps.{reading}
-use Rattle.node_grants.specs.Queue.{number_at, number_in}
+use Rattle.node_grants.specs.Queue.{number_at, invocation_in}
 use Rattle.node_grants.specs.Pace.{IsPace}
 use Rattle.node_grants.specs.Starting.{Rests}
 use Rattle.node_turns.specs.Pacing.{TakesTurn, SettlesWithin, SettlesAll}
@@ -23,7 +23,7 @@ use Rattle.node_core.proofs.PaceLemmas.{seen_as, Tells-from}
 
 pub IsPace-idle : (r : Reading) (s : Contexts) → AreIdle s → IsPace r s no_pace
 IsPace-idle r s idles = record {
-  line = ap (map (number_in s)) (sym idles.ring);
+  line = ap (map (invocation_in s)) (sym idles.ring);
   counts = λ c t is started. absurd (let e : None ≡ Some t = ap (λ (a : At). a.seat) (sym (idles.each c)) ∙ is in cc);
 }
 

@@ -1,23 +1,23 @@
 -- How a node's fields are seen.
 use Rattle.std.specs.Prelude.{ℕ, Option, map}
 use Rattle.node_contexts.specs.declared.seat.Seat.{Seat}
-use Rattle.node_grants.specs.Queue.{number_at, number_in}
+use Rattle.node_grants.specs.Queue.{number_at, invocation_in}
 use Rattle.node_grants.specs.Starting.{Rests}
-use Rattle.node_grants.specs.Totals.{count_of}
+use Rattle.node_grants.specs.Totals.{seat_count}
 use Rattle.node_core.specs.declared.node.Node.TheInside.{Inside}
 use Rattle.node_core.specs.View.{NodeView}
 
 abbrev pub entry_of : Option Seat → ℕ × ℕ
-entry_of o = (number_at o, count_of o)
+entry_of o = (number_at o, seat_count o)
 
 abbrev pub view_of : Inside → NodeView
 view_of n = record {
   description = n.description;
   log = n.parts.log;
-  line = map (number_in n.parts.contexts) n.parts.contexts.ring;
+  line = map (invocation_in n.parts.contexts) n.parts.contexts.ring;
   counts = map entry_of n.parts.contexts.seats;
 }
 
 -- what each node keeps: it rests
-pub record IsRight (n : Inside) : Type 0 where
+pub record IsResting (n : Inside) : Type 0 where
   pub rests : Rests n.description n.parts

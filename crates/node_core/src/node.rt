@@ -40,11 +40,11 @@ impl Model for Node {
 
     ghost Value = { NodeView };
 
-    ghost use Rattle.node_core.specs.Inside.{view_of, IsRight};
+    ghost use Rattle.node_core.specs.Inside.{view_of, IsResting};
 
     ghost view = { view_of };
 
-    ghost invariant = { IsRight };
+    ghost invariant = { IsResting };
 }
 
 /// What the log of a node that rests keeps.

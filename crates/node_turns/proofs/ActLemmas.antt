@@ -27,7 +27,7 @@ use Rattle.node_invariant.proofs.FitLemmas.{IsAlone}
 use Rattle.node_invariant.proofs.MoveLemmas.{alone-seat, stood_ready}
 use Rattle.node_invariant.proofs.AgreeLemmas.{going_in}
 use Rattle.node_invariant.proofs.KeepLemmas.{Grows-none}
-use Rattle.node_grants.specs.Queue.{number_at, number_in}
+use Rattle.node_grants.specs.Queue.{number_at, invocation_in}
 use Rattle.node_grants.specs.Totals.{may_start, owed, left, starts_left, owes, falls}
 use Rattle.mate_journal.specs.Pace.{Pace, others, paced, paced_all}
 use Rattle.mate_journal.specs.Turns.{IsTurn, mark_of, entry_at, after_step}
@@ -36,8 +36,8 @@ use Rattle.node_grants.specs.Starting.{KeepsOrder, Rests}
 use Rattle.node_grants.proofs.TotalLemmas.{over_all-becomes}
 use Rattle.node_grants.proofs.OrderLemmas.{live-above, grows-by, heard-by}
 use Rattle.node_invariant.specs.Meaning.{clock_of}
-use Rattle.node_turns.specs.Pacing.{most, GoesOn, HasMoved, TakesTurn}
-use Rattle.node_turns.proofs.RunningLemmas.{one, one-ready, one-below, one-within, one-few, GoesOn-ready}
+use Rattle.node_turns.specs.Pacing.{most, HasGoneOn, HasMoved, TakesTurn}
+use Rattle.node_turns.proofs.RunningLemmas.{one, one-ready, one-below, one-within, one-few, HasGoneOn-ready}
 use Rattle.node_turns.proofs.TurnLemmas.{pace-leaves, pace-stays, now-inv, now-count, mark-is, end-is}
 
 -- ---- instructions that go on
@@ -45,12 +45,12 @@ use Rattle.node_turns.proofs.TurnLemmas.{pace-leaves, pace-stays, now-inv, now-c
 stood : (d : Description) (s : Parts) (c : ContextId) (keeps : Keeps d s) (is_ready : (at s.contexts c).ready ≡ true) → at s.contexts c ≡ ready (one d s c keeps is_ready).seat (one d s c keeps is_ready).seated.x.locks
 stood d s c keeps is_ready = stood_ready (machine_in d) (held_at s.handlers.programs) (reading d s.log) s.contexts c keeps.fits is_ready
 
-module _ (d : Description) (old mid : Parts) (c : ContextId) (b : ℕ) (rests : Rests d old) (small : c.0 < 16) (is_ready : (at old.contexts c).ready ≡ true) (g : GoesOn d old mid c b) where
+module _ (d : Description) (old mid : Parts) (c : ContextId) (b : ℕ) (rests : Rests d old) (small : c.0 < 16) (is_ready : (at old.contexts c).ready ≡ true) (g : HasGoneOn d old mid c b) where
   abbrev pub keeps : Keeps d old
   keeps = rests.order.keeps
 
   abbrev pub ready-mid : (at mid.contexts c).ready ≡ true
-  ready-mid = GoesOn-ready d old mid c b is_ready g
+  ready-mid = HasGoneOn-ready d old mid c b is_ready g
 
   abbrev pub s : Seat
   s = (one d old c keeps is_ready).seat
@@ -70,10 +70,10 @@ module _ (d : Description) (old mid : Parts) (c : ContextId) (b : ℕ) (rests : 
   pub mid-count : t.count ≡ s.count + b
   mid-count = ap (λ (u : Seat). u.count) now-same ∙ g.counted ∙ ap (λ (u : Seat). u.count + b) seat-same
 
-  pub number-old : number_in old.contexts c ≡ s.inv
+  pub number-old : invocation_in old.contexts c ≡ s.inv
   number-old = ap number_at (one d old c keeps is_ready).is
 
-  pub number-mid : number_in mid.contexts c ≡ t.inv
+  pub number-mid : invocation_in mid.contexts c ≡ t.inv
   number-mid = ap number_at (one d mid c g.order.keeps ready-mid).is
 
   pub alone-old : IsAlone old.contexts s.inv c

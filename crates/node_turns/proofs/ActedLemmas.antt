@@ -35,14 +35,14 @@ use Rattle.node_invariant.proofs.MoveLemmas.{stood_ready}
 use Rattle.node_invariant.proofs.AgreeLemmas.{going_in}
 use Rattle.node_invariant.proofs.EntryLemmas.{IsClosing, Continues-asked, Continues-ended}
 use Rattle.node_invariant.proofs.KeepLemmas.{Grows-then}
-use Rattle.node_grants.specs.Queue.{number_at, number_in}
+use Rattle.node_grants.specs.Queue.{number_at, invocation_in}
 use Rattle.node_grants.specs.Totals.{may_start, owed, left, starts_left}
 use Rattle.mate_journal.specs.Turns.{mark_of, entry_at}
 use Rattle.node_grants.specs.Starting.{KeepsOrder, IsStarting, Rests, StartsAll}
 use Rattle.node_grants.proofs.WaiterLemmas.{all-held-moves}
 use Rattle.node_grants.proofs.OrderLemmas.{IsQueue-becomes, KeepsOrder-push, heard-by, last-by, IsStarting-first}
 use Rattle.node_invariant.specs.Meaning.{clock_of}
-use Rattle.node_turns.specs.Pacing.{most, GoesOn, Stops, HasMoved, TakesTurn}
+use Rattle.node_turns.specs.Pacing.{most, HasGoneOn, HasStopped, HasMoved, TakesTurn}
 use Rattle.node_turns.proofs.RunningLemmas.{one, one-within}
 use Rattle.node_turns.proofs.ActLemmas.{ready-mid, number-mid, held-mid, HasMoved-from}
 
@@ -50,13 +50,13 @@ stood : (d : Description) (s : Parts) (c : ContextId) (keeps : Keeps d s) (is_re
 stood d s c keeps is_ready = stood_ready (machine_in d) (held_at s.handlers.programs) (reading d s.log) s.contexts c keeps.fits is_ready
 
 -- its mark is within the bound
-mark-within : (d : Description) (s : Parts) (c : ContextId) (keeps : Keeps d s) (is_ready : (at s.contexts c).ready ≡ true) → mark_of (clock_of d) (machine_in d) (reading d s.log) (number_in s.contexts c) ≤ most d
+mark-within : (d : Description) (s : Parts) (c : ContextId) (keeps : Keeps d s) (is_ready : (at s.contexts c).ready ≡ true) → mark_of (clock_of d) (machine_in d) (reading d s.log) (invocation_in s.contexts c) ≤ most d
 mark-within d s c keeps is_ready =
     let P : ℕ → Type 0 = λ j. mark_of (clock_of d) (machine_in d) (reading d s.log) j ≤ most d in
     subst P (sym (ap number_at (one d s c keeps is_ready).is)) (one-within d s c keeps is_ready)
 
 -- a turn that told its entry, with no start after it
-pub TakesTurn-told : (d : Description) (old next : Parts) (at_ : Stamp) (c : ContextId) (k ran : ℕ) (told : Told) → HasMoved d old next at_ c k ran told → AllHeldBack (machine_in d) (reading d next.log) → mark_of (clock_of d) (machine_in d) (reading d old.log) (number_in old.contexts c) ≤ most d → TakesTurn d old next at_ c k ran
+pub TakesTurn-told : (d : Description) (old next : Parts) (at_ : Stamp) (c : ContextId) (k ran : ℕ) (told : Told) → HasMoved d old next at_ c k ran told → AllHeldBack (machine_in d) (reading d next.log) → mark_of (clock_of d) (machine_in d) (reading d old.log) (invocation_in old.contexts c) ≤ most d → TakesTurn d old next at_ c k ran
 TakesTurn-told d old next at_ c k ran told m held within = record {
   invocation = m.invocation;
   number = m.number;
@@ -80,7 +80,7 @@ TakesTurn-told d old next at_ c k ran told m held within = record {
 }
 
 -- and with all the starts that can follow
-pub TakesTurn-starts : (d : Description) (old mid next : Parts) (at_ : Stamp) (c : ContextId) (k ran : ℕ) (told : Told) → HasMoved d old mid at_ c k ran told → StartsAll d mid next at_ → mark_of (clock_of d) (machine_in d) (reading d old.log) (number_in old.contexts c) ≤ most d → TakesTurn d old next at_ c k ran
+pub TakesTurn-starts : (d : Description) (old mid next : Parts) (at_ : Stamp) (c : ContextId) (k ran : ℕ) (told : Told) → HasMoved d old mid at_ c k ran told → StartsAll d mid next at_ → mark_of (clock_of d) (machine_in d) (reading d old.log) (invocation_in old.contexts c) ≤ most d → TakesTurn d old next at_ c k ran
 TakesTurn-starts d old mid next at_ c k ran told m s within = record {
   invocation = m.invocation;
   number = m.number;
@@ -104,11 +104,11 @@ TakesTurn-starts d old mid next at_ c k ran told m s within = record {
 }
 
 module _ (d : Description) (old now : Parts) (c : ContextId) (k ran : ℕ) (rests : Rests d old) (small : c.0 < 16) (is_ready : (at old.contexts c).ready ≡ true) (at_ : Stamp) (timely : IsTimely at_ old.log) where
-  module _ (how : StepEnd) (stops : Stops d old now c k ran how) where
+  module _ (how : StepEnd) (stops : HasStopped d old now c k ran how) where
     abbrev pub mid : Parts
     mid = stops.mid
 
-    abbrev pub g : GoesOn d old stops.mid c stops.before
+    abbrev pub g : HasGoneOn d old stops.mid c stops.before
     g = stops.goes
 
     abbrev pub mid-ready : (at stops.mid.contexts c).ready ≡ true
@@ -127,9 +127,9 @@ module _ (d : Description) (old now : Parts) (c : ContextId) (k ran : ℕ) (rest
     mid-held = held-mid d old stops.mid c stops.before rests small is_ready stops.goes
 
     -- the number that was read before the turn
-    pub number-now : (n : ℕ) → number_in old.contexts c ≡ n → t.inv ≡ n
+    pub number-now : (n : ℕ) → invocation_in old.contexts c ≡ n → t.inv ≡ n
     number-now n e =
-        let f : number_in stops.mid.contexts c ≡ number_in old.contexts c = ap (λ (a : At). number_at a.seat) stops.goes.becomes.here ∙ stops.goes.same.inv ∙ ap number_at (sym stops.goes.is) in
+        let f : invocation_in stops.mid.contexts c ≡ invocation_in old.contexts c = ap (λ (a : At). number_at a.seat) stops.goes.becomes.here ∙ stops.goes.same.inv ∙ ap number_at (sym stops.goes.is) in
         sym (number-mid d old stops.mid c stops.before rests small is_ready stops.goes) ∙ f ∙ e
 
     -- it asks
@@ -216,7 +216,7 @@ module _ (d : Description) (old now : Parts) (c : ContextId) (k ran : ℕ) (rest
 -- ---- the same, as the code has it: the parts after the instructions, and the number that was read before them
 
 module _ (d : Description) (old now : Parts) (c : ContextId) (k ran : ℕ) (rests : Rests d old) (small : c.0 < 16) (is_ready : (at old.contexts c).ready ≡ true) (at_ : Stamp) (timely : IsTimely at_ old.log)
-    (how : StepEnd) (stops : Stops d old now c k ran how) (n : ℕ) (placed : IsPlaced (at old.contexts c) n) (after : Contexts) (log : Log) (room : now.log.spare ≤ log.spare + 1) where
+    (how : StepEnd) (stops : HasStopped d old now c k ran how) (n : ℕ) (placed : IsPlaced (at old.contexts c) n) (after : Contexts) (log : Log) (room : now.log.spare ≤ log.spare + 1) where
   log-is : now.log ≡ stops.mid.log
   log-is = ap (λ (s : Parts). s.log) stops.rest
 
@@ -277,7 +277,7 @@ module _ (d : Description) (old now : Parts) (c : ContextId) (k ran : ℕ) (rest
     TakesTurn-end next starts = TakesTurn-starts d old (record now { contexts = after; log = log }) next at_ c k ran (Ended j e) HasMoved-end starts (mark-within d old c rests.order.keeps is_ready)
 
 -- there is room for what a turn tells
-pub room-tell : (d : Description) (old now : Parts) (c : ContextId) (k ran : ℕ) (how : StepEnd) (stops : Stops d old now c k ran how) → starts_left old.contexts + 1 ≤ old.log.spare → 1 ≤ now.log.spare
+pub room-tell : (d : Description) (old now : Parts) (c : ContextId) (k ran : ℕ) (how : StepEnd) (stops : HasStopped d old now c k ran how) → starts_left old.contexts + 1 ≤ old.log.spare → 1 ≤ now.log.spare
 room-tell d old now c k ran how stops enough =
     let e = ap (λ (s : Parts). s.log.spare) stops.rest in
     let f = ap (λ (l : Log). l.spare) stops.goes.log in

@@ -33,7 +33,7 @@ use Rattle.node_invariant.proofs.SerialLemmas.{HasVerified, verified-seat, whole
 use Rattle.node_grants.specs.Queue.{number_at}
 use Rattle.node_grants.specs.Starting.{KeepsOrder}
 use Rattle.node_grants.proofs.OrderLemmas.{IsQueue-becomes}
-use Rattle.node_turns.specs.Pacing.{most, GoesOn, Stops, RunsTo, RunsFor}
+use Rattle.node_turns.specs.Pacing.{most, HasGoneOn, HasStopped, RunsTo, RunsFor}
 use Rattle.node_turns.proofs.MarkLemmas.{mark-going, mark-few}
 
 -- ---- the ready invocation of a context
@@ -102,8 +102,8 @@ module _ (d : Description) (s : Parts) (c : ContextId) (keeps : Keeps d s) (is_r
 
 -- ---- instructions that go on
 
-pub GoesOn-none : (d : Description) (s : Parts) (c : ContextId) → KeepsOrder d s → (at s.contexts c).ready ≡ true → GoesOn d s s c 0
-GoesOn-none d s c order is_ready =
+pub HasGoneOn-none : (d : Description) (s : Parts) (c : ContextId) → KeepsOrder d s → (at s.contexts c).ready ≡ true → HasGoneOn d s s c 0
+HasGoneOn-none d s c order is_ready =
     let h = one d s c order.keeps is_ready in
     record {
       order = order;
@@ -121,8 +121,8 @@ GoesOn-none d s c order is_ready =
     }
 
 -- it is still ready
-pub GoesOn-ready : (d : Description) (old next : Parts) (c : ContextId) (n : ℕ) → (at old.contexts c).ready ≡ true → GoesOn d old next c n → (at next.contexts c).ready ≡ true
-GoesOn-ready d old next c n is_ready g = ap (λ (a : At). a.ready) g.becomes.here ∙ is_ready
+pub HasGoneOn-ready : (d : Description) (old next : Parts) (c : ContextId) (n : ℕ) → (at old.contexts c).ready ≡ true → HasGoneOn d old next c n → (at next.contexts c).ready ≡ true
+HasGoneOn-ready d old next c n is_ready g = ap (λ (a : At). a.ready) g.becomes.here ∙ is_ready
 
 -- one instruction that goes on keeps all
 module _ (d : Description) (old : Parts) (contexts : Contexts) (heap : Store) (c : ContextId) (order : KeepsOrder d old) (is_ready : (at old.contexts c).ready ≡ true)
@@ -139,10 +139,10 @@ module _ (d : Description) (old : Parts) (contexts : Contexts) (heap : Store) (c
         grants = order.grants;
       }
 
-pub GoesOn-then : (d : Description) (old mid : Parts) (contexts : Contexts) (heap : Store) (c : ContextId) (n : ℕ) → (at old.contexts c).ready ≡ true → GoesOn d old mid c n
-    → Executes (held_at mid.handlers.programs) mid.contexts mid.heap c Next contexts heap → GoesOn d old (record mid { contexts = contexts; heap = heap }) c (n + 1)
-GoesOn-then d old mid contexts heap c n is_ready g ex =
-    let ready_mid = GoesOn-ready d old mid c n is_ready g in
+pub HasGoneOn-then : (d : Description) (old mid : Parts) (contexts : Contexts) (heap : Store) (c : ContextId) (n : ℕ) → (at old.contexts c).ready ≡ true → HasGoneOn d old mid c n
+    → Executes (held_at mid.handlers.programs) mid.contexts mid.heap c Next contexts heap → HasGoneOn d old (record mid { contexts = contexts; heap = heap }) c (n + 1)
+HasGoneOn-then d old mid contexts heap c n is_ready g ex =
+    let ready_mid = HasGoneOn-ready d old mid c n is_ready g in
     let seat_is : ex.seat ≡ g.now = (let f : Some ex.seat ≡ Some g.now = sym ex.is ∙ ap (λ (a : At). a.seat) g.becomes.here in cc) in
     let count = ex.counted in
     let before = g.counted in
@@ -200,19 +200,19 @@ module _ (d : Description) (old : Parts) (c : ContextId) (s : Seat) (x : Held) (
   abbrev pub parts_after : ℕ → Private → Store → Parts
   parts_after k machine heap = record old { contexts = with_seat old.contexts c (seat_after k machine); heap = heap }
 
-  pub GoesOn-for : (k : ℕ) (machine : Private) (heap : Store) → GoFor x.code k s.machine old.heap machine heap → GoesOn d old (parts_after k machine heap) c k
-  GoesOn-for zero machine heap go =
-      let P : Contexts → Type 0 = λ l. GoesOn d old (record old { contexts = l }) c 0 in
-      let Q : Private → Type 0 = λ m. GoesOn d old (record old { contexts = with_seat old.contexts c (seat_after 0 m) }) c 0 in
-      let R : Store → Type 0 = λ h. GoesOn d old (record old { contexts = with_seat old.contexts c (seat_after 0 machine); heap = h }) c 0 in
-      let N : ℕ → Type 0 = λ n. GoesOn d old (record old { contexts = with_seat old.contexts c (record s { count = n }) }) c 0 in
-      subst R (sym go.1) (subst Q (sym go.0) (subst N none (subst P (sym (with_seat-same old.contexts c s is)) (GoesOn-none d old c order is_ready)))) where
+  pub HasGoneOn-for : (k : ℕ) (machine : Private) (heap : Store) → GoFor x.code k s.machine old.heap machine heap → HasGoneOn d old (parts_after k machine heap) c k
+  HasGoneOn-for zero machine heap go =
+      let P : Contexts → Type 0 = λ l. HasGoneOn d old (record old { contexts = l }) c 0 in
+      let Q : Private → Type 0 = λ m. HasGoneOn d old (record old { contexts = with_seat old.contexts c (seat_after 0 m) }) c 0 in
+      let R : Store → Type 0 = λ h. HasGoneOn d old (record old { contexts = with_seat old.contexts c (seat_after 0 machine); heap = h }) c 0 in
+      let N : ℕ → Type 0 = λ n. HasGoneOn d old (record old { contexts = with_seat old.contexts c (record s { count = n }) }) c 0 in
+      subst R (sym go.1) (subst Q (sym go.0) (subst N none (subst P (sym (with_seat-same old.contexts c s is)) (HasGoneOn-none d old c order is_ready)))) where
         none : s.count ≡ s.count + 0
         none = omega arith
-  GoesOn-for (suc k) machine heap go =
-      let before = GoesOn-for k go.0 go.1 go.2 in
-      let P : ℕ → Type 0 = λ n. GoesOn d old (parts_after (suc k) machine heap) c n in
-      subst P same (GoesOn-then d old (parts_after k go.0 go.1) (with_seat old.contexts c (seat_after (suc k) machine)) heap c k is_ready before
+  HasGoneOn-for (suc k) machine heap go =
+      let before = HasGoneOn-for k go.0 go.1 go.2 in
+      let P : ℕ → Type 0 = λ n. HasGoneOn d old (parts_after (suc k) machine heap) c n in
+      subst P same (HasGoneOn-then d old (parts_after k go.0 go.1) (with_seat old.contexts c (seat_after (suc k) machine)) heap c k is_ready before
       (Executes-with (held_at old.handlers.programs) old.contexts c s x is is_held (seat_after k go.0) (seat_after (suc k) machine) go.1 heap Next refl record { inv = refl; handler = refl } one_more go.3)) where
         same : k + 1 ≡ suc k
         same = omega arith
@@ -233,13 +233,13 @@ module _ (d : Description) (old : Parts) (c : ContextId) (s : Seat) (x : Held) (
     new : Parts
     new = record old { contexts = with_seat old.contexts c now; heap = heap }
 
-    stops : StopsAfter x.code s.machine old.heap n ran now.machine heap → Stops d old new c n ran.instructions ran.how
+    stops : StopsAfter x.code s.machine old.heap n ran now.machine heap → HasStopped d old new c n ran.instructions ran.how
     stops h = record {
       before = h.gone;
       few = h.few;
       ran_is = h.instructions;
       mid = parts_after h.gone h.mid h.store;
-      goes = GoesOn-for h.gone h.mid h.store h.goes;
+      goes = HasGoneOn-for h.gone h.mid h.store h.goes;
       executes =
           Executes-with (held_at old.handlers.programs) old.contexts c s x is is_held (seat_after h.gone h.mid) now h.store heap ran.how refl record { inv = same.inv; handler = same.handler }
           (let n = counted in let k = h.instructions in omega arith) h.last;
@@ -248,11 +248,11 @@ module _ (d : Description) (old : Parts) (c : ContextId) (s : Seat) (x : Held) (
 
     by : (how : StepEnd) → ran.how ≡ how → HasRunTo how x.code s.machine old.heap n ran now.machine heap → RunsTo how d old new c n ran.instructions
     by Next e h =
-        let P : Seat → Type 0 = λ t. GoesOn d old (record old { contexts = with_seat old.contexts c t; heap = heap }) c n in
-        (h.0, subst P (seat-same now n same (counted ∙ ap (λ (k : ℕ). s.count + k) h.0)) (GoesOn-for n now.machine heap h.1))
-    by (Ask f args) e h = let P : StepEnd → Type 0 = λ x. Stops d old new c n ran.instructions x in subst P e (stops h)
-    by Halt e h = let P : StepEnd → Type 0 = λ x. Stops d old new c n ran.instructions x in subst P e (stops h)
-    by (Fault kind) e h = let P : StepEnd → Type 0 = λ x. Stops d old new c n ran.instructions x in subst P e (stops h)
+        let P : Seat → Type 0 = λ t. HasGoneOn d old (record old { contexts = with_seat old.contexts c t; heap = heap }) c n in
+        (h.0, subst P (seat-same now n same (counted ∙ ap (λ (k : ℕ). s.count + k) h.0)) (HasGoneOn-for n now.machine heap h.1))
+    by (Ask f args) e h = let P : StepEnd → Type 0 = λ x. HasStopped d old new c n ran.instructions x in subst P e (stops h)
+    by Halt e h = let P : StepEnd → Type 0 = λ x. HasStopped d old new c n ran.instructions x in subst P e (stops h)
+    by (Fault kind) e h = let P : StepEnd → Type 0 = λ x. HasStopped d old new c n ran.instructions x in subst P e (stops h)
 
 -- where it is known how the turn stopped
 pub RunsTo-at : (d : Description) (old new : Parts) (c : ContextId) (n : ℕ) (ran : Ran) (how : StepEnd) → ran.how ≡ how → RunsFor d old new c n ran → RunsTo how d old new c n ran.instructions

@@ -26,14 +26,14 @@ use Rattle.node_invariant.specs.Keeps.{reading, IsTimely, event_at, Grows}
 use Rattle.node_invariant.proofs.FitLemmas.{IsAlone}
 use Rattle.node_invariant.proofs.MoveLemmas.{alone-seat, none_ready}
 use Rattle.node_invariant.proofs.KeepLemmas.{Grows-then, Grows-none}
-use Rattle.node_grants.specs.Queue.{number_at, number_in, Rises}
+use Rattle.node_grants.specs.Queue.{number_at, invocation_in, NumbersRise}
 use Rattle.node_grants.specs.Totals.{if_waits, if_ready, may_start, owed, left, starts_left, owes, falls}
 use Rattle.mate_journal.specs.Journal.{heard_told}
 use Rattle.mate_journal.specs.Pace.{Pace, others, gives_way}
 use Rattle.mate_journal.specs.Turns.{Clock, Turn, IsTurn, mark_of, after_turn, AreTurns, told_in, pace_after}
 use Rattle.node_grants.specs.Pace.{IsPace}
 use Rattle.node_grants.specs.Starting.{Rests}
-use Rattle.node_grants.proofs.QueueLemmas.{Rises-same}
+use Rattle.node_grants.proofs.QueueLemmas.{NumbersRise-same}
 use Rattle.node_grants.proofs.TotalLemmas.{over_all-same, over_all-less}
 use Rattle.node_grants.proofs.OrderLemmas.{live-above}
 use Rattle.node_invariant.specs.Meaning.{clock_of}
@@ -119,13 +119,13 @@ module _ (d : Description) (old : Parts) (contexts : Contexts) (c : ContextId) (
   agrees-way r agrees =
       record { as_long = agrees.as_long; each = λ k s e. agrees.each k s (ap (λ (a : At). a.seat) (sym (way.each k)) ∙ e); apart = agrees.apart; elsewhere = agrees.elsewhere }
 
-  number-way : (k : ContextId) → number_in contexts k ≡ number_in old.contexts k
+  number-way : (k : ContextId) → invocation_in contexts k ≡ invocation_in old.contexts k
   number-way k = ap (λ (a : At). number_at a.seat) (way.each k)
 
   pub Rests-way : Rests d old → Rests d next
   Rests-way rests =
       let keeps = rests.order.keeps in
-      let P : Claims → Type 0 = λ l. Rises (number_in contexts) l.waiting in
+      let P : Claims → Type 0 = λ l. NumbersRise (invocation_in contexts) l.waiting in
       record {
         order = record {
           keeps = record {
@@ -141,7 +141,7 @@ module _ (d : Description) (old : Parts) (contexts : Contexts) (c : ContextId) (
             serial = keeps.serial;
             shows = keeps.shows;
           };
-          queue = record { rises = subst P (sym way.locks) (Rises-same (number_in old.contexts) (number_in contexts) old.contexts.locks.waiting (λ a among. number-way a.ctx) rests.order.queue.rises) };
+          queue = record { rises = subst P (sym way.locks) (NumbersRise-same (invocation_in old.contexts) (invocation_in contexts) old.contexts.locks.waiting (λ a among. number-way a.ctx) rests.order.queue.rises) };
           grants = rests.order.grants;
         };
         held = rests.held;
@@ -157,10 +157,10 @@ module _ (d : Description) (old : Parts) (contexts : Contexts) (c : ContextId) (
     abbrev pub n : ℕ
     n = (one d old c rests.order.keeps is_ready).seat.inv
 
-    number-is : number_in old.contexts c ≡ n
+    number-is : invocation_in old.contexts c ≡ n
     number-is = ap number_at (one d old c rests.order.keeps is_ready).is
 
-    apart : (k : ContextId) → k.0 ≢ c.0 → (number_in old.contexts k ≢ n)
+    apart : (k : ContextId) → k.0 ≢ c.0 → (invocation_in old.contexts k ≢ n)
     apart k other = by (at old.contexts k).seat refl where
       alone : IsAlone old.contexts (one d old c rests.order.keeps is_ready).seat.inv c
       alone = alone-seat (held_at old.handlers.programs) (reading d old.log) old.contexts c rests.order.keeps.fits (one d old c rests.order.keeps is_ready)
@@ -176,10 +176,10 @@ module _ (d : Description) (old : Parts) (contexts : Contexts) (c : ContextId) (
     pace-way p pace = record {
       line =
           ap (λ (l : List ℕ). others l n ++ n ∷ []) pace.line
-          ∙ ap (λ (l : List ℕ). l ++ n ∷ []) (line-without (number_in old.contexts) (number_in contexts) c n old.contexts.ring number-is apart (λ k other. number-way k))
-          ∙ ap (λ (j : ℕ). map (number_in contexts) (without old.contexts.ring c) ++ j ∷ []) (sym (number-way c ∙ number-is))
-          ∙ sym (map-append (number_in contexts) (without old.contexts.ring c) (c ∷ []))
-          ∙ ap (map (number_in contexts)) (sym way.ring);
+          ∙ ap (λ (l : List ℕ). l ++ n ∷ []) (line-without (invocation_in old.contexts) (invocation_in contexts) c n old.contexts.ring number-is apart (λ k other. number-way k))
+          ∙ ap (λ (j : ℕ). map (invocation_in contexts) (without old.contexts.ring c) ++ j ∷ []) (sym (number-way c ∙ number-is))
+          ∙ sym (map-append (invocation_in contexts) (without old.contexts.ring c) (c ∷ []))
+          ∙ ap (map (invocation_in contexts)) (sym way.ring);
       counts = λ k t e started. pace.counts k t (ap (λ (a : At). a.seat) (sym (way.each k)) ∙ e) started;
     }
 
@@ -239,7 +239,7 @@ SettlesSome-then d old mid next contexts at_ c first f way ran g = record {
       record {
         turns = h.turns ++ t ∷ [];
         are_turns = AreTurns-push k m r p h.turns t h.are_turns
-            (map (number_in mid.contexts) ring.0, h.pace.line ∙ ap (map (number_in mid.contexts)) ring.1 ∙ ap (λ (j : ℕ). j ∷ map (number_in mid.contexts) ring.0) (ap number_at (one d mid c f.rests.order.keeps (first-ready mid.contexts c first)).is ∙ whose))
+            (map (invocation_in mid.contexts) ring.0, h.pace.line ∙ ap (map (invocation_in mid.contexts)) ring.1 ∙ ap (λ (j : ℕ). j ∷ map (invocation_in mid.contexts) ring.0) (ap number_at (one d mid c f.rests.order.keeps (first-ready mid.contexts c first)).is ∙ whose))
             (subst P heard_is turn);
         made = ap (λ (l : List Told). l ++ g.told) h.made ∙ sym (told_in-push h.turns t);
         within = AreWithin-push k m (most d) r p h.turns t h.within (subst W heard_is g.within);
@@ -259,7 +259,7 @@ SettlesAll-from d old next at_ f first = record {
         are_turns = h.are_turns;
         made = h.made;
         then = refl;
-        empty = h.pace.line ∙ ap (map (number_in next.contexts)) (none-first next.contexts.ring first);
+        empty = h.pace.line ∙ ap (map (invocation_in next.contexts)) (none-first next.contexts.ring first);
         settled = λ n is. none n (let P : Reading → Type 0 = λ r. (r.invocations n).phase ≡ Ready in subst P (sym f.heard_is) is);
       };
       within = h.within;

@@ -16,7 +16,7 @@ use Rattle.node_contexts.specs.Executing.{IsSameSeat, Executes}
 use Rattle.node_invariant.specs.declared.parts.Parts.{Parts}
 use Rattle.node_invariant.specs.Meaning.{machine_in, clock_of}
 use Rattle.node_invariant.specs.Keeps.{reading, Grows}
-use Rattle.node_grants.specs.Queue.{number_in}
+use Rattle.node_grants.specs.Queue.{invocation_in}
 use Rattle.node_grants.specs.Totals.{starts_left, owes, falls}
 use Rattle.node_grants.specs.Pace.{IsPace}
 use Rattle.node_grants.specs.Starting.{KeepsOrder, Rests}
@@ -29,7 +29,7 @@ abbrev pub most : Description → ℕ
 most d = (d.turns + 1) * CODE_MAX
 
 -- the invocation in the context executed so many instructions, and goes on
-pub record GoesOn (d : Description) (old new : Parts) (c : ContextId) (n : ℕ) : Type 0 where
+pub record HasGoneOn (d : Description) (old new : Parts) (c : ContextId) (n : ℕ) : Type 0 where
   pub order : KeepsOrder d new
   pub seat : Seat
   pub is : (at old.contexts c).seat ≡ Some seat
@@ -44,21 +44,21 @@ pub record GoesOn (d : Description) (old new : Parts) (c : ContextId) (n : ℕ) 
   pub posts : new.posts ≡ old.posts
 
 -- with its last instruction, one of n at most, it stops so
-pub record Stops (d : Description) (old new : Parts) (c : ContextId) (n ran : ℕ) (how : StepEnd) : Type 0 where
+pub record HasStopped (d : Description) (old new : Parts) (c : ContextId) (n ran : ℕ) (how : StepEnd) : Type 0 where
   pub before : ℕ
   pub few : before < n
   pub ran_is : ran ≡ before + 1
   pub mid : Parts
-  pub goes : GoesOn d old mid c before
+  pub goes : HasGoneOn d old mid c before
   pub executes : Executes (held_at mid.handlers.programs) mid.contexts mid.heap c how new.contexts new.heap
   pub rest : new ≡ record mid { contexts = new.contexts; heap = new.heap }
 
 -- it executes n instructions, or fewer where it stops
 abbrev pub RunsTo : StepEnd → Description → Parts → Parts → ContextId → ℕ → ℕ → Type 0
-RunsTo Next d old new c n ran = (ran ≡ n) × GoesOn d old new c n
-RunsTo (Ask f args) d old new c n ran = Stops d old new c n ran (Ask f args)
-RunsTo Halt d old new c n ran = Stops d old new c n ran Halt
-RunsTo (Fault kind) d old new c n ran = Stops d old new c n ran (Fault kind)
+RunsTo Next d old new c n ran = (ran ≡ n) × HasGoneOn d old new c n
+RunsTo (Ask f args) d old new c n ran = HasStopped d old new c n ran (Ask f args)
+RunsTo Halt d old new c n ran = HasStopped d old new c n ran Halt
+RunsTo (Fault kind) d old new c n ran = HasStopped d old new c n ran (Fault kind)
 
 abbrev pub RunsFor : Description → Parts → Parts → ContextId → ℕ → Ran → Type 0
 RunsFor d old new c n ran = RunsTo ran.how d old new c n ran.instructions
@@ -66,7 +66,7 @@ RunsFor d old new c n ran = RunsTo ran.how d old new c n ran.instructions
 -- the invocation in the context asked or is over, and that was told
 pub record HasMoved (d : Description) (old new : Parts) (at_ : Stamp) (c : ContextId) (n ran : ℕ) (told : Told) : Type 0 where
   pub invocation : ℕ
-  pub number : number_in old.contexts c ≡ invocation
+  pub number : invocation_in old.contexts c ≡ invocation
   pub was : ((reading d old.log).invocations invocation).phase ≡ Ready
   pub order : KeepsOrder d new
   pub grows : Grows old.log new.log at_ (told ∷ [])
@@ -86,7 +86,7 @@ pub record HasMoved (d : Description) (old new : Parts) (at_ : Stamp) (c : Conte
 -- invocation has beyond the bound
 pub record TakesTurn (d : Description) (old new : Parts) (at_ : Stamp) (c : ContextId) (n ran : ℕ) : Type 0 where
   pub invocation : ℕ
-  pub number : number_in old.contexts c ≡ invocation
+  pub number : invocation_in old.contexts c ≡ invocation
   pub told : List Told
   pub rests : Rests d new
   pub grows : Grows old.log new.log at_ told
