@@ -1,0 +1,3 @@
+pub mod NameLemmas
+pub mod CutLemmas
+pub mod SoundLemmas
