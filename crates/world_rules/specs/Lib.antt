@@ -4,4 +4,3 @@ pub mod Effect
 pub mod State
 pub mod Run
 pub mod Report
-pub mod Hops

@@ -119,8 +119,8 @@ want_of programs what.Show = Show
 want_of programs what.Reset = ResetNode
 want_of programs (what.Noise bytes) = Noise bytes
 
-abbrev pub line_of : (ℕ → HeldProgram) → Planned → PlannedLine
-line_of programs p = record { time = p.time; node = p.node; what = want_of programs p.what }
+abbrev pub line_planned : (ℕ → HeldProgram) → Planned → PlannedLine
+line_planned programs p = record { time = p.time; node = p.node; what = want_of programs p.what }
 
 -- the values of a node's sensor, none where the script has no series of it
 abbrev pub series_in : List Series → ℕ → ℕ → List ℤ
@@ -139,5 +139,5 @@ world_of d meaning clock script programs = record {
   suppress = script.suppress;
   links = script.links;
   series = series_in script.series;
-  plan = map (line_of programs) script.events;
+  plan = map (line_planned programs) script.events;
 }

@@ -1,0 +1,4 @@
+pub mod Hop
+pub mod Stages
+pub mod Spreading
+pub mod HopBound

@@ -1,0 +1,3 @@
+pub mod Hops
+pub mod Spread
+pub mod HopBound

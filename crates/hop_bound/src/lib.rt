@@ -1,0 +1,20 @@
+//! How fast a version spreads: a hop in three of the longest intervals, and so over any number of hops.
+#![tactic(auto)]
+
+ghost use Rattle.world_rules.specs.World.{World};
+ghost use Rattle.hop_bound.specs.HopBound.{HopBound, IsRightPlan};
+ghost use Rattle.hop_bound.specs.Spread.{HopsInTime, IsOpenWorld, SpreadsInTime};
+ghost use Rattle.world_images.specs.Newest.{IsWorldVersion, Version};
+
+/// With suppression off and no loss, a node holds a version that a neighbour held, three of the longest intervals later,
+/// and so on over any number of hops, where no node is reset and nothing newer is injected.
+pub fn versions_spread()
+    ensures hop { (w : World) (v : Version) → IsOpenWorld w → IsWorldVersion w v → HopsInTime w v }
+    ensures hops { (w : World) (v : Version) → IsOpenWorld w → IsWorldVersion w v → SpreadsInTime w v }
+{}
+
+/// An injected version reaches a node d hops away within d times three of the longest intervals, where suppression is off
+/// and nothing is lost, and until then no node is reset and nothing newer is injected for the handler.
+pub fn injected_versions_arrive()
+    ensures { (w : World) → IsOpenWorld w → IsRightPlan w → HopBound w }
+{}

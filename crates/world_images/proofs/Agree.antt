@@ -1,0 +1,240 @@
+-- The journal and the exchange agree on what is held.
+use Rattle.std.proofs.Common.{◌≡◌, ◌≢◌, ◌<◌, ℕ, zero, suc, Bool, true, false, List, [], ◌∷◌, ◌++◌, length, Option, Some, None, refl, sym, ◌∙◌, ap, subst, arith, inl, inr, ◌⊎◌}
+use Rattle.std.specs.Prelude.{slice_get, ◌==◌, if◌then◌else◌, All, ℤ, IsTrue}
+use Rattle.std.specs.Option.{option_map_or}
+use Rattle.std.proofs.lemmas.List.Elements.{All-head, All-tail}
+use Rattle.std.proofs.lemmas.Bool.{cases_Bool}
+use Rattle.std.proofs.lemmas.Bool.Decides.{eqb_tells}
+use Rattle.arrayvec.specs.ArrayVec.{ArrayVec}
+use Rattle.mate_num.specs.declared.id.HandlerId.{HandlerId}
+use Rattle.mate_journal.specs.Machine.{Machine, HeldProgram}
+use Rattle.mate_journal.specs.Journal.{Told, Posted, Dropped, Started, Asked, Answered, Ended, Installed, Reset, Seen, Void, Reading, heard, held}
+use Rattle.mate_journal.specs.NodeScript as script
+use Rattle.packet_codec.specs.declared.packet.Packet.{Packet}
+use Rattle.packet_codec.specs.declared.packet.Packet.TheVariants.{Vector, Status, Fragment, App}
+use Rattle.trickle_timer.specs.Intervals as trickle
+use Rattle.trickle_timer.specs.declared.timer.Fire.{Fire}
+use Rattle.trickle_timer.specs.declared.timer.Fire.TheVariants as fire
+use Rattle.capsule_exchange.specs.Happenings.{Happening, Hears, Sends, Installs, Forgets, held_version, completed_by, next_slot}
+use Rattle.world_rules.specs.Cause.{Cause}
+use Rattle.world_rules.specs.Cause as event
+use Rattle.world_rules.specs.World.{World, PlannedLine, Want, Inject, Post, Show, ResetNode, Noise, handlers}
+use Rattle.world_rules.specs.Effect.{Node, NodeEffect, Deed, Nothing, Installing, Posting, Answering, Showing, Resetting, no_effect, node_effect, of_line, of_packet, of_fragment, of_point, of_slot, event_node}
+use Rattle.mate_journal.specs.Journal.{heard_told}
+use Rattle.world_rules.specs.State.{Moment, WorldState, node_at, effect_at, node_after, after_moment, state}
+use Rattle.world_rules.specs.Run.{FirstThen, Occasions, Settled, DeedMakes, MayCome, HaveCome}
+use Rattle.world_images.specs.Held.{HeldAgrees}
+use Rattle.world_laws.proofs.Points.{nodes-here, nodes-other}
+
+-- ---- entries that install nothing
+
+abbrev NoInstall : Told → Type 0
+NoInstall (Posted n h c payload) = Unit {0}
+NoInstall (Dropped h cause) = Unit {0}
+NoInstall (Started n) = Unit {0}
+NoInstall (Asked n f args) = Unit {0}
+NoInstall (Answered n value) = Unit {0}
+NoInstall (Ended n how) = Unit {0}
+NoInstall (Installed p) = ⊥
+NoInstall Reset = Unit {0}
+NoInstall (Seen store) = Unit {0}
+NoInstall (Void cause) = Unit {0}
+
+abbrev NoneInstall : List Told → Type 0
+NoneInstall [] = Unit {0}
+NoneInstall (t ∷ told) = NoInstall t × NoneInstall told
+
+none-append : (xs ys : List Told) → NoneInstall xs → NoneInstall ys → NoneInstall (xs ++ ys)
+none-append [] ys a b = b
+none-append (x ∷ xs) ys a b = (a.0, none-append xs ys a.1 b)
+
+same-one : (m : Machine) (r : Reading) (t : Told) → NoInstall t → (heard m r t).installed ≡ r.installed
+same-one m r (Posted n h c payload) a = refl
+same-one m r (Dropped h cause) a = refl
+same-one m r (Started n) a = refl
+same-one m r (Asked n f args) a = refl
+same-one m r (Answered n value) a = refl
+same-one m r (Ended n how) a = refl
+same-one m r (Installed p) a = absurd a
+same-one m r Reset a = refl
+same-one m r (Seen store) a = refl
+same-one m r (Void cause) a = refl
+
+same-all : (m : Machine) (r : Reading) (told : List Told) → NoneInstall told → (heard_told m r told).installed ≡ r.installed
+same-all m r [] a = refl
+same-all m r (t ∷ told) a = same-all m (heard m r t) told a.1 ∙ same-one m r t a.0
+
+run-none : (t : Told) → script.IsOfRun t → NoInstall t
+run-none (Posted n h c payload) a = tt
+run-none (Dropped h cause) a = tt
+run-none (Started n) a = tt
+run-none (Asked n f args) a = tt
+run-none (Answered n value) a = tt
+run-none (Ended n how) a = tt
+run-none (Installed p) a = a
+run-none Reset a = tt
+run-none (Seen store) a = tt
+run-none (Void cause) a = tt
+
+start-none : (t : Told) → script.IsStart t → NoInstall t
+start-none (Posted n h c payload) a = tt
+start-none (Dropped h cause) a = tt
+start-none (Started n) a = tt
+start-none (Asked n f args) a = tt
+start-none (Answered n value) a = tt
+start-none (Ended n how) a = tt
+start-none (Installed p) a = a
+start-none Reset a = tt
+start-none (Seen store) a = tt
+start-none (Void cause) a = tt
+
+settled-none : (told : List Told) → ((t : Told) → (before after : List Told) → told ≡ before ++ t ∷ after → script.IsOfRun t) → NoneInstall told
+settled-none [] each = tt
+settled-none (t ∷ told) each = (run-none t (each t [] told refl), settled-none told (λ u before after is. each u (t ∷ before) after (ap (λ (xs : List Told). t ∷ xs) is)))
+
+starts-none : (told : List Told) → All script.IsStart told → NoneInstall told
+starts-none [] all = tt
+starts-none (t ∷ told) all = (start-none t (All-head script.IsStart t told all), starts-none told (All-tail script.IsStart t told all))
+
+by_made : (xs ys : List Told) → xs ≡ ys → NoneInstall ys → NoneInstall xs
+by_made xs ys is none = subst NoneInstall (sym is) none
+
+occasion-none : (m : Machine) (r : Reading) (h : HandlerId) (payload : ArrayVec ℤ) (told : List Told) → script.Occasion m r h payload told → NoneInstall told
+occasion-none m r h payload told (inl a) = by_made told _ a.made (tt, tt)
+occasion-none m r h payload told (inr (inl a)) = by_made told _ a.made (tt, tt)
+occasion-none m r h payload told (inr (inr a)) = by_made told _ a.made (tt, starts-none a.starts a.are_starts)
+
+occasions-none : (m : Machine) (payload : ArrayVec ℤ) (hs : List HandlerId) (r : Reading) (told : List Told) → Occasions m payload hs r told → NoneInstall told
+occasions-none m payload [] r told is = by_made told [] is tt
+occasions-none m payload (h ∷ hs) r told both =
+    by_made told (both.front ++ both.rest) both.made (none-append both.front both.rest (occasion-none m r h payload both.front both.by_first) (occasions-none m payload hs (heard_told m r both.front) both.rest both.by_second))
+
+-- what a deed's entries and its node's settling do to what is installed
+abbrev After : Deed → (HandlerId → Option HeldProgram) → HandlerId → Option HeldProgram
+After Nothing f h = f h
+After (Installing p) f h = if h.0 == p.handler.0 then Some p else f h
+After (Posting hs payload) f h = f h
+After (Answering inv value) f h = f h
+After Showing f h = f h
+After Resetting f h = f h
+
+deed-after : (m : Machine) (r : Reading) (d : Deed) (told : List Told) (h : HandlerId) → DeedMakes m d r told → (heard_told m r told).installed h ≡ After d r.installed h
+deed-after m r Nothing told h is = ap (λ (f : HandlerId → Option HeldProgram). f h) (same-all m r told (by_made told [] is tt))
+deed-after m r (Posting hs payload) told h is = ap (λ (f : HandlerId → Option HeldProgram). f h) (same-all m r told (occasions-none m payload hs r told is))
+deed-after m r (Answering inv value) told h is = ap (λ (f : HandlerId → Option HeldProgram). f h) (same-all m r told (by_made told _ is (tt, tt)))
+deed-after m r Showing told h is = ap (λ (f : HandlerId → Option HeldProgram). f h) (same-all m r told (by_made told _ is.made (tt, tt)))
+deed-after m r Resetting told h is = ap (λ (f : HandlerId → Option HeldProgram). f h) (same-all m r told (by_made told _ is.made (tt, (tt, tt))))
+deed-after m r (Installing p) told h is = subst (λ (xs : List Told). (heard_told m r xs).installed h ≡ (if h.0 == p.handler.0 then Some p else r.installed h)) (sym is.made)
+    (ap (λ (f : HandlerId → Option HeldProgram). f h) (same-all m (heard m (heard m r (Seen is.seen)) (Installed p)) is.rest rest_none)) where
+      rest_none : NoneInstall is.rest
+      rest_none = elim (cases_Bool (m.runs_once p.handler)) [
+        | inl once ↦ occasion-none m (heard m r (Installed p)) p.handler (record { items = [] }) is.rest (is.once once)
+        | inr never ↦ by_made is.rest [] (is.else never) tt
+      ]
+
+event-after : (m : Machine) (r : Reading) (d : Deed) (told : List Told) (h : HandlerId) → FirstThen m (DeedMakes m d) (Settled m) r told → (heard_told m r told).installed h ≡ After d r.installed h
+event-after m r d told h both =
+    subst (λ (xs : List Told). (heard_told m r xs).installed h ≡ After d r.installed h) (sym both.made)
+    (ap (λ (s : Reading). s.installed h) (hear-parts m r both.front both.rest)
+      ∙ ap (λ (f : HandlerId → Option HeldProgram). f h) (same-all m (heard_told m r both.front) both.rest (settled-none both.rest both.by_second.made))
+      ∙ deed-after m r d both.front h both.by_first) where
+        hear-parts : (m : Machine) (r : Reading) (xs ys : List Told) → heard_told m r (xs ++ ys) ≡ heard_told m (heard_told m r xs) ys
+        hear-parts m r [] ys = refl
+        hear-parts m r (x ∷ xs) ys = hear-parts m (heard m r x) xs ys
+
+-- ---- what a deed does to the exchange's version
+
+abbrev HeldAfter : Deed → ℕ → ℕ → ℕ
+HeldAfter Nothing h old = old
+HeldAfter (Installing p) h old = if p.handler.0 == h then p.version else old
+HeldAfter (Posting hs payload) h old = old
+HeldAfter (Answering inv value) h old = old
+HeldAfter Showing h old = old
+HeldAfter Resetting h old = old
+
+abbrev Moves : ℕ → List Happening → NodeEffect → Type 0
+Moves h hs e = held_version h (e.happened ++ hs) ≡ HeldAfter e.deed h (held_version h hs)
+
+moves-line : (h : ℕ) (hs : List Happening) (x : Want) → Moves h hs (of_line x)
+moves-line h hs (Inject p) = refl
+moves-line h hs (Post g payload) = refl
+moves-line h hs Show = refl
+moves-line h hs ResetNode = refl
+moves-line h hs (Noise bytes) = refl
+
+moves-planned : (h : ℕ) (hs : List Happening) (o : Option PlannedLine) → Moves h hs (option_map_or (λ (l : PlannedLine). of_line l.what) o no_effect)
+moves-planned h hs None = refl
+moves-planned h hs (Some l) = moves-line h hs l.what
+
+moves-fragment : (h : ℕ) (hs : List Happening) (packet : Packet) (o : Option HandlerId) → Moves h hs (of_fragment packet hs o)
+moves-fragment h hs packet None = refl
+moves-fragment h hs packet (Some g) = refl
+
+moves-packet : (w : World) (h : ℕ) (hs : List Happening) (packet : Packet) → Moves h hs (of_packet w hs packet)
+moves-packet w h hs (Vector versions) = refl
+moves-packet w h hs (Status g version missing) = refl
+moves-packet w h hs (Fragment g version index count large bytes) = moves-fragment h hs (Fragment g version index count large bytes) (completed_by (Fragment g version index count large bytes) hs)
+moves-packet w h hs (App payload) = refl
+
+moves-point : (w : World) (h : ℕ) (n : Node) (o : Fire) → Moves h n.exchange (of_point w n o)
+moves-point w h n fire.Send = refl
+moves-point w h n fire.Keep = refl
+
+moves-slot : (h : ℕ) (hs : List Happening) (o : Option ℕ) → Moves h hs (of_slot hs o)
+moves-slot h hs None = refl
+moves-slot h hs (Some slot) = refl
+
+moves : (w : World) (h : ℕ) (n : Node) (c : Cause) → Moves h n.exchange (node_effect w n c)
+moves w h n (event.Planned line) = moves-planned h n.exchange (slice_get w.plan line)
+moves w h n (event.Period k g) = refl
+moves w h n (event.Fire k) = moves-point w h n (trickle.at_point n.timer.set n.timer.running w.suppress)
+moves w h n (event.Expire k) = refl
+moves w h n (event.Pump k) = moves-slot h n.exchange (next_slot (handlers w) n.exchange)
+moves w h n (event.Due k x inv value) = refl
+moves w h n (event.Deliver link number packet) = moves-packet w h n.exchange packet
+
+-- ---- both
+
+abbrev held-of : Option HeldProgram → ℕ
+held-of None = 0
+held-of (Some p) = p.version
+
+both-move : (d : Deed) (f : HandlerId → Option HeldProgram) (h old : ℕ) → held-of (f (record { 0 = h })) ≡ old → held-of (After d f (record { 0 = h })) ≡ HeldAfter d h old
+both-move Nothing f h old is = is
+both-move (Posting hs payload) f h old is = is
+both-move (Answering inv value) f h old is = is
+both-move Showing f h old is = is
+both-move Resetting f h old is = is
+both-move (Installing p) f h old is = elim (eqb_tells p.handler.0 h) [
+  | inl same ↦ rw (same.0, turned same.1) refl
+  | inr other ↦ rw (other.0, apart_turned other.1) is
+] where
+  turned : p.handler.0 ≡ h → (h == p.handler.0) ≡ true
+  turned e = elim (eqb_tells h p.handler.0) [ inl a ↦ a.0 | inr b ↦ absurd (b.1 (sym e)) ]
+
+  apart_turned : p.handler.0 ≢ h → (h == p.handler.0) ≡ false
+  apart_turned e = elim (eqb_tells h p.handler.0) [ inl a ↦ absurd (e (sym a.1)) | inr b ↦ b.0 ]
+
+held-is : (r : Reading) (h : HandlerId) → held r h ≡ held-of (r.installed h)
+held-is r h = refl
+
+pub held_agrees : (w : World) → HeldAgrees w
+held_agrees w k h [] come = refl
+held_agrees w k h (m ∷ before) come = elim (eqb_tells k (event_node w m.cause)) [
+  | inr other ↦ subst (λ (n : Node). held n.reading (record { 0 = h }) ≡ held_version h n.exchange) (sym (nodes-other w (state w before) m k other.1)) (held_agrees w k h before come.0)
+  | inl same ↦ subst (λ (i : ℕ). held ((state w (m ∷ before)).nodes i).reading (record { 0 = h }) ≡ held_version h ((state w (m ∷ before)).nodes i).exchange) (sym same.1)
+      (subst (λ (n : Node). held n.reading (record { 0 = h }) ≡ held_version h n.exchange) (sym (nodes-here w (state w before) m)) (here (held_agrees w (event_node w m.cause) h before come.0)))
+] where
+  n : Node
+  n = node_at w (state w before) m
+
+  e : NodeEffect
+  e = effect_at w (state w before) m
+
+  here : held (node_at w (state w before) m).reading (record { 0 = h }) ≡ held_version h (node_at w (state w before) m).exchange
+      → held (heard_told w.machine (node_at w (state w before) m).reading m.told) (record { 0 = h }) ≡ held_version h ((effect_at w (state w before) m).happened ++ (node_at w (state w before) m).exchange)
+  here old =
+      held-is (heard_told w.machine (node_at w (state w before) m).reading m.told) (record { 0 = h })
+      ∙ ap held-of (event-after w.machine (node_at w (state w before) m).reading (effect_at w (state w before) m).deed m.told (record { 0 = h }) come.1.makes)
+      ∙ both-move (effect_at w (state w before) m).deed (node_at w (state w before) m).reading.installed h (held_version h (node_at w (state w before) m).exchange) (sym (held-is (node_at w (state w before) m).reading (record { 0 = h })) ∙ old)
+      ∙ sym (moves w h (node_at w (state w before) m) m.cause)

@@ -1,0 +1,7 @@
+pub mod Collect
+pub mod Tame
+pub mod Injected
+pub mod Versions
+pub mod Agree
+pub mod Newest
+pub mod Lines

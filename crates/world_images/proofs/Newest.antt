@@ -1,0 +1,22 @@
+-- Nothing newer is installed than was injected.
+use Rattle.std.proofs.Common.{◌≡◌, ◌≤◌, ℕ, List, [], ◌∷◌, ◌++◌, refl, sym, ◌∙◌, ap, subst, arith}
+use Rattle.mate_journal.specs.Machine.{HeldProgram}
+use Rattle.world_rules.specs.Cause as event
+use Rattle.world_rules.specs.World.{World}
+use Rattle.world_rules.specs.Effect.{Deed, Installing}
+use Rattle.world_rules.specs.State.{Moment, effect_at, state}
+use Rattle.world_rules.specs.Run.{HaveCome}
+use Rattle.world_images.specs.Newest.{Version, IsNewest}
+use Rattle.world_images.specs.Versions.{InjectsAt, WasInjected, IsOneImage, InjectsAtMost, InstallsAtMost}
+use Rattle.world_images.proofs.Versions.{installs_injected}
+
+pub installs_at_most : (w : World) → IsOneImage w → InstallsAtMost w
+installs_at_most w one v [] come most = tt
+installs_at_most w one v (m ∷ before) come most = (
+  installs_at_most w one v before come.0 (λ newer older x i p is cause injects own. most (m ∷ newer) older x i p (ap (λ (ms : List Moment). m ∷ ms) is) cause injects own),
+  λ p deed own. of p own (installs_injected w one m before p come deed),
+) where
+  of : (p : HeldProgram) → p.handler.0 ≡ v.handler → WasInjected w (m ∷ before) p.handler.0 p.version p.image.items → (p.version ≤ v.version) × (p.version ≡ v.version → p.image.items ≡ v.image)
+  of p own was =
+      let bound = most was.newer was.older was.moment was.place was.program was.split was.cause was.injects (was.handler ∙ own) in
+      (omega (arith, bound.0, was.version_is), λ same. sym was.image_is ∙ bound.1 (was.version_is ∙ same))

@@ -1,0 +1,4 @@
+pub mod Newest
+pub mod Versions
+pub mod Held
+pub mod Lines

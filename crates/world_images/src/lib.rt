@@ -1,0 +1,19 @@
+//! What is installed in a world: programs that the script injects, byte for byte.
+#![tactic(auto)]
+
+ghost use Rattle.world_rules.specs.World.{World};
+ghost use Rattle.world_images.specs.Held.{HeldAgrees};
+ghost use Rattle.world_images.specs.Lines.{IsPlanTimely, LinesInOrder};
+ghost use Rattle.world_images.specs.Versions.{InstallsAtMost, InstallsInjected, IsOneImage};
+
+/// Each install is of a program that a line injected in the same or an earlier event, image and all.
+pub fn installs_are_injected()
+    ensures injected { (w : World) → IsOneImage w → InstallsInjected w }
+    ensures most { (w : World) → IsOneImage w → InstallsAtMost w }
+    ensures held { (w : World) → HeldAgrees w }
+{}
+
+/// The lines of a script have their events in their order.
+pub fn lines_come_in_order()
+    ensures { (w : World) → IsPlanTimely w → LinesInOrder w }
+{}

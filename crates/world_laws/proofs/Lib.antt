@@ -1,0 +1,9 @@
+pub mod Among
+pub mod Timers
+pub mod Due
+pub mod Points
+pub mod Happens
+pub mod Pumps
+pub mod Comes
+pub mod Example
+pub mod Steps

@@ -1,0 +1,4 @@
+pub mod Times
+pub mod Slots
+pub mod Causes
+pub mod Simulates

@@ -1,0 +1,27 @@
+//! What follows from the rules of a world: of causes and their order, of points and slots in time, and of journals.
+#![tactic(auto)]
+
+ghost use Rattle.world_rules.specs.World.{World};
+ghost use Rattle.world_laws.specs.Causes.{ComeInOrder, EachComes};
+ghost use Rattle.world_laws.specs.Simulates.{ReadsJournals};
+ghost use Rattle.world_laws.specs.Slots.{SendsInTime};
+ghost use Rattle.world_laws.specs.Times.{FiresInTime, IsRightSet};
+
+/// At one time the events stand in the order in which their causes were scheduled, each once; and each cause whose time the
+/// run reached has its event at that time, unless an event before it cancels it.
+pub fn causes_have_events()
+    ensures order { (w : World) → ComeInOrder w }
+    ensures each { (w : World) → EachComes w }
+{}
+
+/// A node that isn't reset comes to a point of its timer within twice the longest interval from any moment, and sends a
+/// fragment that it owes within the time of one round of all fragments.
+pub fn nodes_are_prompt()
+    ensures points { (w : World) → IsRightSet w.description.trickle → FiresInTime w }
+    ensures slots { (w : World) → IsRightSet w.description.trickle → SendsInTime w }
+{}
+
+/// What the rules have heard of a node is what its journal tells.
+pub fn rules_read_journals()
+    ensures { (w : World) → ReadsJournals w }
+{}
