@@ -1,39 +1,34 @@
 -- What the calls of a node make of a step.
-use Rattle.std.proofs.Common.{◌≡◌, ◌≢◌, ◌<◌, ◌≤◌, ◌+◌, ℕ, ℤ, List, [], ◌∷◌, Result, Ok, Err, refl, sym, ◌∙◌, ap, subst, arith, inl, inr, length}
+use Rattle.std.proofs.Common.{◌≡◌, ℕ, ℤ, List, [], ◌∷◌, Result, Ok, Err, refl, sym, ◌∙◌, ap, subst, inl, inr}
 use Rattle.std.specs.Prelude.{IsOk}
 use Rattle.arrayvec.specs.ArrayVec.{ArrayVec}
 use Rattle.mate_num.specs.declared.call.Stamp.{Stamp}
-use Rattle.mate_num.specs.declared.id.ContextId.{ContextId}
 use Rattle.mate_num.specs.declared.id.HandlerId.{HandlerId}
-use Rattle.capsule_codec.specs.Image.{CapsuleParts, image_of}
+use Rattle.capsule_codec.specs.Image.{CapsuleParts}
 use Rattle.capsule_codec.specs.Reading.{capsule_in}
 use Rattle.capsule_codec.specs.declared.decoding.CapsuleFault.{CapsuleFault}
 use Rattle.capsule_codec.proofs.ImageLemmas.{capsule_again}
 use Rattle.code_verifier.specs.Faults.{refusal_of}
 use Rattle.code_verifier.specs.declared.fault.VerifyFault.{VerifyFault}
 use Rattle.mate_code.specs.BytesVerification.{bytes_verification}
-use Rattle.mate_code.specs.Run.{Code}
-use Rattle.mate_code.specs.Verification.{Marks, Refusal}
 use Rattle.vm_desc.specs.Shapes.{shape_of}
 use Rattle.vm_desc.specs.declared.description.Description.{Description}
 use Rattle.mate_journal.specs.declared.entry.VoidCause.{VoidCause}
 use Rattle.mate_journal.specs.declared.entry.VoidCause.TheVariants as void
 use Rattle.mate_journal.specs.declared.program.Program.{Program}
 use Rattle.mate_journal.specs.Machine.{Machine, HeldProgram}
-use Rattle.mate_journal.specs.Journal.{Told, Void, Reading, held}
+use Rattle.mate_journal.specs.Journal.{Told, Void, Reading}
 use Rattle.mate_journal.specs.Pace.{Pace, paced_all}
-use Rattle.mate_journal.specs.NodeScript.{Step, Install, StepIn, Answer, Makes, Occasion, Installs, IsNotNewer, IsReadyIn}
+use Rattle.mate_journal.specs.NodeScript.{Install, Makes, Occasion, Installs, IsNotNewer}
 use Rattle.node_invariant.specs.Meaning.{machine_in, clock_of}
-use Rattle.node_calls.specs.Calls.{NobodyWaits}
 use Rattle.node_calls.specs.Posting.{PostGives}
 use Rattle.node_calls.specs.declared.posting.PostAnswer.{PostAnswer}
 use Rattle.node_calls.specs.declared.posting.PostAnswer.TheVariants.{Posted, NoCode, AllBusy}
-use Rattle.node_calls.specs.Installing.{IsRightCapsule, IsUnverified, handler_of, program_by, InstallsBytes, IsNoNewer}
-use Rattle.node_core.specs.View.{NodeView, heard_of, Tells}
+use Rattle.node_calls.specs.Installing.{IsRightCapsule, IsUnverified, program_by, InstallsBytes, IsNoNewer}
+use Rattle.node_core.specs.View.{NodeView, Tells}
 use Rattle.node_core.specs.Calls.{Pacing}
 use Rattle.node_programs.specs.Right.{IsRightProgram}
 use Rattle.node_programs.specs.Sources.{held_as}
-use Rattle.run_steps.specs.Running.{MakesOn}
 
 -- what meets one rule meets another
 pub Tells-by : (old new : NodeView) (at : Stamp) (Rule Other : Pace → List Told → Pace → Type 0) → ((p : Pace) (told : List Told) (q : Pace) → Rule p told q → Other p told q)

@@ -1,6 +1,7 @@
 -- The run of a node script grows by an event, and ends.
-use Rattle.std.proofs.Common.{◌≡◌, ◌≢◌, ◌<◌, ◌≤◌, ◌+◌, ℕ, suc, List, [], ◌∷◌, ◌++◌, Bool, true, false, Result, Ok, Err, refl, sym, ◌∙◌, ap, subst, arith, inl, inr, length, map, take, drop, append-nil, length-append, length-drop, length-take-le, ◌-◌, zero}
-use Rattle.std.specs.Prelude.{slice_index_or, slice_set}
+use Rattle.std.proofs.Common.{◌≡◌, ◌<◌, ◌≤◌, ◌+◌, ℕ, suc, List, [], ◌∷◌, ◌++◌, false, Result, Ok, Err, refl, sym, ◌∙◌, ap, subst, arith, length, map, take, drop, append-nil, length-append, length-drop, length-take-le, ◌-◌, zero}
+use Rattle.std.specs.Prelude.{slice_index_or, slice_set, is_err, OnOk}
+use Rattle.mate_num.specs.declared.no_memory.NoMemory.{NoMemory}
 use Rattle.std.proofs.lemmas.List.{length-map, take-append-drop, take_all}
 use Rattle.mate_num.specs.declared.call.Stamp.{Stamp}
 use Rattle.vm_desc.specs.declared.description.Description.{Description}
@@ -14,7 +15,6 @@ use Rattle.mate_journal.specs.Turns.{Clock}
 use Rattle.mate_journal.specs.WellFormed.{NotBefore, start}
 use Rattle.mate_journal.specs.NodeScript as node
 use Rattle.mate_journal.specs.NodeScript.{RunEnd, Whole, Full, Cut, Makes, HaveMade, AreOfEvent, EndsRun, IsRunOf, ShowsOnce}
-use Rattle.mate_journal.specs.NodeRun.{IsNodeRun}
 use Rattle.mate_journal.specs.NodeReport.{IsNodeReport, is_whole}
 use Rattle.mate_journal.specs.declared.program.Program.{Program}
 use Rattle.mate_journal.specs.declared.entry.Stamped.{Stamped}
@@ -26,7 +26,7 @@ use Rattle.journal_laws.proofs.FewLemmas.{run-few}
 use Rattle.journal_laws.proofs.ScriptRuns.{HaveMade-push, told_by-at, AreOfEvent-at}
 use Rattle.vm_desc.specs.Shapes.{shape_of}
 use Rattle.node_invariant.specs.Meaning.{machine_in, clock_of, meaning_of}
-use Rattle.node_invariant.specs.Keeps.{reading, event_at, IsTimely, Grows}
+use Rattle.node_invariant.specs.Keeps.{reading, event_at, IsTimely}
 use Rattle.node_core.specs.View.{NodeView, heard_of, HasPace, Tells, IsSameNode}
 use Rattle.node_core.specs.Calls.{Pacing}
 use Rattle.node_core.specs.Journal.{KeepsJournal}
@@ -145,6 +145,12 @@ HasRun-step d ps list i event step old new h below same is few t =
     subst (λ (done : List Step). HasRun d ps done new) (take-next list i step below is)
     (one-more d ps (take i list) step old new h few (subst (λ (n : ℕ). Tells old new (at_event n) (MakesOn old (step_of ps step))) number t))
 
+-- an event of the last step's number may come
+pub timely-at : (d : Description) (ps : List Program) (list : List Step) (i event : ℕ) (v : NodeView) → HasRun d ps (take i list) v → i ≤ length list → event ≡ i → IsTimely (at_event event) v.log
+timely-at d ps list i event v h within same =
+    let len : length (take i list) ≡ i = taken list i within in
+    subst (λ (n : ℕ). IsTimely (at_event n) v.log) (len ∙ sym same) h.timely
+
 -- the next event may be made
 pub timely-next : (d : Description) (ps : List Program) (list : List Step) (i event : ℕ) (v : NodeView) → HasRun d ps (take i list) v → i ≤ length list → event ≡ i → IsTimely (at_event (event + 1)) v.log
 timely-next d ps list i event v h within same =
@@ -246,6 +252,27 @@ run-whole d ps list i event old new h within all same t =
     let count = run.1 in
     (run.0, omega (arith, same, within, all, count))
 
+-- the run is cut after a step
+pub run-cut : (d : Description) (ps : List Program) (steps : List Step) (i event : ℕ) (v : NodeView) (h : HasRun d ps (take i steps) v) → i ≤ length steps → event ≡ i
+    → (run : IsRunOf (clock_of d) (machine_in d) Cut (map (step_of ps) steps) (journal_of v.log)) × (event ≡ length run.done)
+run-cut d ps steps i event v h within same =
+    let f = step_of ps in
+    let count : length (map f (take i steps)) ≡ length (take i steps) = length-map (take i steps) f in
+    let len : length (take i steps) ≡ i = taken steps i within in (
+      record {
+        done = map f (take i steps);
+        left = map f (drop i steps);
+        front = journal_of v.log;
+        last = [];
+        pace = h.pace;
+        steps_are = ap (map f) (sym (take-append-drop i steps)) ∙ map-append f (take i steps) (drop i steps);
+        events_are = sym (append-nil (journal_of v.log));
+        made = h.made;
+        ends = refl;
+      },
+      same ∙ sym (count ∙ len),
+    )
+
 -- ---- reports by sources
 
 -- the log of a node that ran so is that of the script's report
@@ -257,6 +284,15 @@ reported d script ps how list v events steps right description keeps run r is =
     let by_code : IsNodeReport d (clock_of d) (meaning_of (shape_of d)) (map (step_of ps) list) how r = report-by d (map (step_of ps) list) how v.log events k run.0 run.1 r is in
     subst (λ (meaning : Meaning). IsNodeReport d (clock_of d) meaning (steps_of script ps) how r) (sym (meaning_by-right d ps right))
     (subst (λ (ss : List Step). IsNodeReport d (clock_of d) (meaning_of (shape_of d)) (map (step_of ps) ss) how r) steps by_code)
+
+-- what a node keeps, by its description
+pub keeps-by : (d : Description) (v : NodeView) → v.description ≡ d → KeepsJournal v.description (machine_in v.description) v.log → KeepsJournal d (machine_in d) v.log
+keeps-by d v is keeps = subst (λ (x : Description). KeepsJournal x (machine_in x) v.log) is keeps
+
+-- what holds where nothing was refused
+pub ok-room : (r : Result (Unit {0}) NoMemory) (P : Type 0) → is_err r ≡ false → OnOk r P → P
+ok-room (Ok x) P is holds = holds
+ok-room (Err x) P is holds = cc
 
 -- ---- one log among one
 

@@ -3,5 +3,7 @@
 
 mod events;
 pub mod running;
+pub mod writing;
 
 pub use running::run_steps;
+pub use writing::run_steps_into;

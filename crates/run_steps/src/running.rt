@@ -16,14 +16,20 @@ use std::alloc::Global;
 use vm_desc::Description;
 
 /// No further event is begun on the node.
-fn is_full(node: &Node) -> bool
+pub(crate) fn is_full(node: &Node) -> bool
     ensures { result ≡ nat_le records_max (length node.now.log.entries) }
 {
     node.log().entries().len() >= RECORDS_MAX
 }
 
 /// The report of a run on one node. It takes no memory.
-fn report_of(alloc: Global, logs: NodeLogs, node: Node, events: u64, whole: bool) -> Report
+pub(crate) fn report_of(
+    alloc: Global,
+    logs: NodeLogs,
+    node: Node,
+    events: u64,
+    whole: bool,
+) -> Report
     requires { length logs ≡ 1 }
     ensures is { result ≡ record { nodes = node.log ∷ []; air = []; events = events; whole = whole } }
     ensures keeps { KeepsJournal node.description (machine_in node.description) node.log }

@@ -1,4 +1,4 @@
-use Rattle.std.proofs.Common.{ℕ, List, refl, sym, subst}
+use Rattle.std.proofs.Common.{ℕ, List, subst}
 use Rattle.mate_journal.specs.declared.entry.VoidCause.TheVariants as void
 use Rattle.mate_journal.specs.NodeScript.{Install}
 use Rattle.node_calls.specs.Installing.{InstallsBytes, IsNoNewer, Refuses}

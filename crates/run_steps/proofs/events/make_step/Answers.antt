@@ -1,4 +1,4 @@
-use Rattle.std.proofs.Common.{refl, sym, subst}
+use Rattle.std.proofs.Common.{sym, subst}
 use Rattle.mate_num.specs.declared.bounds.TheConstants.{CODE_MAX}
 use Rattle.std.specs.Prelude.{◌+◌, ◌*◌}
 use Rattle.script_reader.specs.declared.steps.Step.{Step}
