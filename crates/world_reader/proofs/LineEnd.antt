@@ -1,5 +1,5 @@
 -- A line of a world's script, and its end.
-use Rattle.std.proofs.Common.{◌≡◌, ℕ, ◌+◌, ◌<◌, ◌≤◌, Bool, true, false, cond, List, [], ◌∷◌, ◌++◌, length, replicate, Result, Ok, Err, OnOk, IfErr, lit<, refl, sym, ◌∙◌, ap, subst, arith, length-append}
+use Rattle.std.proofs.Common.{◌≡◌, ℕ, ◌+◌, ◌<◌, ◌≤◌, false, List, [], ◌∷◌, length, Result, Ok, Err, OnOk, IfErr, lit<, refl, sym, ◌∙◌, ap, subst, arith, length-append}
 use Rattle.vm_desc.specs.declared.description.Description.{Description}
 use Rattle.script_reader.specs.declared.fault.ScriptFault.{ScriptFault}
 use Rattle.script_reader.specs.declared.fault.ScriptFault.TheVariants.{BadLine, NoMemory}

@@ -1,13 +1,12 @@
 -- The series of a world, and the table of their places.
-use Rattle.std.proofs.Common.{◌≡◌, ℕ, zero, suc, ◌+◌, ◌-◌, ◌*◌, ◌<◌, ◌≤◌, ℤ, pos, Bool, true, false, ◌==◌, ◌&&◌, cond, List, [], ◌∷◌, ◌++◌, length, take, replicate, get_or, slice_index_or, slice_set, Result, Ok, Err, OnOk, refl, sym, ◌∙◌, ap, subst, inl, inr, ◌⊎◌, ◌≢◌, arith, append_assoc, append-nil, length-append, get_or-set_same, get_or-set_other}
-use Rattle.std.specs.List.{All, AllPairs}
+use Rattle.std.proofs.Common.{◌≡◌, ℕ, zero, suc, ◌+◌, ◌-◌, ◌*◌, ◌<◌, ◌≤◌, ℤ, pos, Bool, true, false, ◌==◌, cond, List, [], ◌∷◌, ◌++◌, length, take, replicate, get_or, slice_set, Result, Ok, Err, OnOk, refl, sym, ◌∙◌, ap, inl, inr, ◌⊎◌, ◌≢◌, arith, append_assoc, append-nil, length-append, get_or-set_same, get_or-set_other}
 use Rattle.std.proofs.lemmas.Bool.Decides.{eqb_tells, nat_tests}
 use Rattle.std.proofs.lemmas.Bool.{and_parts}
 use Rattle.std.proofs.lemmas.List.{length-set, length-replicate}
 use Rattle.std.proofs.Math.Seq.{take-suc}
 use Rattle.script_reader.specs.declared.world.World.{World}
 use Rattle.script_reader.specs.declared.world.Series.{Series}
-use Rattle.script_reader.specs.World.{with_values, AreOtherSeries}
+use Rattle.script_reader.specs.World.{with_values}
 use Rattle.world_reader.specs.WorldScript.{WorldProgress, is_of_pair, with_series, is_linked}
 use Rattle.world_reader.specs.WorldReader.{place_from, AreTables}
 

@@ -2,7 +2,7 @@
 use Rattle.std.proofs.Common.{◌≡◌, ℕ, ◌+◌, ◌<◌, ◌≤◌, ℤ, List, [], ◌∷◌, ◌++◌, length, Result, Ok, Err, refl, sym, ◌∙◌, ap, arith, length-append}
 use Rattle.script_reader.specs.declared.fault.Cause.{Cause}
 use Rattle.script_reader.specs.declared.fault.Cause.TheVariants.{Word}
-use Rattle.script_reader.specs.Words.{Taken, found, a_value, values_from}
+use Rattle.script_reader.specs.Words.{found, a_value, values_from}
 use Rattle.script_reader.proofs.PayloadLemmas.{one_value, by_value, by_fault, nothing_to_read}
 use Rattle.world_reader.specs.WorldWords.{some_values}
 

@@ -1,14 +1,12 @@
 -- What the reader of a world's script has read, and what a line adds to it: this follows the code.
-use Rattle.std.specs.Prelude.{◌≡◌, ℕ, ◌+◌, ◌*◌, ◌<◌, ◌≤◌, Bool, true, false, if◌then◌else◌, List, [], ◌∷◌, length, slice_index, slice_index_or, All, Option, Some, None, option_map, Result, Ok, Err, ⊤}
+use Rattle.std.specs.Prelude.{◌≡◌, ℕ, ◌+◌, ◌*◌, ◌<◌, ◌≤◌, Bool, true, false, if◌then◌else◌, List, [], ◌∷◌, length, slice_index, slice_index_or, All, Option, option_map, Result, Ok, Err, ⊤}
 use Rattle.std.specs.List.{AllPairs}
 use Rattle.vm_desc.specs.declared.description.Description.{Description}
-use Rattle.script_reader.specs.declared.fault.Cause.{Cause}
 use Rattle.script_reader.specs.declared.world.World.{World}
-use Rattle.script_reader.specs.declared.world.Link.{Link}
 use Rattle.script_reader.specs.declared.world.Series.{Series}
 use Rattle.script_reader.specs.declared.world.Planned.{Planned}
 use Rattle.script_reader.specs.World.{IsRightLink, AreOtherLinks, IsRightSeries, AreOtherSeries, IsRightPlanned, IfInjects, Follow}
-use Rattle.script_reader.specs.Words.{Taken, Reading}
+use Rattle.script_reader.specs.Words.{Reading}
 use Rattle.script_reader.specs.NodeReader.{files_after}
 use Rattle.world_reader.specs.declared.stage.Stage.{Stage}
 use Rattle.world_reader.specs.declared.stage.Stage.TheVariants as stage

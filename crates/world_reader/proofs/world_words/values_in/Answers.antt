@@ -1,4 +1,4 @@
-use Rattle.std.proofs.Common.{◌≡◌, ◌<◌, ◌≤◌, length, sym, subst, arith}
+use Rattle.std.proofs.Common.{◌≡◌, ◌<◌, ◌≤◌, length, arith}
 use Rattle.std.proofs.lemmas.Bool.Decides.{nat_tests}
 use Rattle.std.proofs.lemmas.Result.{err_from_is_err_and}
 use Rattle.std.proofs.lemmas.Int.{to_z-of_z}
@@ -6,7 +6,7 @@ use Rattle.std.specs.Int.{w16}
 use mir.Val.{SFits}
 use Rattle.script_reader.specs.Lines.{words_of}
 use Rattle.script_reader.proofs.NumberLemmas.{value_fits}
-use Rattle.world_reader.proofs.ValueLemmas.{IsReadOn, read_first, read_on, one_less_word, no_words, fails_on, all_read}
+use Rattle.world_reader.proofs.ValueLemmas.{read_first, read_on, one_less_word, no_words, fails_on, all_read}
 use Rattle.world_reader.proofs.world_words.values_in.Goals as goal
 
 pub returns-then-is_done : goal.returns-then-is_done
