@@ -13,7 +13,7 @@ use Rattle.vm_desc.specs.Limits.{longest, round_time}
 use Rattle.mate_journal.specs.Machine.{HeldProgram}
 use Rattle.packet_codec.specs.declared.packet.Packet.{Packet}
 use Rattle.packet_codec.specs.declared.packet.Packet.TheVariants.{Vector, Status, Fragment, App}
-use Rattle.capsule_exchange.specs.Happenings.{Happening, Hears, Sends, Installs, Forgets, held_version, held_image, held_versions, heard_since, target_version, NodePart, part_in, target_parts, collected_at, places_of, gaps, mask_of, collected_image, complete_version, completed_by, asks_after, ask_for, asks_of, is_marked, is_marked_slot, next_slot, fragment_for}
+use Rattle.capsule_exchange.specs.Happenings.{Happening, Hears, Sends, Installs, Forgets, held_version, held_image, held_versions, heard_since, target_version, Part, part_in, target_parts, collected_at, places_of, gaps, mask_of, collected_image, complete_version, completed_by, asks_after, ask_for, asks_of, is_marked, is_marked_slot, next_slot, fragment_for}
 use Rattle.capsule_exchange.proofs.CollectLemmas.{target_over}
 use Rattle.world_rules.specs.Cause.{Cause}
 use Rattle.world_rules.specs.Cause as event

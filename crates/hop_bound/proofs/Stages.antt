@@ -15,7 +15,7 @@ use Rattle.packet_codec.specs.declared.packet.Packet.TheVariants.{Vector, Status
 use Rattle.trickle_timer.specs.Intervals as trickle
 use Rattle.trickle_timer.specs.declared.timer.Fire.{Fire}
 use Rattle.trickle_timer.specs.declared.timer.Fire.TheVariants as fire
-use Rattle.capsule_exchange.specs.Happenings.{Happening, Hears, Installs, held_version, held_image, held_versions, heard_since, target_version, NodePart, part_in, target_parts, complete_version, completed_by, asks_after, is_marked_slot, next_slot, fragment_for}
+use Rattle.capsule_exchange.specs.Happenings.{Happening, Hears, Installs, held_version, held_image, held_versions, heard_since, target_version, Part, part_in, target_parts, complete_version, completed_by, asks_after, is_marked_slot, next_slot, fragment_for}
 use Rattle.world_rules.specs.Cause.{Cause}
 use Rattle.world_rules.specs.Cause as event
 use Rattle.world_rules.specs.World.{World, handlers, receiver, links_from, loss}
@@ -76,16 +76,16 @@ tame-there w v now m older newer by right mid = run-tame w v (older ++ now) righ
 same_number : (n : ℕ) → (n == n) ≡ true
 same_number n = elim (eqb_tells n n) [ inl e ↦ e.0 | inr e ↦ absurd (e.1 refl) ]
 
-own_part : Version → ℕ → NodePart
+own_part : Version → ℕ → Part
 own_part v i = record { index = i; count = count_of v.image; large = nat_lt 528 (length v.image); bytes = record { items = piece_at v.image i } }
 
 fragment-has : (v : Version) (hs : List Happening) (i : ℕ) → IsTame v (own_fragment v i) → AreTame v (heard_since v.handler hs) → Aims v hs → Has (target_parts v.handler (Hears (own_fragment v i) ∷ hs)) i
 fragment-has v hs i tame all aims =
-    let part : NodePart = record { index = i; count = count_of v.image; large = nat_lt 528 (length v.image); bytes = record { items = piece_at v.image i } } in
+    let part : Part = record { index = i; count = count_of v.image; large = nat_lt 528 (length v.image); bytes = record { items = piece_at v.image i } } in
     let is : part_in v.handler v.version (own_fragment v i) ≡ Some part = rw (same_number v.handler, same_number v.version) refl in
     let grown : target_parts v.handler (Hears (own_fragment v i) ∷ hs) ≡ target_parts v.handler hs ++ part ∷ [] =
-    parts-grow v hs (own_fragment v i) aims.0 tame ∙ ap (λ (o : Option NodePart). target_parts v.handler hs ++ cons_option o []) is in
-    subst (λ (ps : List NodePart). Has ps i) (sym grown) (has-got v (target_parts v.handler hs) part (parts-alike v hs aims.0 all) (refl, refl))
+    parts-grow v hs (own_fragment v i) aims.0 tame ∙ ap (λ (o : Option Part). target_parts v.handler hs ++ cons_option o []) is in
+    subst (λ (ps : List Part). Has ps i) (sym grown) (has-got v (target_parts v.handler hs) part (parts-alike v hs aims.0 all) (refl, refl))
 
 fragment-got : (v : Version) (hs : List Happening) (i : ℕ) (o : Option HandlerId) → completed_by (own_fragment v i) hs ≡ o → IsTame v (own_fragment v i) → AreTame v (heard_since v.handler hs)
     → Seeks v (λ k. ⊥) hs → (held_version v.handler hs ≡ v.version → held_version v.handler ((of_fragment (own_fragment v i) hs o).happened ++ hs) ≡ v.version)

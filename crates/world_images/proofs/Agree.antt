@@ -1,15 +1,20 @@
 -- The journal and the exchange agree on what is held.
-use Rattle.std.proofs.Common.{◌≡◌, ◌≢◌, ◌<◌, ℕ, zero, suc, Bool, true, false, List, [], ◌∷◌, ◌++◌, length, Option, Some, None, refl, sym, ◌∙◌, ap, subst, arith, inl, inr, ◌⊎◌}
+use Rattle.std.proofs.Common.{◌≡◌, ◌≢◌, ◌<◌, ◌+◌, ℕ, zero, suc, Bool, true, false, List, [], ◌∷◌, ◌++◌, length, Option, Some, None, refl, sym, ◌∙◌, ap, subst, arith, inl, inr, ◌⊎◌}
 use Rattle.std.specs.Prelude.{slice_get, ◌==◌, if◌then◌else◌, All, ℤ, IsTrue}
 use Rattle.std.specs.Option.{option_map_or}
 use Rattle.std.proofs.lemmas.List.Elements.{All-head, All-tail}
-use Rattle.std.proofs.lemmas.Bool.{cases_Bool}
+use Rattle.std.proofs.lemmas.Bool.{cases_Bool, cases_lt}
 use Rattle.std.proofs.lemmas.Bool.Decides.{eqb_tells}
 use Rattle.arrayvec.specs.ArrayVec.{ArrayVec}
 use Rattle.mate_num.specs.declared.id.HandlerId.{HandlerId}
 use Rattle.mate_journal.specs.Machine.{Machine, HeldProgram}
-use Rattle.mate_journal.specs.Journal.{Told, Posted, Dropped, Started, Asked, Answered, Ended, Installed, Reset, Seen, Void, Reading, heard, held}
-use Rattle.mate_journal.specs.NodeScript as script
+use Rattle.mate_journal.specs.Journal.{Told, Posted, Dropped, Started, Asked, Answered, Ended, Installed, Reset, Seen, Void, Reading, heard, heard_told, held, whole_run}
+use Rattle.mate_num.specs.declared.call.End.{End}
+use Rattle.mate_num.specs.declared.call.End.TheVariants as end
+use Rattle.mate_journal.specs.Grants.{IsStart}
+use Rattle.mate_journal.specs.Pace.{Pace, paced_all}
+use Rattle.mate_journal.specs.NodeScript.{Occasion}
+use Rattle.mate_journal.specs.Turns.{Clock, Turn, IsTurn, AreTurns, Settles, entry_at, mark_of, after_turn, told_in}
 use Rattle.packet_codec.specs.declared.packet.Packet.{Packet}
 use Rattle.packet_codec.specs.declared.packet.Packet.TheVariants.{Vector, Status, Fragment, App}
 use Rattle.trickle_timer.specs.Intervals as trickle
@@ -20,15 +25,14 @@ use Rattle.world_rules.specs.Cause.{Cause}
 use Rattle.world_rules.specs.Cause as event
 use Rattle.world_rules.specs.World.{World, PlannedLine, Want, Inject, Post, Show, ResetNode, Noise, handlers}
 use Rattle.world_rules.specs.Effect.{Node, NodeEffect, Deed, Nothing, Installing, Posting, Answering, Showing, Resetting, no_effect, node_effect, of_line, of_packet, of_fragment, of_point, of_slot, event_node}
-use Rattle.mate_journal.specs.Journal.{heard_told}
 use Rattle.world_rules.specs.State.{Moment, WorldState, node_at, effect_at, node_after, after_moment, state}
-use Rattle.world_rules.specs.Run.{FirstThen, Occasions, Settled, DeedMakes, MayCome, HaveCome}
+use Rattle.world_rules.specs.Run.{FirstThen, Occasions, DeedMakes, MayCome, HaveCome}
 use Rattle.world_images.specs.Held.{HeldAgrees}
 use Rattle.world_laws.proofs.Points.{nodes-here, nodes-other}
 
 -- ---- entries that install nothing
 
-abbrev NoInstall : Told → Type 0
+abbrev pub NoInstall : Told → Type 0
 NoInstall (Posted n h c payload) = Unit {0}
 NoInstall (Dropped h cause) = Unit {0}
 NoInstall (Started n) = Unit {0}
@@ -40,7 +44,7 @@ NoInstall Reset = Unit {0}
 NoInstall (Seen store) = Unit {0}
 NoInstall (Void cause) = Unit {0}
 
-abbrev NoneInstall : List Told → Type 0
+abbrev pub NoneInstall : List Told → Type 0
 NoneInstall [] = Unit {0}
 NoneInstall (t ∷ told) = NoInstall t × NoneInstall told
 
@@ -64,19 +68,7 @@ same-all : (m : Machine) (r : Reading) (told : List Told) → NoneInstall told �
 same-all m r [] a = refl
 same-all m r (t ∷ told) a = same-all m (heard m r t) told a.1 ∙ same-one m r t a.0
 
-run-none : (t : Told) → script.IsOfRun t → NoInstall t
-run-none (Posted n h c payload) a = tt
-run-none (Dropped h cause) a = tt
-run-none (Started n) a = tt
-run-none (Asked n f args) a = tt
-run-none (Answered n value) a = tt
-run-none (Ended n how) a = tt
-run-none (Installed p) a = a
-run-none Reset a = tt
-run-none (Seen store) a = tt
-run-none (Void cause) a = tt
-
-start-none : (t : Told) → script.IsStart t → NoInstall t
+start-none : (t : Told) → IsStart t → NoInstall t
 start-none (Posted n h c payload) a = tt
 start-none (Dropped h cause) a = tt
 start-none (Started n) a = tt
@@ -88,26 +80,49 @@ start-none Reset a = tt
 start-none (Seen store) a = tt
 start-none (Void cause) a = tt
 
-settled-none : (told : List Told) → ((t : Told) → (before after : List Told) → told ≡ before ++ t ∷ after → script.IsOfRun t) → NoneInstall told
-settled-none [] each = tt
-settled-none (t ∷ told) each = (run-none t (each t [] told refl), settled-none told (λ u before after is. each u (t ∷ before) after (ap (λ (xs : List Told). t ∷ xs) is)))
-
-starts-none : (told : List Told) → All script.IsStart told → NoneInstall told
+starts-none : (told : List Told) → All IsStart told → NoneInstall told
 starts-none [] all = tt
-starts-none (t ∷ told) all = (start-none t (All-head script.IsStart t told all), starts-none told (All-tail script.IsStart t told all))
+starts-none (t ∷ told) all = (start-none t (All-head IsStart t told all), starts-none told (All-tail IsStart t told all))
 
-by_made : (xs ys : List Told) → xs ≡ ys → NoneInstall ys → NoneInstall xs
+pub by_made : (xs ys : List Told) → xs ≡ ys → NoneInstall ys → NoneInstall xs
 by_made xs ys is none = subst NoneInstall (sym is) none
 
-occasion-none : (m : Machine) (r : Reading) (h : HandlerId) (payload : ArrayVec ℤ) (told : List Told) → script.Occasion m r h payload told → NoneInstall told
+mark-none : (n : ℕ) (e : End) → NoInstall (entry_at n e)
+mark-none n end.Halt = tt
+mark-none n (end.Fault kind) = tt
+mark-none n (end.Wants f args) = tt
+
+turn-none : (k : Clock) (m : Machine) (r : Reading) (p : Pace) (n : ℕ) (t : Turn) → IsTurn k m r p n t → NoneInstall t.told
+turn-none k m r p n t is = elim (cases_lt (p.counts t.invocation + n) (mark_of k m r t.invocation)) [
+  | inl low ↦ by_made t.told [] (is.short low) tt
+  | inr high ↦ by_made t.told (entry_at t.invocation (whole_run m r t.invocation).end ∷ (is.reached high).starts) (is.reached high).told_is
+      (mark-none t.invocation (whole_run m r t.invocation).end, starts-none (is.reached high).starts (is.reached high).are_starts)
+]
+
+turns-none : (k : Clock) (m : Machine) (r : Reading) (p : Pace) (ts : List Turn) → AreTurns k m r p ts → NoneInstall (told_in ts)
+turns-none k m r p [] are = tt
+turns-none k m r p (t ∷ ts) are =
+    none-append t.told (told_in ts) (turn-none k m r p k.quantum t are.1) (turns-none k m (heard_told m r t.told) (after_turn k m r p t) ts are.2)
+
+pub settles-none : (k : Clock) (m : Machine) (r : Reading) (p : Pace) (told : List Told) (q : Pace) → Settles k m r p told q → NoneInstall told
+settles-none k m r p told q is = by_made told (told_in is.turns) is.made (turns-none k m r p is.turns is.are_turns)
+
+occasion-none : (m : Machine) (r : Reading) (h : HandlerId) (payload : ArrayVec ℤ) (told : List Told) → Occasion m r h payload told → NoneInstall told
 occasion-none m r h payload told (inl a) = by_made told _ a.made (tt, tt)
 occasion-none m r h payload told (inr (inl a)) = by_made told _ a.made (tt, tt)
 occasion-none m r h payload told (inr (inr a)) = by_made told _ a.made (tt, starts-none a.starts a.are_starts)
 
-occasions-none : (m : Machine) (payload : ArrayVec ℤ) (hs : List HandlerId) (r : Reading) (told : List Told) → Occasions m payload hs r told → NoneInstall told
-occasions-none m payload [] r told is = by_made told [] is tt
-occasions-none m payload (h ∷ hs) r told both =
-    by_made told (both.front ++ both.rest) both.made (none-append both.front both.rest (occasion-none m r h payload both.front both.by_first) (occasions-none m payload hs (heard_told m r both.front) both.rest both.by_second))
+pub occasions-none : (m : Machine) (payload : ArrayVec ℤ) (hs : List HandlerId) (r : Reading) (p : Pace) (told : List Told) → Occasions m payload hs r p told → NoneInstall told
+occasions-none m payload [] r p told is = by_made told [] is tt
+occasions-none m payload (h ∷ hs) r p told both =
+    by_made told (both.front ++ both.rest) both.made (none-append both.front both.rest (occasion-none m r h payload both.front both.by_first) (occasions-none m payload hs (heard_told m r both.front) (paced_all p both.front) both.rest both.by_second))
+
+-- behind its entry an install makes an occasion at most
+pub installs-rest : (k : Clock) (m : Machine) (r : Reading) (q : Pace) (p : HeldProgram) (told : List Told) → (is : DeedMakes k m (Installing p) r q told) → NoneInstall is.rest
+installs-rest k m r q p told is = elim (cases_Bool (m.runs_once p.handler)) [
+  | inl once ↦ occasion-none m (heard m r (Installed p)) p.handler (record { items = [] }) is.rest (is.once once)
+  | inr never ↦ by_made is.rest [] (is.else never) tt
+]
 
 -- what a deed's entries and its node's settling do to what is installed
 abbrev After : Deed → (HandlerId → Option HeldProgram) → HandlerId → Option HeldProgram
@@ -118,33 +133,28 @@ After (Answering inv value) f h = f h
 After Showing f h = f h
 After Resetting f h = f h
 
-deed-after : (m : Machine) (r : Reading) (d : Deed) (told : List Told) (h : HandlerId) → DeedMakes m d r told → (heard_told m r told).installed h ≡ After d r.installed h
-deed-after m r Nothing told h is = ap (λ (f : HandlerId → Option HeldProgram). f h) (same-all m r told (by_made told [] is tt))
-deed-after m r (Posting hs payload) told h is = ap (λ (f : HandlerId → Option HeldProgram). f h) (same-all m r told (occasions-none m payload hs r told is))
-deed-after m r (Answering inv value) told h is = ap (λ (f : HandlerId → Option HeldProgram). f h) (same-all m r told (by_made told _ is (tt, tt)))
-deed-after m r Showing told h is = ap (λ (f : HandlerId → Option HeldProgram). f h) (same-all m r told (by_made told _ is.made (tt, tt)))
-deed-after m r Resetting told h is = ap (λ (f : HandlerId → Option HeldProgram). f h) (same-all m r told (by_made told _ is.made (tt, (tt, tt))))
-deed-after m r (Installing p) told h is = subst (λ (xs : List Told). (heard_told m r xs).installed h ≡ (if h.0 == p.handler.0 then Some p else r.installed h)) (sym is.made)
-    (ap (λ (f : HandlerId → Option HeldProgram). f h) (same-all m (heard m (heard m r (Seen is.seen)) (Installed p)) is.rest rest_none)) where
-      rest_none : NoneInstall is.rest
-      rest_none = elim (cases_Bool (m.runs_once p.handler)) [
-        | inl once ↦ occasion-none m (heard m r (Installed p)) p.handler (record { items = [] }) is.rest (is.once once)
-        | inr never ↦ by_made is.rest [] (is.else never) tt
-      ]
+deed-after : (k : Clock) (m : Machine) (r : Reading) (q : Pace) (d : Deed) (told : List Told) (h : HandlerId) → DeedMakes k m d r q told → (heard_told m r told).installed h ≡ After d r.installed h
+deed-after k m r q Nothing told h is = ap (λ (f : HandlerId → Option HeldProgram). f h) (same-all m r told (by_made told [] is tt))
+deed-after k m r q (Posting hs payload) told h is = ap (λ (f : HandlerId → Option HeldProgram). f h) (same-all m r told (occasions-none m payload hs r q told is))
+deed-after k m r q (Answering inv value) told h is = ap (λ (f : HandlerId → Option HeldProgram). f h) (same-all m r told (by_made told _ is (tt, tt)))
+deed-after k m r q Showing told h is = ap (λ (f : HandlerId → Option HeldProgram). f h) (same-all m r told (by_made told _ is.made (tt, tt)))
+deed-after k m r q Resetting told h is = ap (λ (f : HandlerId → Option HeldProgram). f h) (same-all m r told (by_made told _ is.made (tt, (tt, tt))))
+deed-after k m r q (Installing p) told h is = subst (λ (xs : List Told). (heard_told m r xs).installed h ≡ (if h.0 == p.handler.0 then Some p else r.installed h)) (sym is.made)
+    (ap (λ (f : HandlerId → Option HeldProgram). f h) (same-all m (heard m (heard m r (Seen is.seen)) (Installed p)) is.rest (installs-rest k m r q p told is)))
 
-event-after : (m : Machine) (r : Reading) (d : Deed) (told : List Told) (h : HandlerId) → FirstThen m (DeedMakes m d) (Settled m) r told → (heard_told m r told).installed h ≡ After d r.installed h
-event-after m r d told h both =
+event-after : (k : Clock) (m : Machine) (r : Reading) (q : Pace) (d : Deed) (told : List Told) (after : Pace) (h : HandlerId) → FirstThen m (DeedMakes k m d) (λ s p xs. Settles k m s p xs after) r q told → (heard_told m r told).installed h ≡ After d r.installed h
+event-after k m r q d told after h both =
     subst (λ (xs : List Told). (heard_told m r xs).installed h ≡ After d r.installed h) (sym both.made)
     (ap (λ (s : Reading). s.installed h) (hear-parts m r both.front both.rest)
-      ∙ ap (λ (f : HandlerId → Option HeldProgram). f h) (same-all m (heard_told m r both.front) both.rest (settled-none both.rest both.by_second.made))
-      ∙ deed-after m r d both.front h both.by_first) where
+      ∙ ap (λ (f : HandlerId → Option HeldProgram). f h) (same-all m (heard_told m r both.front) both.rest (settles-none k m (heard_told m r both.front) (paced_all q both.front) both.rest after both.by_second))
+      ∙ deed-after k m r q d both.front h both.by_first) where
         hear-parts : (m : Machine) (r : Reading) (xs ys : List Told) → heard_told m r (xs ++ ys) ≡ heard_told m (heard_told m r xs) ys
         hear-parts m r [] ys = refl
         hear-parts m r (x ∷ xs) ys = hear-parts m (heard m r x) xs ys
 
 -- ---- what a deed does to the exchange's version
 
-abbrev HeldAfter : Deed → ℕ → ℕ → ℕ
+abbrev pub HeldAfter : Deed → ℕ → ℕ → ℕ
 HeldAfter Nothing h old = old
 HeldAfter (Installing p) h old = if p.handler.0 == h then p.version else old
 HeldAfter (Posting hs payload) h old = old
@@ -184,7 +194,7 @@ moves-slot : (h : ℕ) (hs : List Happening) (o : Option ℕ) → Moves h hs (of
 moves-slot h hs None = refl
 moves-slot h hs (Some slot) = refl
 
-moves : (w : World) (h : ℕ) (n : Node) (c : Cause) → Moves h n.exchange (node_effect w n c)
+pub moves : (w : World) (h : ℕ) (n : Node) (c : Cause) → Moves h n.exchange (node_effect w n c)
 moves w h n (event.Planned line) = moves-planned h n.exchange (slice_get w.plan line)
 moves w h n (event.Period k g) = refl
 moves w h n (event.Fire k) = moves-point w h n (trickle.at_point n.timer.set n.timer.running w.suppress)
@@ -235,6 +245,6 @@ held_agrees w k h (m ∷ before) come = elim (eqb_tells k (event_node w m.cause)
       → held (heard_told w.machine (node_at w (state w before) m).reading m.told) (record { 0 = h }) ≡ held_version h ((effect_at w (state w before) m).happened ++ (node_at w (state w before) m).exchange)
   here old =
       held-is (heard_told w.machine (node_at w (state w before) m).reading m.told) (record { 0 = h })
-      ∙ ap held-of (event-after w.machine (node_at w (state w before) m).reading (effect_at w (state w before) m).deed m.told (record { 0 = h }) come.1.makes)
+      ∙ ap held-of (event-after w.clock w.machine (node_at w (state w before) m).reading (node_at w (state w before) m).pace (effect_at w (state w before) m).deed m.told m.pace (record { 0 = h }) come.1.makes)
       ∙ both-move (effect_at w (state w before) m).deed (node_at w (state w before) m).reading.installed h (held_version h (node_at w (state w before) m).exchange) (sym (held-is (node_at w (state w before) m).reading (record { 0 = h })) ∙ old)
       ∙ sym (moves w h (node_at w (state w before) m) m.cause)

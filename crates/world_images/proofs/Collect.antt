@@ -13,7 +13,7 @@ use Rattle.capsule_codec.specs.Fragments.{count_of}
 use Rattle.packet_codec.specs.declared.packet.Packet.{Packet}
 use Rattle.packet_codec.specs.declared.packet.Packet.TheVariants.{Vector, Status, Fragment, App}
 use Rattle.capsule_exchange.specs.declared.handler_state.Form.{Form}
-use Rattle.capsule_exchange.specs.Happenings.{Happening, Hears, held_version, heard_since, version_in, greatest, target_version, NodePart, part_in, target_parts, collected_at, limit_of, places_of, gaps, mask_of, whole, collected_image, complete_version, completed_by}
+use Rattle.capsule_exchange.specs.Happenings.{Happening, Hears, held_version, heard_since, version_in, greatest, target_version, Part, part_in, target_parts, collected_at, limit_of, places_of, gaps, mask_of, whole, collected_image, complete_version, completed_by}
 use Rattle.capsule_exchange.specs.Knowledge.{form_of}
 use Rattle.capsule_exchange.specs.Steps.{takes}
 use Rattle.capsule_exchange.proofs.CollectLemmas.{is_newer, target_next, target_over, parts_newer, parts_same, form_in, joins_parts, collected_push}
@@ -63,10 +63,10 @@ target-most v hs all = greatest-most (held_version v.handler hs) v.version v.han
 
 -- ---- the parts of the version
 
-abbrev pub IsAlike : Version → NodePart → Type 0
+abbrev pub IsAlike : Version → Part → Type 0
 IsAlike v part = (part.count ≡ count_of v.image) × (part.large ≡ nat_lt 528 (length v.image))
 
-abbrev pub AreAlike : Version → List NodePart → Type 0
+abbrev pub AreAlike : Version → List Part → Type 0
 AreAlike v [] = Unit {0}
 AreAlike v (part ∷ parts) = IsAlike v part × AreAlike v parts
 
@@ -92,7 +92,7 @@ part-alike v (Fragment g version index count large bytes) tame = by ((g.0 == v.h
       ]
 part-alike v (App payload) tame = tt
 
-alike-cons : (v : Version) (o : Option NodePart) (parts : List NodePart) → AreAlike v (cons_option o []) → AreAlike v parts → AreAlike v (cons_option o parts)
+alike-cons : (v : Version) (o : Option Part) (parts : List Part) → AreAlike v (cons_option o []) → AreAlike v parts → AreAlike v (cons_option o parts)
 alike-cons v None parts one all = all
 alike-cons v (Some part) parts one all = (one.0, all)
 
@@ -137,22 +137,22 @@ target-set v hs versions is below all = target_next v.handler (Vector versions) 
 -- ---- what is collected
 
 -- a fragment with this index is there
-abbrev pub Has : List NodePart → ℕ → Type 0
+abbrev pub Has : List Part → ℕ → Type 0
 Has parts i = is_some (collected_at parts i) ≡ true
 
-pub has-push : (parts : List NodePart) (part : NodePart) (i : ℕ) → Has parts i → Has (parts ++ part ∷ []) i
+pub has-push : (parts : List Part) (part : Part) (i : ℕ) → Has parts i → Has (parts ++ part ∷ []) i
 has-push parts part i has = subst (λ (o : Option (ArrayVec ℕ)). is_some o ≡ true) (sym (collected_push parts part i)) (by (joins_parts parts part i)) where
   by : (b : Bool) → is_some (cond b (Some part.bytes) (collected_at parts i)) ≡ true
   by true = refl
   by false = has
 
-has-option : (parts : List NodePart) (o : Option NodePart) (i : ℕ) → Has parts i → Has (parts ++ cons_option o []) i
-has-option parts None i has = subst (λ (ps : List NodePart). Has ps i) (sym (append-nil parts)) has
+has-option : (parts : List Part) (o : Option Part) (i : ℕ) → Has parts i → Has (parts ++ cons_option o []) i
+has-option parts None i has = subst (λ (ps : List Part). Has ps i) (sym (append-nil parts)) has
 has-option parts (Some part) i has = has-push parts part i has
 
 pub has-stays : (v : Version) (hs : List Happening) (p : Packet) (i : ℕ) → target_version v.handler hs ≡ v.version → IsTame v p → Has (target_parts v.handler hs) i
     → Has (target_parts v.handler (Hears p ∷ hs)) i
-has-stays v hs p i is tame has = subst (λ (ps : List NodePart). Has ps i) (sym (parts-grow v hs p is tame)) (has-option (target_parts v.handler hs) (part_in v.handler v.version p) i has)
+has-stays v hs p i is tame has = subst (λ (ps : List Part). Has ps i) (sym (parts-grow v hs p is tame)) (has-option (target_parts v.handler hs) (part_in v.handler v.version p) i has)
 
 same_bool : (a b : Bool) → a ≡ b → beq a b ≡ true
 same_bool true true is = refl
@@ -160,7 +160,7 @@ same_bool false false is = refl
 same_bool true false is = cc
 same_bool false true is = cc
 
-takes-alike : (v : Version) (parts : List NodePart) (part : NodePart) → AreAlike v parts → IsAlike v part → takes (form_in part) (form_of parts) ≡ true
+takes-alike : (v : Version) (parts : List Part) (part : Part) → AreAlike v parts → IsAlike v part → takes (form_in part) (form_of parts) ≡ true
 takes-alike v [] part all one = refl
 takes-alike v (first ∷ parts) part all one =
     let count : part.count ≡ first.count = one.0 ∙ sym all.0.0 in
@@ -170,7 +170,7 @@ takes-alike v (first ∷ parts) part all one =
       | inr other ↦ absurd (other.1 count)
     ]
 
-pub has-got : (v : Version) (parts : List NodePart) (part : NodePart) → AreAlike v parts → IsAlike v part → Has (parts ++ part ∷ []) part.index
+pub has-got : (v : Version) (parts : List Part) (part : Part) → AreAlike v parts → IsAlike v part → Has (parts ++ part ∷ []) part.index
 has-got v parts part all one = subst (λ (o : Option (ArrayVec ℕ)). is_some o ≡ true) (sym (collected_push parts part part.index)) (by (collected_at parts part.index) refl) where
   own : (part.index == part.index) ≡ true
   own = elim (eqb_tells part.index part.index) [ inl same ↦ same.0 | inr other ↦ absurd (other.1 refl) ]
@@ -194,7 +194,7 @@ all-range : {X : Type 0} (f : ℕ → Option X) (first n : ℕ) → ((i : ℕ) �
 all-range f first zero each = refl
 all-range f first (suc n) each = rw (each first (omega arith) (omega arith)) (all-range f (first + 1) n (λ i low high. each i (omega arith) (omega arith)))
 
-pub limit-enough : (v : Version) (parts : List NodePart) (i : ℕ) → AreAlike v parts → count_of v.image ≤ 22 → i < count_of v.image → i < limit_of parts
+pub limit-enough : (v : Version) (parts : List Part) (i : ℕ) → AreAlike v parts → count_of v.image ≤ 22 → i < count_of v.image → i < limit_of parts
 limit-enough v [] i all few below = omega arith
 limit-enough v (first ∷ parts) i all few below = omega (arith, below, all.0.0)
 
@@ -203,7 +203,7 @@ not_some None is = refl
 not_some (Some x) is = cc
 
 -- an index that isn't there is asked for
-pub asks-gap : (v : Version) (parts : List NodePart) (i : ℕ) → AreAlike v parts → count_of v.image ≤ 22 → i < count_of v.image → is_some (collected_at parts i) ≡ false
+pub asks-gap : (v : Version) (parts : List Part) (i : ℕ) → AreAlike v parts → count_of v.image ≤ 22 → i < count_of v.image → is_some (collected_at parts i) ≡ false
     → bit_at (mask_of (gaps (places_of parts))) i ≡ 1
 asks-gap v parts i all few below lacks = (gap_asked (places_of parts) i within).1 empty where
   limit : i < limit_of parts
@@ -215,10 +215,10 @@ asks-gap v parts i all few below lacks = (gap_asked (places_of parts) i within).
   empty : IsTrue (is_none (get_or (places_of parts) i None))
   empty = subst (λ (o : Option (ArrayVec ℕ)). is_none o ≡ true) (sym (at-range (collected_at parts) None 0 (limit_of parts) i limit ∙ ap (collected_at parts) (let e : 0 + i ≡ i = omega arith in e))) (not_some (collected_at parts i) lacks)
 
-some-part : (parts : List NodePart) (i : ℕ) → Has parts i → parts ≡ [] → ⊥
-some-part parts i has is = let none : Has [] i = subst (λ (ps : List NodePart). Has ps i) is has in let clash : false ≡ true = none in cc
+some-part : (parts : List Part) (i : ℕ) → Has parts i → parts ≡ [] → ⊥
+some-part parts i has is = let none : Has [] i = subst (λ (ps : List Part). Has ps i) is has in let clash : false ≡ true = none in cc
 
-limit-is : (v : Version) (parts : List NodePart) → AreAlike v parts → (parts ≡ [] → ⊥) → limit_of parts ≡ count_of v.image
+limit-is : (v : Version) (parts : List Part) → AreAlike v parts → (parts ≡ [] → ⊥) → limit_of parts ≡ count_of v.image
 limit-is v [] all some = absurd (some refl)
 limit-is v (first ∷ parts) all some = all.0.0
 
@@ -226,7 +226,7 @@ limit-is v (first ∷ parts) all some = all.0.0
 pub complete-all : (v : Version) (hs : List Happening) → target_version v.handler hs ≡ v.version → AreTame v (heard_since v.handler hs) → 1 ≤ count_of v.image
     → ((i : ℕ) → i < count_of v.image → Has (target_parts v.handler hs) i) → complete_version v.handler hs ≡ v.version
 complete-all v hs is all some each = by (list_all is_some (places_of parts)) whole_is where
-  parts : List NodePart
+  parts : List Part
   parts = target_parts v.handler hs
 
   limit : limit_of (target_parts v.handler hs) ≡ count_of v.image
@@ -243,13 +243,13 @@ complete-all v hs is all some each = by (list_all is_some (places_of parts)) who
 older-complete : (h : ℕ) (p : Packet) (hs : List Happening) → is_newer h hs (version_in h p) ≡ false → part_in h (target_version h hs) p ≡ None → complete_version h (Hears p ∷ hs) ≡ complete_version h hs
 older-complete h p hs older no_part =
     let target : target_version h (Hears p ∷ hs) ≡ target_version h hs = target_next h p hs ∙ cond_false (is_newer h hs (version_in h p)) _ _ older in
-    let parts : target_parts h (Hears p ∷ hs) ≡ target_parts h hs = parts_same h p hs older ∙ ap (λ (o : Option NodePart). target_parts h hs ++ cons_option o []) no_part ∙ append-nil (target_parts h hs) in
-    ap (λ (ps : List NodePart). if is_some (whole (places_of ps)) then target_version h (Hears p ∷ hs) else 0) parts ∙ ap (λ (t : ℕ). if is_some (whole (places_of (target_parts h hs))) then t else 0) target
+    let parts : target_parts h (Hears p ∷ hs) ≡ target_parts h hs = parts_same h p hs older ∙ ap (λ (o : Option Part). target_parts h hs ++ cons_option o []) no_part ∙ append-nil (target_parts h hs) in
+    ap (λ (ps : List Part). if is_some (whole (places_of ps)) then target_version h (Hears p ∷ hs) else 0) parts ∙ ap (λ (t : ℕ). if is_some (whole (places_of (target_parts h hs))) then t else 0) target
 
 newer-complete : (h : ℕ) (p : Packet) (hs : List Happening) → is_newer h hs (version_in h p) ≡ true → part_in h (version_in h p) p ≡ None → complete_version h (Hears p ∷ hs) ≡ 0
 newer-complete h p hs newer no_part =
-    let parts : target_parts h (Hears p ∷ hs) ≡ [] = parts_newer h p hs newer ∙ ap (λ (o : Option NodePart). cons_option o []) no_part in
-    ap (λ (ps : List NodePart). if is_some (whole (places_of ps)) then target_version h (Hears p ∷ hs) else 0) parts
+    let parts : target_parts h (Hears p ∷ hs) ≡ [] = parts_newer h p hs newer ∙ ap (λ (o : Option Part). cons_option o []) no_part in
+    ap (λ (ps : List Part). if is_some (whole (places_of ps)) then target_version h (Hears p ∷ hs) else 0) parts
 
 zero_not_newer : (h : ℕ) (hs : List Happening) → is_newer h hs 0 ≡ false
 zero_not_newer h hs = by (ltb (held_version h hs) 0) refl where

@@ -12,7 +12,7 @@ use Rattle.capsule_codec.specs.Fragments.{count_of, piece_at}
 use Rattle.mate_journal.specs.Machine.{HeldProgram}
 use Rattle.packet_codec.specs.declared.packet.Packet.{Packet}
 use Rattle.packet_codec.specs.declared.packet.Packet.TheVariants.{Vector, Status, Fragment, App}
-use Rattle.capsule_exchange.specs.Happenings.{Happening, Hears, Sends, Installs, Forgets, held_version, held_image, heard_since, target_version, NodePart, part_in, target_parts, places_of, whole, collected_image, completed_by, asks_of, is_marked, is_marked_slot, next_slot, fragment_for}
+use Rattle.capsule_exchange.specs.Happenings.{Happening, Hears, Sends, Installs, Forgets, held_version, held_image, heard_since, target_version, Part, part_in, target_parts, places_of, whole, collected_image, completed_by, asks_of, is_marked, is_marked_slot, next_slot, fragment_for}
 use Rattle.capsule_exchange.specs.Laws.{AreOf}
 use Rattle.capsule_exchange.proofs.LawLemmas.{one_image}
 use Rattle.world_rules.specs.World.{World}
@@ -103,7 +103,7 @@ fragments-of w ms h version image ps one was all i count large bytes contains =
     (of.2 ∙ ap count_of same, of.3 ∙ ap (λ (xs : List ℕ). piece_at xs i) same)
 
 -- a target that is complete has a fragment
-part-of : (w : World) (ms : List Moment) (h version : ℕ) (p : Packet) (part : NodePart) → part_in h version p ≡ Some part → IsOfInjected w ms p → (image : List ℕ) × WasInjected w ms h version image
+part-of : (w : World) (ms : List Moment) (h version : ℕ) (p : Packet) (part : Part) → part_in h version p ≡ Some part → IsOfInjected w ms p → (image : List ℕ) × WasInjected w ms h version image
 part-of w ms h version (Vector versions) part is of = cc
 part-of w ms h version (Status g told missing) part is of = cc
 part-of w ms h version (App payload) part is of = cc
@@ -122,10 +122,10 @@ part-of w ms h version (Fragment g told index count large bytes) part is of = by
 
 first-of : (w : World) (ms : List Moment) (h : ℕ) (hs : List Happening) (made : ArrayVec ℕ) → AreOfInjected w ms (heard_since h hs) → collected_image h hs ≡ Some made → (image : List ℕ) × WasInjected w ms h (target_version h hs) image
 first-of w ms h hs made all is = by (target_parts h hs) refl is where
-  by : (ps : List NodePart) → target_parts h hs ≡ ps → whole (places_of ps) ≡ Some made → (image : List ℕ) × WasInjected w ms h (target_version h hs) image
+  by : (ps : List Part) → target_parts h hs ≡ ps → whole (places_of ps) ≡ Some made → (image : List ℕ) × WasInjected w ms h (target_version h hs) image
   by [] parts given = cc
   by (part ∷ ps) parts given =
-      let among : Among part (filter_map (part_in h (target_version h hs)) (heard_since h hs)) = subst (λ (xs : List NodePart). Among part xs) (sym parts) (inl refl) in
+      let among : Among part (filter_map (part_in h (target_version h hs)) (heard_since h hs)) = subst (λ (xs : List Part). Among part xs) (sym parts) (inl refl) in
       let found = among-filter_map (part_in h (target_version h hs)) part (heard_since h hs) among in
       part-of w ms h (target_version h hs) found.0 part found.2 (each-of w ms (heard_since h hs) found.0 all found.1)
 

@@ -1,4 +1,5 @@
 pub mod Newest
 pub mod Versions
 pub mod Held
+pub mod Installs
 pub mod Lines

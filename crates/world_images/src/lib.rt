@@ -3,6 +3,7 @@
 
 ghost use Rattle.world_rules.specs.World.{World};
 ghost use Rattle.world_images.specs.Held.{HeldAgrees};
+ghost use Rattle.world_images.specs.Installs.{HeldNeverFalls, HeldWasInstalled, InstallsItsOwn, InstallsRise};
 ghost use Rattle.world_images.specs.Lines.{IsPlanTimely, LinesInOrder};
 ghost use Rattle.world_images.specs.Versions.{InstallsAtMost, InstallsInjected, IsOneImage};
 
@@ -16,4 +17,13 @@ pub fn installs_are_injected()
 /// The lines of a script have their events in their order.
 pub fn lines_come_in_order()
     ensures { (w : World) → IsPlanTimely w → LinesInOrder w }
+{}
+
+/// Versions rise: an event's Install entries are of the program that the event installs; of two of them on a node for one
+/// handler the later one has the greater version. What a node holds it has installed, and the held version never falls.
+pub fn versions_rise()
+    ensures own { (w : World) → InstallsItsOwn w }
+    ensures rise { (w : World) → InstallsRise w }
+    ensures never_falls { (w : World) → HeldNeverFalls w }
+    ensures installed { (w : World) → HeldWasInstalled w }
 {}

@@ -1,0 +1,44 @@
+-- The installs of a node over a whole run, by the entries of its journal.
+use Rattle.std.specs.Prelude.{◌≡◌, ℕ, ◌<◌, ◌≤◌, List, ◌∷◌, ◌++◌}
+use Rattle.mate_journal.specs.Machine.{HeldProgram}
+use Rattle.mate_journal.specs.Journal.{Told, Installed}
+use Rattle.capsule_exchange.specs.Happenings.{held_version}
+use Rattle.world_rules.specs.World.{World}
+use Rattle.world_rules.specs.Effect.{Installing, event_node}
+use Rattle.world_rules.specs.State.{Moment, effect_at, state}
+use Rattle.world_rules.specs.Run.{HaveCome}
+
+-- one of the entries installs the program
+pub record TellsInstall (told : List Told) (p : HeldProgram) : Type 0 where
+  pub front : List Told
+  pub rest : List Told
+  pub split : told ≡ front ++ Installed p ∷ rest
+
+-- an event's entries install only the program that it is of
+abbrev pub InstallsItsOwn : World → Type 0
+InstallsItsOwn w = (before : List Moment) (m : Moment) (p : HeldProgram) → HaveCome w (m ∷ before) → TellsInstall m.told p → (effect_at w (state w before) m).deed ≡ Installing p
+
+-- one of these events has an entry that installs this version for the handler on the node
+pub record WasInstalled (w : World) (ms : List Moment) (k h version : ℕ) : Type 0 where
+  pub newer : List Moment
+  pub moment : Moment
+  pub older : List Moment
+  pub split : ms ≡ newer ++ moment ∷ older
+  pub node : event_node w moment.cause ≡ k
+  pub program : HeldProgram
+  pub handler : program.handler.0 ≡ h
+  pub version_is : program.version ≡ version
+  pub entry : TellsInstall moment.told program
+
+-- what a node holds it installed
+abbrev pub HeldWasInstalled : World → Type 0
+HeldWasInstalled w = (k h : ℕ) (ms : List Moment) → HaveCome w ms → 1 ≤ held_version h ((state w ms).nodes k).exchange → WasInstalled w ms k h (held_version h ((state w ms).nodes k).exchange)
+
+-- held versions never fall
+abbrev pub HeldNeverFalls : World → Type 0
+HeldNeverFalls w = (k h : ℕ) (before later : List Moment) → HaveCome w (later ++ before) → held_version h ((state w before).nodes k).exchange ≤ held_version h ((state w (later ++ before)).nodes k).exchange
+
+-- of two installs on a node for one handler the later one is of the greater version
+abbrev pub InstallsRise : World → Type 0
+InstallsRise w = (before later : List Moment) (x y : Moment) (p q : HeldProgram) → HaveCome w (x ∷ (later ++ (y ∷ before))) → event_node w x.cause ≡ event_node w y.cause
+    → TellsInstall y.told p → TellsInstall x.told q → p.handler.0 ≡ q.handler.0 → p.version < q.version
