@@ -1,7 +1,7 @@
 //! The radio of a world.
 
 ghost use Rattle.std.specs.Prelude.{◌≡◌, ◌+◌, ◌<◌, ◌≤◌, ◌^◌, [], ◌∷◌, ◌++◌, ℕ, filter, slice_index_or, length, MatchOption, MatchResult, IfNone, IfOk, OnOk};
-ghost use Rattle.event_queue.specs.Agenda.{scheduled, scheduled_all, is_other, Adds, Comes};
+ghost use Rattle.event_queue.specs.Agenda.{scheduled, scheduled_all, is_other, Adds, AddsAll, Comes};
 ghost use Rattle.script_reader.specs.World.{IsRightWorld};
 ghost use Rattle.std.specs.List.{All};
 ghost use Rattle.script_reader.specs.declared.world.Link.{Link};
@@ -51,7 +51,7 @@ impl Model for Radio {
 impl Radio {
     ghost use Rattle.std.specs.Prelude.{List};
     ghost use Rattle.script_reader.specs.declared.world.World.{World};
-    ghost use Rattle.radio_sim.specs.Radio.{Starts, transmitted, IsEtherOf};
+    ghost use Rattle.radio_sim.specs.Radio.{Starts, wires_of, transmitted, IsEtherOf};
 
     /// The radio of a world, in which nothing waits and nothing was sent.
     pub fn new(alloc: Global, world: &World, desc: &Description) -> Result<Radio, NoMemory>
@@ -88,6 +88,7 @@ impl Radio {
         requires hour { at.time ≤ 3600000 }
         requires few { length self.old.air < 4000000000 }
         ensures sends { MatchResult result (λ _. self.new ≡ transmitted self.old (record { at = at; node = node; number = self.old.sent + 1 }) bytes.now) (λ _. self.new ≡ self.old) }
+        ensures due { OnOk result (AddsAll self.old.agenda (at.time + self.old.delay) (delivered (record { at = at; node = node; number = self.old.sent + 1 }) bytes.now (wires_of self.old node)) self.new.agenda) }
         ensures stands { OnOk result ((world : World) (senders : List ℕ) → IsEtherOf world senders self.old → IsEtherOf world (senders ++ node ∷ []) self.new) }
     {
         let sending = Sending {
@@ -117,12 +118,13 @@ impl Radio {
     }
 
     /// Takes out the first event with its time. None where no event waits, which changes nothing.
-    pub fn next(&mut self) -> Option<Timed<Event>>
-        ensures first { MatchOption result (self.old.agenda.items ≡ []) (λ first. Comes self.old.agenda first self.new.agenda) }
+    pub fn next(&mut self) -> Option<(u32, Event)>
+        ensures first { MatchOption result (self.old.agenda.items ≡ []) (λ first. Comes self.old.agenda (record { time = first.0; item = first.1 }) self.new.agenda) }
         ensures others { self.new ≡ record self.old { agenda = self.new.agenda } }
         ensures none { IfNone result (self.new ≡ self.old) }
     {
-        self.queue.next()
+        let Timed { time, item } = self.queue.next()?;
+        Some((time, item))
     }
 
     /// Cancels events of a node: the others stay, in their order.
@@ -170,6 +172,7 @@ fn send(
     ensures queue { MatchResult result (λ _. queue.new ≡ scheduled_all queue.old (sending.at.time + delay) (delivered sending bytes.now wires.now)) (λ _. queue.new ≡ queue.old) }
     ensures air { IfOk result (λ _. air.new ≡ air.old ++ sent_record sending bytes.now ∷ [] ++ losts sending wires.now) }
     ensures kept { IsFurther air.old air.new }
+    ensures due { OnOk result (AddsAll queue.old (sending.at.time + delay) (delivered sending bytes.now wires.now) queue.new) }
     ensures carried { OnOk result (carried.new.items ≡ []) }
 {
     air.push(Aired {
