@@ -216,3 +216,8 @@ puts_all_after {T} group u w v time items kept put = record {
   last = put.last ∙ ap (λ (xs : List T). xs ++ items) (kept.same time);
   others = λ t other. put.others t other ∙ kept.same t;
 }
+
+pub put_now : {T A E : Type 0} (group : T → Option ℕ) (until : ℕ) (w v : Wheel T) (q : Agenda T) (time : ℕ) (item : T) (r : Result A E) → agenda_of group until w ≡ q
+    → MatchResult r (λ x. Puts group w time item v) (λ x. Keeps group w v) → v.at ≡ q.now
+put_now {T} group until w v q time item (Ok x) view done = done.at ∙ ap (λ (a : Agenda T). a.now) view
+put_now {T} group until w v q time item (Err e) view done = done.at ∙ ap (λ (a : Agenda T). a.now) view

@@ -53,6 +53,7 @@ impl<T: Grouped> Queue<T> {
         requires { self.old.now ≤ time }
         ensures list { MatchResult result (λ _. self.new ≡ scheduled self.old time item) (λ _. self.new ≡ self.old) }
         ensures due { OnOk result (Adds self.old time item self.new) }
+        ensures now { self.new.now ≡ self.old.now }
     {
         if time > self.until {
             return Ok(());
@@ -65,6 +66,7 @@ impl<T: Grouped> Queue<T> {
         requires { self.old.now ≤ time }
         ensures list { MatchResult result (λ _. self.new ≡ scheduled_all self.old time items.old.items) (λ _. self.new ≡ self.old) }
         ensures due { OnOk result (AddsAll self.old time items.old.items self.new) }
+        ensures now { self.new.now ≡ self.old.now }
         ensures taken { MatchResult result (λ _. items.new.items ≡ []) (λ _. items.new.items ≡ items.old.items) }
     {
         if self.until < time {

@@ -1,1 +1,4 @@
 pub mod Events
+pub mod Wires
+pub mod Sending
+pub mod Radio

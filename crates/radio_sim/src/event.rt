@@ -11,13 +11,22 @@ pub enum Event {
     /// The line at this position of the plan.
     Planned(u32),
     /// The period of a timer handler ends.
-    Period { node: u8, handler: HandlerId },
+    Period {
+        node: u8,
+        handler: HandlerId,
+    },
     /// The point of the node's interval.
-    Fire { node: u8 },
+    Fire {
+        node: u8,
+    },
     /// The end of the node's interval.
-    Expire { node: u8 },
+    Expire {
+        node: u8,
+    },
     /// The node sends a fragment that was asked for.
-    Pump { node: u8 },
+    Pump {
+        node: u8,
+    },
     /// An asked call of an invocation is answered with the value.
     Due {
         node: u8,

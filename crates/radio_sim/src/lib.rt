@@ -3,7 +3,7 @@
 
 pub mod event;
 pub mod radio;
-mod wire;
+pub mod wire;
 
 pub use event::{Cancel, Event};
 pub use radio::Radio;

@@ -1,4 +1,4 @@
-use Rattle.std.proofs.Common.{◌≡◌, ◌<◌, ap, sym, arith}
+use Rattle.std.proofs.Common.{◌≡◌, ◌<◌, ◌∙◌, ap, sym, arith}
 use Rattle.event_queue.specs.Agenda.{Agenda}
 use Rattle.event_queue.proofs.AgendaLemmas.{scheduled_all_late}
 use Rattle.event_queue.proofs.QueueLemmas.{schedules_all, adds_all, puts_all_after}
@@ -21,3 +21,9 @@ returns-clause-due g c =
     let group = g.T.Grouped.group_of in
     adds_all group c.self.inside.until c.self.inside.wheel c.put_all.new.self c.args.self.now c.args.time c.args.items.now.items c.self.view_is c.if-self-time.false
     (puts_all_after group c.self.inside.wheel c.reserve_all.new.self c.put_all.new.self c.args.time c.args.items.now.items c.in_ok-reserve_all.ensures.keeps c.put_all.ensures.puts)
+
+pub returns-in_err-reserve_all-clause-now : goal.returns-in_err-reserve_all-clause-now
+returns-in_err-reserve_all-clause-now g c = c.in_err-reserve_all.ensures.keeps.at ∙ ap (λ (a : Agenda g.row.T.Denot). a.now) c.self.view_is
+
+pub returns-clause-now : goal.returns-clause-now
+returns-clause-now g c = c.put_all.ensures.puts.at ∙ c.in_ok-reserve_all.ensures.keeps.at ∙ ap (λ (a : Agenda g.row.T.Denot). a.now) c.self.view_is

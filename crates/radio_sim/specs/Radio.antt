@@ -1,0 +1,59 @@
+-- The radio of a world: what waits, what happened on the air, and the links with their words; a transmission.
+use Rattle.std.specs.Prelude.{◌≡◌, ℕ, ◌+◌, ◌<◌, ◌≤◌, ◌==◌, List, [], ◌∷◌, ◌++◌, length, map, count_by, slice_index_or, slice_set}
+use Rattle.arrayvec.specs.ArrayVec.{ArrayVec}
+use Rattle.event_queue.specs.Agenda.{Agenda, scheduled_all}
+use Rattle.mate_journal.specs.declared.air.Aired.{Aired}
+use Rattle.script_reader.specs.declared.world.Link.{Link}
+use Rattle.script_reader.specs.declared.world.World.{World}
+use Rattle.vm_desc.specs.declared.description.Description.{Description}
+use Rattle.radio_sim.specs.declared.event.Event.{Event}
+use Rattle.radio_sim.specs.declared.wire.Wire.{Wire}
+use Rattle.radio_sim.specs.declared.wire.Sending.{Sending}
+use Rattle.radio_sim.specs.Wires.{leaving, turned, losts, delivered}
+use Rattle.radio_sim.specs.Sending.{sent_record}
+
+-- what waits, what happened on the air, how many packets were sent, how long each is on its way in ms, and the links that leave each node
+pub record Ether : Type 0 where
+  pub agenda : Agenda Event
+  pub air : List Aired
+  pub sent : ℕ
+  pub delay : ℕ
+  pub wires : List (List Wire)
+
+-- the links that leave a node
+abbrev pub wires_of : Ether → ℕ → List Wire
+wires_of e node = slice_index_or e.wires node []
+
+-- a transmission: its record stands first, then those of its losses; each link goes on to its next word
+abbrev pub transmitted : Ether → Sending → ArrayVec ℕ → Ether
+transmitted e s bytes = record {
+  agenda = scheduled_all e.agenda (s.at.time + e.delay) (delivered s bytes (wires_of e s.node));
+  air = e.air ++ sent_record s bytes ∷ [] ++ losts s (wires_of e s.node);
+  sent = e.sent + 1;
+  delay = e.delay;
+  wires = slice_set e.wires s.node (map turned (wires_of e s.node));
+}
+
+-- how many packets a node sent
+abbrev pub packets : ℕ → List ℕ → ℕ
+packets node senders = count_by (λ s. s == node) senders
+
+-- the radio of a world in which these nodes sent, in order: over a link, packet number n of its node, from 0, is decided by
+-- word number n of the link's stream
+pub record IsEtherOf (w : World) (senders : List ℕ) (e : Ether) : Type 0 where
+  pub sent : e.sent ≡ length senders
+  pub wires : (node : ℕ) → node < 256 → wires_of e node ≡ leaving w.random (packets node senders) node 0 w.links
+
+-- nothing waits and nothing was sent
+pub record Starts (w : World) (d : Description) (e : Ether) : Type 0 where
+  pub agenda : e.agenda ≡ record { until = w.until; now = 0; items = [] }
+  pub air : e.air ≡ []
+  pub delay : e.delay ≡ d.radio.delay
+  pub stands : IsEtherOf w [] e
+
+-- what the radio keeps
+pub record IsRightRadio (airs : List Aired) (sent delay : ℕ) (wires : List (List Wire)) (left : List Event) : Type 0 where
+  pub none_left : left ≡ []
+  pub counted : sent ≤ length airs
+  pub near : delay ≤ 10000
+  pub nodes : length wires ≡ 256

@@ -1,0 +1,214 @@
+//! The radio of a world.
+
+ghost use Rattle.std.specs.Prelude.{◌≡◌, ◌+◌, ◌<◌, ◌≤◌, ◌^◌, [], ◌∷◌, ◌++◌, ℕ, filter, slice_index_or, length, MatchOption, MatchResult, IfNone, IfOk, OnOk};
+ghost use Rattle.event_queue.specs.Agenda.{scheduled, scheduled_all, is_other, Adds, AddsAll, Comes};
+ghost use Rattle.script_reader.specs.World.{IsRightWorld};
+ghost use Rattle.std.specs.List.{All};
+ghost use Rattle.script_reader.specs.declared.world.Link.{Link};
+ghost use Rattle.radio_sim.specs.Events.{group_of, number_of};
+ghost use Rattle.radio_sim.specs.Wires.{losts, delivered};
+ghost use Rattle.radio_sim.specs.Sending.{sent_record, AreLeaving, IsFurther};
+
+use crate::event::{Cancel, Event};
+use crate::wire::{Sending, Wire, Wires, copy_of};
+use event_queue::{Queue, Timed};
+use mate_journal::{Air, Aired, Airs};
+use mate_num::{NoMemory, PacketBytes, Stamp};
+use script_reader::{Link, World};
+use std::alloc::Global;
+use std::collections::VecDeque;
+use std::marker::Model;
+use vm_desc::Description;
+
+/// How many numbers of nodes there are.
+const NODES: usize = 256;
+
+/// What waits in a world, its links, and what happened on the air. Contracts see these as an `Ether`.
+#[derive(Drop)]
+pub struct Radio {
+    queue: Queue<Event>,
+    air: Airs,
+    /// How many packets were sent.
+    sent: u32,
+    /// How long a packet is on its way, in ms.
+    delay: u32,
+    /// The links that leave each node.
+    wires: Vec<Wires>,
+    /// The deliveries of a transmission, none between two calls.
+    carried: VecDeque<Event>,
+}
+
+impl Model for Radio {
+    ghost use Rattle.radio_sim.specs.Radio.{Ether, IsRightRadio};
+
+    ghost Value = { Ether };
+
+    ghost view = { λ r. record { agenda = r.queue; air = r.air; sent = r.sent; delay = r.delay; wires = r.wires.items } };
+
+    ghost invariant = { λ r. IsRightRadio r.air r.sent r.delay r.wires.items r.carried.items };
+}
+
+impl Radio {
+    ghost use Rattle.std.specs.Prelude.{List};
+    ghost use Rattle.script_reader.specs.declared.world.World.{World};
+    ghost use Rattle.radio_sim.specs.Radio.{Starts, wires_of, transmitted, IsEtherOf};
+
+    /// The radio of a world, in which nothing waits and nothing was sent.
+    pub fn new(alloc: Global, world: &World, desc: &Description) -> Result<Radio, NoMemory>
+        requires { IsRightWorld desc.now world.now }
+        ensures { IfOk result (λ radio. Starts world.now desc.now radio) }
+    {
+        let wires = wires_of(alloc, world.random, world.links.as_slice())?;
+        let queue = Queue::new(alloc, world.until)?;
+        Ok(Radio {
+            queue,
+            air: Airs::new(alloc),
+            sent: 0,
+            delay: desc.radio.delay,
+            wires,
+            carried: VecDeque::new(alloc),
+        })
+    }
+
+    /// Schedules an event, behind all that come by its time. One that would come after the world's end is not kept.
+    /// `NoMemory` leaves the radio as it was.
+    pub fn schedule(&mut self, time: u32, event: Event) -> Result<(), NoMemory>
+        requires { self.old.agenda.now ≤ time }
+        ensures list { MatchResult result (λ _. self.new ≡ record self.old { agenda = scheduled self.old.agenda time event }) (λ _. self.new ≡ self.old) }
+        ensures due { OnOk result (Adds self.old.agenda time event self.new.agenda) }
+    {
+        self.queue.schedule(time, event)
+    }
+
+    /// The node sends a packet in the event `at`. It has the next number. On each link that leaves the node, in their
+    /// order, the next word of the link decides: the packet is lost, or it comes `delay` ms later. `NoMemory` leaves the
+    /// radio as it was.
+    pub fn transmit(&mut self, node: u8, bytes: &PacketBytes, at: Stamp) -> Result<(), NoMemory>
+        requires ahead { self.old.agenda.now ≤ at.time }
+        requires hour { at.time ≤ 3600000 }
+        requires few { length self.old.air < 4000000000 }
+        ensures sends { MatchResult result (λ _. self.new ≡ transmitted self.old (record { at = at; node = node; number = self.old.sent + 1 }) bytes.now) (λ _. self.new ≡ self.old) }
+        ensures due { OnOk result (AddsAll self.old.agenda (at.time + self.old.delay) (delivered (record { at = at; node = node; number = self.old.sent + 1 }) bytes.now (wires_of self.old node)) self.new.agenda) }
+        ensures stands { OnOk result ((world : World) (senders : List ℕ) → IsEtherOf world senders self.old → IsEtherOf world (senders ++ node ∷ []) self.new) }
+    {
+        let sending = Sending {
+            at,
+            node,
+            number: self.sent + 1,
+        };
+        let before = self.air.len();
+        let wires = &mut self.wires[node as usize];
+        let result = send(
+            wires,
+            sending,
+            bytes,
+            self.delay,
+            &mut self.queue,
+            &mut self.air,
+            &mut self.carried,
+        );
+        if result.is_err() {
+            self.air.truncate(before);
+            self.carried.clear();
+            return Err(NoMemory);
+        }
+        wires.turn();
+        self.sent += 1;
+        Ok(())
+    }
+
+    /// Takes out the first event with its time. None where no event waits, which changes nothing.
+    pub fn next(&mut self) -> Option<(u32, Event)>
+        ensures first { MatchOption result (self.old.agenda.items ≡ []) (λ first. Comes self.old.agenda (record { time = first.0; item = first.1 }) self.new.agenda) }
+        ensures others { self.new ≡ record self.old { agenda = self.new.agenda } }
+        ensures none { IfNone result (self.new ≡ self.old) }
+    {
+        let Timed { time, item } = self.queue.next()?;
+        Some((time, item))
+    }
+
+    /// Cancels events of a node: the others stay, in their order.
+    pub fn cancel(&mut self, which: Cancel)
+        ensures { self.new ≡ record self.old { agenda = record self.old.agenda { items = filter (is_other group_of (number_of which)) self.old.agenda.items } } }
+    {
+        self.queue.cancel(which.number());
+    }
+
+    /// What happened on the air.
+    pub fn air(&self) -> &[Aired]
+        ensures { result.now ≡ self.now.air }
+    {
+        self.air.as_slice()
+    }
+
+    /// Hands out what happened on the air.
+    pub fn into_air(self) -> Airs
+        ensures { result ≡ self.air }
+    {
+        self.air
+    }
+
+    /// Notes what happened on the air. `NoMemory` leaves the radio as it was.
+    pub fn note(&mut self, aired: Aired) -> Result<(), NoMemory>
+        ensures { MatchResult result (λ _. self.new ≡ record self.old { air = self.old.air ++ aired ∷ [] }) (λ _. self.new ≡ self.old) }
+    {
+        self.air.push(aired)
+    }
+}
+
+/// Records the packet and what the links lose, and schedules what they deliver.
+fn send(
+    wires: &Wires,
+    sending: Sending,
+    bytes: &PacketBytes,
+    delay: u32,
+    queue: &mut Queue<Event>,
+    air: &mut Airs,
+    carried: &mut VecDeque<Event>,
+) -> Result<(), NoMemory>
+    requires none { carried.old.items ≡ [] }
+    requires ahead { queue.old.now ≤ sending.at.time }
+    requires room { sending.at.time + delay < 2 ^ 32 }
+    ensures queue { MatchResult result (λ _. queue.new ≡ scheduled_all queue.old (sending.at.time + delay) (delivered sending bytes.now wires.now)) (λ _. queue.new ≡ queue.old) }
+    ensures air { IfOk result (λ _. air.new ≡ air.old ++ sent_record sending bytes.now ∷ [] ++ losts sending wires.now) }
+    ensures kept { IsFurther air.old air.new }
+    ensures due { OnOk result (AddsAll queue.old (sending.at.time + delay) (delivered sending bytes.now wires.now) queue.new) }
+    ensures carried { OnOk result (carried.new.items ≡ []) }
+{
+    air.push(Aired {
+        stamp: sending.at,
+        node: sending.node,
+        air: Air::Sent {
+            number: sending.number,
+            bytes: copy_of(bytes),
+        },
+    })?;
+    wires.carry(sending, bytes, air, carried)?;
+    queue.schedule_all(sending.at.time + delay, carried)
+}
+
+/// The links that leave each node, each with its stream of words.
+fn wires_of(alloc: Global, random: u64, links: &[Link]) -> Result<Vec<Wires>, NoMemory>
+    requires few { length links.now < 2 ^ 32 }
+    requires near { All (λ (l : Link). l.from < 256) links.now }
+    ensures nodes { IfOk result (λ wires. length wires.items ≡ 256) }
+    ensures leaving { IfOk result (λ wires. AreLeaving random links.now wires.items) }
+{
+    let mut wires = none_leaving(alloc)?;
+    for (position, link) in links.iter().enumerate() {
+        wires[link.from as usize].push(Wire::new(random, position as u32, *link))?;
+    }
+    Ok(wires)
+}
+
+/// No link for each node.
+fn none_leaving(alloc: Global) -> Result<Vec<Wires>, NoMemory>
+    ensures nodes { IfOk result (λ wires. length wires.items ≡ 256) }
+    ensures empty { IfOk result (λ wires. (node : ℕ) → slice_index_or wires.items node [] ≡ []) }
+{
+    let mut wires = Vec::new(alloc);
+    for _ in 0..NODES {
+        wires.push(Wires::new(alloc))?;
+    }
+    Ok(wires)
+}
