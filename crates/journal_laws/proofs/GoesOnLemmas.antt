@@ -176,9 +176,9 @@ entries-begin a b (e ∷ es) (f ∷ fs) more is images stores =
     let store = same-next (store_named e.entry) (store_named f.entry) (names_in store_named es) (names_in store_named fs)
     (names-store a e.entry ∙ ap (λ (t : Told). is_some (store_seen t)) (sym told) ∙ sym (names-store b f.entry)) stores in
     let same : f.entry ≡ e.entry =
-        sym (entry-told b f.entry) ∙ ap (λ (o : Option ℕ). entry_with o (store_named f.entry) (told_of b f.entry)) (sym image.0)
-        ∙ ap (λ (o : Option ℕ). entry_with (image_named e.entry) o (told_of b f.entry)) (sym store.0)
-        ∙ ap (λ (t : Told). entry_with (image_named e.entry) (store_named e.entry) t) told ∙ entry-told a e.entry in
+    sym (entry-told b f.entry) ∙ ap (λ (o : Option ℕ). entry_with o (store_named f.entry) (told_of b f.entry)) (sym image.0)
+    ∙ ap (λ (o : Option ℕ). entry_with (image_named e.entry) o (told_of b f.entry)) (sym store.0)
+    ∙ ap (λ (t : Told). entry_with (image_named e.entry) (store_named e.entry) t) told ∙ entry-told a e.entry in
     let stamped : f ≡ e = ap (λ (s : Stamp). let x : Stamped = record { stamp = s; entry = f.entry } in x) stamp ∙ ap (λ (y : Entry). let x : Stamped = record { stamp = e.stamp; entry = y } in x) same in
     let later = entries-begin a b es fs more tail image.1 store.1 in
     (later.0, ap (λ (ys : List Stamped). f ∷ ys) later.1 ∙ ap (λ (x : Stamped). x ∷ (es ++ later.0)) stamped)
@@ -203,11 +203,11 @@ names-begin {A} named es fs xs ys more a b is =
 pub GoesOn-journal : (a b : Log) (more : List Event) → NumbersInOrder a → NumbersInOrder b → journal_of b ≡ journal_of a ++ more → GoesOn a b
 GoesOn-journal a b more na nb is =
     let images : b.images ≡ a.images ++ all_told image_told more =
-        sym (told-all b image_told image_named b.images no_image (image-of b) nb.images) ∙ ap (all_told image_told) is ∙ all_told-append image_told (journal_of a) more
-        ∙ ap (λ (xs : List (ArrayVec ℕ)). xs ++ all_told image_told more) (told-all a image_told image_named a.images no_image (image-of a) na.images) in
+    sym (told-all b image_told image_named b.images no_image (image-of b) nb.images) ∙ ap (all_told image_told) is ∙ all_told-append image_told (journal_of a) more
+    ∙ ap (λ (xs : List (ArrayVec ℕ)). xs ++ all_told image_told more) (told-all a image_told image_named a.images no_image (image-of a) na.images) in
     let stores : b.stores ≡ a.stores ++ all_told store_seen more =
-        sym (told-all b store_seen store_named b.stores no_store (store-of b) nb.stores) ∙ ap (all_told store_seen) is ∙ all_told-append store_seen (journal_of a) more
-        ∙ ap (λ (xs : List Store). xs ++ all_told store_seen more) (told-all a store_seen store_named a.stores no_store (store-of a) na.stores) in
+    sym (told-all b store_seen store_named b.stores no_store (store-of b) nb.stores) ∙ ap (all_told store_seen) is ∙ all_told-append store_seen (journal_of a) more
+    ∙ ap (λ (xs : List Store). xs ++ all_told store_seen more) (told-all a store_seen store_named a.stores no_store (store-of a) na.stores) in
     let entries = entries-begin a b a.entries b.entries more is
     (names-begin image_named a.entries b.entries a.images b.images (all_told image_told more) na.images nb.images images)
     (names-begin store_named a.entries b.entries a.stores b.stores (all_told store_seen more) na.stores nb.stores stores) in

@@ -74,9 +74,9 @@ name_is_one (c ∷ cs) h =
       short = omega (arith, leb-true (length cs) 15 front.0);
       kind_is = no_keyword (c ∷ cs) (not_true (is_keyword (c ∷ cs)) parts.1);
     } where
-  not_true : (b : Bool) → not b ≡ true → b ≡ false
-  not_true true e = absurd cc
-  not_true false e = refl
+      not_true : (b : Bool) → not b ≡ true → b ≡ false
+      not_true true e = absurd cc
+      not_true false e = refl
 
 pub same_bytes : (w : List ℕ) → bytes_eq w w ≡ true
 same_bytes w = (bytes_eq-Decides w w).1 refl
@@ -100,8 +100,10 @@ sensor_name devices (g ∷ fs) f all e = by (reads_sensor g.kind) e (λ e. senso
   where
     parts : (is_function devices g ≡ true) × (list_all (is_function devices) fs ≡ true)
     parts = and_parts (is_function devices g) (list_all (is_function devices) fs) all
+
     own : is_name g.name ≡ true
     own = (and_parts (is_name g.name) (nat_le (args_of g.kind) 4) (and_parts (is_name g.name && nat_le (args_of g.kind) 4) (is_device devices g.device) (and_parts ((is_name g.name && nat_le (args_of g.kind) 4) && is_device devices g.device) (between 1 60000 g.latency) parts.0).0).0).0
+
     by : (b : Bool) → cond b (Some g.name) (first_sensor fs) ≡ Some f → (first_sensor fs ≡ Some f → is_name f ≡ true) → is_name f ≡ true
     by true e rest = ap is_name (sym (some_name e)) ∙ own
     by false e rest = rest e
@@ -114,6 +116,7 @@ not_seen seen (g ∷ fs) f apart e = by (stands_in seen g.name) refl apart (λ a
     last : (b : Bool) → stands_in seen g.name ≡ false → cond b (Some g.name) (first_sensor fs) ≡ Some f → (first_sensor fs ≡ Some f → stands_in (seen ++ g.name ∷ []) f ≡ false) → stands_in seen f ≡ false
     last true own e rest = ap (stands_in seen) (sym (some_name e)) ∙ own
     last false own e rest = (or_none (stands_in seen f) (stands_in (g.name ∷ []) f) (sym (list_any-append (λ other. bytes_eq f other) seen (g.name ∷ [])) ∙ rest e)).0
+
     by : (b : Bool) → stands_in seen g.name ≡ b → cond b (Some g.name) (repeat_after (seen ++ g.name ∷ []) (map (λ g. g.name) fs)) ≡ None
         → (repeat_after (seen ++ g.name ∷ []) (map (λ g. g.name) fs) ≡ None → first_sensor fs ≡ Some f → stands_in (seen ++ g.name ∷ []) f ≡ false) → stands_in seen f ≡ false
     by true own apart rest = absurd cc
@@ -138,6 +141,7 @@ found_sensor i seen (g ∷ fs) f apart e = by (stands_in seen g.name) apart (λ 
         let other : bytes_eq f g.name ≡ false = (or_none (bytes_eq f g.name) false parts.1).0 in
         let later : IsSensor (i + 1) fs f = rest e in
         record { id = later.id; found = cond-false (bytes_eq f g.name) _ _ other ∙ later.found }
+
     by : (b : Bool) → cond b (Some g.name) (repeat_after (seen ++ g.name ∷ []) (map (λ g. g.name) fs)) ≡ None
         → (repeat_after (seen ++ g.name ∷ []) (map (λ g. g.name) fs) ≡ None → first_sensor fs ≡ Some f → IsSensor (i + 1) fs f) → IsSensor i (g ∷ fs) f
     by true apart rest = absurd cc

@@ -65,13 +65,13 @@ come-step w s m t came sched next before = elim (eqb_tells m.time t) [ inl same 
       let left_is : (if t == m.time then drop 1 (s.due t) else s.due t) ≡ next.others = rw (at_time same) (ap (drop 1) due_is) in
       part-of ((came ++ (if m.time == t then m.cause ∷ [] else [])) ++ (filter P (if t == m.time then drop 1 (s.due t) else s.due t) ++ new)) ((came ++ (m.cause ∷ filter P next.others)) ++ new) (sched ++ new)
       (ap (λ (b : Bool). (came ++ (if b then m.cause ∷ [] else [])) ++ (filter P (if t == m.time then drop 1 (s.due t) else s.due t) ++ new)) is
-        ∙ ap (λ (xs : List Cause). (came ++ m.cause ∷ []) ++ (filter P xs ++ new)) left_is
-        ∙ regroup came m.cause (filter P next.others) new) all where
-          at_time : m.time ≡ t → (t == m.time) ≡ true
-          at_time e = elim (eqb_tells t m.time) [ inl yes_so ↦ yes_so.0 | inr not_so ↦ absurd (not_so.1 (sym e)) ]
+      ∙ ap (λ (xs : List Cause). (came ++ m.cause ∷ []) ++ (filter P xs ++ new)) left_is
+      ∙ regroup came m.cause (filter P next.others) new) all where
+        at_time : m.time ≡ t → (t == m.time) ≡ true
+        at_time e = elim (eqb_tells t m.time) [ inl yes_so ↦ yes_so.0 | inr not_so ↦ absurd (not_so.1 (sym e)) ]
 
-          regroup : (a : List Cause) (x : Cause) (b c : List Cause) → (a ++ x ∷ []) ++ (b ++ c) ≡ (a ++ (x ∷ b)) ++ c
-          regroup a x b c = simp append_assoc
+        regroup : (a : List Cause) (x : Cause) (b c : List Cause) → (a ++ x ∷ []) ++ (b ++ c) ≡ (a ++ (x ∷ b)) ++ c
+        regroup a x b c = simp append_assoc
 
   later : (m.time == t) ≡ false → (t ≡ m.time → ⊥) → Goal
   later is other =
@@ -79,13 +79,13 @@ come-step w s m t came sched next before = elim (eqb_tells m.time t) [ inl same 
       let all : IsSublist ((came ++ filter P (s.due t)) ++ new) (sched ++ new) = part-append (came ++ filter P (s.due t)) sched new new old (part-same new) in
       part-of ((came ++ (if m.time == t then m.cause ∷ [] else [])) ++ (filter P (if t == m.time then drop 1 (s.due t) else s.due t) ++ new)) ((came ++ filter P (s.due t)) ++ new) (sched ++ new)
       (ap (λ (b : Bool). (came ++ (if b then m.cause ∷ [] else [])) ++ (filter P (if t == m.time then drop 1 (s.due t) else s.due t) ++ new)) is
-        ∙ ap (λ (b : Bool). (came ++ []) ++ (filter P (if b then drop 1 (s.due t) else s.due t) ++ new)) (elsewhere other)
-        ∙ regroup came (filter P (s.due t)) new) all where
-          elsewhere : (t ≡ m.time → ⊥) → (t == m.time) ≡ false
-          elsewhere e = elim (eqb_tells t m.time) [ inl yes_so ↦ absurd (e yes_so.1) | inr not_so ↦ not_so.0 ]
+      ∙ ap (λ (b : Bool). (came ++ []) ++ (filter P (if b then drop 1 (s.due t) else s.due t) ++ new)) (elsewhere other)
+      ∙ regroup came (filter P (s.due t)) new) all where
+        elsewhere : (t ≡ m.time → ⊥) → (t == m.time) ≡ false
+        elsewhere e = elim (eqb_tells t m.time) [ inl yes_so ↦ absurd (e yes_so.1) | inr not_so ↦ not_so.0 ]
 
-          regroup : (a b c : List Cause) → (a ++ []) ++ (b ++ c) ≡ (a ++ b) ++ c
-          regroup a b c = simp (append-nil, append_assoc)
+        regroup : (a b c : List Cause) → (a ++ []) ++ (b ++ c) ≡ (a ++ b) ++ c
+        regroup a b c = simp (append-nil, append_assoc)
 
 pub come_in_order : (w : World) → ComeInOrder w
 come_in_order w [] t come = part-same ((world_start w).due t)

@@ -113,15 +113,18 @@ first_due t low = none_is_empty ((world_start world).due t) (λ c a. late c (amo
   late c (inr (inr (inr (inr (inr (inr (inr a))))))) = a
 
 first_comes : HaveCome world (injects ∷ [])
-first_comes = (tt, record {
-  room = omega arith;
-  next = record { others = event.Planned 1 ∷ []; due = refl; none_before = first_due };
-  in_time = omega arith;
-  makes = record {
-    front = injects.told;
-    rest = [];
-    made = refl;
-    by_first = record { seen = _; rest = []; shown = record { ready = λ at n writes is. (let clash : Unposted ≡ Ready = is in cc) }; newer = omega arith; made = refl; once = λ once. (let clash : false ≡ true = once in cc); else = λ never. refl };
-    by_second = record { turns = []; are_turns = tt; made = refl; then = refl; empty = refl; settled = λ n e. (let clash : Unposted ≡ Ready = e in cc) };
-  };
-})
+first_comes = (
+  tt,
+  record {
+    room = omega arith;
+    next = record { others = event.Planned 1 ∷ []; due = refl; none_before = first_due };
+    in_time = omega arith;
+    makes = record {
+      front = injects.told;
+      rest = [];
+      made = refl;
+      by_first = record { seen = _; rest = []; shown = record { ready = λ at n writes is. (let clash : Unposted ≡ Ready = is in cc) }; newer = omega arith; made = refl; once = λ once. (let clash : false ≡ true = once in cc); else = λ never. refl };
+      by_second = record { turns = []; are_turns = tt; made = refl; then = refl; empty = refl; settled = λ n e. (let clash : Unposted ≡ Ready = e in cc) };
+    };
+  },
+)

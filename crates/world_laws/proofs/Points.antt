@@ -122,10 +122,12 @@ source-ahead w s m x (pump is) = omega (arith, time_is _ _ is)
 source-ahead w s m x (answer k later) = later
 
 pub past-step : (w : World) (s : WorldState) (m : Moment) → IsNext s m.time m.cause → IsPast (after_moment w s m) m.time
-past-step w s m next = record { none = λ t before. none_is_empty ((after_moment w s m).due t) (λ c h. elim (due-from w s m t c h) [
-  | inl old ↦ none-among c (s.due t) (next.none_before t before) old.0
-  | inr new ↦ let ahead : m.time ≤ t = source-ahead w s m (at t c) (source w s m (at t c) new) in absurd (omega arith)
-]) }
+past-step w s m next = record {
+  none = λ t before. none_is_empty ((after_moment w s m).due t) (λ c h. elim (due-from w s m t c h) [
+    | inl old ↦ none-among c (s.due t) (next.none_before t before) old.0
+    | inr new ↦ let ahead : m.time ≤ t = source-ahead w s m (at t c) (source w s m (at t c) new) in absurd (omega arith)
+  ]);
+}
 
 -- what schedules the end of an interval is that one began
 expire-source : (w : World) (s : WorldState) (m : Moment) (i t : ℕ) → Source w s m (at t (event.Expire i))
@@ -487,7 +489,7 @@ start-timed w i right below = record {
     | inl a ↦ absurd (apart 3 0 refl (line-kind _ 0 w.plan a))
     | inr b ↦ let node = among-flat_map (first_of w) (at t (event.Expire i)) (range_with_len 0 w.nodes) b in
         elim (among-append (at t (event.Expire i)) (of_interval node.0 (start_node w node.0).timer) _ node.2) [
-          | inl c ↦ let e = end-in i node.0 t (start_node w node.0).timer c in e.1 
+          | inl c ↦ let e = end-in i node.0 t (start_node w node.0).timer c in e.1
           | inr d ↦ absurd (apart 3 1 refl (period-kind w _ node.0 d))
         ]
   ]
