@@ -2,3 +2,6 @@ pub mod Times
 pub mod Slots
 pub mod Causes
 pub mod Simulates
+pub mod Calls
+pub mod Arrivals
+pub mod Timing
