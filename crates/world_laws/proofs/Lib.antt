@@ -9,3 +9,4 @@ pub mod Example
 pub mod Steps
 pub mod Origins
 pub mod Timing
+pub mod Packets

@@ -144,12 +144,12 @@ answers_were_called w before x node n c value come is = by (came-from w before x
 
 -- ---- arrivals
 
-among-get : {X : Type 0} (xs : List X) (i : ℕ) (x : X) → slice_get xs i ≡ Some x → Among x xs
+pub among-get : {X : Type 0} (xs : List X) (i : ℕ) (x : X) → slice_get xs i ≡ Some x → Among x xs
 among-get [] i x e = let clash : None ≡ Some x = e in cc
 among-get (y ∷ ys) zero x e = inl (let same : y ≡ x = cc in same)
 among-get (y ∷ ys) (suc i) x e = inr (among-get ys i x e)
 
-place-of : {X : Type 0} (xs : List X) (x : X) → Among x xs → (i : ℕ) × (slice_get xs i ≡ Some x)
+pub place-of : {X : Type 0} (xs : List X) (x : X) → Among x xs → (i : ℕ) × (slice_get xs i ≡ Some x)
 place-of [] x a = absurd a
 place-of (y ∷ ys) x (inl e) = (0, ap Some e)
 place-of (y ∷ ys) x (inr a) = let at_rest = place-of ys x a in (suc at_rest.0, at_rest.1)

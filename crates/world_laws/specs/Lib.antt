@@ -5,3 +5,4 @@ pub mod Simulates
 pub mod Calls
 pub mod Arrivals
 pub mod Timing
+pub mod Packets

@@ -5,6 +5,7 @@ ghost use Rattle.world_rules.specs.World.{World};
 ghost use Rattle.world_laws.specs.Arrivals.{ArrivalsWereSent, SentArrive};
 ghost use Rattle.world_laws.specs.Calls.{AnswersWereCalled, CallsAreAnswered};
 ghost use Rattle.world_laws.specs.Causes.{ComeInOrder, EachComes};
+ghost use Rattle.world_laws.specs.Packets.{ExchangesStand, InstallsHaveReasons, PacketsHaveReasons};
 ghost use Rattle.world_laws.specs.Simulates.{ReadsJournals};
 ghost use Rattle.world_laws.specs.Slots.{SendsInTime};
 ghost use Rattle.world_laws.specs.Times.{FiresInTime, IsRightSet};
@@ -47,4 +48,13 @@ pub fn packets_arrive()
 pub fn timers_keep_their_rules()
     ensures stand { (w : World) → TimersStand w }
     ensures decide { (w : World) → PointsDecide w }
+{}
+
+/// Each packet that is sent is the Vector of a point, a request on a Vector, the fragment of the next marked slot, or the message
+/// of a call; a node's exchange looks back over all that happened to it; and each install comes from a line, or from a packet
+/// that makes what was collected complete, and is then of just that.
+pub fn exchanges_keep_their_rules()
+    ensures reasons { (w : World) → PacketsHaveReasons w }
+    ensures stand { (w : World) → ExchangesStand w }
+    ensures installs { (w : World) → InstallsHaveReasons w }
 {}
