@@ -83,7 +83,7 @@ quiet-all w h now [] each = tt
 quiet-all w h now (x ∷ older) each = (quiet-all w h now older (λ front back y is. each (x ∷ front) back y (ap (λ (ms : List Moment). x ∷ ms) is)), each [] older x refl)
 
 -- two programs that one line injects are the same
-same-line : (w : World) (i : ℕ) (p q : HeldProgram) → InjectsAt w i p → InjectsAt w i q → q ≡ p
+pub same-line : (w : World) (i : ℕ) (p q : HeldProgram) → InjectsAt w i p → InjectsAt w i q → q ≡ p
 same-line w i p q a b =
     let lines : Some a.0 ≡ Some b.0 = sym a.1 ∙ b.1 in
     let same : a.0 ≡ b.0 = cc in

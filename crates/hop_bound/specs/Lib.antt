@@ -1,3 +1,4 @@
 pub mod Hops
 pub mod Spread
 pub mod HopBound
+pub mod Premises

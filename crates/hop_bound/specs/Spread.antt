@@ -14,6 +14,7 @@ use Rattle.world_rules.specs.Effect.{Deed, Installing, event_node, resets}
 use Rattle.world_rules.specs.State.{Moment, WorldState, effect_at, state}
 use Rattle.world_rules.specs.Run.{HaveCome, IsDone}
 use Rattle.hop_bound.specs.Hops.{HasLink, IsAway}
+use Rattle.world_images.specs.Newest.{Version, IsNewest}
 use Rattle.world_laws.specs.Times.{IsRightSet, last_time}
 
 -- suppression is off, nothing is lost, and a round of all fragments fits into the longest interval

@@ -3,6 +3,7 @@
 
 ghost use Rattle.world_rules.specs.World.{World};
 ghost use Rattle.hop_bound.specs.HopBound.{HopBound, IsRightPlan};
+ghost use Rattle.hop_bound.specs.Premises.{InjectedAreVersions, InjectedIsInstalled, OpenScriptsAreOpen, RightScriptsPlanRightly};
 ghost use Rattle.hop_bound.specs.Spread.{HopsInTime, IsOpenWorld, SpreadsInTime};
 ghost use Rattle.world_images.specs.Newest.{IsWorldVersion, Version};
 
@@ -17,4 +18,13 @@ pub fn versions_spread()
 /// and nothing is lost, and until then no node is reset and nothing newer is injected for the handler.
 pub fn injected_versions_arrive()
     ensures { (w : World) → IsOpenWorld w → IsRightPlan w → HopBound w }
+{}
+
+/// What the bound takes for granted holds in the world of every description with a right script and its programs, where the
+/// script has suppression off and no link that loses. There each node within reach has its Install entry in time.
+pub fn scripts_keep_the_bound()
+    ensures lossless { OpenScriptsAreOpen }
+    ensures plan { RightScriptsPlanRightly }
+    ensures versions { InjectedAreVersions }
+    ensures installed { InjectedIsInstalled }
 {}

@@ -56,9 +56,9 @@ interval-no_line i k t timer (inr (inr a)) = a
 no_line : (w : World) (s : WorldState) (m : Moment) (t i : ℕ) → Source w s m (at t (event.Planned i)) → ⊥
 no_line w s m t i (period is later) = apart 0 1 refl is
 no_line w s m t i (interval l is a) = interval-no_line i (event_node w m.cause) t (node_after w (node_at w s m) m).timer a
-no_line w s m t i (delivery sending j a b is) = apart 0 6 refl (ap (λ (x : Scheduled). kind x.cause) is)
+no_line w s m t i (delivery sending j a b kept is) = apart 0 6 refl (ap (λ (x : Scheduled). kind x.cause) is)
 no_line w s m t i (pump is) = apart 0 4 refl (ap (λ (x : Scheduled). kind x.cause) is)
-no_line w s m t i (answer is later) = apart 0 5 refl is
+no_line w s m t i (answer is later call) = apart 0 5 refl is
 
 line-before : (w : World) (s : WorldState) (m : Moment) (t i : ℕ) → Among (event.Planned i) ((after_moment w s m).due t) → Among (event.Planned i) (s.due t)
 line-before w s m t i a = elim (due-from w s m t (event.Planned i) a) [ inl was ↦ was.0 | inr new ↦ absurd (no_line w s m t i (source w s m (at t (event.Planned i)) new)) ]

@@ -214,11 +214,11 @@ of_interval-none w s m t j number p i timer (inr (inr a)) = a
 new-tame : (w : World) (v : Version) (s : WorldState) (m : Moment) (t j number : ℕ) (p : Packet) → IsWorldVersion w v → IsTameNode v (node_at w s m).exchange → Source w s m (at t (event.Deliver j number p)) → IsTame v p
 new-tame w v s m t j number p right old (period is later) = absurd (apart 6 1 refl is)
 new-tame w v s m t j number p right old (interval l is a) = absurd (of_interval-none w s m t j number p (event_node w m.cause) (node_after w (node_at w s m) m).timer a)
-new-tame w v s m t j number p right old (delivery sending link among leaves is) =
+new-tame w v s m t j number p right old (delivery sending link among leaves kept is) =
     let same : sending.packet ≡ p = sym (ap (λ (x : Scheduled). delivered-packet x.cause) is) in
     subst (λ (x : Packet). IsTame v x) same (packets-tame w v s m right old sending.packet (numbered-among sending _ _ (packets_of w s m) among))
 new-tame w v s m t j number p right old (pump is) = absurd (apart 6 4 refl (ap (λ (x : Scheduled). kind x.cause) is))
-new-tame w v s m t j number p right old (answer is later) = absurd (apart 6 5 refl is)
+new-tame w v s m t j number p right old (answer is later call) = absurd (apart 6 5 refl is)
 
 pub world-step : (w : World) (v : Version) (s : WorldState) (m : Moment) → IsWorldVersion w v → MayCome w s m → ((p : HeldProgram) → (effect_at w s m).deed ≡ Installing p → KeepsTo v p) → IsTameWorld w v s
     → IsTameWorld w v (after_moment w s m)

@@ -248,11 +248,11 @@ packets-of w ms s m node p a = elim (among-append p (effect_at w s m).sends (mes
 new-of : (w : World) (ms : List Moment) (s : WorldState) (m : Moment) (t j number : ℕ) (p : Packet) → IsInjectedNode w ms (node_at w s m).exchange → Source w s m (at t (event.Deliver j number p)) → IsOfInjected w ms p
 new-of w ms s m t j number p node (period is later) = absurd (apart 6 1 refl is)
 new-of w ms s m t j number p node (interval l is a) = absurd (of_interval-none w s m t j number p (event_node w m.cause) (node_after w (node_at w s m) m).timer a)
-new-of w ms s m t j number p node (delivery sending link among leaves is) =
+new-of w ms s m t j number p node (delivery sending link among leaves kept is) =
     let same : sending.packet ≡ p = sym (ap (λ (x : Scheduled). delivered-packet x.cause) is) in
     subst (λ (x : Packet). IsOfInjected w ms x) same (packets-of w ms s m node sending.packet (numbered-among sending _ _ (packets_of w s m) among))
 new-of w ms s m t j number p node (pump is) = absurd (apart 6 4 refl (ap (λ (x : Scheduled). kind x.cause) is))
-new-of w ms s m t j number p node (answer is later) = absurd (apart 6 5 refl is)
+new-of w ms s m t j number p node (answer is later call) = absurd (apart 6 5 refl is)
 
 world-step : (w : World) (m : Moment) (before : List Moment) → IsOneImage w → MayCome w (state w before) m → IsInjectedWorld w before (state w before) → IsInjectedWorld w (m ∷ before) (state w (m ∷ before))
 world-step w m before one may old = record {

@@ -1,17 +1,19 @@
 -- What is due after an event.
-use Rattle.std.proofs.Common.{◌≡◌, ◌≢◌, ◌<◌, ◌≤◌, ℕ, suc, ◌+◌, ◌*◌, Bool, true, false, not, ◌&&◌, IsTrue, List, [], ◌∷◌, ◌++◌, map, drop, refl, sym, ◌∙◌, ap, subst, arith, inl, inr, ◌⊎◌}
-use Rattle.std.specs.Prelude.{Option, Some, None, ◌==◌, if◌then◌else◌, slice_get}
+use Rattle.std.proofs.Common.{◌≡◌, ◌≢◌, ◌<◌, ◌≤◌, ℕ, suc, ◌+◌, ◌*◌, Bool, true, false, not, ◌&&◌, IsTrue, List, [], ◌∷◌, ◌++◌, map, drop, refl, sym, ◌∙◌, ap, subst, arith, inl, inr, ◌⊎◌, append_assoc}
+use Rattle.std.specs.Prelude.{Option, Some, None, ◌==◌, if◌then◌else◌, slice_get, ℤ}
 use Rattle.std.specs.List.{filter, flat_map, filter_map}
 use Rattle.std.specs.Option.{option_map_or}
 use Rattle.std.proofs.lemmas.Bool.Decides.{eqb_tells}
+use Rattle.std.proofs.lemmas.List.{append-nil}
+use Rattle.arrayvec.specs.ArrayVec.{ArrayVec}
 use Rattle.mate_num.specs.declared.id.FunId.{FunId}
 use Rattle.mate_journal.specs.Journal.{Told, Posted, Dropped, Started, Asked, Answered, Ended, Installed, Reset, Seen, Void, Reading}
 use Rattle.trickle_timer.specs.Timer.{Timer}
 use Rattle.world_rules.specs.Cause.{Cause}
 use Rattle.world_rules.specs.Cause as event
-use Rattle.world_rules.specs.World.{World, links_from, period_of}
+use Rattle.world_rules.specs.World.{World, links_from, period_of, latency_of}
 use Rattle.world_rules.specs.Effect.{Node, NodeEffect, node_effect, begun_length, resets, is_owing, event_node}
-use Rattle.world_rules.specs.State.{Moment, WorldState, Scheduled, of_time, Sending, sendings, is_lost, deliveries, packets_of, next_period, of_interval, new_interval, new_pump, answers_due, still_pumps, node_at, effect_at, node_after, schedules, is_kept, is_some_length, left_due, after_moment}
+use Rattle.world_rules.specs.State.{Moment, WorldState, Scheduled, of_time, Sending, sendings, is_lost, deliveries, packets_of, next_period, of_interval, new_interval, new_pump, calls_in, answer_at, answers_due, still_pumps, node_at, effect_at, node_after, schedules, is_kept, is_some_length, left_due, after_moment}
 use Rattle.world_rules.specs.Run.{IsNext}
 use Rattle.world_laws.proofs.Among.{Among, among-left, among-right, among-append, among-filter, among-unfilter, among-flat_map, among-rest, among-behind, none-among, among-of_time, among-un_of_time}
 
@@ -68,14 +70,28 @@ kind (event.Pump node) = 4
 kind (event.Due node c inv value) = 5
 kind (event.Deliver link number packet) = 6
 
+abbrev pub answer_scheduled : World → ℕ → ℕ → Reading → List FunId → ℕ → FunId → Scheduled
+answer_scheduled w node time r called n f =
+    at (time + latency_of w f) (event.Due node (r.invocations n).context n (answer_at w node called f (time + latency_of w f)))
+
+-- the answer to one of the entries' calls, where these were called before
+pub record AnswerOf (w : World) (node time : ℕ) (r : Reading) (called : List FunId) (told : List Told) (x : Scheduled) : Type 0 where
+  pub front : List Told
+  pub rest : List Told
+  pub invocation : ℕ
+  pub fun : FunId
+  pub args : ArrayVec ℤ
+  pub told_is : told ≡ front ++ Asked invocation fun args ∷ rest
+  pub is : x ≡ answer_scheduled w node time r (called ++ calls_in front) invocation fun
+
 -- where something that is scheduled comes from
 pub data Source (w : World) (s : WorldState) (m : Moment) (x : Scheduled) : Type 0 where
   period : kind x.cause ≡ 1 → m.time ≤ x.time → Source w s m x
   interval : (l : ℕ) → begun_length (node_at w s m) (effect_at w s m) ≡ Some l → Among x (of_interval (event_node w m.cause) (node_after w (node_at w s m) m).timer) → Source w s m x
   delivery : (sending : Sending) (j : ℕ) → Among sending (sendings w s (event_node w m.cause) (packets_of w s m)) → Among j (links_from w (event_node w m.cause))
-      → x ≡ at (m.time + w.description.radio.delay) (event.Deliver j sending.number sending.packet) → Source w s m x
+      → is_lost w sending j ≡ false → x ≡ at (m.time + w.description.radio.delay) (event.Deliver j sending.number sending.packet) → Source w s m x
   pump : x ≡ at (m.time + w.description.radio.gap) (event.Pump (event_node w m.cause)) → Source w s m x
-  answer : kind x.cause ≡ 5 → m.time ≤ x.time → Source w s m x
+  answer : kind x.cause ≡ 5 → m.time ≤ x.time → AnswerOf w (event_node w m.cause) m.time (node_after w (node_at w s m) m).reading (node_at w s m).called m.told x → Source w s m x
 
 one : (x y : Scheduled) → Among x (y ∷ []) → x ≡ y
 one x y (inl e) = sym e
@@ -106,28 +122,62 @@ delivery_source w s m x h = let sent = among-flat_map (deliveries w node m.time)
   over : (y : Sending) → Among y (sendings w s node (packets_of w s m)) → Among x (deliveries w node m.time y) → Source w s m x
   over y among a =
       let link = among-flat_map (λ (j : ℕ). if is_lost w y j then [] else at (m.time + w.description.radio.delay) (event.Deliver j y.number y.packet) ∷ []) x (links_from w node) a in
-      arrives (is_lost w y link.0) link.0 link.1 link.2 where
-        arrives : (b : Bool) (j : ℕ) → Among j (links_from w node) → Among x (if b then [] else at (m.time + w.description.radio.delay) (event.Deliver j y.number y.packet) ∷ []) → Source w s m x
-        arrives true j leaves it = absurd it
-        arrives false j leaves it = delivery y j among leaves (one x (at (m.time + w.description.radio.delay) (event.Deliver j y.number y.packet)) it)
+      arrives (is_lost w y link.0) link.0 refl link.1 link.2 where
+        arrives : (b : Bool) (j : ℕ) → is_lost w y j ≡ b → Among j (links_from w node) → Among x (if b then [] else at (m.time + w.description.radio.delay) (event.Deliver j y.number y.packet) ∷ []) → Source w s m x
+        arrives true j lost leaves it = absurd it
+        arrives false j lost leaves it = delivery y j among leaves lost (one x (at (m.time + w.description.radio.delay) (event.Deliver j y.number y.packet)) it)
 
 pump_source : (w : World) (s : WorldState) (m : Moment) (x : Scheduled) (b : Bool) → Among x (new_pump w (event_node w m.cause) m.time b) → Source w s m x
 pump_source w s m x false h = absurd h
 pump_source w s m x true h = pump (one x (at (m.time + w.description.radio.gap) (event.Pump (event_node w m.cause))) h)
 
-answer_source : (w : World) (s : WorldState) (m : Moment) (x : Scheduled) (node : ℕ) (r : Reading) (called : List FunId) (told : List Told) → Among x (answers_due w node m.time r called told) → Source w s m x
-answer_source w s m x node r called [] h = absurd h
-answer_source w s m x node r called (Posted n g c payload ∷ told) h = answer_source w s m x node r called told h
-answer_source w s m x node r called (Dropped g cause ∷ told) h = answer_source w s m x node r called told h
-answer_source w s m x node r called (Started n ∷ told) h = answer_source w s m x node r called told h
-answer_source w s m x node r called (Asked n f args ∷ told) (inl e) = answer (ap (λ (y : Scheduled). kind y.cause) (sym e)) (omega (arith, ap (λ (y : Scheduled). y.time) e))
-answer_source w s m x node r called (Asked n f args ∷ told) (inr h) = answer_source w s m x node r (called ++ f ∷ []) told h
-answer_source w s m x node r called (Answered n value ∷ told) h = answer_source w s m x node r called told h
-answer_source w s m x node r called (Ended n how ∷ told) h = answer_source w s m x node r called told h
-answer_source w s m x node r called (Installed p ∷ told) h = answer_source w s m x node r called told h
-answer_source w s m x node r called (Reset ∷ told) h = answer_source w s m x node r called told h
-answer_source w s m x node r called (Seen store ∷ told) h = answer_source w s m x node r called told h
-answer_source w s m x node r called (Void cause ∷ told) h = answer_source w s m x node r called told h
+-- behind an entry that is no call
+behind_entry : (w : World) (node time : ℕ) (r : Reading) (called : List FunId) (told : List Told) (x : Scheduled) (t : Told) → ((front : List Told) → calls_in front ≡ calls_in (t ∷ front))
+    → AnswerOf w node time r called told x → AnswerOf w node time r called (t ∷ told) x
+behind_entry w node time r called told x t skips a = record {
+  front = t ∷ a.front;
+  rest = a.rest;
+  invocation = a.invocation;
+  fun = a.fun;
+  args = a.args;
+  told_is = ap (λ (ts : List Told). t ∷ ts) a.told_is;
+  is = a.is ∙ ap (λ (fs : List FunId). answer_scheduled w node time r (called ++ fs) a.invocation a.fun) (skips a.front);
+}
+
+answer-of : (w : World) (node time : ℕ) (r : Reading) (called : List FunId) (told : List Told) (x : Scheduled) → Among x (answers_due w node time r called told) → AnswerOf w node time r called told x
+answer-of w node time r called [] x h = absurd h
+answer-of w node time r called (Posted n g c payload ∷ told) x h = behind_entry w node time r called told x (Posted n g c payload) (λ front. refl) (answer-of w node time r called told x h)
+answer-of w node time r called (Dropped g cause ∷ told) x h = behind_entry w node time r called told x (Dropped g cause) (λ front. refl) (answer-of w node time r called told x h)
+answer-of w node time r called (Started n ∷ told) x h = behind_entry w node time r called told x (Started n) (λ front. refl) (answer-of w node time r called told x h)
+answer-of w node time r called (Asked n f args ∷ told) x (inl e) = record {
+  front = [];
+  rest = told;
+  invocation = n;
+  fun = f;
+  args = args;
+  told_is = refl;
+  is = sym e ∙ ap (λ (fs : List FunId). answer_scheduled w node time r fs n f) (sym (append-nil called));
+}
+answer-of w node time r called (Asked n f args ∷ told) x (inr h) =
+    let a : AnswerOf w node time r (called ++ f ∷ []) told x = answer-of w node time r (called ++ f ∷ []) told x h in
+    record {
+      front = Asked n f args ∷ a.front;
+      rest = a.rest;
+      invocation = a.invocation;
+      fun = a.fun;
+      args = a.args;
+      told_is = ap (λ (ts : List Told). Asked n f args ∷ ts) a.told_is;
+      is = a.is ∙ ap (λ (fs : List FunId). answer_scheduled w node time r fs a.invocation a.fun) (append_assoc called (f ∷ []) (calls_in a.front));
+    }
+answer-of w node time r called (Answered n value ∷ told) x h = behind_entry w node time r called told x (Answered n value) (λ front. refl) (answer-of w node time r called told x h)
+answer-of w node time r called (Ended n how ∷ told) x h = behind_entry w node time r called told x (Ended n how) (λ front. refl) (answer-of w node time r called told x h)
+answer-of w node time r called (Installed p ∷ told) x h = behind_entry w node time r called told x (Installed p) (λ front. refl) (answer-of w node time r called told x h)
+answer-of w node time r called (Reset ∷ told) x h = behind_entry w node time r called told x Reset (λ front. refl) (answer-of w node time r called told x h)
+answer-of w node time r called (Seen store ∷ told) x h = behind_entry w node time r called told x (Seen store) (λ front. refl) (answer-of w node time r called told x h)
+answer-of w node time r called (Void cause ∷ told) x h = behind_entry w node time r called told x (Void cause) (λ front. refl) (answer-of w node time r called told x h)
+
+answer_source : (w : World) (s : WorldState) (m : Moment) (x : Scheduled) → AnswerOf w (event_node w m.cause) m.time (node_after w (node_at w s m) m).reading (node_at w s m).called m.told x → Source w s m x
+answer_source w s m x a = answer (ap (λ (y : Scheduled). kind y.cause) a.is) (omega (arith, ap (λ (y : Scheduled). y.time) a.is)) a
 
 pub source : (w : World) (s : WorldState) (m : Moment) (x : Scheduled) → Among x (schedules w s m) → Source w s m x
 source w s m x h = elim (among-append x A (B ++ (C ++ (D ++ E))) h) [
@@ -138,7 +188,7 @@ source w s m x h = elim (among-append x A (B ++ (C ++ (D ++ E))) h) [
       | inl c ↦ delivery_source w s m x c
       | inr h3 ↦ elim (among-append x D E h3) [
         | inl d ↦ pump_source w s m x (not (still_pumps m.cause (effect_at w s m) (node_at w s m)) && is_owing w (node_after w (node_at w s m) m).exchange) d
-        | inr e ↦ answer_source w s m x (event_node w m.cause) (node_after w (node_at w s m) m).reading (node_at w s m).called m.told e
+        | inr e ↦ answer_source w s m x (answer-of w (event_node w m.cause) m.time (node_after w (node_at w s m) m).reading (node_at w s m).called m.told x e)
       ]
     ]
   ]

@@ -7,3 +7,6 @@ pub mod Pumps
 pub mod Comes
 pub mod Example
 pub mod Steps
+pub mod Origins
+pub mod Timing
+pub mod Packets

@@ -117,9 +117,9 @@ source-ahead w s m x (period k later) = later
 source-ahead w s m x (interval l is h) =
     in_interval-ahead (event_node w m.cause) x (node_after w (node_at w s m) m).timer m.time
     (point-ahead _ _ _ l m.time (begun-timer w s m l is)) (end-ahead _ _ _ l m.time (begun-timer w s m l is)) h
-source-ahead w s m x (delivery sending j a b is) = omega (arith, time_is _ _ is)
+source-ahead w s m x (delivery sending j a b kept is) = omega (arith, time_is _ _ is)
 source-ahead w s m x (pump is) = omega (arith, time_is _ _ is)
-source-ahead w s m x (answer k later) = later
+source-ahead w s m x (answer k later call) = later
 
 pub past-step : (w : World) (s : WorldState) (m : Moment) → IsNext s m.time m.cause → IsPast (after_moment w s m) m.time
 past-step w s m next = record {
@@ -134,9 +134,9 @@ expire-source : (w : World) (s : WorldState) (m : Moment) (i t : ℕ) → Source
     → (l : ℕ) × (begun_length (node_at w s m) (effect_at w s m) ≡ Some l) × Among (at t (event.Expire i)) (of_interval (event_node w m.cause) (node_after w (node_at w s m) m).timer)
 expire-source w s m i t (period k later) = absurd (apart 3 1 refl (k))
 expire-source w s m i t (interval l is h) = (l, is, h)
-expire-source w s m i t (delivery sending j a b is) = absurd (apart 3 6 refl (kind_is _ _ (cause_is _ _ is)))
+expire-source w s m i t (delivery sending j a b kept is) = absurd (apart 3 6 refl (kind_is _ _ (cause_is _ _ is)))
 expire-source w s m i t (pump is) = absurd (apart 3 4 refl (kind_is _ _ (cause_is _ _ is)))
-expire-source w s m i t (answer k later) = absurd (apart 3 5 refl (k))
+expire-source w s m i t (answer k later call) = absurd (apart 3 5 refl (k))
 
 -- ---- the timer of a node, at each place of a run
 

@@ -2,3 +2,7 @@ pub mod Times
 pub mod Slots
 pub mod Causes
 pub mod Simulates
+pub mod Calls
+pub mod Arrivals
+pub mod Timing
+pub mod Packets

@@ -2,10 +2,14 @@
 #![tactic(auto)]
 
 ghost use Rattle.world_rules.specs.World.{World};
+ghost use Rattle.world_laws.specs.Arrivals.{ArrivalsWereSent, SentArrive};
+ghost use Rattle.world_laws.specs.Calls.{AnswersWereCalled, CallsAreAnswered};
 ghost use Rattle.world_laws.specs.Causes.{ComeInOrder, EachComes};
+ghost use Rattle.world_laws.specs.Packets.{ExchangesStand, InstallsHaveReasons, PacketsHaveReasons};
 ghost use Rattle.world_laws.specs.Simulates.{ReadsJournals};
 ghost use Rattle.world_laws.specs.Slots.{SendsInTime};
 ghost use Rattle.world_laws.specs.Times.{FiresInTime, IsRightSet};
+ghost use Rattle.world_laws.specs.Timing.{PointsDecide, TimersStand};
 
 /// At one time the events stand in the order in which their causes were scheduled, each once; and each cause whose time the
 /// run reached has its event at that time, unless an event before it cancels it.
@@ -24,4 +28,33 @@ pub fn nodes_are_prompt()
 /// What the rules have heard of a node is what its journal tells.
 pub fn rules_read_journals()
     ensures { (w : World) → ReadsJournals w }
+{}
+
+/// Each call is answered after the function's latency, with the value that the call's place among the node's calls gives, unless
+/// an event before cuts its invocation; and each answer is of such a call.
+pub fn calls_are_answered()
+    ensures answered { (w : World) → CallsAreAnswered w }
+    ensures called { (w : World) → AnswersWereCalled w }
+{}
+
+/// Over each link that leaves the sender a packet that the link's next word doesn't lose arrives after the radio's delay; and
+/// each arrival is of such a packet.
+pub fn packets_arrive()
+    ensures arrive { (w : World) → SentArrive w }
+    ensures sent { (w : World) → ArrivalsWereSent w }
+{}
+
+/// A node's intervals are those of the timer's rules over all that happened to it, and each point decides by them.
+pub fn timers_keep_their_rules()
+    ensures stand { (w : World) → TimersStand w }
+    ensures decide { (w : World) → PointsDecide w }
+{}
+
+/// Each packet that is sent is the Vector of a point, a request on a Vector, the fragment of the next marked slot, or the message
+/// of a call; a node's exchange looks back over all that happened to it; and each install comes from a line, or from a packet
+/// that makes what was collected complete, and is then of just that.
+pub fn exchanges_keep_their_rules()
+    ensures reasons { (w : World) → PacketsHaveReasons w }
+    ensures stand { (w : World) → ExchangesStand w }
+    ensures installs { (w : World) → InstallsHaveReasons w }
 {}

@@ -1,0 +1,10 @@
+use Rattle.hop_bound.proofs.Premises.{open_scripts, plans_rightly, injected_are_versions, injected_is_installed}
+use Rattle.hop_bound.proofs.scripts_keep_the_bound.Goals as goal
+
+pub returns : goal.returns
+returns c = record {
+  lossless = λ d meaning clock script programs right is. open_scripts d meaning clock script programs right is;
+  plan = λ d meaning clock script programs right. plans_rightly d meaning clock script programs right;
+  versions = λ d meaning clock script programs i p right injects. injected_are_versions d meaning clock script programs i p right injects;
+  installed = λ d meaning clock script programs right is before later m i b hops p come cause injects away calm done. injected_is_installed d meaning clock script programs right is before later m i b hops p come cause injects away calm done;
+}
