@@ -24,6 +24,10 @@ pub data Step : Type 0 where
   Show : Step
   ResetNode : Step
 
+-- an event is begun only where fewer records stand before it
+abbrev pub records_max : ℕ
+records_max = RECORDS_MAX
+
 -- c is the handler's lowest context that no live invocation has
 pub record IsFirstIdle (m : Machine) (r : Reading) (h : HandlerId) (c : ContextId) : Type 0 where
   pub context : IsContextOf m h c
@@ -131,7 +135,7 @@ AreOfEvent n es = All (λ (e : Event). e.stamp ≡ record { event = n; time = 0 
 abbrev pub HaveMade : Clock → Machine → ℕ → ℕ → Reading → Pace → List Step → List Event → Pace → Type 0
 HaveMade k m records n r p [] es q = (es ≡ []) × (q ≡ p)
 HaveMade k m records n r p (step ∷ steps) es q =
-    (records < RECORDS_MAX)
+    (records < records_max)
     × (front : List Event)
     × (rest : List Event)
     × (then : Pace)
@@ -150,7 +154,7 @@ pub data RunEnd : Type 0 where
 -- under the next number; a full one stops before a step, where 1,000,000 records stand or more
 abbrev pub EndsRun : Clock → Machine → RunEnd → ℕ → ℕ → Reading → Pace → List Step → List Event → Type 0
 EndsRun k m Whole records n r p left es = (left ≡ []) × ShowsOnce k m r p (told_by es) × AreOfEvent n es
-EndsRun k m Full records n r p left es = (left ≢ []) × (RECORDS_MAX ≤ records) × (es ≡ [])
+EndsRun k m Full records n r p left es = (left ≢ []) × (records_max ≤ records) × (es ≡ [])
 EndsRun k m Cut records n r p left es = es ≡ []
 
 -- the k-th step is event k, at time 0: the steps that were done made the events in front, and the run ends so
