@@ -14,37 +14,92 @@ struct Setting {
     err: MemSink,
 }
 
+/// How a case ends.
+#[derive(Drop)]
+struct Ended {
+    status: u8,
+    written: String,
+    told: String,
+}
+
 /// The status of a case, and what was written and told; a case that can't be read has an answer of its own.
 pub fn answer(alloc: Global, machines: &Machines, case: &str) -> Result<String, AllocError> {
     let parts: Vec<&str> = case.split(" | ").collect(alloc)?;
-    let [words, settings @ ..] = parts.as_slice() else {
+    let [words, parts @ ..] = parts.as_slice() else {
         return "no words\n".to_string(alloc);
     };
+    match parts {
+        [parts @ .., "each out"] => each_write(alloc, machines, words, parts),
+        parts => {
+            let outcome = outcome(alloc, machines, words, parts, 0)?;
+            format!(in alloc; "{}\n{}{}", outcome.status, outcome.written, outcome.told)
+        }
+    }
+}
+
+/// What comes of it that each write to standard output fails in turn.
+fn each_write(
+    alloc: Global,
+    machines: &Machines,
+    words: &str,
+    parts: &[&str],
+) -> Result<String, AllocError> {
+    let whole = outcome(alloc, machines, words, parts, 0)?;
+    for failing in 1..1000 {
+        let cut = outcome(alloc, machines, words, parts, failing)?;
+        if cut.status == whole.status {
+            return "9 and a prefix each time\n".to_string(alloc);
+        }
+        let is_prefix = whole.written.as_str().starts_with(cut.written.as_str());
+        if cut.status != 9 || cut.told.as_str() != "sink fault\n" || !is_prefix {
+            break;
+        }
+    }
+    "another answer\n".to_string(alloc)
+}
+
+/// Runs the words; the `failing`th write to standard output fails, or none at 0.
+fn outcome(
+    alloc: Global,
+    machines: &Machines,
+    words: &str,
+    parts: &[&str],
+    failing: u64,
+) -> Result<Ended, AllocError> {
     let mut setting = Setting {
         files: MemFiles::new(alloc),
         out: MemSink::new(alloc),
         err: MemSink::new(alloc),
     };
-    let mut right = add(&mut setting, "v.toml", machines.own.as_bytes());
-    right = add(&mut setting, "m.toml", machines.mixed.as_bytes()) && right;
-    for part in settings {
+    let mut right = add(&mut setting, "v.toml", machines.own.as_bytes())
+        && add(&mut setting, "m.toml", machines.mixed.as_bytes())
+        && setting.out.fail_at(failing).is_ok();
+    for part in parts {
         right = set(alloc, &mut setting, part)? && right;
     }
     if !right {
-        return "no case\n".to_string(alloc);
+        return unread(alloc);
     }
-    outcome(alloc, &mut setting, words)
+    let words = words_of(alloc, words)?;
+    let Setting { files, out, err } = &mut setting;
+    let status = mate(alloc, &words, files, out, err).code();
+    let (Ok(written), Ok(told)) = (str::from_utf8(out.bytes()), str::from_utf8(err.bytes())) else {
+        return unread(alloc);
+    };
+    Ok(Ended {
+        status,
+        written: written.to_string(alloc)?,
+        told: told.to_string(alloc)?,
+    })
 }
 
-/// Runs the words.
-fn outcome(alloc: Global, setting: &mut Setting, words: &str) -> Result<String, AllocError> {
-    let words = words_of(alloc, words)?;
-    let Setting { files, out, err } = setting;
-    let status = mate(alloc, &words, files, out, err);
-    let (Ok(written), Ok(told)) = (str::from_utf8(out.bytes()), str::from_utf8(err.bytes())) else {
-        return "no text\n".to_string(alloc);
-    };
-    format!(in alloc; "{}\n{written}{told}", status.code())
+/// Of a case that can't be read, or whose answer is no text.
+fn unread(alloc: Global) -> Result<Ended, AllocError> {
+    Ok(Ended {
+        status: 255,
+        written: String::new(alloc),
+        told: "no case\n".to_string(alloc)?,
+    })
 }
 
 /// The words of a line, with single spaces between them; an empty line has none.

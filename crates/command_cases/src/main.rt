@@ -2,7 +2,8 @@
 //!
 //! A case is a line: the words of the command line, and behind ` | ` what it is run on. `NAME=TEXT` is a file in memory, beside
 //! `v.toml` and `m.toml`, which are handed in with each case; `fail out 2` makes the second write to standard output fail, and
-//! so do `fail err` and `fail read` for the line of a refusal and the reading of files. In a text `\n`, `\t`, `\r` are
+//! so do `fail err` and `fail read` for the line of a refusal and the reading of files; `each out`, at the end, makes each
+//! write fail in turn. In a text `\n`, `\t`, `\r` are
 //! control characters, `\q` is a backquote, `\p` a bar and `\s` a backslash; what stands between backquotes is a number and
 //! a piece that stands there so many times. For each case the program prints its line, the status, and what was written to
 //! standard output and standard error.
