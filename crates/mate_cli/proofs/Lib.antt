@@ -1,5 +1,1 @@
-pub mod Laws
-pub mod OneAnswer
-pub mod OneSource
-pub mod OneCapsule
 pub mod OneCommand

@@ -1,5 +1,5 @@
 -- The commands have one answer, and words say one task.
-use Rattle.std.proofs.Common.{◌≡◌, ℕ, Bool, List, Option, Some, None, Result, refl, sym, ◌∙◌, ap, subst}
+use Rattle.std.proofs.Common.{◌≡◌, inl, inr, ℕ, Bool, List, Option, Some, None, Result, Ok, Err, refl, sym, ◌∙◌, ap, subst}
 use Rattle.std.specs.Prelude.{⊤}
 use Rattle.arrayvec.specs.ArrayVec.{ArrayVec}
 use Rattle.capsule_codec.specs.Image.{CapsuleParts, capsule_parts}
@@ -12,19 +12,35 @@ use Rattle.mate_commands.specs.Words.{Task, Says, SaysNothing, task_of}
 use Rattle.mate_files.specs.Files.{Names}
 use Rattle.mate_num.specs.declared.id.HandlerId.{HandlerId}
 use Rattle.vm_desc.specs.declared.description.Description.{Description}
-use Rattle.mate_cli.specs.Check.{check, capsule}
+use Rattle.mate_cli.specs.Check.{check}
+use Rattle.mate_steps.specs.CapsuleFiles.{capsule}
 use Rattle.mate_cli.specs.Compile.{compile, capsule_hex}
 use Rattle.mate_cli.specs.Ends.{task}
-use Rattle.mate_cli.specs.OneAnswer.{AnswersAgree, SameText, steady}
-use Rattle.mate_cli.specs.Outputs.{writes}
-use Rattle.mate_cli.specs.Parts.{handler, handler_named}
-use Rattle.mate_cli.specs.Sources.{source}
-use Rattle.mate_cli.specs.Steps.{◌▸◌}
+use Rattle.mate_steps.specs.OneAnswer.{AnswersAgree, steady}
+use Rattle.mate_cli.specs.Outputs.{writes, SameText}
+use Rattle.mate_cli.specs.Table.{opcode_table}
+use Rattle.opcode_gen.specs.TableText.{table_text}
+use Rattle.mate_steps.specs.Parts.{handler, handler_named}
+use Rattle.mate_steps.specs.Sources.{source}
+use Rattle.mate_steps.specs.Steps.{◌▸◌}
 use Rattle.mate_cli.specs.declared.output.Output.{Output}
 use Rattle.mate_refusals.specs.declared.refusal.Refusal.{Refusal}
-use Rattle.mate_cli.proofs.OneAnswer.{then_agrees, judged_agrees, machine_agrees, writes_agree}
-use Rattle.mate_cli.proofs.OneCapsule.{SameCapsule, capsule_agrees}
-use Rattle.mate_cli.proofs.OneSource.{SameCompiled, source_agrees}
+use Rattle.mate_steps.proofs.OneAnswer.{then_agrees, judged_agrees, machine_agrees}
+use Rattle.mate_steps.proofs.OneCapsule.{SameCapsule, capsule_agrees}
+use Rattle.mate_steps.proofs.OneSource.{SameCompiled, source_agrees}
+
+-- ---- table
+
+pub writes_agree : (bytes : List ℕ) → AnswersAgree SameText (writes bytes) (writes bytes)
+writes_agree bytes (Ok a) (Ok b) p q = p ∙ sym q
+writes_agree bytes (Ok a) (Err r) p q = q
+writes_agree bytes (Err r) (Ok b) p q = p
+writes_agree bytes (Err r) (Err t) p q = inr (inl p)
+
+pub table_agrees : (names : Names) (vm : List ℕ) → AnswersAgree SameText (opcode_table (steady names) vm) (opcode_table (steady names) vm)
+table_agrees names vm =
+    then_agrees ◌≡◌ SameText _ _ _ _ (machine_agrees names vm)
+    (λ a b e. subst (λ (d : Description). AnswersAgree SameText (writes (table_text a)) (writes (table_text d))) e (writes_agree (table_text a)))
 
 -- ---- compile
 

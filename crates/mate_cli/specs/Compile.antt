@@ -7,9 +7,9 @@ use Rattle.vm_desc.specs.declared.description.Description.{Description}
 use Rattle.capsule_codec.specs.Image.{image_of}
 use Rattle.mate_refusals.specs.declared.refusal.Refusal.{Refusal}
 use Rattle.mate_cli.specs.Outputs.{writes}
-use Rattle.mate_cli.specs.Parts.{Folder, machine, handler}
-use Rattle.mate_cli.specs.Sources.{source}
-use Rattle.mate_cli.specs.Steps.{◌▸◌}
+use Rattle.mate_steps.specs.Parts.{Folder, machine, handler}
+use Rattle.mate_steps.specs.Sources.{source}
+use Rattle.mate_steps.specs.Steps.{◌▸◌}
 use Rattle.mate_cli.specs.declared.output.Output.{Output}
 
 -- the image of the capsule with the machine's number, in hexadecimal digits, and a line feed

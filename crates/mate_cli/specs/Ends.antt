@@ -12,8 +12,8 @@ use Rattle.mate_cli.specs.Check.{check}
 use Rattle.mate_cli.specs.Compile.{compile}
 use Rattle.mate_cli.specs.Node.{node}
 use Rattle.mate_cli.specs.Outputs.{output_text}
-use Rattle.mate_cli.specs.Parts.{Folder, IsUnreadAnswer}
-use Rattle.mate_cli.specs.Steps.{judged, ◌▸◌}
+use Rattle.mate_steps.specs.Parts.{Folder, IsUnreadAnswer}
+use Rattle.mate_steps.specs.Steps.{judged, ◌▸◌}
 use Rattle.mate_cli.specs.Table.{opcode_table}
 use Rattle.mate_cli.specs.declared.output.Output.{Output}
 

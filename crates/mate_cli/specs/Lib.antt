@@ -1,11 +1,6 @@
-pub mod Steps
-pub mod Parts
 pub mod Outputs
-pub mod Sources
 pub mod Table
 pub mod Compile
-pub mod CapsuleFiles
 pub mod Check
 pub mod Node
 pub mod Ends
-pub mod OneAnswer

@@ -5,12 +5,12 @@ use Rattle.mate_journal.specs.declared.report.Report.{Report}
 use Rattle.report_text.specs.Text.{text}
 use Rattle.vm_desc.specs.Shapes.{shape_of}
 use Rattle.vm_desc.specs.declared.description.Description.{Description}
-use Rattle.mate_cli.specs.Sources.{accepted}
+use Rattle.mate_steps.specs.Sources.{accepted}
 use Rattle.first_runs.specs.FirstRun.{IsFirstReport}
 use Rattle.first_runs.specs.FirstScript.{IsFirstScript}
 use Rattle.mate_cli.specs.Outputs.{output_text}
-use Rattle.mate_cli.specs.Parts.{Folder, file, built_in}
-use Rattle.mate_cli.specs.Steps.{judged, obtained, ◌▸◌}
+use Rattle.mate_steps.specs.Parts.{Folder, file, built_in}
+use Rattle.mate_steps.specs.Steps.{judged, obtained, ◌▸◌}
 use Rattle.mate_cli.specs.declared.output.Output.{Output}
 use Rattle.mate_refusals.specs.declared.cause.Cause.TheVariants as cause
 use Rattle.mate_refusals.specs.declared.refusal.Refusal.{Refusal}

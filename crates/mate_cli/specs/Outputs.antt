@@ -28,3 +28,7 @@ CanBeWritten (output.Listing d c v) = IsVerifiedFor d (capsule_parts c) v
 abbrev pub writes : List ℕ → Result Output Refusal → Type 0
 writes bytes (Ok o) = output_text o ≡ bytes
 writes bytes (Err r) = r ≡ NoMemory
+
+-- the same text
+abbrev pub SameText : Output → Output → Type 0
+SameText o p = output_text o ≡ output_text p

@@ -2,8 +2,8 @@
 use Rattle.std.specs.Prelude.{ℕ, List, Result}
 use Rattle.opcode_gen.specs.TableText.{table_text}
 use Rattle.mate_cli.specs.Outputs.{writes}
-use Rattle.mate_cli.specs.Parts.{Folder, machine}
-use Rattle.mate_cli.specs.Steps.{◌▸◌}
+use Rattle.mate_steps.specs.Parts.{Folder, machine}
+use Rattle.mate_steps.specs.Steps.{◌▸◌}
 use Rattle.mate_cli.specs.declared.output.Output.{Output}
 use Rattle.mate_refusals.specs.declared.refusal.Refusal.{Refusal}
 

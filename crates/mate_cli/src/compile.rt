@@ -3,16 +3,15 @@
 ghost use Rattle.std.specs.Prelude.{◌≡◌, ◌≤◌, option_map, IfSome, IfOk};
 ghost use Rattle.mate_cli.specs.Compile.{compile};
 ghost use Rattle.mate_cli.specs.Outputs.{CanBeWritten};
-ghost use Rattle.mate_cli.specs.Parts.{ReadsFiles, handler_named};
+ghost use Rattle.mate_steps.specs.Parts.{ReadsFiles, handler_named};
 
 use crate::output::Output;
-use crate::parts::machine_of;
-use crate::source::source_of;
 use capsule_codec::{Capsule, encode};
 use mate_commands::Compilation;
 use mate_files::Files;
 use mate_num::HandlerId;
 use mate_refusals::Refusal;
+use mate_steps::{machine_of, source_of};
 use std::alloc::Global;
 use vm_desc::Description;
 

@@ -5,7 +5,8 @@ ghost use Rattle.mate_files.specs.Files.{Names};
 ghost use Rattle.mate_cli.specs.Check.{check};
 ghost use Rattle.mate_cli.specs.Compile.{compile};
 ghost use Rattle.mate_cli.specs.Ends.{task};
-ghost use Rattle.mate_cli.specs.OneAnswer.{AnswersAgree, SameText, steady};
+ghost use Rattle.mate_steps.specs.OneAnswer.{AnswersAgree, steady};
+ghost use Rattle.mate_cli.specs.Outputs.{SameText};
 ghost use Rattle.mate_cli.specs.Table.{opcode_table};
 
 /// Words say one task, or none.

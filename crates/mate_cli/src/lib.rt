@@ -1,14 +1,11 @@
 //! The top call of the program `mate`: from words and files to what is written.
 #![tactic(auto)]
 
-mod capsule_file;
 mod check;
 mod compile;
 pub mod completeness;
 mod node;
 mod output;
-mod parts;
-mod source;
 mod table;
 pub mod top;
 

@@ -2,16 +2,15 @@
 
 ghost use Rattle.std.specs.Prelude.{◌≡◌, IfOk};
 ghost use Rattle.mate_cli.specs.Outputs.{CanBeWritten};
-ghost use Rattle.mate_cli.specs.Parts.{ReadsFiles};
+ghost use Rattle.mate_steps.specs.Parts.{ReadsFiles};
 ghost use Rattle.mate_cli.specs.Node.{node};
 
 use crate::output::Output;
-use crate::parts::read_file;
-use crate::source::accepted;
 use first_runs::first_run::first_run;
 use first_runs::first_script::first_script;
 use mate_files::Files;
 use mate_refusals::{Cause, Refusal, in_file};
+use mate_steps::{accepted, read_file};
 use std::alloc::Global;
 use vm_desc::builtin;
 

@@ -2,13 +2,13 @@
 
 ghost use Rattle.std.specs.Prelude.{◌≡◌, IfOk};
 ghost use Rattle.mate_cli.specs.Outputs.{CanBeWritten};
-ghost use Rattle.mate_cli.specs.Parts.{ReadsFiles};
+ghost use Rattle.mate_steps.specs.Parts.{ReadsFiles};
 ghost use Rattle.mate_cli.specs.Table.{opcode_table};
 
 use crate::output::Output;
-use crate::parts::machine_of;
 use mate_files::Files;
 use mate_refusals::Refusal;
+use mate_steps::machine_of;
 use std::alloc::Global;
 
 /// The opcode table of a machine.

@@ -4,7 +4,7 @@ ghost use Rattle.std.specs.Prelude.{◌≡◌, map, string_bytes, IfOk};
 ghost use Rattle.mate_commands.specs.Words.{task_held};
 ghost use Rattle.mate_cli.specs.Ends.{CallEnds, IsWritten, Owes, command};
 ghost use Rattle.mate_cli.specs.Outputs.{CanBeWritten, output_text};
-ghost use Rattle.mate_cli.specs.Parts.{ReadsFiles};
+ghost use Rattle.mate_steps.specs.Parts.{ReadsFiles};
 
 use crate::output::Output;
 use crate::{check, compile, node, table};

@@ -1,9 +1,9 @@
 use Rattle.std.proofs.Common.{ℕ, List, ◌++◌, codes, Ok, Err, refl, sym, ap, inl}
 use Rattle.hex.specs.Hex.{encode_lower}
-use Rattle.mate_cli.specs.Sources.{source}
-use Rattle.mate_cli.specs.Steps.{goes_on, stops}
+use Rattle.mate_steps.specs.Sources.{source}
+use Rattle.mate_steps.specs.Steps.{goes_on, stops}
 use Rattle.mate_refusals.specs.declared.refusal.Refusal.TheVariants.{Usage}
-use Rattle.mate_cli.proofs.Laws.{stops_by, moved, fails_as}
+use Rattle.mate_steps.proofs.Laws.{stops_by, moved}
 use Rattle.mate_cli.proofs.compile.output.Goals as goal
 
 pub returns-in_err-desc-clause-does : goal.returns-in_err-desc-clause-does

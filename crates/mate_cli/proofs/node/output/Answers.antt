@@ -1,14 +1,13 @@
-use Rattle.std.proofs.Common.{ℕ, List, Ok, Err, refl, subst, rules, arith}
+use Rattle.std.proofs.Common.{ℕ, List, Ok, Err, refl, subst, rules}
 use Rattle.ts_syntax.specs.Checked.{tree_of}
 use Rattle.ts_checker.specs.Accepted.{IsAccepted}
 use Rattle.vm_desc.specs.Shapes.{shape_of}
 use Rattle.first_runs.specs.FirstRun.{IsFirstReport}
 use Rattle.first_runs.specs.FirstScript.{IsFirstScript}
-use Rattle.mate_cli.specs.Parts.{file}
-use Rattle.mate_cli.specs.Sources.{accepted}
-use Rattle.mate_cli.specs.Steps.{goes_on, stops}
-use Rattle.mate_refusals.specs.declared.refusal.Refusal.TheVariants.{NoMemory}
-use Rattle.mate_cli.proofs.Laws.{stops_by, moved, fails_as}
+use Rattle.mate_steps.specs.Parts.{file}
+use Rattle.mate_steps.specs.Sources.{accepted}
+use Rattle.mate_steps.specs.Steps.{goes_on, stops}
+use Rattle.mate_steps.proofs.Laws.{stops_by, moved, fails_as}
 use Rattle.mate_cli.proofs.node.output.Goals as goal
 
 pub returns-in_err-bytes-clause-does : goal.returns-in_err-bytes-clause-does

@@ -2,7 +2,7 @@ use Rattle.std.proofs.Common.{inl, inr, refl, List, map, subst, string_bytes, St
 use Rattle.std.specs.Global.{Global}
 use Rattle.command_line.specs.Words.{HasNoLine}
 use Rattle.mate_commands.specs.Words.{Task, task_held, Says, SaysNothing}
-use Rattle.mate_cli.specs.Steps.{goes_on, stops}
+use Rattle.mate_steps.specs.Steps.{goes_on, stops}
 use Rattle.mate_refusals.specs.declared.refusal.Refusal.TheVariants.{Usage, NoMemory}
 use Rattle.mate_cli.proofs.top.output_of.Goals as goal
 

@@ -1,0 +1,4 @@
+pub mod Laws
+pub mod OneAnswer
+pub mod OneSource
+pub mod OneCapsule

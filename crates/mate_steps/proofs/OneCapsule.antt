@@ -1,0 +1,142 @@
+-- A capsule in a file has one answer.
+use Rattle.std.proofs.Common.{◌≡◌, ℕ, List, Result, Ok, Err, refl, sym, ◌∙◌, ap, subst}
+use Rattle.std.specs.Global.{Vec}
+use Rattle.arrayvec.specs.ArrayVec.{ArrayVec}
+use Rattle.capsule_codec.specs.HexText.{image_in}
+use Rattle.capsule_codec.specs.Image.{CapsuleParts, capsule_parts}
+use Rattle.capsule_codec.specs.Reading.{capsule_in}
+use Rattle.capsule_codec.specs.declared.capsule.Capsule.{Capsule}
+use Rattle.capsule_codec.specs.declared.decoding.CapsuleFault.{CapsuleFault}
+use Rattle.capsule_codec.specs.declared.hex_text.HexFault.{HexFault}
+use Rattle.code_verifier.specs.Faults.{refusal_of}
+use Rattle.code_verifier.specs.Verified.{VerifiedCode, IsVerifiedCode, marks_of}
+use Rattle.code_verifier.specs.declared.fault.VerifyFault.{VerifyFault}
+use Rattle.code_verifier.specs.declared.fault.VerifyFault.TheVariants as verify
+use Rattle.mate_code.specs.BytesVerification.{bytes_verification}
+use Rattle.mate_code.specs.Verification as refusal
+use Rattle.mate_num.specs.declared.shape.Shape.{Shape}
+use Rattle.mate_files.specs.Files.{Names}
+use Rattle.source_code.proofs.JointLemmas.{first_same}
+use Rattle.vm_desc.specs.Shapes.{shape_of}
+use Rattle.vm_desc.specs.declared.description.Description.{Description}
+use Rattle.mate_refusals.specs.declared.capsule_cause.CapsuleCause.{CapsuleCause}
+use Rattle.mate_refusals.specs.declared.capsule_cause.CapsuleCause.TheVariants.{Digits, Image, Code as BadCode}
+use Rattle.mate_steps.specs.CapsuleFiles.{SpellsCapsule, SpellsVerified, SpellsNoCapsule, RefusesText}
+use Rattle.mate_steps.specs.CapsuleFiles.{spelled_capsule, capsule}
+use Rattle.mate_steps.specs.OneAnswer.{AnswersAgree, steady}
+use Rattle.mate_steps.proofs.OneAnswer.{then_agrees, judged_agrees, SameBytes, file_agrees}
+
+-- the same capsule, with the same verified code
+pub record SameCapsule (a b : Capsule × VerifiedCode) : Type 0 where
+  pub parts : capsule_parts a.0 ≡ capsule_parts b.0
+  pub code : a.1.code ≡ b.1.code
+
+-- ---- verification
+
+not_both : {A E : Type 0} (a : A) (e : E) (x : Result A E) → x ≡ Ok a → x ≡ Err e → ⊥
+not_both a e x p q = let h : Ok a ≡ Err e = sym p ∙ q in cc
+
+-- the fault of a refusal
+fault_in : refusal.Refusal → VerifyFault
+fault_in (refusal.Decode place) = verify.Decode place
+fault_in (refusal.BadTarget place) = verify.BadTarget place
+fault_in (refusal.BackJump place) = verify.BackJump place
+fault_in (refusal.Underflow place) = verify.Underflow place
+fault_in (refusal.Overflow place) = verify.Overflow place
+fault_in (refusal.DepthDiffers place) = verify.DepthDiffers place
+fault_in (refusal.BadIndex place) = verify.BadIndex place
+fault_in refusal.NoHalt = verify.NoHalt
+fault_in (refusal.TooLong len) = verify.TooLong len
+
+fault_in-refusal_of : (f : VerifyFault) → fault_in (refusal_of f) ≡ f
+unfolding fault_in
+fault_in-refusal_of (verify.Decode place) = refl
+fault_in-refusal_of (verify.BadTarget place) = refl
+fault_in-refusal_of (verify.BackJump place) = refl
+fault_in-refusal_of (verify.Underflow place) = refl
+fault_in-refusal_of (verify.Overflow place) = refl
+fault_in-refusal_of (verify.DepthDiffers place) = refl
+fault_in-refusal_of (verify.BadIndex place) = refl
+fault_in-refusal_of verify.NoHalt = refl
+fault_in-refusal_of (verify.TooLong len) = refl
+
+refused_once : (shape : Shape) (bytes : List ℕ) (f g : VerifyFault) → bytes_verification shape bytes ≡ Err (refusal_of f) → bytes_verification shape bytes ≡ Err (refusal_of g) → f ≡ g
+refused_once shape bytes f g p q =
+    let e : Err (refusal_of f) ≡ Err (refusal_of g) = sym p ∙ q in
+    let same : refusal_of f ≡ refusal_of g = cc in
+    sym (fault_in-refusal_of f) ∙ ap fault_in same ∙ fault_in-refusal_of g
+
+-- what verification says of the bytes of a capsule
+accepted_code : (d : Description) (c : CapsuleParts) (v : VerifiedCode) → IsVerifiedCode v → v.shape ≡ shape_of d → v.bytes ≡ c.code
+    → bytes_verification (shape_of d) c.code ≡ Ok (v.code, marks_of v)
+accepted_code d c v is shape_is bytes_are =
+    subst (λ (bs : List ℕ). bytes_verification (shape_of d) bs ≡ Ok (v.code, marks_of v)) bytes_are
+    (subst (λ (s : Shape). bytes_verification s v.bytes ≡ Ok (v.code, marks_of v)) shape_is is.accepted)
+
+verified : (d : Description) (text : List ℕ) (c : CapsuleParts) (v : VerifiedCode) → SpellsVerified d text c v → bytes_verification (shape_of d) c.code ≡ Ok (v.code, marks_of v)
+verified d text c v h = accepted_code d c v h.is_verified h.is_for.shape_is h.is_for.bytes_are
+
+-- ---- texts
+
+one_image : (text : List ℕ) (a b : ArrayVec ℕ) → image_in text ≡ Ok a → image_in text ≡ Ok b → a ≡ b
+one_image text a b p q = let e : Ok a ≡ Ok b = sym p ∙ q in cc
+
+one_capsule : (d : Description) (text : List ℕ) (a b : CapsuleParts) → SpellsCapsule d text a → SpellsCapsule d text b → a ≡ b
+one_capsule d text a b p q =
+    let is : q.image ≡ p.image = one_image text q.image p.image q.spelled p.spelled in
+    let e : Ok a ≡ Ok b = sym p.decoded ∙ subst (λ (i : ArrayVec ℕ). capsule_in d i.items ≡ Ok b) is q.decoded in cc
+
+no_capsule : (d : Description) (text : List ℕ) (a : CapsuleParts) (f : CapsuleFault) → SpellsCapsule d text a → SpellsNoCapsule d text f → ⊥
+no_capsule d text a f p q =
+    let is : q.image ≡ p.image = one_image text q.image p.image q.spelled p.spelled in
+    let e : Ok a ≡ Err f = sym p.decoded ∙ subst (λ (i : ArrayVec ℕ). capsule_in d i.items ≡ Err f) is q.refused in cc
+
+one_fault : (d : Description) (text : List ℕ) (f g : CapsuleFault) → SpellsNoCapsule d text f → SpellsNoCapsule d text g → f ≡ g
+one_fault d text f g p q =
+    let is : q.image ≡ p.image = one_image text q.image p.image q.spelled p.spelled in
+    let e : Err f ≡ Err g = sym p.refused ∙ subst (λ (i : ArrayVec ℕ). capsule_in d i.items ≡ Err g) is q.refused in cc
+
+-- ---- the step
+
+one : (d : Description) (bytes : List ℕ) (a b : Capsule × VerifiedCode) → SpellsVerified d bytes (capsule_parts a.0) a.1 → SpellsVerified d bytes (capsule_parts b.0) b.1 → SameCapsule a b
+one d bytes a b p q =
+    let same = one_capsule d bytes (capsule_parts a.0) (capsule_parts b.0) p.spells q.spells in
+    let y = subst (λ (c : CapsuleParts). bytes_verification (shape_of d) c.code ≡ Ok (b.1.code, marks_of b.1)) (sym same) (verified d bytes (capsule_parts b.0) b.1 q) in record {
+      parts = same;
+      code = first_same a.1.code b.1.code (marks_of a.1) (marks_of b.1) _ (verified d bytes (capsule_parts a.0) a.1 p) y;
+    }
+
+not_refused : (d : Description) (bytes : List ℕ) (a : Capsule × VerifiedCode) (e : CapsuleCause) → SpellsVerified d bytes (capsule_parts a.0) a.1 → RefusesText d bytes e → ⊥
+not_refused d bytes a (Digits f) p q = let e : Ok p.spells.image ≡ Err f = sym p.spells.spelled ∙ q in cc
+not_refused d bytes a (Image f) p q = no_capsule d bytes (capsule_parts a.0) f p.spells q
+not_refused d bytes a (BadCode f) p q =
+    let same = one_capsule d bytes (capsule_parts a.0) q.capsule p.spells q.spells in
+    let y = subst (λ (c : CapsuleParts). bytes_verification (shape_of d) c.code ≡ Err (refusal_of f)) (sym same) q.refused in
+    not_both (a.1.code, marks_of a.1) (refusal_of f) _ (verified d bytes (capsule_parts a.0) a.1 p) y
+
+no_image : {A : Type 0} (text : List ℕ) (a : ArrayVec ℕ) (f : HexFault) → image_in text ≡ Ok a → image_in text ≡ Err f → A
+no_image text a f p q = let e : Ok a ≡ Err f = sym p ∙ q in absurd cc
+
+refused_so : (d : Description) (bytes : List ℕ) (e h : CapsuleCause) → RefusesText d bytes e → RefusesText d bytes h → e ≡ h
+refused_so d bytes (Digits f) (Digits g) p q = let e : Err f ≡ Err g = sym p ∙ q in cc
+refused_so d bytes (Digits f) (Image g) p q = no_image bytes q.image f q.spelled p
+refused_so d bytes (Digits f) (BadCode g) p q = no_image bytes q.spells.image f q.spells.spelled p
+refused_so d bytes (Image f) (Digits g) p q = no_image bytes p.image g p.spelled q
+refused_so d bytes (Image f) (Image g) p q = ap Image (one_fault d bytes f g p q)
+refused_so d bytes (Image f) (BadCode g) p q = absurd (no_capsule d bytes q.capsule f q.spells p)
+refused_so d bytes (BadCode f) (Digits g) p q = no_image bytes p.spells.image g p.spells.spelled q
+refused_so d bytes (BadCode f) (Image g) p q = absurd (no_capsule d bytes p.capsule g p.spells q)
+refused_so d bytes (BadCode f) (BadCode g) p q =
+    let same = one_capsule d bytes p.capsule q.capsule p.spells q.spells in
+    let y = subst (λ (c : CapsuleParts). bytes_verification (shape_of d) c.code ≡ Err (refusal_of g)) (sym same) q.refused in
+    ap BadCode (refused_once (shape_of d) p.capsule.code f g p.refused y)
+
+spelled_agrees : (d : Description) (name bytes : List ℕ) → AnswersAgree SameCapsule (spelled_capsule d name bytes) (spelled_capsule d name bytes)
+spelled_agrees d name bytes = judged_agrees SameCapsule _ _ _ (one d bytes) (not_refused d bytes) (refused_so d bytes)
+
+pub capsule_agrees : (names : Names) (d : Description) (name : List ℕ) → AnswersAgree SameCapsule (capsule (steady names) d name) (capsule (steady names) d name)
+capsule_agrees names d name =
+    then_agrees SameBytes SameCapsule _ _ _ _ (file_agrees names name)
+    (λ a b e. subst (λ (bs : List ℕ). AnswersAgree SameCapsule (spelled_capsule d name a.items) (spelled_capsule d name bs)) (same a b e) (spelled_agrees d name a.items)) where
+      same : (a b : Vec ℕ) → SameBytes a b → a.items ≡ b.items
+      same a b e = e

@@ -1,0 +1,74 @@
+-- A source has one answer.
+use Rattle.std.proofs.Common.{◌≡◌, ℕ, Bool, List, Err, sym, ◌∙◌, ap, subst, arith}
+use Rattle.std.specs.Global.{Vec}
+use Rattle.arrayvec.specs.ArrayVec.{ArrayVec}
+use Rattle.mate_num.specs.declared.shape.Shape.{Shape}
+use Rattle.ts_syntax.specs.Statement.{Block}
+use Rattle.ts_compiler.specs.Compiled.{IsCompiled, Compiles}
+use Rattle.ts_compiler.specs.declared.fault.CompileFault.{CompileFault}
+use Rattle.ts_compiler.specs.declared.fault.CompileFault.TheVariants.{StackDepth, TooLong}
+use Rattle.ts_checker.specs.Accepted.{IsAccepted}
+use Rattle.ts_source.proofs.AcceptanceLemmas.{one_tree, one_refusal, apart}
+use Rattle.source_code.specs.SourceCode.{IsCompiledOf, HasNoCode, compiled_tree}
+use Rattle.source_code.specs.declared.code.CompiledScript.{CompiledScript}
+use Rattle.ts_syntax.specs.Checked.{tree_of}
+use Rattle.vm_desc.specs.Shapes.{shape_of}
+use Rattle.vm_desc.specs.declared.description.Description.{Description}
+use Rattle.mate_files.specs.Files.{Names}
+use Rattle.mate_refusals.specs.SourceCauses.{IsBadSource, refusal_told}
+use Rattle.mate_refusals.proofs.CauseLemmas.{refusal_told-once}
+use Rattle.mate_refusals.specs.declared.source_cause.SourceCause.{SourceCause}
+use Rattle.mate_steps.specs.OneAnswer.{AnswersAgree, steady}
+use Rattle.mate_steps.specs.Sources.{accepted, compiled, compiled_bytes, source}
+use Rattle.mate_steps.proofs.OneAnswer.{then_agrees, judged_agrees, SameBytes, file_agrees}
+
+accepted_agrees : (d : Description) (name bytes : List ℕ) → AnswersAgree ◌≡◌ (accepted d name bytes) (accepted d name bytes)
+accepted_agrees d name bytes = judged_agrees ◌≡◌ _ _ _ (one_tree d bytes) not same where
+  not : (a : Block) (e : SourceCause) → IsAccepted d bytes a → IsBadSource d bytes e → ⊥
+  not a e p q = apart d bytes a (refusal_told e) p q
+
+  same : (e h : SourceCause) → IsBadSource d bytes e → IsBadSource d bytes h → e ≡ h
+  same e h p q = refusal_told-once e h (one_refusal d bytes (refusal_told e) (refusal_told h) p q)
+
+-- ---- code
+
+compiles_apart : (shape : Shape) (tree : Block) (code : ArrayVec ℕ) (e : CompileFault) → IsCompiled shape tree code → Compiles shape tree (Err e) → ⊥
+compiles_apart shape tree code (StackDepth need) p q = omega (arith, p.need, q.over)
+compiles_apart shape tree code (TooLong size) p q = omega (arith, p.size, q.over)
+
+compiles_once : (shape : Shape) (tree : Block) (e h : CompileFault) → Compiles shape tree (Err e) → Compiles shape tree (Err h) → e ≡ h
+compiles_once shape tree (StackDepth m) (StackDepth n) p q = ap StackDepth (p.need_is ∙ sym q.need_is)
+compiles_once shape tree (StackDepth m) (TooLong n) p q = absurd (omega (arith, p.over, q.fits))
+compiles_once shape tree (TooLong m) (StackDepth n) p q = absurd (omega (arith, p.fits, q.over))
+compiles_once shape tree (TooLong m) (TooLong n) p q = ap TooLong (p.size_is ∙ sym q.size_is)
+
+-- the same tree, with the same code
+pub record SameCompiled (a b : CompiledScript) : Type 0 where
+  pub tree : tree_of a.script ≡ tree_of b.script
+  pub code : a.code ≡ b.code
+
+compiled_agrees : (d : Description) (fold : Bool) (name : List ℕ) (tree : Block) → AnswersAgree SameCompiled (compiled d fold name tree) (compiled d fold name tree)
+compiled_agrees d fold name tree = judged_agrees SameCompiled _ _ _ one not same where
+  one : (a b : CompiledScript) → IsCompiledOf (shape_of d) fold tree a → IsCompiledOf (shape_of d) fold tree b → SameCompiled a b
+  one a b p q = record {
+    tree = p.tree_is ∙ sym q.tree_is;
+    code = ap (λ (bytes : List ℕ). let v : ArrayVec ℕ = record { items = bytes } in v) (p.code_is.compiled.code ∙ sym q.code_is.compiled.code);
+  }
+
+  not : (a : CompiledScript) (e : CompileFault) → IsCompiledOf (shape_of d) fold tree a → HasNoCode (shape_of d) fold tree e → ⊥
+  not a e p q = compiles_apart (shape_of d) (compiled_tree fold tree) a.code e p.code_is.compiled q
+
+  same : (e h : CompileFault) → HasNoCode (shape_of d) fold tree e → HasNoCode (shape_of d) fold tree h → e ≡ h
+  same e h p q = compiles_once (shape_of d) (compiled_tree fold tree) e h p q
+
+compiled_bytes_agrees : (d : Description) (fold : Bool) (name bytes : List ℕ) → AnswersAgree SameCompiled (compiled_bytes d fold name bytes) (compiled_bytes d fold name bytes)
+compiled_bytes_agrees d fold name bytes =
+    then_agrees ◌≡◌ SameCompiled _ _ _ _ (accepted_agrees d name bytes)
+    (λ a b e. subst (λ (tree : Block). AnswersAgree SameCompiled (compiled d fold name a) (compiled d fold name tree)) e (compiled_agrees d fold name a))
+
+pub source_agrees : (names : Names) (d : Description) (fold : Bool) (name : List ℕ) → AnswersAgree SameCompiled (source (steady names) d fold name) (source (steady names) d fold name)
+source_agrees names d fold name =
+    then_agrees SameBytes SameCompiled _ _ _ _ (file_agrees names name)
+    (λ a b e. subst (λ (bytes : List ℕ). AnswersAgree SameCompiled (compiled_bytes d fold name a.items) (compiled_bytes d fold name bytes)) (same a b e) (compiled_bytes_agrees d fold name a.items)) where
+      same : (a b : Vec ℕ) → SameBytes a b → a.items ≡ b.items
+      same a b e = e

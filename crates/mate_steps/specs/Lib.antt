@@ -1,0 +1,5 @@
+pub mod Steps
+pub mod Parts
+pub mod Sources
+pub mod CapsuleFiles
+pub mod OneAnswer

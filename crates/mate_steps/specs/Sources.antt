@@ -1,0 +1,37 @@
+-- The compiled script of a source in a file, with its code.
+use Rattle.std.specs.Prelude.{ℕ, Bool, List, Result, Ok, Err}
+use Rattle.ts_syntax.specs.Statement.{Block}
+use Rattle.ts_syntax.specs.Checked.{tree_of}
+use Rattle.ts_syntax.specs.declared.checked.Checked.{Checked}
+use Rattle.ts_checker.specs.Accepted.{IsAccepted}
+use Rattle.source_code.specs.SourceCode.{IsCompiledOf, HasNoCode}
+use Rattle.source_code.specs.declared.code.CompiledScript.{CompiledScript}
+use Rattle.vm_desc.specs.Shapes.{shape_of}
+use Rattle.vm_desc.specs.declared.description.Description.{Description}
+use Rattle.mate_refusals.specs.SourceCauses.{IsBadSource}
+use Rattle.mate_refusals.specs.declared.cause.Cause.TheVariants as cause
+use Rattle.mate_refusals.specs.declared.refusal.Refusal.{Refusal}
+use Rattle.mate_refusals.specs.declared.refusal.Refusal.TheVariants.{InFile}
+use Rattle.mate_steps.specs.Parts.{Folder, file}
+use Rattle.mate_steps.specs.Steps.{judged, ◌▸◌}
+
+-- the tree that the bytes of the source `name` mean
+abbrev pub accepted : Description → List ℕ → List ℕ → Result Block Refusal → Type 0
+accepted d name bytes = judged (IsAccepted d bytes) (IsBadSource d bytes) (λ why. InFile name (cause.Source why))
+
+-- what the program holds of a tree
+abbrev pub tree_in : Result Checked Refusal → Result Block Refusal
+tree_in (Ok script) = Ok (tree_of script)
+tree_in (Err r) = Err r
+
+-- the compiled script of its accepted tree, folded before or not
+abbrev pub compiled : Description → Bool → List ℕ → Block → Result CompiledScript Refusal → Type 0
+compiled d fold name tree = judged (IsCompiledOf (shape_of d) fold tree) (HasNoCode (shape_of d) fold tree) (λ why. InFile name (cause.Code why))
+
+-- that of its bytes
+abbrev pub compiled_bytes : Description → Bool → List ℕ → List ℕ → Result CompiledScript Refusal → Type 0
+compiled_bytes d fold name bytes = accepted d name bytes ▸ compiled d fold name
+
+-- that of a source
+abbrev pub source : Folder → Description → Bool → List ℕ → Result CompiledScript Refusal → Type 0
+source f d fold name = file f name ▸ λ bytes. compiled_bytes d fold name bytes.items

@@ -1,0 +1,87 @@
+//! From the file of a source to its code.
+
+ghost use Rattle.std.specs.Prelude.{◌≡◌, ◌≤◌, length, IfOk};
+ghost use Rattle.ts_syntax.specs.Checked.{tree_of, shape_of as shape_of_script};
+ghost use Rattle.vm_desc.specs.Shapes.{shape_of};
+ghost use Rattle.mate_steps.specs.Parts.{ReadsFiles};
+ghost use Rattle.mate_steps.specs.Sources.{source, compiled_bytes, accepted, compiled, tree_in};
+
+use crate::parts::read_file;
+use mate_files::Files;
+use mate_refusals::{Cause, Refusal, SourceCause, in_file};
+use source_code::{CodeFault, CompiledScript, compiled_script};
+use std::alloc::Global;
+use ts_source::accept;
+use ts_syntax::Checked;
+use vm_desc::Description;
+
+/// The compiled script of a source with its code, folded before it is compiled where `fold` says so.
+pub fn source_of<F: Files>(
+    alloc: Global,
+    files: &mut F,
+    desc: &Description,
+    fold: bool,
+    name: &str,
+) -> Result<CompiledScript, Refusal>
+    ensures does { source (record { told = F.contents files.old; steady = F.steady files.old }) desc.now fold name.now result }
+    ensures reads { ReadsFiles (F.contents files.old) (F.steady files.old) (F.faults files.old) (F.contents files.new) (F.steady files.new) (F.faults files.new) result }
+    ensures filled { IfOk result (λ c. 1 ≤ length c.code.items) }
+{
+    let bytes = read_file(alloc, files, name)?;
+    compiled_bytes(alloc, desc, fold, name, bytes.as_slice())
+}
+
+/// That of the bytes of the source `name`.
+fn compiled_bytes(
+    alloc: Global,
+    desc: &Description,
+    fold: bool,
+    name: &str,
+    bytes: &[u8],
+) -> Result<CompiledScript, Refusal>
+    requires { length bytes.now ≤ 1048576 }
+    ensures does { compiled_bytes desc.now fold name.now bytes.now result }
+    ensures filled { IfOk result (λ c. 1 ≤ length c.code.items) }
+{
+    let script = accepted(alloc, desc, name, bytes)?;
+    compiled(alloc, desc, fold, name, script)
+}
+
+/// The script that the bytes of the source `name` spell.
+pub fn accepted(
+    alloc: Global,
+    desc: &Description,
+    name: &str,
+    bytes: &[u8],
+) -> Result<Checked, Refusal>
+    requires { length bytes.now ≤ 1048576 }
+    ensures does { accepted desc.now name.now bytes.now (tree_in result) }
+    ensures shape { IfOk result (λ script. shape_of_script script ≡ shape_of desc.now) }
+{
+    match accept(alloc, desc, bytes) {
+        Ok(script) => Ok(script),
+        Err(refusal) => match SourceCause::of(refusal) {
+            Some(cause) => Err(in_file(alloc, name, Cause::Source(cause))),
+            None => Err(Refusal::NoMemory),
+        },
+    }
+}
+
+/// The compiled script of the script of the source `name`.
+fn compiled(
+    alloc: Global,
+    desc: &Description,
+    fold: bool,
+    name: &str,
+    script: Checked,
+) -> Result<CompiledScript, Refusal>
+    requires { shape_of_script script ≡ shape_of desc.now }
+    ensures does { compiled desc.now fold name.now (tree_of script) result }
+    ensures filled { IfOk result (λ c. 1 ≤ length c.code.items) }
+{
+    match compiled_script(alloc, desc, fold, script) {
+        Ok(compiled) => Ok(compiled),
+        Err(CodeFault::Uncompiled(fault)) => Err(in_file(alloc, name, Cause::Code(fault))),
+        Err(CodeFault::NoMemory) => Err(Refusal::NoMemory),
+    }
+}
