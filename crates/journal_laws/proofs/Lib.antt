@@ -8,3 +8,5 @@ pub mod Progress
 pub mod Fresh
 pub mod ScriptRuns
 pub mod TidyLemmas
+pub mod GoesOnLemmas
+pub mod FewLemmas

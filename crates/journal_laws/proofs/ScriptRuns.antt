@@ -1,11 +1,14 @@
 -- How the run of a node script grows by one more step.
-use Rattle.std.proofs.Common.{◌≡◌, ◌<◌, ℕ, suc, ◌+◌, List, [], ◌∷◌, ◌++◌, length, refl, sym, ◌∙◌, ap, subst, arith, append_assoc, length-append}
+use Rattle.std.proofs.Common.{◌≡◌, ◌<◌, ℕ, suc, ◌+◌, List, [], ◌∷◌, ◌++◌, length, map, refl, sym, ◌∙◌, ap, subst, arith, append_assoc, length-append}
 use Rattle.std.proofs.lemmas.List.{append-nil}
+use Rattle.std.proofs.lemmas.List.Elements.{All-nil, All-cons}
+use Rattle.mate_num.specs.declared.call.Stamp.{Stamp}
 use Rattle.mate_journal.specs.Machine.{Machine}
-use Rattle.mate_journal.specs.Journal.{Event, Reading, heard, heard_all, heard_told, told_by}
+use Rattle.mate_journal.specs.Journal.{Told, Event, Reading, heard, heard_all, heard_told, told_by}
 use Rattle.mate_journal.specs.Pace.{Pace}
 use Rattle.mate_journal.specs.Turns.{Clock}
-use Rattle.mate_journal.specs.NodeScript.{Step, records_max, AreOfEvent, Makes, HaveMade}
+use Rattle.mate_journal.specs.declared.report.TheConstants.{RECORDS_MAX}
+use Rattle.mate_journal.specs.NodeScript.{Step, AreOfEvent, Makes, HaveMade}
 use Rattle.journal_laws.proofs.Append.{heard_all-append}
 
 -- what was heard by two parts of a list
@@ -19,8 +22,8 @@ heard_all-told m r (e ∷ es) = heard_all-told m (heard m r e.told) es
 
 -- one more step
 pub HaveMade-push : (k : Clock) (m : Machine) (records n : ℕ) (r : Reading) (p : Pace) (steps : List Step) (es : List Event) (q : Pace) (step : Step) (front : List Event) (then : Pace)
-    → HaveMade k m records n r p steps es q → records + length es < records_max → AreOfEvent (n + length steps) front
-    → Makes k m (heard_all m r es) q step front then → HaveMade k m records n r p (steps ++ step ∷ []) (es ++ front) then
+    → HaveMade k m records n r p steps es q → records + length es < RECORDS_MAX → AreOfEvent (n + length steps) front
+    → Makes k m (heard_all m r es) q step (told_by front) then → HaveMade k m records n r p (steps ++ step ∷ []) (es ++ front) then
 HaveMade-push k m records n r p [] es q step front then made room stamps makes =
     let none : length es ≡ 0 = ap length made.0 in
     let same : n + length {A = Step} [] ≡ n = omega arith in (
@@ -30,8 +33,8 @@ HaveMade-push k m records n r p [] es q step front then made room stamps makes =
       then,
       ap (λ (all : List Event). all ++ front) made.0 ∙ sym (append-nil front),
       subst (λ (j : ℕ). AreOfEvent j front) same stamps,
-      subst (λ (s : Reading). Makes k m s p step front then) (ap (λ (all : List Event). heard_all m r all) made.0)
-          (subst (λ (o : Pace). Makes k m (heard_all m r es) o step front then) made.1 makes),
+      subst (λ (s : Reading). Makes k m s p step (told_by front) then) (ap (λ (all : List Event). heard_all m r all) made.0)
+          (subst (λ (o : Pace). Makes k m (heard_all m r es) o step (told_by front) then) made.1 makes),
       (refl, refl),
     )
 HaveMade-push k m records n r p (first ∷ steps) es q step front then made room stamps makes =
@@ -47,5 +50,17 @@ HaveMade-push k m records n r p (first ∷ steps) es q step front then made room
       HaveMade-push k m (records + length made.1) (suc n) (heard_all m r made.1) made.3 steps made.2 q step front then made.7
           (omega arith)
           (subst (λ (j : ℕ). AreOfEvent j front) next stamps)
-          (subst (λ (s : Reading). Makes k m s q step front then) (heard-parts m r es made.1 made.2 made.4) makes),
+          (subst (λ (s : Reading). Makes k m s q step (told_by front) then) (heard-parts m r es made.1 made.2 made.4) makes),
     )
+
+-- what events of one stamp tell
+pub told_by-at : (at : Stamp) (told : List Told) → told_by (map (λ t. record { stamp = at; told = t }) told) ≡ told
+told_by-at at [] = refl
+told_by-at at (t ∷ ts) = ap (λ (rest : List Told). t ∷ rest) (told_by-at at ts)
+
+-- they are all of its event, at time 0
+pub AreOfEvent-at : (n : ℕ) (told : List Told) → AreOfEvent n (map (λ t. record { stamp = record { event = n; time = 0 }; told = t }) told)
+AreOfEvent-at n [] = All-nil (λ (e : Event). e.stamp ≡ record { event = n; time = 0 })
+AreOfEvent-at n (t ∷ ts) =
+    All-cons (λ (e : Event). e.stamp ≡ record { event = n; time = 0 }) (record { stamp = record { event = n; time = 0 }; told = t })
+    (map (λ t. record { stamp = record { event = n; time = 0 }; told = t }) ts) refl (AreOfEvent-at n ts)

@@ -59,10 +59,10 @@ pub record Event : Type 0 where
 abbrev pub told_by : List Event → List Told
 told_by es = map (λ e. e.told) es
 
-abbrev no_image : ArrayVec ℕ
+abbrev pub no_image : ArrayVec ℕ
 no_image = record { items = [] }
 
-abbrev no_store : Store
+abbrev pub no_store : Store
 no_store = record { shared = record { items = [] }; buffers = record { items = [] } }
 
 abbrev pub told_of : Log → Entry → Told

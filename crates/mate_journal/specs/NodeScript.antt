@@ -4,6 +4,7 @@ use Rattle.arrayvec.specs.ArrayVec.{ArrayVec}
 use Rattle.mate_num.specs.declared.id.HandlerId.{HandlerId}
 use Rattle.mate_num.specs.declared.id.ContextId.{ContextId}
 use Rattle.mate_num.specs.declared.store.Store.{Store}
+use Rattle.mate_journal.specs.declared.report.TheConstants.{RECORDS_MAX}
 use Rattle.mate_journal.specs.declared.entry.DropCause.TheVariants as drop
 use Rattle.mate_journal.specs.declared.entry.VoidCause.TheVariants as void
 use Rattle.mate_journal.specs.Machine.{Machine, HeldProgram, IsContextOf}
@@ -22,10 +23,6 @@ pub data Step : Type 0 where
   Answer : (context : ContextId) (value : ℤ) → Step
   Show : Step
   ResetNode : Step
-
--- the greatest number of records before an event is begun is one less
-abbrev pub records_max : ℕ
-records_max = 1000000
 
 -- c is the handler's lowest context that no live invocation has
 pub record IsFirstIdle (m : Machine) (r : Reading) (h : HandlerId) (c : ContextId) : Type 0 where
@@ -112,18 +109,18 @@ pub record Resets (k : Clock) (m : Machine) (r : Reading) (p : Pace) (entries : 
   pub made : entries ≡ Seen seen ∷ Reset ∷ []
 
 -- the entries change the pace one by one: no instruction is executed
-abbrev pub IsPacedBy : Pace → List Event → Pace → Type 0
-IsPacedBy p es q = q ≡ paced_all p (told_by es)
+abbrev pub IsPacedBy : Pace → List Told → Pace → Type 0
+IsPacedBy p told q = q ≡ paced_all p told
 
--- what a step makes, at what was heard before it and the pace before it, and the pace after it
-abbrev pub Makes : Clock → Machine → Reading → Pace → Step → List Event → Pace → Type 0
-Makes k m r p (Install x) es q = (Installs k m r p x (told_by es) ⊎ IsNotNewer r x (told_by es)) × IsPacedBy p es q
-Makes k m r p (Post h payload) es q = Occasion m r h payload (told_by es) × IsPacedBy p es q
-Makes k m r p (StepIn c n) es q = TurnsIn k m r p c n (told_by es) q ⊎ (IsNotReady r c (told_by es) × IsPacedBy p es q)
-Makes k m r p Run es q = Settles k m r p (told_by es) q
-Makes k m r p (Answer c value) es q = (Answers r c value (told_by es) ⊎ IsNotWaiting r c (told_by es)) × IsPacedBy p es q
-Makes k m r p Show es q = ShowsOnce k m r p (told_by es) × IsPacedBy p es q
-Makes k m r p ResetNode es q = Resets k m r p (told_by es) × IsPacedBy p es q
+-- what a step tells, at what was heard before it and the pace before it, and the pace after it
+abbrev pub Makes : Clock → Machine → Reading → Pace → Step → List Told → Pace → Type 0
+Makes k m r p (Install x) told q = (Installs k m r p x told ⊎ IsNotNewer r x told) × IsPacedBy p told q
+Makes k m r p (Post h payload) told q = Occasion m r h payload told × IsPacedBy p told q
+Makes k m r p (StepIn c n) told q = TurnsIn k m r p c n told q ⊎ (IsNotReady r c told × IsPacedBy p told q)
+Makes k m r p Run told q = Settles k m r p told q
+Makes k m r p (Answer c value) told q = (Answers r c value told ⊎ IsNotWaiting r c told) × IsPacedBy p told q
+Makes k m r p Show told q = ShowsOnce k m r p told × IsPacedBy p told q
+Makes k m r p ResetNode told q = Resets k m r p told × IsPacedBy p told q
 
 -- all of one event, at time 0
 abbrev pub AreOfEvent : ℕ → List Event → Type 0
@@ -134,13 +131,13 @@ AreOfEvent n es = All (λ (e : Event). e.stamp ≡ record { event = n; time = 0 
 abbrev pub HaveMade : Clock → Machine → ℕ → ℕ → Reading → Pace → List Step → List Event → Pace → Type 0
 HaveMade k m records n r p [] es q = (es ≡ []) × (q ≡ p)
 HaveMade k m records n r p (step ∷ steps) es q =
-    (records < records_max)
+    (records < RECORDS_MAX)
     × (front : List Event)
     × (rest : List Event)
     × (then : Pace)
     × (es ≡ front ++ rest)
     × AreOfEvent n front
-    × Makes k m r p step front then
+    × Makes k m r p step (told_by front) then
     × HaveMade k m (records + length front) (suc n) (heard_all m r front) then steps rest q
 
 -- how a run ends: it is whole, its log is full, or it was cut from outside after a step
@@ -153,7 +150,7 @@ pub data RunEnd : Type 0 where
 -- under the next number; a full one stops before a step, where 1,000,000 records stand or more
 abbrev pub EndsRun : Clock → Machine → RunEnd → ℕ → ℕ → Reading → Pace → List Step → List Event → Type 0
 EndsRun k m Whole records n r p left es = (left ≡ []) × ShowsOnce k m r p (told_by es) × AreOfEvent n es
-EndsRun k m Full records n r p left es = (left ≢ []) × (records_max ≤ records) × (es ≡ [])
+EndsRun k m Full records n r p left es = (left ≢ []) × (RECORDS_MAX ≤ records) × (es ≡ [])
 EndsRun k m Cut records n r p left es = es ≡ []
 
 -- the k-th step is event k, at time 0: the steps that were done made the events in front, and the run ends so

@@ -11,4 +11,4 @@ pub use air::{Air, Aired, Airs};
 pub use entry::{DropCause, Entry, Stamped, VoidCause};
 pub use node_log::NodeLog;
 pub use program::{Program, Programs};
-pub use report::{NodeLogs, Report, RunFault};
+pub use report::{IntoFault, NodeLogs, RECORDS_MAX, Report, RunFault};

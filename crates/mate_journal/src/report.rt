@@ -131,6 +131,9 @@ impl Report {
     }
 }
 
+/// An event is begun only where fewer records stand before it.
+pub const RECORDS_MAX: usize = 1_000_000;
+
 /// Why a run gave no whole report.
 #[derive(Drop)]
 pub enum RunFault {
@@ -138,4 +141,27 @@ pub enum RunFault {
     LogFull(Report),
     /// Memory was refused.
     NoMemory,
+}
+
+/// Why a run whose lines are written as its events end gave no whole report, or wasn't written whole. Each has the report of
+/// the events that ended.
+#[derive(Drop)]
+pub enum IntoFault {
+    /// 1,000,000 records or more stood, and an event was left. The report was written whole.
+    LogFull(Report),
+    /// Memory was refused, to the run or to the sink.
+    NoMemory(Report),
+    /// The sink couldn't be written.
+    Sink(Report),
+}
+
+impl From<NoMemory> for RunFault {
+    ghost use Rattle.std.specs.Prelude.{◌≡◌};
+    ghost use Rattle.mate_journal.specs.declared.report.RunFault.TheVariants.{NoMemory as OutOfMemory};
+
+    ghost from_gives = { λ _ fault. fault ≡ OutOfMemory };
+
+    fn from(_refusal: NoMemory) -> RunFault {
+        RunFault::NoMemory
+    }
 }

@@ -39,7 +39,7 @@ use Rattle.node_invariant.specs.Agrees.{code_for, uses_for, own_run, own_in, IsO
 use Rattle.node_invariant.specs.Keeps.{reading, Keeps, IsTimely}
 use Rattle.node_invariant.specs.Continues.{Continues}
 use Rattle.node_invariant.proofs.FitLemmas.{HasSeat, IsAlone}
-use Rattle.node_invariant.proofs.KeepLemmas.{IsPrepared-same}
+use Rattle.node_invariant.proofs.KeepLemmas.{IsPrepared-same, AddsTidily-plain}
 use Rattle.node_invariant.proofs.MoveLemmas.{alone-seat, answering, was_waiting, stood_waiting, waits-in, Fits-answered, none_waits}
 use Rattle.node_invariant.proofs.AgreeLemmas.{Agrees-moves}
 use Rattle.node_grants.specs.Queue.{number_at, number_in}
@@ -171,10 +171,10 @@ module _ (d : Description) (old : Parts) (contexts : Contexts) (log : Log) (stam
     Continues-answered =
         let n = keeps.numbers in
         record {
-          prepared = IsPrepared-same d old keeps;
+          prepared = IsPrepared-same old.log;
           pushed = pushed;
           tells = refl;
-          named = tt;
+          tidily = AddsTidily-plain d old.log log stamp (entry.Answer one.seat.inv value) pushed (record { image = refl; store = refl; in_range = tt });
           timely = timely;
           follows = record { fun = call.0; args = call.1; waits = waits };
           ends = tt;

@@ -15,7 +15,7 @@ use Rattle.mate_journal.specs.NodeScript.{Resets}
 use Rattle.mate_journal.specs.Serial.{EndsAsRun}
 use Rattle.mate_journal.specs.Stores.{ShowsStore, IsSeenBefore}
 use Rattle.mate_journal.specs.WellFormed.{MayFollow}
-use Rattle.journal_laws.specs.Growth.{IsPushed, IsNamedBelow, last_is_seen}
+use Rattle.journal_laws.specs.Growth.{IsPushed, last_is_seen}
 use Rattle.journal_laws.proofs.Append.{last_is_seen-push}
 use Rattle.journal_laws.proofs.Moves.{Cuts}
 use Rattle.exec_unit.specs.Step.{HasLengths}
@@ -25,9 +25,9 @@ use Rattle.node_invariant.specs.declared.parts.Parts.{Parts}
 use Rattle.node_invariant.specs.Meaning.{machine_in, clock_of}
 use Rattle.node_invariant.specs.Fits.{AreInstalled}
 use Rattle.node_invariant.specs.Keeps.{reading, Keeps, IsTimely, Grows, event_at}
-use Rattle.node_invariant.specs.Continues.{IsPrepared, Continues}
+use Rattle.node_invariant.specs.Continues.{IsPrepared, AddsTidily, Continues}
 use Rattle.node_invariant.proofs.SerialLemmas.{started-live}
-use Rattle.node_invariant.proofs.KeepLemmas.{IsPrepared-same}
+use Rattle.node_invariant.proofs.KeepLemmas.{IsPrepared-same, AddsTidily-plain}
 use Rattle.node_invariant.proofs.MoveLemmas.{Fits-idle, cut-dead}
 use Rattle.node_invariant.proofs.StartLemmas.{Agrees-idle}
 use Rattle.node_grants.specs.Queue.{number_in}
@@ -58,7 +58,7 @@ pub record BeginsEra (d : Description) (r : Reading) (told : Told) : Type 0 wher
 module _ (d : Description) (old new : Parts) (before : Log) (stamp : Stamp) (e : Entry) (told : Told) (rests : Rests d old) (timely : IsTimely stamp old.log) (era : BeginsEra d (reading d old.log) told)
     (seen : last_is_seen false (journal_of old.log) ≡ true) (idles : AreIdle new.contexts) (zero : new.heap ≡ zero_store (length d.shared.items) (length d.buffers.items)) (posts : new.posts ≡ old.posts)
     (installed : AreInstalled d (heard (machine_in d) (reading d old.log) told).installed (held_at new.handlers.programs))
-    (prepared : IsPrepared old.log before) (pushed : IsPushed before record { stamp = stamp; entry = e } new.log) (tells : told_of before e ≡ told) (named : IsNamedBelow (length before.images) (length before.stores) e)
+    (prepared : IsPrepared old.log before) (pushed : IsPushed before record { stamp = stamp; entry = e } new.log) (tells : told_of before e ≡ told) (tidily : AddsTidily d old.log e new.log)
     (room : old.log.spare ≤ new.log.spare + 1) where
   abbrev r : Reading
   r = reading d old.log
@@ -87,7 +87,7 @@ module _ (d : Description) (old new : Parts) (before : Log) (stamp : Stamp) (e :
         prepared = prepared;
         pushed = pushed;
         tells = tells;
-        named = named;
+        tidily = tidily;
         timely = timely;
         follows = era.follows;
         ends = era.ends;
@@ -144,7 +144,7 @@ pub RestsAgain-reset : (d : Description) (old new : Parts) (stamp : Stamp) → R
 RestsAgain-reset d old new stamp rests timely seen idles zero posts handlers pushed room =
     let P : _ → Type 0 = λ h. AreInstalled d (reading d old.log).installed (held_at h.programs) in
     RestsAgain-era d old new old.log stamp entry.Reset Reset rests timely (BeginsEra-reset d (reading d old.log)) seen idles zero posts (subst P (sym handlers) rests.order.keeps.installed)
-    (IsPrepared-same d old rests.order.keeps) pushed refl tt room
+    (IsPrepared-same old.log) pushed refl (AddsTidily-plain d old.log new.log stamp entry.Reset pushed (record { image = refl; store = refl; in_range = tt })) room
 
 -- the store is told, all is cleared, and the reset is told
 pub RestsAgain-resets : (d : Description) (old mid next : Parts) (log : Log) (at_ : Stamp) → TellsStore d old mid at_ → IsCleared d mid next → IsPushed next.log record { stamp = at_; entry = entry.Reset } log → next.log.spare ≤ log.spare + 1

@@ -1,6 +1,6 @@
 -- An install: the program that the bytes are takes the place of what was held, and an era begins.
-use Rattle.std.proofs.Common.{◌≡◌, ◌≢◌, ◌⊎◌, ℕ, ◌+◌, ◌≤◌, ◌<◌, Bool, true, false, cond, eqb, List, [], ◌∷◌, ◌++◌, Option, Some, None, Result, Ok, Err, length, map, set, drop, ℤ, refl, sym, ◌∙◌, ap, subst, arith, inl, inr, length-append, get_or-set_same, get_or-set_other}
-use Rattle.std.specs.Prelude.{IsTrue, nat_lt}
+use Rattle.std.proofs.Common.{◌≡◌, ◌≢◌, ◌⊎◌, ℕ, ◌+◌, ◌≤◌, ◌<◌, Bool, true, false, cond, eqb, List, [], ◌∷◌, ◌++◌, Option, Some, None, Result, Ok, Err, length, map, set, drop, ℤ, refl, sym, ◌∙◌, ap, subst, arith, inl, inr, get_or-set_same, get_or-set_other}
+use Rattle.std.specs.Prelude.{All, IsTrue, nat_lt}
 use Rattle.std.specs.Option.{option_map}
 use Rattle.std.proofs.Math.Seq.{get_or-append_seam}
 use Rattle.std.proofs.lemmas.Bool.Decides.{eqb_tells}
@@ -25,6 +25,9 @@ use Rattle.mate_code.specs.Code.{decoded}
 use Rattle.mate_code.specs.Run.{Code}
 use Rattle.mate_code.specs.Table.{table_of}
 use Rattle.mate_code.specs.Verification.{Refusal, Marks, TooLong, verification}
+use Rattle.std.proofs.lemmas.List.Elements.{All-nil, All-cons, All-append}
+use Rattle.mate_journal.specs.Tidy.{IsStoreOf}
+use Rattle.journal_laws.proofs.TidyLemmas.{NumbersInOrder-install, NamesInLog-numbered}
 use Rattle.vm_desc.specs.declared.description.Description.{Description}
 use Rattle.vm_desc.specs.Bounds.{HasBounds}
 use Rattle.vm_desc.specs.Shapes.{shape_of}
@@ -35,7 +38,8 @@ use Rattle.mate_journal.specs.Machine.{Machine, HeldProgram}
 use Rattle.mate_journal.specs.NodeScript.{Occasion, Installs}
 use Rattle.mate_journal.specs.Journal.{Told, Installed, Seen, Reading, held, heard, heard_all, nothing_heard, journal_of}
 use Rattle.journal_laws.specs.Growth.{AddsImage, last_is_seen}
-use Rattle.journal_laws.proofs.Append.{heard_all-append, journal_of-add_image, NamesInLog-add_image}
+use Rattle.journal_laws.proofs.Append.{heard_all-append, journal_of-add_image}
+use Rattle.mate_num.specs.declared.store.Store.{Store}
 use Rattle.node_contexts.specs.declared.handlers.Handlers.{Handlers}
 use Rattle.node_contexts.specs.declared.handlers.Held.{Held}
 use Rattle.node_contexts.specs.At.{AreIdle}
@@ -44,7 +48,7 @@ use Rattle.node_invariant.specs.declared.parts.Parts.{Parts}
 use Rattle.node_invariant.specs.Meaning.{machine_in, clock_of, code_in, code_of}
 use Rattle.node_invariant.specs.Fits.{program_of, IsHeld, AreInstalled}
 use Rattle.node_invariant.specs.Keeps.{reading, Keeps, IsTimely, event_at, Grows}
-use Rattle.node_invariant.specs.Continues.{IsPrepared}
+use Rattle.node_invariant.specs.Continues.{IsPrepared, AddsTidily}
 use Rattle.node_grants.specs.Starting.{Rests}
 use Rattle.node_calls.specs.declared.installing.Installable.{Installable}
 use Rattle.node_calls.specs.declared.posting.PostAnswer.{PostAnswer}
@@ -141,36 +145,40 @@ module _ (d : Description) (old new : Parts) (stamp : Stamp) (h : HandlerId) (x 
 
   prepared : IsPrepared old.log before
   prepared =
-      let images = keeps.images in
-      let stores = keeps.stores in
+      record { journal = journal_of-add_image old.log x.image before (NamesInLog-numbered old.log keeps.tidy.numbered) adds; entries = refl }
+
+  tidily : IsHeld d x → h.0 < length d.handlers.items → IsInstalledIn old.log h x.version x.image stamp new.log → AddsTidily d old.log (entry.Install h x.version (length old.log.images)) new.log
+  tidily held_now of_machine is =
+      let S : List Store → Type 0 = λ l. All (IsStoreOf d) l in
+      let F : ArrayVec ℕ → Type 0 = λ image. 0 < length image.items in
+      let I : List (ArrayVec ℕ) → Type 0 = λ l. All F l in
       record {
-        journal = journal_of-add_image old.log x.image before keeps.names adds;
-        entries = refl;
-        names = NamesInLog-add_image old.log x.image before keeps.names adds;
-        images = omega (arith, length-append old.log.images (x.image ∷ []));
-        stores = omega arith;
+        in_range = of_machine;
+        numbered = NumbersInOrder-install old.log new.log stamp h x.version x.image is.entries is.images is.stores;
+        lengths = λ lengths. subst S (sym is.stores) lengths;
+        full = λ full. record { full = subst I (sym is.images) (All-append F old.log.images (x.image ∷ []) full.full (All-cons F x.image [] held_now.full (All-nil F))) };
       }
 
-  pub RestsAgain-installed : IsHeld d x → h.0 < length old.handlers.programs → AreIdle new.contexts → new.heap ≡ zero_store (length d.shared.items) (length d.buffers.items) → new.posts ≡ old.posts
+  pub RestsAgain-installed : IsHeld d x → h.0 < length d.handlers.items → h.0 < length old.handlers.programs → AreIdle new.contexts → new.heap ≡ zero_store (length d.shared.items) (length d.buffers.items) → new.posts ≡ old.posts
       → new.handlers.programs ≡ set old.handlers.programs h.0 (Some x) → IsInstalledIn old.log h x.version x.image stamp new.log → old.log.spare ≤ new.log.spare + 1
       → RestsAgain d old new stamp (λ told. told ≡ Installed (program_of h x) ∷ [])
-  RestsAgain-installed held_now below idles zero posts set_now is room =
+  RestsAgain-installed held_now of_machine below idles zero posts set_now is room =
       let P : List (Option Held) → Type 0 = λ programs. AreInstalled d (installed_with (reading d old.log).installed (program_of h x)) (held_at programs) in
       RestsAgain-era d old new before stamp (entry.Install h x.version (length old.log.images)) (Installed (program_of h x)) rests timely (BeginsEra-install d (reading d old.log) (program_of h x)) seen idles zero posts
       (subst P (sym set_now) (AreInstalled-with d (reading d old.log).installed old.handlers.programs h x keeps.installed held_now below))
       prepared (record { entries = is.entries; images = is.images; stores = is.stores })
       (ap (λ (image : ArrayVec ℕ). Installed (record { handler = h; version = x.version; image = image })) (get_or-append_seam old.log.images x.image [] (record { items = [] })))
-      (omega (arith, length-append old.log.images (x.image ∷ []))) room
+      (tidily held_now of_machine is) room
 
 -- the image and the program take their places, and all is cleared
-pub RestsAgain-begun : (d : Description) (old mid : Parts) (pushed : Log) (handlers : Handlers) (at_ : Stamp) (h : HandlerId) (x : Held) → Rests d old → IsTimely at_ old.log → last_is_seen false (journal_of old.log) ≡ true → IsHeld d x → h.0 < 8
+pub RestsAgain-begun : (d : Description) (old mid : Parts) (pushed : Log) (handlers : Handlers) (at_ : Stamp) (h : HandlerId) (x : Held) → Rests d old → IsTimely at_ old.log → last_is_seen false (journal_of old.log) ≡ true → IsHeld d x → h.0 < length d.handlers.items
     → length old.handlers.programs ≡ 8 → IsInstalledIn old.log h x.version x.image at_ pushed → old.log.spare ≤ pushed.spare + 1 → IsCleared d (record old { log = pushed }) mid → handlers.programs ≡ set mid.handlers.programs h.0 (Some x)
     → RestsAgain d old (record mid { handlers = handlers }) at_ (λ told. told ≡ Installed (program_of h x) ∷ [])
-RestsAgain-begun d old mid pushed handlers at_ h x rests timely seen held_now small eight is room cleared set_now =
+RestsAgain-begun d old mid pushed handlers at_ h x rests timely seen held_now of_machine eight is room cleared set_now =
     let log_is : mid.log ≡ pushed = ap (λ (s : Parts). s.log) cleared.same in
     let P : Log → Type 0 = λ l. IsInstalledIn old.log h x.version x.image at_ l in
     let Q : Log → Type 0 = λ l. old.log.spare ≤ l.spare + 1 in
-    RestsAgain-installed d old (record mid { handlers = handlers }) at_ h x rests timely seen held_now (omega arith) cleared.idle cleared.zero (ap (λ (s : Parts). s.posts) cleared.same)
+    RestsAgain-installed d old (record mid { handlers = handlers }) at_ h x rests timely seen held_now of_machine (let high = (bounds_of d).handlers_high in omega arith) cleared.idle cleared.zero (ap (λ (s : Parts). s.posts) cleared.same)
     (set_now ∙ ap (λ (s : Parts). set s.handlers.programs h.0 (Some x)) cleared.same) (subst P (sym log_is) is) (subst Q (sym log_is) room)
 
 -- ---- versions
@@ -191,6 +199,10 @@ held-version d s h rests = ap (version h) (rests.order.keeps.installed.same h) �
 code-behind : (c : CapsuleParts) → drop 16 (image_of c) ≡ c.code
 code-behind c = refl
 
+-- a list that begins is not empty
+begins-some : (x : ℕ) (xs ys : List ℕ) → ys ≡ x ∷ xs → 0 < length ys
+begins-some x xs ys is = let e = ap length is in omega arith
+
 pub IsInstallable-from : (d : Description) (bytes : List ℕ) (c : Capsule) (v : VerifiedCode) (locks : LockSet) (image : ArrayVec ℕ) → capsule_in d bytes ≡ Ok (capsule_parts c) → bytes ≡ image_of (capsule_parts c) → IsOfMachine d (capsule_parts c)
     → IsOf (shape_of d) c.code.items v → AreLocksOf (shape_of d) v.code locks → image.items ≡ bytes
     → IsInstallable d bytes record { handler = c.handler; held = record { version = c.version; image = image; code = v; locks = locks } }
@@ -203,11 +215,14 @@ IsInstallable-from d bytes c v locks image decoded_is image_is of_machine is_of 
     let code_is : v.code ≡ code_of (shape_of d) image =
     sym (decoded-if (nat_lt CODE_MAX (length c.code.items)) (length c.code.items) (shape_of d) v.code (marks_of v) (decoded (table_of (shape_of d)) c.code.items) accepted)
     ∙ ap (λ (bs : List ℕ). code_in (decoded (table_of (shape_of d)) bs)) (sym behind) in
+    let long = ap length (same ∙ image_is) in
+    let some : 0 < length (image_of (capsule_parts c)) = begins-some _ _ (image_of (capsule_parts c)) refl in
+    let full : 0 < length image.items = omega arith in
     let L : Code → Type 0 = λ code. AreLocksOf (shape_of d) code locks in
     record {
       capsule = capsule_parts c;
       right = record { decoded = decoded_is; code = v.code; marks = marks_of v; verified = accepted };
-      is_held = record { shape = is_of.shape_is; code = code_is; verified = is_of.is_verified; locks_are = subst L code_is are_locks; version_is = c.numbered };
+      is_held = record { shape = is_of.shape_is; code = code_is; verified = is_of.is_verified; locks_are = subst L code_is are_locks; version_is = c.numbered; full = full };
       program = ap (λ (bs : List ℕ). let p : HeldProgram = record { handler = c.handler; version = c.version; image = record { items = bs } } in p) same;
       handler = of_machine.handler;
     }

@@ -96,18 +96,18 @@ idle-first d s h c rests first = no_seat (held_at s.handlers.programs) (reading 
 
 -- ---- an event that is dropped
 
-module _ (d : Description) (old : Parts) (log : Log) (stamp : Stamp) (h : HandlerId) (rests : Rests d old) (timely : IsTimely stamp old.log) (room : old.log.spare ≤ log.spare + 1) where
+module _ (d : Description) (old : Parts) (log : Log) (stamp : Stamp) (h : HandlerId) (of_machine : h.0 < length d.handlers.items) (rests : Rests d old) (timely : IsTimely stamp old.log) (room : old.log.spare ≤ log.spare + 1) where
   pub RestsAgain-no_code : held_at old.handlers.programs h ≡ None → IsPushed old.log record { stamp = stamp; entry = entry.Dropped h drop.NoCode } log
       → RestsAgain d old (record old { log = log }) stamp (DropsNoCode (reading d old.log) h)
   RestsAgain-no_code is pushed =
       RestsAgain-as d old (record old { log = log }) stamp (λ told. told ≡ Dropped h drop.NoCode ∷ []) (DropsNoCode (reading d old.log) h)
-      (RestsAgain-dropped d old log stamp rests timely h drop.NoCode pushed room) (λ told made. record { no_code = none-heard d old h rests is; made = made })
+      (RestsAgain-dropped d old log stamp rests timely h drop.NoCode of_machine pushed room) (λ told made. record { no_code = none-heard d old h rests is; made = made })
 
   pub RestsAgain-all_busy : (x : Held) → held_at old.handlers.programs h ≡ Some x → HasNoneFree (machine_in d) old.contexts h → IsPushed old.log record { stamp = stamp; entry = entry.Dropped h drop.AllBusy } log
       → RestsAgain d old (record old { log = log }) stamp (DropsAllBusy (machine_in d) (reading d old.log) h)
   RestsAgain-all_busy x is taken pushed =
       RestsAgain-as d old (record old { log = log }) stamp (λ told. told ≡ Dropped h drop.AllBusy ∷ []) (DropsAllBusy (machine_in d) (reading d old.log) h)
-      (RestsAgain-dropped d old log stamp rests timely h drop.AllBusy pushed room)
+      (RestsAgain-dropped d old log stamp rests timely h drop.AllBusy of_machine pushed room)
       (λ told made. record {
         code = some-heard d old h x rests is;
         busy = λ c of_handler. busy-taken (held_at old.handlers.programs) (reading d old.log) old.contexts c rests.order.keeps.fits (taken c of_handler);

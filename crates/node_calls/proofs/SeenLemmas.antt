@@ -1,8 +1,12 @@
 -- Stores that are seen, and steps that do nothing.
-use Rattle.std.proofs.Common.{◌≡◌, ◌+◌, ◌≤◌, [], ◌∷◌, ◌++◌, length, refl, ap, arith, length-append}
+use Rattle.std.proofs.Common.{◌≡◌, ℕ, ◌+◌, ◌≤◌, ◌<◌, List, [], ◌∷◌, ◌++◌, length, refl, sym, ap, subst, arith}
 use Rattle.std.proofs.Math.Seq.{get_or-append_seam}
 use Rattle.mate_num.specs.declared.call.Stamp.{Stamp}
 use Rattle.mate_num.specs.declared.store.Store.{Store}
+use Rattle.std.specs.Prelude.{All}
+use Rattle.arrayvec.specs.ArrayVec.{ArrayVec}
+use Rattle.mate_journal.specs.Tidy.{IsStoreOf}
+use Rattle.journal_laws.proofs.TidyLemmas.{NumbersInOrder-seen, NamesInLog-numbered, lengths-add}
 use Rattle.vm_desc.specs.declared.description.Description.{Description}
 use Rattle.mate_journal.specs.declared.entry.Entry.TheVariants as entry
 use Rattle.mate_journal.specs.declared.entry.VoidCause.{VoidCause}
@@ -11,11 +15,11 @@ use Rattle.mate_num.specs.declared.id.HandlerId.{HandlerId}
 use Rattle.mate_journal.specs.Log.{Log}
 use Rattle.mate_journal.specs.Journal.{Dropped, Seen, Void}
 use Rattle.journal_laws.specs.Growth.{IsPushed, AddsStore}
-use Rattle.journal_laws.proofs.Append.{journal_of-add_store, NamesInLog-add_store}
+use Rattle.journal_laws.proofs.Append.{journal_of-add_store}
 use Rattle.node_contexts.specs.Programs.{held_at}
 use Rattle.node_invariant.specs.declared.parts.Parts.{Parts}
 use Rattle.node_invariant.specs.Keeps.{reading, Keeps, IsTimely}
-use Rattle.node_invariant.specs.Continues.{IsPrepared, Continues}
+use Rattle.node_invariant.specs.Continues.{IsPrepared, AddsTidily, Continues}
 use Rattle.node_invariant.proofs.KeepLemmas.{Continues-same}
 use Rattle.node_invariant.proofs.SerialLemmas.{shown}
 use Rattle.node_grants.specs.Starting.{Rests}
@@ -42,14 +46,17 @@ module _ (d : Description) (old : Parts) (log : Log) (stamp : Stamp) (rests : Re
 
     prepared : IsPrepared old.log before
     prepared =
-        let images = keeps.images in
-        let stores = keeps.stores in
+        record { journal = journal_of-add_store old.log old.heap before (NamesInLog-numbered old.log keeps.tidy.numbered) adds; entries = refl }
+
+    tidily : AddsTidily d old.log (entry.Seen (length old.log.stores)) log
+    tidily =
+        let S : List Store → Type 0 = λ l. All (IsStoreOf d) l in
+        let I : List (ArrayVec ℕ) → Type 0 = λ l. All (λ (image : ArrayVec ℕ). 0 < length image.items) l in
         record {
-          journal = journal_of-add_store old.log old.heap before keeps.names adds;
-          entries = refl;
-          names = NamesInLog-add_store old.log old.heap before keeps.names adds;
-          images = omega arith;
-          stores = omega (arith, length-append old.log.stores (old.heap ∷ []));
+          in_range = tt;
+          numbered = NumbersInOrder-seen old.log log stamp old.heap is.entries is.images is.stores;
+          lengths = λ lengths. subst S (sym is.stores) (lengths-add d old.log.stores old.heap (record { shared = keeps.lengths.shared; buffers = keeps.lengths.buffers }) lengths);
+          full = λ full. record { full = subst I (sym is.images) full.full };
         }
 
     pub Continues-seen : Continues d old (record old { log = log }) before stamp (entry.Seen (length old.log.stores)) (Seen old.heap)
@@ -59,7 +66,7 @@ module _ (d : Description) (old : Parts) (log : Log) (stamp : Stamp) (rests : Re
           prepared = prepared;
           pushed = record { entries = is.entries; images = is.images; stores = is.stores };
           tells = ap Seen (get_or-append_seam old.log.stores old.heap [] (record { shared = record { items = [] }; buffers = record { items = [] } }));
-          named = omega (arith, length-append old.log.stores (old.heap ∷ []));
+          tidily = tidily;
           timely = timely;
           follows = tt;
           ends = tt;
@@ -76,10 +83,10 @@ module _ (d : Description) (old : Parts) (log : Log) (stamp : Stamp) (rests : Re
   pub RestsAgain-void : (cause : VoidCause) → IsPushed old.log record { stamp = stamp; entry = entry.Void cause } log → old.log.spare ≤ log.spare + 1
       → RestsAgain d old (record old { log = log }) stamp (λ told. told ≡ Void cause ∷ [])
   RestsAgain-void cause pushed room =
-      RestsAgain-quiet d old log old.log stamp (entry.Void cause) (Void cause) rests (Continues-same d old log stamp (entry.Void cause) (Void cause) keeps timely pushed refl tt tt tt tt tt refl) room rests.held refl (λ p. refl)
+      RestsAgain-quiet d old log old.log stamp (entry.Void cause) (Void cause) rests (Continues-same d old log stamp (entry.Void cause) (Void cause) keeps timely pushed refl (record { image = refl; store = refl; in_range = tt }) tt tt tt tt refl) room rests.held refl (λ p. refl)
 
   -- an event that becomes no invocation
-  pub RestsAgain-dropped : (h : HandlerId) (cause : DropCause) → IsPushed old.log record { stamp = stamp; entry = entry.Dropped h cause } log → old.log.spare ≤ log.spare + 1
+  pub RestsAgain-dropped : (h : HandlerId) (cause : DropCause) → h.0 < length d.handlers.items → IsPushed old.log record { stamp = stamp; entry = entry.Dropped h cause } log → old.log.spare ≤ log.spare + 1
       → RestsAgain d old (record old { log = log }) stamp (λ told. told ≡ Dropped h cause ∷ [])
-  RestsAgain-dropped h cause pushed room =
-      RestsAgain-quiet d old log old.log stamp (entry.Dropped h cause) (Dropped h cause) rests (Continues-same d old log stamp (entry.Dropped h cause) (Dropped h cause) keeps timely pushed refl tt tt tt tt tt refl) room rests.held refl (λ p. refl)
+  RestsAgain-dropped h cause of_machine pushed room =
+      RestsAgain-quiet d old log old.log stamp (entry.Dropped h cause) (Dropped h cause) rests (Continues-same d old log stamp (entry.Dropped h cause) (Dropped h cause) keeps timely pushed refl (record { image = refl; store = refl; in_range = of_machine }) tt tt tt tt refl) room rests.held refl (λ p. refl)

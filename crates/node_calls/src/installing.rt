@@ -99,7 +99,7 @@ fn begin(description: &Description, parts: &mut Parts, program: Installable, at:
     requires few { length parts.old.log.entries < 4100000000 }
     requires seen { last_is_seen false (journal_of parts.old.log) ≡ true }
     requires held { IsHeld description.now program.held }
-    requires handler { program.handler.0 < 8 }
+    requires handler { program.handler.0 < length description.now.handlers.items }
     ensures { RestsAgain description.now parts.old parts.new at (λ told. told ≡ Installed (program_of program.handler program.held) ∷ []) }
 {
     places_are_eight(&parts.handlers.programs);

@@ -1,5 +1,5 @@
 -- What a node that rests keeps of its log, and that more room changes nothing.
-use Rattle.std.proofs.Common.{◌≡◌, List, length, sym, ap, subst, arith}
+use Rattle.std.proofs.Common.{◌∙◌, ◌≡◌, List, length, sym, ap, subst, arith, ℕ, ◌<◌}
 use Rattle.vm_desc.specs.declared.description.Description.{Description}
 use Rattle.mate_journal.specs.Log.{Log, IsSameLog}
 use Rattle.mate_journal.specs.Journal.{Event, Reading, journal_of, nothing_heard, heard_all}
@@ -11,7 +11,12 @@ use Rattle.mate_journal.specs.Machine.{Machine}
 use Rattle.mate_journal.specs.Devices.{DeviceOf, WritesWhatItAsks, AsksDevicesInOrder}
 use Rattle.journal_laws.specs.Progress.{GoesForward}
 use Rattle.journal_laws.specs.Growth.{GrantsBefore}
-use Rattle.journal_laws.proofs.Append.{journal_of-same, NamesInLog-same, GrantsInOrder-join}
+use Rattle.journal_laws.proofs.Append.{journal_of-same, GrantsInOrder-join}
+use Rattle.mate_journal.specs.Tidy.{IsEntryInRange, IsStoreOf, EventsRise, entry_event, names_in, image_named, store_named, below}
+use Rattle.mate_journal.specs.declared.entry.Stamped.{Stamped}
+use Rattle.mate_num.specs.declared.store.Store.{Store}
+use Rattle.arrayvec.specs.ArrayVec.{ArrayVec}
+use Rattle.std.specs.Prelude.{All}
 use Rattle.journal_laws.proofs.Apart.{nothing_heard-orderly}
 use Rattle.journal_laws.proofs.Order.{ends-in_order}
 use Rattle.journal_laws.proofs.Progress.{never-stuck}
@@ -42,7 +47,7 @@ abbrev pub InOrder : Type 0
 InOrder = (m : Machine) (es : List Event) (device_of : DeviceOf) → WritesWhatItAsks device_of m.meaning → IsWellFormed m (nothing_heard m) es → IsSerial m (nothing_heard m) es
     → GrantsInOrder m (nothing_heard m) 0 es → AsksDevicesInOrder device_of es
 
-pub KeepsJournal-rests : (d : Description) (s : Parts) → InOrder → Rests d s → KeepsJournal (machine_in d) s.log
+pub KeepsJournal-rests : (d : Description) (s : Parts) → InOrder → Rests d s → KeepsJournal d (machine_in d) s.log
 KeepsJournal-rests d s in_order rests =
     let m = machine_in d in
     let keeps = rests.order.keeps in
@@ -52,6 +57,8 @@ KeepsJournal-rests d s in_order rests =
       serial = keeps.serial;
       stores = keeps.shows;
       grants = grants;
+      tidy = keeps.tidy;
+      full = keeps.full;
       never_stuck = never-stuck m (nothing_heard m) 0 (journal_of s.log) keeps.well_formed.follow grants (record { numbered = (nothing_heard-orderly m).numbered });
       devices = in_order m (journal_of s.log) m.device_of (writes-what_it_asks d) keeps.well_formed keeps.serial grants;
       ends_as_posted = ends-in_order m (nothing_heard m) 0 (journal_of s.log) keeps.well_formed.follow rests.order.grants (nothing_heard-orderly m);
@@ -79,17 +86,20 @@ module _ (d : Description) (s : Parts) (log : Log) (same : IsSameLog log s.log) 
       let m = machine_in d in
       let n = nothing_heard m in
       let entries = ap length same.entries in
-      let images = ap length same.images in
-      let stores = ap length same.stores in
-      let few = keeps.images in
-      let few_stores = keeps.stores in
       let numbers = keeps.numbers in
       record {
         order = record {
           keeps = record {
-            names = NamesInLog-same s.log log keeps.names same;
-            images = omega arith;
-            stores = omega arith;
+            tidy = record {
+              in_range = (let P : List Stamped → Type 0 = λ l. All (λ (e : Stamped). IsEntryInRange d e.entry) l in subst P (sym same.entries) keeps.tidy.in_range);
+              numbered = record {
+                images = ap (names_in image_named) same.entries ∙ keeps.tidy.numbered.images ∙ ap (λ (l : List (ArrayVec ℕ)). below (length l)) (sym same.images);
+                stores = ap (names_in store_named) same.entries ∙ keeps.tidy.numbered.stores ∙ ap (λ (l : List Store). below (length l)) (sym same.stores);
+              };
+              lengths = (let P : List Store → Type 0 = λ l. All (IsStoreOf d) l in subst P (sym same.stores) keeps.tidy.lengths);
+              ordered = (let P : List Stamped → Type 0 = λ l. EventsRise entry_event 0 l in subst P (sym same.entries) keeps.tidy.ordered);
+            };
+            full = record { full = (let P : List (ArrayVec ℕ) → Type 0 = λ l. All (λ (image : ArrayVec ℕ). 0 < length image.items) l in subst P (sym same.images) keeps.full.full) };
             numbers = omega arith;
             well_formed = along (λ es. IsWellFormed m n es) keeps.well_formed;
             posts = heard (λ r. r.posts ≡ s.posts) keeps.posts;

@@ -2,3 +2,4 @@ pub mod PaceLemmas
 pub mod JournalLemmas
 pub mod StandingLemmas
 pub mod MadeLemmas
+pub mod CallLemmas

@@ -1,6 +1,7 @@
 //! A node of the network: what happens on it, in the order in which it is told to.
 #![tactic(auto)]
 
+pub mod calls;
 pub mod node;
 pub mod standing;
 

@@ -10,6 +10,7 @@ ghost use Rattle.node_invariant.specs.Meaning.{machine_in, clock_of};
 ghost use Rattle.node_invariant.specs.Keeps.{IsTimely};
 ghost use Rattle.node_grants.specs.Starting.{Rests};
 ghost use Rattle.node_turns.specs.Pacing.{SettlesWithin};
+ghost use Rattle.node_calls.specs.Calls.{NobodyWaits};
 ghost use Rattle.node_core.specs.Journal.{KeepsJournal};
 
 use crate::standing::{Asked, NotReady, Standing};
@@ -49,7 +50,7 @@ impl Model for Node {
 /// What the log of a node that rests keeps.
 fn keeps_journal(description: &Description, parts: &Parts)
     requires { Rests description.now parts.now }
-    ensures { KeepsJournal (machine_in description.now) parts.now.log }
+    ensures { KeepsJournal description.now (machine_in description.now) parts.now.log }
 {
     let _description = description;
     let _parts = parts;
@@ -58,7 +59,7 @@ fn keeps_journal(description: &Description, parts: &Parts)
 
 impl Node {
     ghost use Rattle.node_core.specs.View.{heard_of, HasPace, Tells, IsSameNode};
-    ghost use Rattle.node_core.specs.Calls.{HasStepped, StandsAs, IsWaitingIn, IsAsked, IsImageOf};
+    ghost use Rattle.node_core.specs.Calls.{HasStepped, StandsAs, IsAsked, IsImageOf};
 
     /// A node of this machine. Nothing is installed, all variables are 0, all buffers are empty, and nothing was told.
     pub fn new(alloc: Global, description: &Description) -> Result<Node, NoMemory>
@@ -138,7 +139,7 @@ impl Node {
     /// The call that the invocation in the context waits with; None exactly where none waits there.
     pub fn asked(&self, ctx: ContextId) -> Option<Asked>
         requires { ctx.0 < 16 }
-        ensures { MatchOption result (IsWaitingIn (heard_of self.now) ctx → ⊥) (IsAsked (heard_of self.now) ctx) }
+        ensures { MatchOption result (NobodyWaits (heard_of self.now) ctx) (IsAsked (heard_of self.now) ctx) }
     {
         let (fun, args) = self.parts.contexts.asked(ctx)?;
         let inv = self.parts.contexts.seat(ctx)?.inv;
@@ -165,7 +166,7 @@ impl Node {
     /// What happened on the node.
     pub fn log(&self) -> &NodeLog
         ensures same { result.now ≡ self.now.log }
-        ensures keeps { KeepsJournal (machine_in self.now.description) self.now.log }
+        ensures keeps { KeepsJournal self.now.description (machine_in self.now.description) self.now.log }
     {
         keeps_journal(&self.description, &self.parts);
         &self.parts.log
@@ -174,7 +175,7 @@ impl Node {
     /// What happened on the node, handed out.
     pub fn into_log(self) -> NodeLog
         ensures same { result ≡ self.log }
-        ensures keeps { KeepsJournal (machine_in self.description) self.log }
+        ensures keeps { KeepsJournal self.description (machine_in self.description) self.log }
     {
         keeps_journal(&self.description, &self.parts);
         self.parts.log

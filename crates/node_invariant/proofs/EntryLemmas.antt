@@ -1,5 +1,5 @@
 -- What each thing that happens asks of the parts: starts, instructions, calls and ends.
-use Rattle.std.proofs.Common.{◌≡◌, ℕ, ◌+◌, ℤ, true, false, [], Some, None, refl, sym, ◌∙◌, ap, subst, arith, inl, inr, length}
+use Rattle.std.proofs.Common.{◌≡◌, ℕ, ◌+◌, ℤ, true, false, [], Some, None, refl, sym, ◌∙◌, ap, subst, arith, inl, inr}
 use Rattle.lock_manager.specs.Claims.{set_of}
 use Rattle.lock_manager.proofs.GrantLemmas.{Contains-set_of}
 use Rattle.arrayvec.specs.ArrayVec.{ArrayVec}
@@ -18,7 +18,7 @@ use Rattle.mate_num.specs.declared.store.Store.{Store}
 use Rattle.mate_code.specs.Cells.{Agree}
 use Rattle.mate_code.specs.CodeUses.{uses_of}
 use Rattle.mate_code.specs.Effect.{Private}
-use Rattle.mate_code.specs.Run.{Own, Run, Status, Going, Over, begun, bound, end_of}
+use Rattle.mate_code.specs.Run.{code_run, Own, Run, Status, Going, Over, begun, bound, end_of}
 use Rattle.mate_code.proofs.RunLemmas.{Matches, after-other, after-AreAsLong}
 use Rattle.code_verifier.specs.Verified.{Fits as FitsCode}
 use Rattle.exec_unit.specs.declared.step_end.StepEnd.{StepEnd}
@@ -28,7 +28,7 @@ use Rattle.vm_desc.specs.declared.description.Description.{Description}
 use Rattle.vm_desc.specs.Shapes.{shape_of}
 use Rattle.mate_journal.specs.declared.entry.Entry.{Entry}
 use Rattle.mate_journal.specs.declared.entry.Entry.TheVariants as entry
-use Rattle.journal_laws.specs.Growth.{IsPushed, IsNamedBelow}
+use Rattle.journal_laws.specs.Growth.{IsPushed}
 use Rattle.mate_journal.specs.WellFormed.{Closes}
 use Rattle.mate_journal.specs.Serial.{EndsAsRun}
 use Rattle.mate_journal.specs.Log.{Log}
@@ -49,7 +49,8 @@ use Rattle.node_invariant.specs.Agrees.{code_for, uses_for, own_run, own_in, IsO
 use Rattle.node_invariant.specs.Keeps.{reading, Keeps, IsTimely}
 use Rattle.node_invariant.specs.Continues.{Continues}
 use Rattle.node_invariant.proofs.FitLemmas.{HasSeat, by_seat, IsAlone}
-use Rattle.node_invariant.proofs.KeepLemmas.{IsPrepared-same}
+use Rattle.node_invariant.proofs.KeepLemmas.{IsPrepared-same, IsPlain, AddsTidily-plain}
+use Rattle.node_invariant.proofs.AskLemmas.{asked-in_range}
 use Rattle.node_invariant.proofs.MoveLemmas.{alone-seat, changed-same, starting, stood, start-seat, start-queued, Fits-started, running, was_ready, stood_ready, Fits-executed, Fits-asked, Fits-ended}
 use Rattle.node_invariant.proofs.AgreeLemmas.{Alters, going_in, step-Alters, step-own, Sits, Agrees-moves}
 use Rattle.node_invariant.proofs.StartLemmas.{Agrees-started, Agrees-ended}
@@ -133,10 +134,10 @@ module _ (d : Description) (old : Parts) (contexts : Contexts) (log : Log) (stam
       let queued = start-queued (machine_in d) held r old.contexts contexts c keeps.fits starts s seat in
       let n = keeps.numbers in
       record {
-        prepared = IsPrepared-same d old keeps;
+        prepared = IsPrepared-same old.log;
         pushed = pushed;
         tells = refl;
-        named = tt;
+        tidily = AddsTidily-plain d old.log log stamp (entry.Start s.inv) pushed (record { image = refl; store = refl; in_range = tt });
         timely = timely;
         follows = queued;
         ends = tt;
@@ -280,9 +281,8 @@ module _ (d : Description) (old : Parts) (contexts : Contexts) (heap : Store) (c
     pub Keeps-executed : Keeps d (record old { contexts = contexts; heap = heap })
     Keeps-executed =
         record {
-          names = keeps.names;
-          images = keeps.images;
-          stores = keeps.stores;
+          tidy = keeps.tidy;
+          full = keeps.full;
           numbers = keeps.numbers;
           well_formed = keeps.well_formed;
           posts = keeps.posts;
@@ -314,14 +314,23 @@ module _ (d : Description) (old : Parts) (contexts : Contexts) (heap : Store) (c
         let o : ℕ → Own = λ n. record { own = ex.now.machine; left = []; calls = i.calls; count = n; status = Over (end.Wants f args) } in
         record { own = m.own ∙ ap o (sym now-count); stores = m.stores }
 
+    -- the function is one of the machine's, as the whole run wants its answer
+    wants : (code_run (shape_of d) (code_for d i) q.serial i.payload (answers_of i) d.turns).end ≡ end.Wants f args
+    wants =
+        let whole-is : whole d i q.serial ≡ own_run d i ex.now.count q.serial = whole-over d i q.serial ex.now.count (end.Wants f args) verified (ap (λ (o : Own). o.count) own-waiting.own) (ap (λ (o : Own). o.status) own-waiting.own) in
+        ap (λ (r : Run). end_of r.own.status) whole-is ∙ ap (λ (o : Own). end_of o.status) own-waiting.own
+
+    asked-plain : IsPlain d (entry.Ask one.seat.inv f args)
+    asked-plain = record { image = refl; store = refl; in_range = asked-in_range d i.program.image q.serial i.payload (answers_of i) d.turns f args wants }
+
     pub Continues-asked : Continues d old (record old { contexts = after; heap = heap; log = log }) old.log stamp (entry.Ask one.seat.inv f args) (AskedTold one.seat.inv f args)
     Continues-asked =
         let n = keeps.numbers in
         record {
-          prepared = IsPrepared-same d old keeps;
+          prepared = IsPrepared-same old.log;
           pushed = pushed;
           tells = refl;
-          named = tt;
+          tidily = AddsTidily-plain d old.log log stamp (entry.Ask one.seat.inv f args) pushed asked-plain;
           timely = timely;
           follows = ready-phase;
           ends = tt;
@@ -341,7 +350,7 @@ module _ (d : Description) (old : Parts) (contexts : Contexts) (heap : Store) (c
 
   -- it is over
   module _ (after : Contexts) (log : Log) (stamp : Stamp) (e : End) (told : Entry) (timely : IsTimely stamp old.log) (closes : Closes e) (closing : IsClosing how e)
-      (tells : told_of old.log told ≡ Ended one.seat.inv e) (named : IsNamedBelow (length old.log.images) (length old.log.stores) told)
+      (tells : told_of old.log told ≡ Ended one.seat.inv e) (plain : IsPlain d told)
       (finishes : Ends contexts after c) (pushed : IsPushed old.log record { stamp = stamp; entry = told } log) where
     becomes-idle : Becomes old.contexts after c idle
     becomes-idle =
@@ -378,10 +387,10 @@ module _ (d : Description) (old : Parts) (contexts : Contexts) (heap : Store) (c
     Continues-ended =
         let n = keeps.numbers in
         record {
-          prepared = IsPrepared-same d old keeps;
+          prepared = IsPrepared-same old.log;
           pushed = pushed;
           tells = tells;
-          named = named;
+          tidily = AddsTidily-plain d old.log log stamp told pushed plain;
           timely = timely;
           follows = (ready-phase, closes);
           ends = end-is;

@@ -1,24 +1,29 @@
 -- The parts of a node go on keeping what they keep, entry by entry.
-use Rattle.std.proofs.Common.{◌≡◌, ◌+◌, ◌≤◌, false, List, [], ◌∷◌, ◌++◌, length, map, refl, sym, ◌∙◌, ap, subst, arith, length-append, append_assoc}
+use Rattle.std.proofs.Common.{ℕ, ◌≡◌, ◌+◌, ◌≤◌, false, List, [], ◌∷◌, ◌++◌, length, map, refl, sym, ◌∙◌, ap, subst, arith, length-append, append_assoc, ◌<◌, None}
 use Rattle.std.proofs.lemmas.List.{map-append, append-nil}
+use Rattle.std.specs.Prelude.{All}
+use Rattle.arrayvec.specs.ArrayVec.{ArrayVec}
+use Rattle.mate_num.specs.declared.store.Store.{Store}
 use Rattle.mate_num.specs.declared.call.Stamp.{Stamp}
 use Rattle.mate_journal.specs.declared.entry.Entry.{Entry}
 use Rattle.mate_journal.specs.declared.entry.Stamped.{Stamped}
 use Rattle.mate_journal.specs.Log.{Log}
 use Rattle.mate_journal.specs.Machine.{Machine}
 use Rattle.mate_journal.specs.Journal.{Told, told_of, Event, journal_of, Reading, heard, heard_all, nothing_heard}
-use Rattle.journal_laws.specs.Growth.{event_of, IsNamedBelow, IsPushed, last_stamp, last_is_seen}
+use Rattle.journal_laws.proofs.TidyLemmas.{NumbersInOrder-push, in_range-push, ordered-in_time}
+use Rattle.mate_journal.specs.Tidy.{image_named, store_named, IsEntryInRange, IsStoreOf}
+use Rattle.journal_laws.specs.Growth.{event_of, IsPushed, last_stamp, last_is_seen}
 use Rattle.mate_journal.specs.WellFormed.{MayFollow, NotBefore, IsWellFormed, start}
 use Rattle.mate_journal.specs.Serial.{EndsAsRun, RunsSoFar, IsSerial}
 use Rattle.mate_journal.specs.Stores.{ShowsStore, IsSeenBefore, ShowsStores}
-use Rattle.journal_laws.proofs.Append.{heard_all-push, journal_of-push, last_stamp-push, IsWellFormed-push, IsSerial-push, ShowsStores-push, NamesInLog-push}
+use Rattle.journal_laws.proofs.Append.{heard_all-push, journal_of-push, last_stamp-push, IsWellFormed-push, IsSerial-push, ShowsStores-push}
 use Rattle.node_contexts.specs.Programs.{held_at}
 use Rattle.node_invariant.proofs.SerialLemmas.{stands}
 use Rattle.vm_desc.specs.declared.description.Description.{Description}
 use Rattle.node_invariant.specs.declared.parts.Parts.{Parts}
 use Rattle.node_invariant.specs.Meaning.{machine_in}
 use Rattle.node_invariant.specs.Keeps.{reading, Keeps, IsTimely, event_at, Grows}
-use Rattle.node_invariant.specs.Continues.{IsPrepared, FitsAfter, Continues}
+use Rattle.node_invariant.specs.Continues.{IsPrepared, AddsTidily, FitsAfter, Continues}
 
 pub NotBefore-same : (at : Stamp) → NotBefore at at
 NotBefore-same at = record { event = omega arith; time = omega arith; same = λ _. refl }
@@ -69,7 +74,7 @@ module _ (d : Description) (old new : Parts) (before : Log) (at : Stamp) (e : En
   entries-new =
       let n = ap length next.pushed.entries in
       let k = length-append before.entries (s ∷ []) in
-      let j = next.prepared.entries in
+      let j = ap length next.prepared.entries in
       omega arith
 
   timely-new : IsTimely at new.log
@@ -96,19 +101,24 @@ module _ (d : Description) (old new : Parts) (before : Log) (at : Stamp) (e : En
       let P : List Event → Type 0 = λ es. ShowsStores m (nothing_heard m) es in
       subst P (sym journal-new) (ShowsStores-push m (nothing_heard m) (journal_of old.log) (event_at at told) keeps.shows next.shown next.before_era)
 
+  in_range-new : All (λ (x : Stamped). IsEntryInRange d x.entry) new.log.entries
+  in_range-new =
+      let is : new.log.entries ≡ old.log.entries ++ s ∷ [] = next.pushed.entries ∙ ap (λ (es : List Stamped). es ++ s ∷ []) next.prepared.entries in
+      let P : List Stamped → Type 0 = λ es. All (λ (x : Stamped). IsEntryInRange d x.entry) es in
+      subst P (sym is) (in_range-push d old.log.entries s next.tidily.in_range keeps.tidy.in_range)
+
   pub Keeps-push : Keeps d new
   Keeps-push =
-      let images = ap length next.pushed.images in
-      let stores = ap length next.pushed.stores in
       let entries = entries-new in
-      let few_images = next.prepared.images in
-      let few_stores = next.prepared.stores in
-      let as_many = next.prepared.entries in
       let numbers = next.numbers in
       record {
-        names = NamesInLog-push before s new.log next.prepared.names next.named next.pushed;
-        images = omega arith;
-        stores = omega arith;
+        tidy = record {
+          in_range = in_range-new;
+          numbered = next.tidily.numbered keeps.tidy.numbered;
+          lengths = next.tidily.lengths keeps.tidy.lengths;
+          ordered = ordered-in_time new.log well_formed-new.in_time;
+        };
+        full = next.tidily.full keeps.full;
         numbers = omega arith;
         well_formed = well_formed-new;
         posts = after-new.posts;
@@ -124,26 +134,41 @@ module _ (d : Description) (old new : Parts) (before : Log) (at : Stamp) (e : En
   Grows-push room = record { journal = journal-new; count = entries-new; spare = room; timely = timely-new }
 
 -- where nothing was prepared
-pub IsPrepared-same : (d : Description) (old : Parts) → Keeps d old → IsPrepared old.log old.log
-IsPrepared-same d old keeps =
-    let i = keeps.images in let s = keeps.stores in
-    record { journal = refl; entries = refl; names = keeps.names; images = omega arith; stores = omega arith }
+pub IsPrepared-same : (l : Log) → IsPrepared l l
+IsPrepared-same l = record { journal = refl; entries = refl }
+
+-- an entry that names no image and no store, with ids in range
+pub record IsPlain (d : Description) (e : Entry) : Type 0 where
+  pub image : image_named e ≡ None
+  pub store : store_named e ≡ None
+  pub in_range : IsEntryInRange d e
+
+pub AddsTidily-plain : (d : Description) (old new : Log) (at : Stamp) (e : Entry) → IsPushed old record { stamp = at; entry = e } new → IsPlain d e → AddsTidily d old e new
+AddsTidily-plain d old new at e pushed plain =
+    let S : List Store → Type 0 = λ l. All (IsStoreOf d) l in
+    let I : List (ArrayVec ℕ) → Type 0 = λ l. All (λ (image : ArrayVec ℕ). 0 < length image.items) l in
+    record {
+      in_range = plain.in_range;
+      numbered = NumbersInOrder-push old new record { stamp = at; entry = e } pushed.entries pushed.images pushed.stores plain.image plain.store;
+      lengths = λ lengths. subst S (sym pushed.stores) lengths;
+      full = λ full. record { full = subst I (sym pushed.images) full.full };
+    }
 
 -- an entry that changes nothing of the parts
 pub Continues-same : (d : Description) (old : Parts) (log : Log) (at : Stamp) (e : Entry) (told : Told) → Keeps d old → IsTimely at old.log → IsPushed old.log record { stamp = at; entry = e } log
-    → told_of old.log e ≡ told → IsNamedBelow (length old.log.images) (length old.log.stores) e → MayFollow (machine_in d) (reading d old.log) told
+    → told_of old.log e ≡ told → IsPlain d e → MayFollow (machine_in d) (reading d old.log) told
     → EndsAsRun (machine_in d) (reading d old.log) told → ShowsStore (machine_in d) (reading d old.log) told → IsSeenBefore (last_is_seen false (journal_of old.log)) told
     → heard (machine_in d) (reading d old.log) told ≡ reading d old.log
     → Continues d old (record old { log = log }) old.log at e told
-Continues-same d old log at e told keeps timely pushed tells named follows ends shown before_era same =
+Continues-same d old log at e told keeps timely pushed tells plain follows ends shown before_era same =
     let n = keeps.numbers in
     let after : FitsAfter d (reading d old.log) (record old { log = log }) = record { posts = keeps.posts; installed = keeps.installed; fits = keeps.fits; lengths = keeps.lengths; agrees = keeps.agrees } in
     let P : Reading → Type 0 = λ r. FitsAfter d r (record old { log = log }) in
     record {
-      prepared = IsPrepared-same d old keeps;
+      prepared = IsPrepared-same old.log;
       pushed = pushed;
       tells = tells;
-      named = named;
+      tidily = AddsTidily-plain d old.log log at e pushed plain;
       timely = timely;
       follows = follows;
       ends = ends;

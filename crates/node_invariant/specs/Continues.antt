@@ -1,10 +1,11 @@
 -- What one more entry of a node's log asks of the parts that come with it.
-use Rattle.std.specs.Prelude.{◌≡◌, ◌+◌, ◌≤◌, false, length}
+use Rattle.std.specs.Prelude.{All, ◌≡◌, ◌+◌, ◌≤◌, false, length}
 use Rattle.mate_num.specs.declared.call.Stamp.{Stamp}
 use Rattle.mate_journal.specs.declared.entry.Entry.{Entry}
 use Rattle.mate_journal.specs.Log.{Log}
 use Rattle.mate_journal.specs.Journal.{Told, told_of, journal_of, Reading, heard}
-use Rattle.journal_laws.specs.Growth.{NamesInLog, IsNamedBelow, IsPushed, last_is_seen}
+use Rattle.journal_laws.specs.Growth.{IsPushed, last_is_seen}
+use Rattle.mate_journal.specs.Tidy.{IsEntryInRange, IsStoreOf, NumbersInOrder, HasFullImages}
 use Rattle.mate_journal.specs.Serial.{EndsAsRun}
 use Rattle.mate_journal.specs.Stores.{ShowsStore, IsSeenBefore}
 use Rattle.mate_journal.specs.WellFormed.{MayFollow}
@@ -18,13 +19,17 @@ use Rattle.node_invariant.specs.Fits.{AreInstalled, Fits}
 use Rattle.node_invariant.specs.Agrees.{Agrees}
 use Rattle.node_invariant.specs.Keeps.{reading, IsTimely}
 
--- the log tells the same as before, and has room for one more entry; it may have an image or a store that no entry names yet
+-- the log tells the same as before; it may have an image or a store that no entry names yet
 pub record IsPrepared (old before : Log) : Type 0 where
   pub journal : journal_of before ≡ journal_of old
-  pub entries : length before.entries ≡ length old.entries
-  pub names : NamesInLog before
-  pub images : length before.images ≤ length before.entries + 1
-  pub stores : length before.stores ≤ length before.entries + 1
+  pub entries : before.entries ≡ old.entries
+
+-- the entry's ids are in range, and the log with it goes on numbering its images and stores in order
+pub record AddsTidily (d : Description) (old : Log) (e : Entry) (new : Log) : Type 0 where
+  pub in_range : IsEntryInRange d e
+  pub numbered : NumbersInOrder old → NumbersInOrder new
+  pub lengths : All (IsStoreOf d) old.stores → All (IsStoreOf d) new.stores
+  pub full : HasFullImages old → HasFullImages new
 
 -- the parts agree with what is heard after the entry
 pub record FitsAfter (d : Description) (r : Reading) (new : Parts) : Type 0 where
@@ -39,7 +44,7 @@ pub record Continues (d : Description) (old new : Parts) (before : Log) (at : St
   pub prepared : IsPrepared old.log before
   pub pushed : IsPushed before record { stamp = at; entry = e } new.log
   pub tells : told_of before e ≡ told
-  pub named : IsNamedBelow (length before.images) (length before.stores) e
+  pub tidily : AddsTidily d old.log e new.log
   pub timely : IsTimely at old.log
   pub follows : MayFollow (machine_in d) (reading d old.log) told
   pub ends : EndsAsRun (machine_in d) (reading d old.log) told

@@ -1,5 +1,5 @@
 -- How the contexts of a node, and what it holds of its handlers, agree with what was heard of it.
-use Rattle.std.specs.Prelude.{◌≡◌, ℕ, ◌<◌, ◌≤◌, true, Option, Some, None}
+use Rattle.std.specs.Prelude.{length, ◌≡◌, ℕ, ◌<◌, ◌≤◌, true, Option, Some, None}
 use Rattle.std.specs.Option.{option_map}
 use Rattle.mate_num.specs.declared.id.ContextId.{ContextId}
 use Rattle.mate_num.specs.declared.id.HandlerId.{HandlerId}
@@ -32,6 +32,7 @@ pub record IsHeld (d : Description) (x : Held) : Type 0 where
   pub verified : IsVerifiedCode x.code
   pub locks_are : IsSameUses (locks.uses_of x.locks) (uses_of (shape_of d) (code_of (shape_of d) x.image))
   pub version_is : 0 < x.version
+  pub full : 0 < length x.image.items
 
 -- what is held is what was heard to be installed
 pub record AreInstalled (d : Description) (installed : HandlerId → Option HeldProgram) (held : Programs) : Type 0 where

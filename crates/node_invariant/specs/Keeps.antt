@@ -1,10 +1,11 @@
--- What the parts of a node keep: its journal is well formed, is serial and shows stores as they are, and the parts agree with
+-- What the parts of a node keep: its log is tidy; its journal is well formed, is serial and shows stores as they are, and the parts agree with
 -- what was heard.
 use Rattle.std.specs.Prelude.{◌≡◌, ◌+◌, ◌≤◌, List, length, map, ◌++◌}
 use Rattle.mate_num.specs.declared.call.Stamp.{Stamp}
 use Rattle.mate_journal.specs.Log.{Log}
 use Rattle.mate_journal.specs.Journal.{Told, Event, journal_of, Reading, nothing_heard, heard_all}
-use Rattle.journal_laws.specs.Growth.{NamesInLog, last_stamp}
+use Rattle.mate_journal.specs.Tidy.{IsTidyLog, HasFullImages}
+use Rattle.journal_laws.specs.Growth.{last_stamp}
 use Rattle.mate_journal.specs.WellFormed.{IsWellFormed, NotBefore, start}
 use Rattle.mate_journal.specs.Serial.{IsSerial}
 use Rattle.mate_journal.specs.Stores.{ShowsStores}
@@ -22,9 +23,8 @@ unfoldable pub reading : Description → Log → Reading
 reading d l = heard_all (machine_in d) (nothing_heard (machine_in d)) (journal_of l)
 
 pub record Keeps (d : Description) (s : Parts) : Type 0 where
-  pub names : NamesInLog s.log
-  pub images : length s.log.images ≤ length s.log.entries
-  pub stores : length s.log.stores ≤ length s.log.entries
+  pub tidy : IsTidyLog d s.log
+  pub full : HasFullImages s.log
   pub numbers : s.posts ≤ length s.log.entries
   pub well_formed : IsWellFormed (machine_in d) (nothing_heard (machine_in d)) (journal_of s.log)
   pub posts : (reading d s.log).posts ≡ s.posts

@@ -20,7 +20,8 @@ use Rattle.mate_journal.specs.Journal.{Told, told_of, Asked as AskedTold, Ended,
 use Rattle.mate_journal.specs.Grants.{AllHeldBack}
 use Rattle.mate_journal.specs.Grants.{IsStart}
 use Rattle.mate_journal.specs.WellFormed.{Closes}
-use Rattle.journal_laws.specs.Growth.{IsPushed, IsNamedBelow}
+use Rattle.journal_laws.specs.Growth.{IsPushed}
+use Rattle.node_invariant.proofs.KeepLemmas.{IsPlain}
 use Rattle.journal_laws.proofs.Moves.{asked-Moves, ended-Moves}
 use Rattle.node_contexts.specs.declared.seat.Seat.{Seat}
 use Rattle.node_contexts.specs.declared.contexts.Contexts.{Contexts}
@@ -173,7 +174,7 @@ module _ (d : Description) (old now : Parts) (c : ContextId) (k ran : ℕ) (rest
           (mark-within d old c rests.order.keeps is_ready)
 
     -- it is over
-    module _ (e : End) (told : Entry) (closes : Closes e) (closing : IsClosing how e) (tells : told_of stops.mid.log told ≡ Ended t.inv e) (named : IsNamedBelow (length stops.mid.log.images) (length stops.mid.log.stores) told)
+    module _ (e : End) (told : Entry) (closes : Closes e) (closing : IsClosing how e) (tells : told_of stops.mid.log told ≡ Ended t.inv e) (plain : IsPlain d told)
         (entry-is : Ended t.inv e ≡ entry_at t.inv e) (after : Contexts) (log : Log) (finishes : Ends now.contexts after c) (pushed : IsPushed stops.mid.log record { stamp = at_; entry = told } log) (room : stops.mid.log.spare ≤ log.spare + 1) where
       abbrev pub end-a : At
       end-a = record (at stops.mid.contexts c) { seat = None; holds = None; ready = false; waits = None }
@@ -188,7 +189,7 @@ module _ (d : Description) (old now : Parts) (c : ContextId) (k ran : ℕ) (rest
       end-parts = record stops.mid { contexts = after; heap = now.heap; log = log }
 
       end-next : Continues d stops.mid end-parts stops.mid.log at_ told (Ended t.inv e)
-      end-next = Continues-ended d stops.mid now.contexts now.heap c how stops.goes.order.keeps mid-ready stops.executes after log at_ e told mid-timely closes closing tells named finishes pushed
+      end-next = Continues-ended d stops.mid now.contexts now.heap c how stops.goes.order.keeps mid-ready stops.executes after log at_ e told mid-timely closes closing tells plain finishes pushed
 
       end-order : KeepsOrder d end-parts
       end-order =
@@ -244,7 +245,7 @@ module _ (d : Description) (old now : Parts) (c : ContextId) (k ran : ℕ) (rest
       (TakesTurn-asked d old now c k ran rests small is_ready at_ timely how stops f args is after log asks (pushed-mid (λ j. entry.Ask j f args) (subst P same pushed)) room-mid)
 
   -- what ends the invocation, and how it is told
-  module _ (e : End) (told : ℕ → Entry) (closes : Closes e) (closing : IsClosing how e) (tells : (l : Log) (j : ℕ) → told_of l (told j) ≡ Ended j e) (named : (x y j : ℕ) → IsNamedBelow x y (told j))
+  module _ (e : End) (told : ℕ → Entry) (closes : Closes e) (closing : IsClosing how e) (tells : (l : Log) (j : ℕ) → told_of l (told j) ≡ Ended j e) (plain : (j : ℕ) → IsPlain d (told j))
       (entry-is : (j : ℕ) → Ended j e ≡ entry_at j e) (finishes : Ends now.contexts after c) (pushed : IsPushed now.log record { stamp = at_; entry = told n } log) where
     abbrev pub j : ℕ
     j = (one d stops.mid c stops.goes.order.keeps (ready-mid d old stops.mid c stops.before rests small is_ready stops.goes)).seat.inv
@@ -253,13 +254,13 @@ module _ (d : Description) (old now : Parts) (c : ContextId) (k ran : ℕ) (rest
     IsStarting-end =
         let Q : Parts → Type 0 = λ s. IsStarting d s in
         subst Q (sym parts-is)
-        (IsStarting-ended d old now c k ran rests small is_ready at_ timely how stops e (told j) closes closing (tells stops.mid.log j) (named (length stops.mid.log.images) (length stops.mid.log.stores) j) (entry-is j) after log finishes (pushed-mid told pushed) room-mid)
+        (IsStarting-ended d old now c k ran rests small is_ready at_ timely how stops e (told j) closes closing (tells stops.mid.log j) (plain j) (entry-is j) after log finishes (pushed-mid told pushed) room-mid)
 
     pub HasMoved-end : HasMoved d old (record now { contexts = after; log = log }) at_ c k ran (Ended j e)
     HasMoved-end =
         let Q : Parts → Type 0 = λ s. HasMoved d old s at_ c k ran (Ended j e) in
         subst Q (sym parts-is)
-        (HasMoved-ended d old now c k ran rests small is_ready at_ timely how stops e (told j) closes closing (tells stops.mid.log j) (named (length stops.mid.log.images) (length stops.mid.log.stores) j) (entry-is j) after log finishes (pushed-mid told pushed) room-mid)
+        (HasMoved-ended d old now c k ran rests small is_ready at_ timely how stops e (told j) closes closing (tells stops.mid.log j) (plain j) (entry-is j) after log finishes (pushed-mid told pushed) room-mid)
 
     pub room-end : starts_left old.contexts + 1 ≤ old.log.spare → starts_left after ≤ log.spare
     room-end enough =

@@ -129,9 +129,8 @@ module _ (d : Description) (old : Parts) (contexts : Contexts) (c : ContextId) (
       record {
         order = record {
           keeps = record {
-            names = keeps.names;
-            images = keeps.images;
-            stores = keeps.stores;
+            tidy = keeps.tidy;
+            full = keeps.full;
             numbers = keeps.numbers;
             well_formed = keeps.well_formed;
             posts = keeps.posts;

@@ -6,7 +6,7 @@ use Rattle.std.proofs.lemmas.Grind.{flat_map-append}
 use Rattle.std.proofs.lemmas.List.Elements.{All-nil, All-head, All-tail, All-same, All-weaker, All-append, All-map, All-set, All-filter, filter-append}
 use Rattle.std.proofs.Math.Seq.{drop-append_seam}
 use Rattle.vm_desc.specs.declared.description.Description.{Description}
-use Rattle.mate_journal.specs.Log.{Log}
+use Rattle.mate_journal.specs.Log.{Log, GoesOn}
 use Rattle.mate_journal.specs.declared.air.Aired.{Aired}
 use Rattle.mate_journal.specs.declared.entry.Entry.{Entry}
 use Rattle.mate_journal.specs.declared.entry.Entry.TheVariants as entry
@@ -16,7 +16,7 @@ use Rattle.report_text.specs.Words.{entry_words, stamp_words, seen_words, image_
 use Rattle.mate_journal.specs.Tidy.{below, entry_event}
 use Rattle.report_text.specs.Text.{air_line, entry_line, entry_lines, event_lines, event_piece, events_end, lines}
 use Rattle.report_text.specs.Progress.{air_event, at_event}
-use Rattle.report_text.specs.Pieces.{IsNamed, GoesOn, IsBefore, AddsPiece}
+use Rattle.report_text.specs.Pieces.{IsNamed, IsBefore, AddsPiece}
 use Rattle.report_text.proofs.EventLemmas.{at_event-none, flat_map-skip, flat_map-below_next}
 use Rattle.report_text.proofs.TextLemmas.{below_end}
 use Rattle.report_text.proofs.MergeLemmas.{below_end-air, entry_lines-none}
@@ -135,7 +135,7 @@ fold-max-le a b (x ∷ xs) p h =
     let q : x ≤ b = All-head (λ (y : ℕ). y ≤ b) x xs h in
     fold-max-le (max a x) b xs (omega (arith, p, q)) (All-tail (λ (y : ℕ). y ≤ b) x xs h)
 
-events_end-le : (r : Report) (event : ℕ) → All (λ (a : Aired). a.stamp.event ≤ event) r.air
+pub events_end-le : (r : Report) (event : ℕ) → All (λ (a : Aired). a.stamp.event ≤ event) r.air
     → All (λ (l : Log). All (λ (e : Stamped). e.stamp.event ≤ event) l.entries) r.nodes → events_end r ≤ suc event
 events_end-le r event air logs =
     let a = fold-max-le 0 event (map air_event r.air) (omega arith) (All-map (λ (k : ℕ). k ≤ event) air_event r.air air) in
@@ -164,7 +164,7 @@ event_lines-past d r k p =
     r.nodes (below_end r)) in
     ap (λ xs. flat_map air_line xs ++ entry_lines d k 0 r.nodes) air ∙ logs
 
-lines-upto : (d : Description) (r : Report) (event : ℕ) → events_end r ≤ suc event → lines d r ≡ flat_map (event_lines d r) (below event) ++ event_lines d r event
+pub lines-upto : (d : Description) (r : Report) (event : ℕ) → events_end r ≤ suc event → lines d r ≡ flat_map (event_lines d r) (below event) ++ event_lines d r event
 lines-upto d r event p =
     sym (flat_map-skip (event_lines d r) (events_end r) (suc event) p (λ k q s. event_lines-past d r k q)) ∙ flat_map-below_next (event_lines d r) event
 
@@ -252,3 +252,10 @@ lines-piece d old new aired log from node p =
     ∙ ap (λ ys. flat_map (event_lines d old) (below p.event) ++ ys) (event-here d old new aired log from node p)
     ∙ sym (append_assoc (flat_map (event_lines d old) (below p.event)) (event_lines d old p.event) (event_piece d aired log from node))
     ∙ sym (ap (λ ys. ys ++ event_piece d aired log from node) (lines-upto d old p.event (events_end-le old p.event p.air_up_to p.up_to)))
+
+-- the lines so far are those of the events before the piece's, where there is no record of its event yet
+pub lines-earlier : (d : Description) (old new : Report) (aired : List Aired) (log : Log) (from node : ℕ) (p : AddsPiece old new aired log from node) → events_end old ≤ p.event
+    → lines d old ≡ flat_map (event_lines d new) (below p.event)
+lines-earlier d old new aired log from node p le =
+    sym (flat_map-skip (event_lines d old) (events_end old) p.event le (λ k q s. event_lines-past d old k q))
+    ∙ sym (agree-below (event_lines d new) (event_lines d old) p.event (λ k q. event-other d old new aired log from node p k (λ e. absurd (omega (arith, q, e)))))

@@ -2,7 +2,7 @@
 use Rattle.std.specs.Prelude.{◌≡◌, ◌≤◌, ◌<◌, ℕ, List, [], ◌++◌, length, drop, slice_set, slice_index_or, All, ◌⊎◌, ⊤}
 use Rattle.arrayvec.specs.ArrayVec.{ArrayVec}
 use Rattle.mate_num.specs.declared.store.Store.{Store}
-use Rattle.mate_journal.specs.Log.{Log}
+use Rattle.mate_journal.specs.Log.{Log, GoesOn}
 use Rattle.mate_journal.specs.declared.air.Aired.{Aired}
 use Rattle.mate_journal.specs.declared.entry.Entry.{Entry}
 use Rattle.mate_journal.specs.declared.entry.Entry.TheVariants as entry
@@ -14,15 +14,6 @@ abbrev pub IsNamed : Log → Entry → Type 0
 IsNamed l (entry.Install h version image) = image < length l.images
 IsNamed l (entry.Seen store) = store < length l.stores
 IsNamed l _ = ⊤
-
--- a log goes on: more entries, images and stores stand behind those that it had
-pub record GoesOn (old new : Log) : Type 0 where
-  pub entries : List Stamped
-  pub images : List (ArrayVec ℕ)
-  pub stores : List Store
-  pub entries_are : new.entries ≡ old.entries ++ entries
-  pub images_are : new.images ≡ old.images ++ images
-  pub stores_are : new.stores ≡ old.stores ++ stores
 
 -- each entry of a log is of an event before one
 abbrev pub IsBefore : ℕ → Log → Type 0

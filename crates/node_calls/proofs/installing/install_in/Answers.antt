@@ -3,7 +3,7 @@ use Rattle.std.proofs.Common.{refl, sym}
 use Rattle.std.proofs.lemmas.Result.{err_from_is_err_and}
 use Rattle.node_invariant.specs.Keeps.{reading}
 use Rattle.node_calls.proofs.EraLemmas.{seen-last}
-use Rattle.node_calls.proofs.InstallLemmas.{IsNoNewer-from, newer-than, handler-small, RestsAgain-once, RestsAgain-once_none}
+use Rattle.node_calls.proofs.InstallLemmas.{IsNoNewer-from, newer-than, RestsAgain-once, RestsAgain-once_none}
 use Rattle.node_calls.proofs.installing.install_in.Goals as goal
 
 pub returns-in_err-program : goal.returns-in_err-program
@@ -21,7 +21,7 @@ begin-requires-clause-seen c =
     seen-last c.args.parts.now.log c.seen_in.new.parts.log c.args.at told.adds.told c.args.parts.now.heap told.adds.grows told.adds.made
 
 pub begin-requires-clause-handler : goal.begin-requires-clause-handler
-begin-requires-clause-handler c = handler-small c.args.description.now c.in_ok-program.program.handler c.in_ok-program.ensures.handler
+begin-requires-clause-handler c = c.in_ok-program.ensures.handler
 
 pub returns-then-runs_once : goal.returns-then-runs_once
 returns-then-runs_once c =

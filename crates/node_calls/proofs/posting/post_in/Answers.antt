@@ -5,11 +5,11 @@ use Rattle.node_calls.proofs.posting.post_in.Goals as goal
 
 pub returns-in_default : goal.returns-in_default
 returns-in_default c =
-    RestsAgain-no_code c.args.description.now c.args.parts.now c.tell.new.log c.args.at c.args.handler c.requires.rests c.requires.timely c.tell.ensures.spare (sym c.in_default.ensures) c.tell.ensures.pushed
+    RestsAgain-no_code c.args.description.now c.args.parts.now c.tell.new.log c.args.at c.args.handler c.requires.handler c.requires.rests c.requires.timely c.tell.ensures.spare (sym c.in_default.ensures) c.tell.ensures.pushed
 
 pub returns-in_default-first_free : goal.returns-in_default-first_free
 returns-in_default-first_free c =
-    RestsAgain-all_busy c.args.description.now c.args.parts.now c.tell-in_default-first_free.new.log c.args.at c.args.handler c.requires.rests c.requires.timely c.tell-in_default-first_free.ensures.spare
+    RestsAgain-all_busy c.args.description.now c.args.parts.now c.tell-in_default-first_free.new.log c.args.at c.args.handler c.requires.handler c.requires.rests c.requires.timely c.tell-in_default-first_free.ensures.spare
     c.in-Some.held.now (sym c.in-Some.ensures) c.in_default-first_free.ensures c.tell-in_default-first_free.ensures.pushed
 
 pub start_all-requires-clause-room : goal.start_all-requires-clause-room

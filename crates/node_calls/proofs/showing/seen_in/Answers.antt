@@ -1,7 +1,8 @@
 -- The store is told.
-use Rattle.std.proofs.Common.{[], ◌∷◌, ◌++◌, ◌∙◌, ap}
+use Rattle.std.proofs.Common.{[], ◌∷◌, ◌++◌, ◌∙◌, ap, arith}
 use Rattle.mate_num.specs.declared.store.Store.{Store}
 use Rattle.node_calls.proofs.ReadyLemmas.{TellsStore-pushed}
+use Rattle.journal_laws.proofs.TidyLemmas.{stores-few}
 use Rattle.node_calls.proofs.showing.seen_in.Goals as goal
 
 pub returns : goal.returns
@@ -12,3 +13,9 @@ returns c =
       images = c.push_seen.ensures.images;
       stores = c.push_seen.ensures.stores ∙ ap (λ (s : Store). c.args.parts.now.log.stores ++ s ∷ []) c.store.ensures;
     }) c.push_seen.ensures.spare
+
+pub push_seen-requires-clause-count : goal.push_seen-requires-clause-count
+push_seen-requires-clause-count c =
+    let few = stores-few c.args.parts.now.log c.requires.rests.order.keeps.tidy.numbered in
+    let entries = c.requires.few in
+    omega arith

@@ -27,37 +27,37 @@ pub start_all-requires-clause-starting : goal.start_all-requires-clause-starting
 start_all-requires-clause-starting c =
     let q = c.requires in
     IsStarting-end c.args.description.now c.args.parts.now c.run_some-instructions.new.parts c.args.ctx c.args.n c.run_some-instructions.result.instructions q.rests q.small q.ready c.args.at q.timely _ (RunsTo-at c.args.description.now c.args.parts.now c.run_some-instructions.new.parts c.args.ctx c.args.n c.run_some-instructions.result _ c.in-Halt.is c.run_some-instructions.ensures) c.number-inv.result c.number-inv.ensures c.finish.new.self c.tell-in-Halt.new.log c.tell-in-Halt.ensures.spare
-    end.Halt (λ j. entry.Halt j) tt IsClosing-halt (λ l j. refl) (λ x y j. tt) (λ j. refl) c.finish.ensures c.tell-in-Halt.ensures.pushed
+    end.Halt (λ j. entry.Halt j) tt IsClosing-halt (λ l j. refl) (λ j. record { image = refl; store = refl; in_range = tt }) (λ j. refl) c.finish.ensures c.tell-in-Halt.ensures.pushed
 
 pub start_all-requires-clause-timely : goal.start_all-requires-clause-timely
 start_all-requires-clause-timely c =
     let q = c.requires in
     timely-end c.args.description.now c.args.parts.now c.run_some-instructions.new.parts c.args.ctx c.args.n c.run_some-instructions.result.instructions q.rests q.small q.ready c.args.at q.timely _ (RunsTo-at c.args.description.now c.args.parts.now c.run_some-instructions.new.parts c.args.ctx c.args.n c.run_some-instructions.result _ c.in-Halt.is c.run_some-instructions.ensures) c.number-inv.result c.number-inv.ensures c.finish.new.self c.tell-in-Halt.new.log c.tell-in-Halt.ensures.spare
-    end.Halt (λ j. entry.Halt j) tt IsClosing-halt (λ l j. refl) (λ x y j. tt) (λ j. refl) c.finish.ensures c.tell-in-Halt.ensures.pushed
+    end.Halt (λ j. entry.Halt j) tt IsClosing-halt (λ l j. refl) (λ j. record { image = refl; store = refl; in_range = tt }) (λ j. refl) c.finish.ensures c.tell-in-Halt.ensures.pushed
 
 pub start_all-requires-clause-room : goal.start_all-requires-clause-room
 start_all-requires-clause-room c =
     let q = c.requires in
     inl (room-end c.args.description.now c.args.parts.now c.run_some-instructions.new.parts c.args.ctx c.args.n c.run_some-instructions.result.instructions q.rests q.small q.ready c.args.at q.timely _ (RunsTo-at c.args.description.now c.args.parts.now c.run_some-instructions.new.parts c.args.ctx c.args.n c.run_some-instructions.result _ c.in-Halt.is c.run_some-instructions.ensures) c.number-inv.result c.number-inv.ensures c.finish.new.self c.tell-in-Halt.new.log c.tell-in-Halt.ensures.spare
-    end.Halt (λ j. entry.Halt j) tt IsClosing-halt (λ l j. refl) (λ x y j. tt) (λ j. refl) c.finish.ensures c.tell-in-Halt.ensures.pushed q.room)
+    end.Halt (λ j. entry.Halt j) tt IsClosing-halt (λ l j. refl) (λ j. record { image = refl; store = refl; in_range = tt }) (λ j. refl) c.finish.ensures c.tell-in-Halt.ensures.pushed q.room)
 
 pub start_all-requires-in-Fault-clause-starting : goal.start_all-requires-in-Fault-clause-starting
 start_all-requires-in-Fault-clause-starting c =
     let q = c.requires in let k = c.in-Fault.kind in
     IsStarting-end c.args.description.now c.args.parts.now c.run_some-instructions.new.parts c.args.ctx c.args.n c.run_some-instructions.result.instructions q.rests q.small q.ready c.args.at q.timely _ (RunsTo-at c.args.description.now c.args.parts.now c.run_some-instructions.new.parts c.args.ctx c.args.n c.run_some-instructions.result _ c.in-Fault.is c.run_some-instructions.ensures) c.number-inv.result c.number-inv.ensures c.finish-in-Fault.new.self c.tell-in-Fault.new.log c.tell-in-Fault.ensures.spare
-    (end.Fault k) (λ j. entry.Fault j k) tt (IsClosing-fault k) (λ l j. refl) (λ x y j. tt) (λ j. refl) c.finish-in-Fault.ensures c.tell-in-Fault.ensures.pushed
+    (end.Fault k) (λ j. entry.Fault j k) tt (IsClosing-fault k) (λ l j. refl) (λ j. record { image = refl; store = refl; in_range = tt }) (λ j. refl) c.finish-in-Fault.ensures c.tell-in-Fault.ensures.pushed
 
 pub start_all-requires-in-Fault-clause-timely : goal.start_all-requires-in-Fault-clause-timely
 start_all-requires-in-Fault-clause-timely c =
     let q = c.requires in let k = c.in-Fault.kind in
     timely-end c.args.description.now c.args.parts.now c.run_some-instructions.new.parts c.args.ctx c.args.n c.run_some-instructions.result.instructions q.rests q.small q.ready c.args.at q.timely _ (RunsTo-at c.args.description.now c.args.parts.now c.run_some-instructions.new.parts c.args.ctx c.args.n c.run_some-instructions.result _ c.in-Fault.is c.run_some-instructions.ensures) c.number-inv.result c.number-inv.ensures c.finish-in-Fault.new.self c.tell-in-Fault.new.log c.tell-in-Fault.ensures.spare
-    (end.Fault k) (λ j. entry.Fault j k) tt (IsClosing-fault k) (λ l j. refl) (λ x y j. tt) (λ j. refl) c.finish-in-Fault.ensures c.tell-in-Fault.ensures.pushed
+    (end.Fault k) (λ j. entry.Fault j k) tt (IsClosing-fault k) (λ l j. refl) (λ j. record { image = refl; store = refl; in_range = tt }) (λ j. refl) c.finish-in-Fault.ensures c.tell-in-Fault.ensures.pushed
 
 pub start_all-requires-in-Fault-clause-room : goal.start_all-requires-in-Fault-clause-room
 start_all-requires-in-Fault-clause-room c =
     let q = c.requires in let k = c.in-Fault.kind in
     inl (room-end c.args.description.now c.args.parts.now c.run_some-instructions.new.parts c.args.ctx c.args.n c.run_some-instructions.result.instructions q.rests q.small q.ready c.args.at q.timely _ (RunsTo-at c.args.description.now c.args.parts.now c.run_some-instructions.new.parts c.args.ctx c.args.n c.run_some-instructions.result _ c.in-Fault.is c.run_some-instructions.ensures) c.number-inv.result c.number-inv.ensures c.finish-in-Fault.new.self c.tell-in-Fault.new.log c.tell-in-Fault.ensures.spare
-    (end.Fault k) (λ j. entry.Fault j k) tt (IsClosing-fault k) (λ l j. refl) (λ x y j. tt) (λ j. refl) c.finish-in-Fault.ensures c.tell-in-Fault.ensures.pushed q.room)
+    (end.Fault k) (λ j. entry.Fault j k) tt (IsClosing-fault k) (λ l j. refl) (λ j. record { image = refl; store = refl; in_range = tt }) (λ j. refl) c.finish-in-Fault.ensures c.tell-in-Fault.ensures.pushed q.room)
 
 pub returns-in-Next : goal.returns-in-Next
 returns-in-Next c =
@@ -74,10 +74,10 @@ pub returns-in-Halt : goal.returns-in-Halt
 returns-in-Halt c =
     let q = c.requires in
     TakesTurn-end c.args.description.now c.args.parts.now c.run_some-instructions.new.parts c.args.ctx c.args.n c.run_some-instructions.result.instructions q.rests q.small q.ready c.args.at q.timely _ (RunsTo-at c.args.description.now c.args.parts.now c.run_some-instructions.new.parts c.args.ctx c.args.n c.run_some-instructions.result _ c.in-Halt.is c.run_some-instructions.ensures) c.number-inv.result c.number-inv.ensures c.finish.new.self c.tell-in-Halt.new.log c.tell-in-Halt.ensures.spare
-    end.Halt (λ j. entry.Halt j) tt IsClosing-halt (λ l j. refl) (λ x y j. tt) (λ j. refl) c.finish.ensures c.tell-in-Halt.ensures.pushed c.start_all.new.parts c.start_all.ensures
+    end.Halt (λ j. entry.Halt j) tt IsClosing-halt (λ l j. refl) (λ j. record { image = refl; store = refl; in_range = tt }) (λ j. refl) c.finish.ensures c.tell-in-Halt.ensures.pushed c.start_all.new.parts c.start_all.ensures
 
 pub returns-in-Fault : goal.returns-in-Fault
 returns-in-Fault c =
     let q = c.requires in let k = c.in-Fault.kind in
     TakesTurn-end c.args.description.now c.args.parts.now c.run_some-instructions.new.parts c.args.ctx c.args.n c.run_some-instructions.result.instructions q.rests q.small q.ready c.args.at q.timely _ (RunsTo-at c.args.description.now c.args.parts.now c.run_some-instructions.new.parts c.args.ctx c.args.n c.run_some-instructions.result _ c.in-Fault.is c.run_some-instructions.ensures) c.number-inv.result c.number-inv.ensures c.finish-in-Fault.new.self c.tell-in-Fault.new.log c.tell-in-Fault.ensures.spare
-    (end.Fault k) (λ j. entry.Fault j k) tt (IsClosing-fault k) (λ l j. refl) (λ x y j. tt) (λ j. refl) c.finish-in-Fault.ensures c.tell-in-Fault.ensures.pushed c.start_all-in-Fault.new.parts c.start_all-in-Fault.ensures
+    (end.Fault k) (λ j. entry.Fault j k) tt (IsClosing-fault k) (λ l j. refl) (λ j. record { image = refl; store = refl; in_range = tt }) (λ j. refl) c.finish-in-Fault.ensures c.tell-in-Fault.ensures.pushed c.start_all-in-Fault.new.parts c.start_all-in-Fault.ensures

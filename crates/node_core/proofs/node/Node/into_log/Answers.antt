@@ -7,5 +7,5 @@ use Rattle.node_core.proofs.node.Node.into_log.Goals as goal
 
 pub returns-clause-keeps : goal.returns-clause-keeps
 returns-clause-keeps c =
-    let P : NodeView → Type 0 = λ v. KeepsJournal (machine_in v.description) v.log in
+    let P : NodeView → Type 0 = λ v. KeepsJournal v.description (machine_in v.description) v.log in
     subst P c.self.view_is c.keeps_journal.ensures

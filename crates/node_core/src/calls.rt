@@ -5,18 +5,21 @@ ghost use Rattle.mate_journal.specs.Journal.{Void};
 ghost use Rattle.mate_journal.specs.NodeScript.{Answers, ShowsOnce, Resets};
 ghost use Rattle.node_invariant.specs.Meaning.{machine_in, clock_of};
 ghost use Rattle.node_invariant.specs.Keeps.{IsTimely};
+ghost use Rattle.node_calls.specs.Calls.{NobodyWaits};
 ghost use Rattle.node_calls.specs.Posting.{PostGives};
-ghost use Rattle.node_calls.specs.Installing.{InstallGives};
+ghost use Rattle.node_calls.specs.Installing.{InstallsBytes, Refuses};
 
 use crate::node::Node;
 use mate_journal::VoidCause;
 use mate_num::{ContextId, HandlerId, Payload, Stamp};
-use node_calls::{InstallFault, PostAnswer, answer_in, install_in, post_in, reset_in, seen_in, void_in};
+use node_calls::{
+    InstallFault, PostAnswer, answer_in, install_in, post_in, reset_in, seen_in, void_in,
+};
 use split_phase::NotWaiting;
 
 impl Node {
     ghost use Rattle.node_core.specs.View.{heard_of, Tells};
-    ghost use Rattle.node_core.specs.Calls.{Pacing, IsWaitingIn};
+    ghost use Rattle.node_core.specs.Calls.{Pacing};
 
     /// An event for the handler becomes an invocation in the handler's lowest idle context, which starts where nothing
     /// holds it back. It is dropped with `NoCode` exactly where nothing is installed for the handler, and else with
@@ -39,21 +42,22 @@ impl Node {
         requires room { 1 ≤ self.old.log.spare }
         ensures { MatchResult result
             (λ _. Tells self.old self.new at (Pacing (λ _. Answers (heard_of self.old) ctx value)))
-            (λ _. (IsWaitingIn (heard_of self.old) ctx → ⊥) × (self.new ≡ self.old)) }
+            (λ _. NobodyWaits (heard_of self.old) ctx × (self.new ≡ self.old)) }
     {
         answer_in(&self.description, &mut self.parts, ctx, value, at)
     }
 
     /// The capsule is installed, and an era begins: live invocations are cut, variables are 0 and buffers empty. A handler
     /// that runs once is then posted with an empty payload. A refusal leaves the node as it was: the capsule's, then its
-    /// code's, then `NotNewer` exactly where the version that is held for the handler is at least the capsule's.
+    /// code's, then `NotNewer` exactly where the version that is held for the handler is at least the capsule's, with that
+    /// version.
     pub fn install(&mut self, bytes: &[u8], at: Stamp) -> Result<(), InstallFault>
         requires timely { IsTimely at self.old.log }
         requires few { length self.old.log.entries < 4000000000 }
         requires room { 4 ≤ self.old.log.spare }
         ensures { MatchResult result
-            (λ _. Tells self.old self.new at (Pacing (λ p. Installs (clock_of self.old.description) (machine_in self.old.description) (heard_of self.old) p (program_of self.old.description bytes.now))))
-            (λ fault. IsRefused self.old.description (heard_of self.old) bytes.now fault × (self.new ≡ self.old)) }
+            (λ _. Tells self.old self.new at (Pacing (InstallsBytes self.old.description (heard_of self.old) bytes.now)))
+            (λ fault. Refuses self.old.description (heard_of self.old) bytes.now fault × (self.new ≡ self.old)) }
     {
         install_in(&self.description, &mut self.parts, bytes, at)
     }

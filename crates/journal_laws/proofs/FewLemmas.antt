@@ -1,0 +1,238 @@
+-- The run of a node script tells few entries: each that comes from outside is followed by two of the running of invocations at
+-- most, and each step brings three from outside at most.
+use Rattle.std.proofs.Common.{◌≡◌, ◌≢◌, ◌<◌, ◌≤◌, ◌⊎◌, ℕ, zero, suc, ◌+◌, ◌*◌, Bool, true, false, IsTrue, List, [], ◌∷◌, ◌++◌, length, refl, sym, ◌∙◌, ap, arith, inl, inr}
+use Rattle.std.specs.Prelude.{ℤ, All, if◌then◌else◌}
+use Rattle.std.proofs.lemmas.Bool.{cases_lt}
+use Rattle.std.proofs.lemmas.Bool.Decides.{eqb_tells}
+use Rattle.std.proofs.lemmas.List.Elements.{All-head, All-tail}
+use Rattle.arrayvec.specs.ArrayVec.{ArrayVec}
+use Rattle.mate_num.specs.declared.call.End.{End}
+use Rattle.mate_num.specs.declared.call.End.TheVariants as end
+use Rattle.mate_num.specs.declared.id.HandlerId.{HandlerId}
+use Rattle.mate_journal.specs.Machine.{Machine, HeldProgram}
+use Rattle.mate_journal.specs.Journal.{Told, Posted, Dropped, Started, Asked, Answered, Ended, Installed, Reset, Seen, Void, Event, Phase, Unposted, Queued, Ready, Waiting, Over, is_live, Invocation, Reading, nothing_heard, heard, heard_all, heard_told, told_by, whole_run, AtEachEntry}
+use Rattle.mate_journal.specs.WellFormed.{MayFollow}
+use Rattle.mate_journal.specs.Grants.{IsStart}
+use Rattle.mate_journal.specs.Pace.{Pace, no_pace}
+use Rattle.mate_journal.specs.Turns.{Clock, entry_at, Turn, IsTurn, mark_of, after_turn, AreTurns, told_in}
+use Rattle.mate_journal.specs.NodeScript.{Step, Install, Post, StepIn, Run, Answer, Show, ResetNode, Occasion, Installs, IsNotNewer, Answers, IsNotWaiting, Makes, HaveMade}
+use Rattle.mate_journal.specs.declared.report.TheConstants.{RECORDS_MAX}
+use Rattle.journal_laws.proofs.Moves.{Moves, Joins, started-Moves, asked-Moves, answered-Moves, ended-Moves, posted-Joins}
+use Rattle.journal_laws.proofs.Apart.{IsNumbered, live_posted, numbered-step, nothing_heard-orderly}
+
+-- ---- entries from outside
+
+abbrev from_outside : Told → ℕ
+from_outside (Started n) = 0
+from_outside (Asked n f args) = 0
+from_outside (Ended n how) = 0
+from_outside _ = 1
+
+abbrev outside : List Told → ℕ
+outside [] = 0
+outside (t ∷ ts) = from_outside t + outside ts
+
+outside-append : (ts more : List Told) → outside (ts ++ more) ≡ outside ts + outside more
+outside-append [] more = omega arith
+outside-append (t ∷ ts) more = let h = outside-append ts more in omega (arith, h)
+
+told_by-append : (es fs : List Event) → told_by (es ++ fs) ≡ told_by es ++ told_by fs
+told_by-append [] fs = refl
+told_by-append (e ∷ es) fs = ap (λ ts. e.told ∷ ts) (told_by-append es fs)
+
+one-at_most : (t : Told) → from_outside t ≤ 1
+one-at_most (Started n) = omega arith
+one-at_most (Asked n f args) = omega arith
+one-at_most (Ended n how) = omega arith
+one-at_most (Posted n h c payload) = omega arith
+one-at_most (Dropped h cause) = omega arith
+one-at_most (Answered n value) = omega arith
+one-at_most (Installed p) = omega arith
+one-at_most Reset = omega arith
+one-at_most (Seen store) = omega arith
+one-at_most (Void cause) = omega arith
+
+outside-all : (es : List Event) → outside (told_by es) ≤ length es
+outside-all [] = omega arith
+outside-all (e ∷ es) = let h = outside-all es in let one = one-at_most e.told in omega (arith, h, one)
+
+-- ---- what an invocation may still tell by itself
+
+abbrev weight : Phase → ℕ
+weight Unposted = 0
+weight Queued = 2
+weight Ready = 1
+weight (Waiting f args) = 0
+weight Over = 0
+
+-- f 0 + .. + f (n - 1)
+abbrev total : (ℕ → ℕ) → ℕ → ℕ
+total f zero = 0
+total f (suc n) = total f n + f n
+
+total-same : (f g : ℕ → ℕ) (n : ℕ) → ((k : ℕ) → k < n → g k ≡ f k) → total g n ≡ total f n
+total-same f g zero same = refl
+total-same f g (suc n) same = let h = total-same f g n (λ k below. same k (omega (arith, below))) in let last = same n (omega arith) in omega (arith, h, last)
+
+total-below : (f g : ℕ → ℕ) (n : ℕ) → ((k : ℕ) → g k ≤ f k) → total g n ≤ total f n
+total-below f g zero below = omega arith
+total-below f g (suc n) below = let h = total-below f g n below in let last = below n in omega (arith, h, last)
+
+-- one is another
+total-moved : (f g : ℕ → ℕ) (n k : ℕ) → k < n → ((j : ℕ) → j ≢ k → g j ≡ f j) → total g n + f k ≡ total f n + g k
+total-moved f g zero k below others = absurd (omega (arith, below))
+total-moved f g (suc n) k below others = elim (eqb_tells n k) [ inl t ↦ here t.1 | inr u ↦ there u.1 (total-moved f g n k (omega (arith, below, u.1)) others) ] where
+  here : n ≡ k → total g (suc n) + f k ≡ total f (suc n) + g k
+  here is =
+      let same = total-same f g n (λ j low. others j (λ e. omega (arith, low, is, e))) in
+      let fs : f n ≡ f k = ap f is in
+      let gs : g n ≡ g k = ap g is in omega (arith, same, fs, gs)
+
+  there : n ≢ k → total g n + f k ≡ total f n + g k → total g (suc n) + f k ≡ total f (suc n) + g k
+  there other h = let last = others n other in omega (arith, h, last)
+
+abbrev weight_at : Reading → ℕ → ℕ
+weight_at r n = weight (r.invocations n).phase
+
+abbrev owing : Reading → ℕ
+owing r = total (weight_at r) (suc r.posts)
+
+-- an invocation moves
+owing-moves : (r s : Reading) (n : ℕ) (phase was : Phase) → Moves r s n phase → (r.invocations n).phase ≡ was → n ≤ r.posts → owing s + weight was ≡ owing r + weight phase
+owing-moves r s n phase was moves is posted =
+    let moved = total-moved (weight_at r) (weight_at s) (suc r.posts) n (omega (arith, posted)) (λ j other. ap (λ (i : Invocation). weight i.phase) (moves.others j other)) in
+    let before : weight_at r n ≡ weight was = ap weight is in
+    let after : weight_at s n ≡ weight phase = ap weight moves.here in
+    let posts : owing s ≡ total (weight_at s) (suc r.posts) = ap (λ (k : ℕ). total (weight_at s) (suc k)) moves.posts in
+    omega (arith, moved, before, after, posts)
+
+-- one is posted
+owing-joins : (r s : Reading) (n : ℕ) → Joins r s n → n ≡ suc r.posts → owing s ≡ owing r + 2
+owing-joins r s n joins next =
+    let same = total-same (weight_at r) (weight_at s) (suc r.posts) (λ j below. ap (λ (i : Invocation). weight i.phase) (joins.others j (λ e. omega (arith, below, next, e)))) in
+    let here : weight_at s n ≡ 2 = ap weight joins.here in
+    let last : weight_at s (suc r.posts) ≡ weight_at s n = ap (weight_at s) (sym next) in
+    let posts : owing s ≡ total (weight_at s) (suc (suc r.posts)) = ap (λ (k : ℕ). total (weight_at s) (suc k)) (joins.posts ∙ next) in
+    omega (arith, same, here, last, posts)
+
+cut-weight : (phase : Phase) → weight (if is_live phase then Over else phase) ≤ weight phase
+cut-weight Unposted = omega arith
+cut-weight Queued = omega arith
+cut-weight Ready = omega arith
+cut-weight (Waiting f args) = omega arith
+cut-weight Over = omega arith
+
+live : (r : Reading) (n : ℕ) (phase : Phase) → IsNumbered r → (r.invocations n).phase ≡ phase → is_live phase ≡ true → n ≤ r.posts
+live r n phase numbered is lives = live_posted r n numbered (ap is_live is ∙ lives)
+
+owing-step : (m : Machine) (r : Reading) (t : Told) → MayFollow m r t → IsNumbered r → 1 + owing (heard m r t) ≤ 3 * from_outside t + owing r
+owing-step m r (Posted n h c payload) follows numbered = let e = owing-joins r (heard m r (Posted n h c payload)) n (posted-Joins m r n h c payload) follows.0 in omega (arith, e)
+owing-step m r (Dropped h cause) follows numbered = omega arith
+owing-step m r (Started n) follows numbered =
+    let e = owing-moves r (heard m r (Started n)) n Ready Queued (started-Moves m r n) follows (live r n Queued numbered follows refl) in omega (arith, e)
+owing-step m r (Asked n f args) follows numbered =
+    let e = owing-moves r (heard m r (Asked n f args)) n (Waiting f args) Ready (asked-Moves m r n f args) follows (live r n Ready numbered follows refl) in omega (arith, e)
+owing-step m r (Answered n value) follows numbered =
+    let e = owing-moves r (heard m r (Answered n value)) n Ready (Waiting follows.fun follows.args) (answered-Moves m r n value) follows.waits (live r n (Waiting follows.fun follows.args) numbered follows.waits refl) in omega (arith, e)
+owing-step m r (Ended n how) follows numbered =
+    let e = owing-moves r (heard m r (Ended n how)) n Over Ready (ended-Moves m r n how) follows.0 (live r n Ready numbered follows.0 refl) in omega (arith, e)
+owing-step m r (Installed p) follows numbered = let e = total-below (weight_at r) (weight_at (heard m r (Installed p))) (suc r.posts) (λ k. cut-weight (r.invocations k).phase) in omega (arith, e)
+owing-step m r Reset follows numbered = let e = total-below (weight_at r) (weight_at (heard m r Reset)) (suc r.posts) (λ k. cut-weight (r.invocations k).phase) in omega (arith, e)
+owing-step m r (Seen store) follows numbered = omega arith
+owing-step m r (Void cause) follows numbered = omega arith
+
+-- each entry from outside is followed by two others at most
+owing-all : (m : Machine) (r : Reading) (es : List Event) → AtEachEntry (MayFollow m) m r es → IsNumbered r → length es ≤ 3 * outside (told_by es) + owing r
+owing-all m r [] follow numbered = omega arith
+owing-all m r (e ∷ es) follow numbered =
+    let h = owing-all m (heard m r e.told) es follow.1 (numbered-step m r e.told follow.0 numbered) in
+    let one = owing-step m r e.told follow.0 numbered in omega (arith, h, one)
+
+-- ---- what a step brings from outside
+
+starts-inside : (ts : List Told) → All IsStart ts → outside ts ≡ 0
+starts-inside [] all = refl
+starts-inside (t ∷ ts) all = let h = starts-inside ts (All-tail IsStart t ts all) in let one = by t (All-head IsStart t ts all) in omega (arith, h, one) where
+  by : (t : Told) → IsStart t → from_outside t ≡ 0
+  by (Started n) is = refl
+  by (Posted n h c payload) is = absurd is
+  by (Dropped h cause) is = absurd is
+  by (Asked n f args) is = refl
+  by (Answered n value) is = absurd is
+  by (Ended n how) is = refl
+  by (Installed p) is = absurd is
+  by Reset is = absurd is
+  by (Seen store) is = absurd is
+  by (Void cause) is = absurd is
+
+entry-inside : (n : ℕ) (e : End) → from_outside (entry_at n e) ≡ 0
+entry-inside n end.Halt = refl
+entry-inside n (end.Fault kind) = refl
+entry-inside n (end.Wants f args) = refl
+
+turn-inside : (k : Clock) (m : Machine) (r : Reading) (p : Pace) (instructions : ℕ) (t : Turn) → IsTurn k m r p instructions t → outside t.told ≡ 0
+turn-inside k m r p instructions t turn = elim (cases_lt (p.counts t.invocation + instructions) (mark_of k m r t.invocation)) [
+  | inl short ↦ ap outside (turn.short short)
+  | inr reached ↦ (let a = turn.reached reached in let starts = starts-inside a.starts a.are_starts in ap outside a.told_is ∙ (let one = entry-inside t.invocation (whole_run m r t.invocation).end in omega (arith, one, starts)))
+]
+
+turns-inside : (k : Clock) (m : Machine) (r : Reading) (p : Pace) (ts : List Turn) → AreTurns k m r p ts → outside (told_in ts) ≡ 0
+turns-inside k m r p [] turns = refl
+turns-inside k m r p (t ∷ ts) turns =
+    let one = turn-inside k m r p k.quantum t turns.1 in
+    let rest = turns-inside k m (heard_told m r t.told) (after_turn k m r p t) ts turns.2 in
+    let sum = outside-append t.told (told_in ts) in omega (arith, one, rest, sum)
+
+occasion-one : (m : Machine) (r : Reading) (h : HandlerId) (payload : ArrayVec ℤ) (told : List Told) → Occasion m r h payload told → outside told ≤ 1
+occasion-one m r h payload told (inl x) = let e = ap outside x.made in omega (arith, e)
+occasion-one m r h payload told (inr (inl x)) = let e = ap outside x.made in omega (arith, e)
+occasion-one m r h payload told (inr (inr x)) = let e = ap outside x.made in let starts = starts-inside x.starts x.are_starts in omega (arith, e, starts)
+
+install-few : (m : Machine) (r : Reading) (x : HeldProgram) (rest : List Told) (b : Bool) → m.runs_once x.handler ≡ b → (IsTrue (m.runs_once x.handler) → Occasion m (heard m r (Installed x)) x.handler (record { items = [] }) rest)
+    → ((m.runs_once x.handler ≡ false) → rest ≡ []) → outside rest ≤ 1
+install-few m r x rest true is once else_ = occasion-one m (heard m r (Installed x)) x.handler (record { items = [] }) rest (once is)
+install-few m r x rest false is once else_ = let e = ap outside (else_ is) in omega (arith, e)
+
+makes-few : (k : Clock) (m : Machine) (r : Reading) (p : Pace) (step : Step) (told : List Told) (q : Pace) → Makes k m r p step told q → outside told ≤ 3
+makes-few k m r p (Install x) told q made = by made.0 where
+  by : Installs k m r p x told ⊎ IsNotNewer r x told → outside told ≤ 3
+  by (inl i) = let rest = install-few m r x i.rest (m.runs_once x.handler) refl i.once i.else in let e = ap outside i.made in omega (arith, e, rest)
+  by (inr n) = let e = ap outside n.made in omega (arith, e)
+makes-few k m r p (Post h payload) told q made = let one = occasion-one m r h payload told made.0 in omega (arith, one)
+makes-few k m r p (StepIn c n) told q (inl t) = let e = turn-inside k m r p n (record { invocation = t.invocation; told = told }) t.turn in omega (arith, e)
+makes-few k m r p (StepIn c n) told q (inr x) = let e = ap outside x.0.made in omega (arith, e)
+makes-few k m r p Run told q made = let e = turns-inside k m r p made.turns made.are_turns in let is = ap outside made.made in omega (arith, e, is)
+makes-few k m r p (Answer c value) told q made = by made.0 where
+  by : Answers r c value told ⊎ IsNotWaiting r c told → outside told ≤ 3
+  by (inl a) = let e = ap outside a.made in omega (arith, e)
+  by (inr n) = let e = ap outside n.made in omega (arith, e)
+makes-few k m r p Show told q made = let e = ap outside made.0.made in omega (arith, e)
+makes-few k m r p ResetNode told q made = let e = ap outside made.0.made in omega (arith, e)
+
+-- ---- the run
+
+-- the last event that was begun brings three at most
+made-few : (k : Clock) (m : Machine) (records n : ℕ) (r : Reading) (p : Pace) (steps : List Step) (es : List Event) (q : Pace) → HaveMade k m records n r p steps es q
+    → (outside (told_by es) ≡ 0) ⊎ (records + outside (told_by es) < RECORDS_MAX + 3)
+made-few k m records n r p [] es q made = inl (ap (λ (xs : List Event). outside (told_by xs)) made.0)
+made-few k m records n r p (step ∷ steps) es q made =
+    by (made-few k m (records + length made.1) (suc n) (heard_all m r made.1) made.3 steps made.2 q made.7) where
+      sum : outside (told_by es) ≡ outside (told_by made.1) + outside (told_by made.2)
+      sum = ap (λ (xs : List Event). outside (told_by xs)) made.4 ∙ ap outside (told_by-append made.1 made.2) ∙ outside-append (told_by made.1) (told_by made.2)
+
+      here : outside (told_by made.1) ≤ 3
+      here = makes-few k m r p step (told_by made.1) made.3 made.6
+
+      by : (outside (told_by made.2) ≡ 0) ⊎ (records + length made.1 + outside (told_by made.2) < RECORDS_MAX + 3) → (outside (told_by es) ≡ 0) ⊎ (records + outside (told_by es) < RECORDS_MAX + 3)
+      by (inl none) = let room = made.0 in let few = here in let all = sum in inr (omega (arith, none, room, few, all))
+      by (inr few) = let long = outside-all made.1 in let all = sum in inr (omega (arith, few, long, all))
+
+-- a run's log is far from a position's end
+pub run-few : (k : Clock) (m : Machine) (steps : List Step) (es : List Event) (q : Pace) → HaveMade k m 0 1 (nothing_heard m) no_pace steps es q → AtEachEntry (MayFollow m) m (nothing_heard m) es
+    → length es ≤ 3 * (RECORDS_MAX + 3)
+run-few k m steps es q made follow =
+    let all = owing-all m (nothing_heard m) es follow (record { numbered = (nothing_heard-orderly m).numbered }) in
+    by (made-few k m 0 1 (nothing_heard m) no_pace steps es q made) all where
+      by : (outside (told_by es) ≡ 0) ⊎ (0 + outside (told_by es) < RECORDS_MAX + 3) → length es ≤ 3 * outside (told_by es) + owing (nothing_heard m) → length es ≤ 3 * (RECORDS_MAX + 3)
+      by (inl none) all = omega (arith, none, all)
+      by (inr few) all = omega (arith, few, all)

@@ -1,0 +1,214 @@
+-- A log whose images and stores are numbered in order is told by its journal: where its journal goes on, it goes on.
+use Rattle.std.proofs.Common.{◌≡◌, ◌<◌, ◌≤◌, ℕ, zero, suc, ◌+◌, List, [], ◌∷◌, ◌++◌, Option, None, Some, length, map, take, refl, sym, ◌∙◌, ap, arith, append-nil, append_assoc, length-append, drop}
+use Rattle.std.specs.Prelude.{flat_map, option_to_list, is_some, slice_index_or}
+use Rattle.std.proofs.lemmas.List.{take_all}
+use Rattle.arrayvec.specs.ArrayVec.{ArrayVec}
+use Rattle.mate_num.specs.declared.call.End.TheVariants as end
+use Rattle.mate_num.specs.declared.call.Stamp.{Stamp}
+use Rattle.mate_num.specs.declared.store.Store.{Store}
+use Rattle.mate_journal.specs.Log.{Log, GoesOn}
+use Rattle.mate_journal.specs.Journal.{Told, Posted, Dropped, Started, Asked, Answered, Ended, Installed, Reset, Seen, Void, Event, told_of, journal_of, no_image, no_store, store_seen}
+use Rattle.mate_journal.specs.Tidy.{image_named, store_named, names_in, below, NumbersInOrder}
+use Rattle.mate_journal.specs.declared.entry.Entry.{Entry}
+use Rattle.mate_journal.specs.declared.entry.Entry.TheVariants as entry
+use Rattle.mate_journal.specs.declared.entry.Stamped.{Stamped}
+use Rattle.journal_laws.specs.Growth.{event_of}
+
+-- ---- the images and stores that are told
+
+abbrev image_told : Told → Option (ArrayVec ℕ)
+image_told (Installed p) = Some p.image
+image_told _ = None
+
+abbrev all_told : {A : Type 0} → (Told → Option A) → List Event → List A
+all_told told es = flat_map (λ e. option_to_list (told e.told)) es
+
+all_told-append : {A : Type 0} (told : Told → Option A) (es more : List Event) → all_told told (es ++ more) ≡ all_told told es ++ all_told told more
+all_told-append told [] more = refl
+all_told-append told (e ∷ es) more =
+    ap (λ xs. option_to_list (told e.told) ++ xs) (all_told-append told es more)
+    ∙ sym (append_assoc (option_to_list (told e.told)) (all_told told es) (all_told told more))
+
+map-append : {A B : Type 0} (f : A → B) (xs ys : List A) → map f (xs ++ ys) ≡ map f xs ++ map f ys
+map-append f [] ys = refl
+map-append f (x ∷ xs) ys = ap (λ zs. f x ∷ zs) (map-append f xs ys)
+
+-- the first n items, read one after another
+items-below : {A : Type 0} (xs : List A) (d : A) (n : ℕ) → n ≤ length xs → map (λ k. slice_index_or xs k d) (below n) ≡ take n xs
+items-below xs d zero le = refl
+items-below xs d (suc n) le =
+    map-append (λ k. slice_index_or xs k d) (below n) (n ∷ [])
+    ∙ ap (λ ys. ys ++ slice_index_or xs n d ∷ []) (items-below xs d n (omega (arith, le)))
+    ∙ take-next xs d n (omega (arith, le)) where
+      take-next : {A : Type 0} (xs : List A) (d : A) (n : ℕ) → n < length xs → take n xs ++ slice_index_or xs n d ∷ [] ≡ take (suc n) xs
+      take-next [] d n le = absurd (omega (arith, le))
+      take-next (x ∷ xs) d zero le = refl
+      take-next (x ∷ xs) d (suc n) le = ap (λ ys. x ∷ ys) (take-next xs d n (omega (arith, le)))
+
+-- an entry tells what it names
+image-of : (l : Log) (e : Entry) → option_to_list (image_told (told_of l e)) ≡ map (λ k. slice_index_or l.images k no_image) (option_to_list (image_named e))
+image-of l (entry.Install h version image) = refl
+image-of l (entry.Post n h c payload) = refl
+image-of l (entry.Dropped h cause) = refl
+image-of l (entry.Start n) = refl
+image-of l (entry.Ask n f args) = refl
+image-of l (entry.Answer n value) = refl
+image-of l (entry.Halt n) = refl
+image-of l (entry.Fault n kind) = refl
+image-of l entry.Reset = refl
+image-of l (entry.Seen store) = refl
+image-of l (entry.Void cause) = refl
+
+store-of : (l : Log) (e : Entry) → option_to_list (store_seen (told_of l e)) ≡ map (λ k. slice_index_or l.stores k no_store) (option_to_list (store_named e))
+store-of l (entry.Install h version image) = refl
+store-of l (entry.Post n h c payload) = refl
+store-of l (entry.Dropped h cause) = refl
+store-of l (entry.Start n) = refl
+store-of l (entry.Ask n f args) = refl
+store-of l (entry.Answer n value) = refl
+store-of l (entry.Halt n) = refl
+store-of l (entry.Fault n kind) = refl
+store-of l entry.Reset = refl
+store-of l (entry.Seen store) = refl
+store-of l (entry.Void cause) = refl
+
+told-named : {A : Type 0} (l : Log) (told : Told → Option A) (named : Entry → Option ℕ) (xs : List A) (d : A)
+    → ((e : Entry) → option_to_list (told (told_of l e)) ≡ map (λ k. slice_index_or xs k d) (option_to_list (named e)))
+    → (es : List Stamped) → all_told told (map (event_of l) es) ≡ map (λ k. slice_index_or xs k d) (names_in named es)
+told-named l told named xs d each [] = refl
+told-named l told named xs d each (e ∷ es) =
+    ap (λ ys. ys ++ all_told told (map (event_of l) es)) (each e.entry)
+    ∙ ap (λ ys. map (λ k. slice_index_or xs k d) (option_to_list (named e.entry)) ++ ys) (told-named l told named xs d each es)
+    ∙ sym (map-append (λ k. slice_index_or xs k d) (option_to_list (named e.entry)) (names_in named es))
+
+-- all that is named in order is told
+told-all : {A : Type 0} (l : Log) (told : Told → Option A) (named : Entry → Option ℕ) (xs : List A) (d : A)
+    → ((e : Entry) → option_to_list (told (told_of l e)) ≡ map (λ k. slice_index_or xs k d) (option_to_list (named e)))
+    → names_in named l.entries ≡ below (length xs) → all_told told (journal_of l) ≡ xs
+told-all l told named xs d each in_order =
+    told-named l told named xs d each l.entries ∙ ap (map (λ k. slice_index_or xs k d)) in_order ∙ items-below xs d (length xs) (omega arith) ∙ take_all (length xs) xs (omega arith)
+
+-- ---- the entries
+
+-- the entry that tells this, with the image or the store that it names
+abbrev entry_with : Option ℕ → Option ℕ → Told → Entry
+entry_with image store (Posted n h c payload) = entry.Post n h c payload
+entry_with image store (Dropped h cause) = entry.Dropped h cause
+entry_with image store (Started n) = entry.Start n
+entry_with image store (Asked n f args) = entry.Ask n f args
+entry_with image store (Answered n value) = entry.Answer n value
+entry_with image store (Ended n end.Halt) = entry.Halt n
+entry_with image store (Ended n (end.Fault kind)) = entry.Fault n kind
+entry_with image store (Ended n (end.Wants f args)) = entry.Ask n f args
+entry_with (Some image) store (Installed p) = entry.Install p.handler p.version image
+entry_with None store (Installed p) = entry.Reset
+entry_with image store Reset = entry.Reset
+entry_with image (Some store) (Seen s) = entry.Seen store
+entry_with image None (Seen s) = entry.Reset
+entry_with image store (Void cause) = entry.Void cause
+
+entry-told : (l : Log) (e : Entry) → entry_with (image_named e) (store_named e) (told_of l e) ≡ e
+entry-told l (entry.Install h version image) = refl
+entry-told l (entry.Post n h c payload) = refl
+entry-told l (entry.Dropped h cause) = refl
+entry-told l (entry.Start n) = refl
+entry-told l (entry.Ask n f args) = refl
+entry-told l (entry.Answer n value) = refl
+entry-told l (entry.Halt n) = refl
+entry-told l (entry.Fault n kind) = refl
+entry-told l entry.Reset = refl
+entry-told l (entry.Seen store) = refl
+entry-told l (entry.Void cause) = refl
+
+-- one list of names begins another
+pub record Begins (first all : List ℕ) : Type 0 where
+  pub rest : List ℕ
+  pub is : all ≡ first ++ rest
+
+-- two that name or don't, each the next
+same-next : (a b : Option ℕ) (is js : List ℕ) → is_some a ≡ is_some b → Begins (option_to_list a ++ is) (option_to_list b ++ js) → (a ≡ b) × Begins is js
+same-next None None is js both begins = (refl, begins)
+same-next None (Some j) is js both begins = cc
+same-next (Some i) None is js both begins = cc
+same-next (Some i) (Some j) is js both begins =
+    let head : j ≡ i = ap (λ (xs : List ℕ). slice_index_or xs 0 i) begins.is in
+    let tail : js ≡ is ++ begins.rest = ap (λ (xs : List ℕ). drop 1 xs) begins.is in
+    (ap Some (sym head), record { rest = begins.rest; is = tail })
+
+names-image : (l : Log) (e : Entry) → is_some (image_named e) ≡ is_some (image_told (told_of l e))
+names-image l (entry.Install h version image) = refl
+names-image l (entry.Post n h c payload) = refl
+names-image l (entry.Dropped h cause) = refl
+names-image l (entry.Start n) = refl
+names-image l (entry.Ask n f args) = refl
+names-image l (entry.Answer n value) = refl
+names-image l (entry.Halt n) = refl
+names-image l (entry.Fault n kind) = refl
+names-image l entry.Reset = refl
+names-image l (entry.Seen store) = refl
+names-image l (entry.Void cause) = refl
+
+names-store : (l : Log) (e : Entry) → is_some (store_named e) ≡ is_some (store_seen (told_of l e))
+names-store l (entry.Install h version image) = refl
+names-store l (entry.Post n h c payload) = refl
+names-store l (entry.Dropped h cause) = refl
+names-store l (entry.Start n) = refl
+names-store l (entry.Ask n f args) = refl
+names-store l (entry.Answer n value) = refl
+names-store l (entry.Halt n) = refl
+names-store l (entry.Fault n kind) = refl
+names-store l entry.Reset = refl
+names-store l (entry.Seen store) = refl
+names-store l (entry.Void cause) = refl
+
+-- the entries of the first log begin those of the second
+entries-begin : (a b : Log) (es fs : List Stamped) (more : List Event) → map (event_of b) fs ≡ map (event_of a) es ++ more
+    → Begins (names_in image_named es) (names_in image_named fs) → Begins (names_in store_named es) (names_in store_named fs) → (rest : List Stamped) × (fs ≡ es ++ rest)
+entries-begin a b [] fs more is images stores = (fs, refl)
+entries-begin a b (e ∷ es) [] more is images stores = cc
+entries-begin a b (e ∷ es) (f ∷ fs) more is images stores =
+    let head : event_of b f ≡ event_of a e = ap (λ (xs : List Event). slice_index_or xs 0 (event_of a e)) is in
+    let tail : map (event_of b) fs ≡ map (event_of a) es ++ more = ap (λ (xs : List Event). drop 1 xs) is in
+    let told : told_of b f.entry ≡ told_of a e.entry = ap (λ (x : Event). x.told) head in
+    let stamp : f.stamp ≡ e.stamp = ap (λ (x : Event). x.stamp) head in
+    let image = same-next (image_named e.entry) (image_named f.entry) (names_in image_named es) (names_in image_named fs)
+    (names-image a e.entry ∙ ap (λ (t : Told). is_some (image_told t)) (sym told) ∙ sym (names-image b f.entry)) images in
+    let store = same-next (store_named e.entry) (store_named f.entry) (names_in store_named es) (names_in store_named fs)
+    (names-store a e.entry ∙ ap (λ (t : Told). is_some (store_seen t)) (sym told) ∙ sym (names-store b f.entry)) stores in
+    let same : f.entry ≡ e.entry =
+        sym (entry-told b f.entry) ∙ ap (λ (o : Option ℕ). entry_with o (store_named f.entry) (told_of b f.entry)) (sym image.0)
+        ∙ ap (λ (o : Option ℕ). entry_with (image_named e.entry) o (told_of b f.entry)) (sym store.0)
+        ∙ ap (λ (t : Told). entry_with (image_named e.entry) (store_named e.entry) t) told ∙ entry-told a e.entry in
+    let stamped : f ≡ e = ap (λ (s : Stamp). let x : Stamped = record { stamp = s; entry = f.entry } in x) stamp ∙ ap (λ (y : Entry). let x : Stamped = record { stamp = e.stamp; entry = y } in x) same in
+    let later = entries-begin a b es fs more tail image.1 store.1 in
+    (later.0, ap (λ (ys : List Stamped). f ∷ ys) later.1 ∙ ap (λ (x : Stamped). x ∷ (es ++ later.0)) stamped)
+
+below-begins : (n k : ℕ) → Begins (below n) (below (n + k))
+below-begins n zero = let same : n + 0 ≡ n = omega arith in record { rest = []; is = ap below same ∙ sym (append-nil (below n)) }
+below-begins n (suc k) =
+    let h = below-begins n k in
+    let same : n + suc k ≡ suc (n + k) = omega arith in record {
+      rest = h.rest ++ (n + k) ∷ [];
+      is = ap below same ∙ ap (λ (xs : List ℕ). xs ++ (n + k) ∷ []) h.is ∙ append_assoc (below n) h.rest ((n + k) ∷ []);
+    }
+
+names-begin : {A : Type 0} (named : Entry → Option ℕ) (es fs : List Stamped) (xs ys more : List A) → names_in named es ≡ below (length xs) → names_in named fs ≡ below (length ys)
+    → ys ≡ xs ++ more → Begins (names_in named es) (names_in named fs)
+names-begin {A} named es fs xs ys more a b is =
+    let long : length ys ≡ length xs + length more = ap (λ (zs : List A). length zs) is ∙ length-append xs more in
+    let h = below-begins (length xs) (length more) in
+    record { rest = h.rest; is = b ∙ ap below long ∙ h.is ∙ ap (λ (ns : List ℕ). ns ++ h.rest) (sym a) }
+
+-- where the journal goes on, the log does
+pub GoesOn-journal : (a b : Log) (more : List Event) → NumbersInOrder a → NumbersInOrder b → journal_of b ≡ journal_of a ++ more → GoesOn a b
+GoesOn-journal a b more na nb is =
+    let images : b.images ≡ a.images ++ all_told image_told more =
+        sym (told-all b image_told image_named b.images no_image (image-of b) nb.images) ∙ ap (all_told image_told) is ∙ all_told-append image_told (journal_of a) more
+        ∙ ap (λ (xs : List (ArrayVec ℕ)). xs ++ all_told image_told more) (told-all a image_told image_named a.images no_image (image-of a) na.images) in
+    let stores : b.stores ≡ a.stores ++ all_told store_seen more =
+        sym (told-all b store_seen store_named b.stores no_store (store-of b) nb.stores) ∙ ap (all_told store_seen) is ∙ all_told-append store_seen (journal_of a) more
+        ∙ ap (λ (xs : List Store). xs ++ all_told store_seen more) (told-all a store_seen store_named a.stores no_store (store-of a) na.stores) in
+    let entries = entries-begin a b a.entries b.entries more is
+    (names-begin image_named a.entries b.entries a.images b.images (all_told image_told more) na.images nb.images images)
+    (names-begin store_named a.entries b.entries a.stores b.stores (all_told store_seen more) na.stores nb.stores stores) in
+    record { entries = entries.0; images = all_told image_told more; stores = all_told store_seen more; entries_are = entries.1; images_are = images; stores_are = stores }

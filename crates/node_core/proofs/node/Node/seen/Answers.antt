@@ -1,0 +1,18 @@
+-- The store, as it is seen.
+use Rattle.std.proofs.Common.{subst}
+use Rattle.mate_journal.specs.NodeScript.{ShowsOnce}
+use Rattle.node_invariant.specs.Meaning.{machine_in, clock_of}
+use Rattle.node_core.specs.View.{NodeView, heard_of, Tells}
+use Rattle.node_core.specs.Calls.{Pacing}
+use Rattle.node_core.proofs.PaceLemmas.{seen_as}
+use Rattle.node_core.proofs.CallLemmas.{Tells-store}
+use Rattle.node_core.proofs.node.Node.seen.Goals as goal
+
+pub invariant_of-self : goal.invariant_of-self
+invariant_of-self c = record { rests = c.seen_in.ensures.again.rests }
+
+pub returns : goal.returns
+returns c =
+    let n = c.self.inside in
+    let P : NodeView → Type 0 = λ v. Tells v (seen_as n.description c.seen_in.new.parts) c.args.at (Pacing (ShowsOnce (clock_of v.description) (machine_in v.description) (heard_of v))) in
+    subst P c.self.view_is (Tells-store n.description n.parts c.seen_in.new.parts c.args.at c.self.invariant.rests c.seen_in.ensures)

@@ -1,0 +1,113 @@
+-- What the calls of a node make of a step.
+use Rattle.std.proofs.Common.{◌≡◌, ◌≢◌, ◌<◌, ◌≤◌, ◌+◌, ℕ, ℤ, List, [], ◌∷◌, Result, Ok, Err, refl, sym, ◌∙◌, ap, subst, arith, inl, inr, length}
+use Rattle.std.specs.Prelude.{IsOk}
+use Rattle.arrayvec.specs.ArrayVec.{ArrayVec}
+use Rattle.mate_num.specs.declared.call.Stamp.{Stamp}
+use Rattle.mate_num.specs.declared.id.ContextId.{ContextId}
+use Rattle.mate_num.specs.declared.id.HandlerId.{HandlerId}
+use Rattle.capsule_codec.specs.Image.{CapsuleParts, image_of}
+use Rattle.capsule_codec.specs.Reading.{capsule_in}
+use Rattle.capsule_codec.specs.declared.decoding.CapsuleFault.{CapsuleFault}
+use Rattle.capsule_codec.proofs.ImageLemmas.{capsule_again}
+use Rattle.code_verifier.specs.Faults.{refusal_of}
+use Rattle.code_verifier.specs.declared.fault.VerifyFault.{VerifyFault}
+use Rattle.mate_code.specs.BytesVerification.{bytes_verification}
+use Rattle.mate_code.specs.Run.{Code}
+use Rattle.mate_code.specs.Verification.{Marks, Refusal}
+use Rattle.vm_desc.specs.Shapes.{shape_of}
+use Rattle.vm_desc.specs.declared.description.Description.{Description}
+use Rattle.mate_journal.specs.declared.entry.VoidCause.{VoidCause}
+use Rattle.mate_journal.specs.declared.entry.VoidCause.TheVariants as void
+use Rattle.mate_journal.specs.declared.program.Program.{Program}
+use Rattle.mate_journal.specs.Machine.{Machine, HeldProgram}
+use Rattle.mate_journal.specs.Journal.{Told, Void, Reading, held}
+use Rattle.mate_journal.specs.Pace.{Pace, paced_all}
+use Rattle.mate_journal.specs.NodeScript.{Step, Install, StepIn, Answer, Makes, Occasion, Installs, IsNotNewer, IsReadyIn}
+use Rattle.node_invariant.specs.Meaning.{machine_in, clock_of}
+use Rattle.node_calls.specs.Calls.{NobodyWaits}
+use Rattle.node_calls.specs.Posting.{PostGives}
+use Rattle.node_calls.specs.declared.posting.PostAnswer.{PostAnswer}
+use Rattle.node_calls.specs.declared.posting.PostAnswer.TheVariants.{Posted, NoCode, AllBusy}
+use Rattle.node_calls.specs.Installing.{IsRightCapsule, IsUnverified, handler_of, program_by, InstallsBytes, IsNoNewer}
+use Rattle.node_core.specs.View.{NodeView, heard_of, Tells}
+use Rattle.node_core.specs.Calls.{Pacing}
+use Rattle.node_programs.specs.Right.{IsRightProgram}
+use Rattle.node_programs.specs.Sources.{held_as}
+use Rattle.run_steps.specs.Running.{MakesOn}
+
+-- what meets one rule meets another
+pub Tells-by : (old new : NodeView) (at : Stamp) (Rule Other : Pace → List Told → Pace → Type 0) → ((p : Pace) (told : List Told) (q : Pace) → Rule p told q → Other p told q)
+    → Tells old new at Rule → Tells old new at Other
+Tells-by old new at Rule Other goes t = record {
+  told = t.told;
+  description = t.description;
+  grows = t.grows;
+  paces = λ p has. let x = t.paces p has in (x.0, goes p t.told x.0 x.1, x.2);
+}
+
+-- a step that could do nothing
+pub Tells-void : (old mid new : NodeView) (at : Stamp) (cause : VoidCause) (Other : Pace → List Told → Pace → Type 0) → mid ≡ old
+    → ((p : Pace) → Other p (Void cause ∷ []) (paced_all p (Void cause ∷ []))) → Tells mid new at (Pacing (λ _ told. told ≡ Void cause ∷ [])) → Tells old new at Other
+Tells-void old mid new at cause Other same makes t =
+    Tells-by old new at (Pacing (λ _ told. told ≡ Void cause ∷ [])) Other
+    (λ p told q x.
+    let Q : List Told → Type 0 = λ ts. Other p ts (paced_all p ts) in
+    subst (Other p told) (sym x.1) (subst Q (sym x.0) (makes p)))
+    (let P : NodeView → Type 0 = λ v. Tells v new at (Pacing (λ _ told. told ≡ Void cause ∷ [])) in subst P same t)
+
+-- ---- installs
+
+same_ok : {A E : Type 0} (r : Result A E) (x y : A) → r ≡ Ok x → r ≡ Ok y → x ≡ y
+same_ok r x y a b = let e : Ok x ≡ Ok y = sym a ∙ b in cc
+
+not_both : {A E : Type 0} (r : Result A E) (x : A) (e : E) → r ≡ Ok x → r ≡ Err e → ⊥
+not_both r x e a b = let both : Ok x ≡ Err e = sym a ∙ b in cc
+
+not_refused : {A E : Type 0} (r : Result A E) (e : E) → IsOk r → r ≡ Err e → ⊥
+not_refused (Ok x) e ok is = cc
+not_refused (Err x) e ok is = cc
+
+module _ (d : Description) (p : Program) (right : IsRightProgram d p) where
+  -- the image is this capsule
+  decodes : capsule_in d p.image.items ≡ Ok right.capsule
+  decodes = ap (capsule_in d) right.image ∙ capsule_again d right.capsule right.is_capsule right.of_machine
+
+  pub is-capsule : (fault : CapsuleFault) → capsule_in d p.image.items ≡ Err fault → ⊥
+  is-capsule fault refused = not_both (capsule_in d p.image.items) right.capsule fault decodes refused
+
+  pub is-verified : (fault : VerifyFault) → IsUnverified d p.image.items fault → ⊥
+  is-verified fault u =
+      let same : u.capsule ≡ right.capsule = same_ok (capsule_in d p.image.items) u.capsule right.capsule u.decoded decodes in
+      not_refused (bytes_verification (shape_of d) right.capsule.code) (refusal_of fault) right.verified
+      (ap (λ (c : CapsuleParts). bytes_verification (shape_of d) c.code) (sym same) ∙ u.refused)
+
+  -- the capsule's program is this one
+  is-program : (c : CapsuleParts) → IsRightCapsule d p.image.items c → program_by c p.image.items ≡ held_as p
+  is-program c of =
+      let same : c ≡ right.capsule = same_ok (capsule_in d p.image.items) c right.capsule of.decoded decodes in
+      ap (λ (x : CapsuleParts). program_by x p.image.items) same
+      ∙ ap (λ (n : ℕ). let h : HeldProgram = record { handler = record { 0 = n }; version = right.capsule.version; image = p.image } in h) right.handler
+      ∙ ap (λ (n : ℕ). let h : HeldProgram = record { handler = p.handler; version = n; image = p.image } in h) right.version
+
+  pub Makes-installed : (r : Reading) (pace : Pace) (told : List Told) (q : Pace) → Pacing (InstallsBytes d r p.image.items) pace told q
+      → Makes (clock_of d) (machine_in d) r pace (Install (held_as p)) told q
+  Makes-installed r pace told q x =
+      let P : HeldProgram → Type 0 = λ h. Installs (clock_of d) (machine_in d) r pace h told in
+      (inl (subst P (is-program x.0.capsule x.0.right) x.0.installs), x.1)
+
+  pub Makes-not_newer : (r : Reading) (pace : Pace) (version : ℕ) → IsNoNewer d r p.image.items version
+      → Makes (clock_of d) (machine_in d) r pace (Install (held_as p)) (Void (void.NotNewer version) ∷ []) (paced_all pace (Void (void.NotNewer version) ∷ []))
+  Makes-not_newer r pace version n =
+      let is : program_by n.capsule p.image.items ≡ held_as p = is-program n.capsule n.right in
+      let P : HeldProgram → Type 0 = λ h. IsNotNewer r h (Void (void.NotNewer version) ∷ []) in
+      let made : IsNotNewer r (program_by n.capsule p.image.items) (Void (void.NotNewer version) ∷ []) =
+      record { older = n.older; made = ap (λ (v : ℕ). Void (void.NotNewer v) ∷ []) n.held_is } in
+      (inr (subst P is made), refl)
+
+-- ---- posts
+
+-- what a post answers is an occasion
+pub Occasion-given : (m : Machine) (r : Reading) (h : HandlerId) (payload : ArrayVec ℤ) (answer : PostAnswer) (told : List Told) → PostGives m r h payload answer told → Occasion m r h payload told
+Occasion-given m r h payload (Posted inv) told x = inr (inr x.1)
+Occasion-given m r h payload NoCode told x = inl x
+Occasion-given m r h payload AllBusy told x = inr (inl x)

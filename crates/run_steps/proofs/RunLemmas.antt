@@ -1,0 +1,268 @@
+-- The run of a node script grows by an event, and ends.
+use Rattle.std.proofs.Common.{◌≡◌, ◌≢◌, ◌<◌, ◌≤◌, ◌+◌, ℕ, suc, List, [], ◌∷◌, ◌++◌, Bool, true, false, Result, Ok, Err, refl, sym, ◌∙◌, ap, subst, arith, inl, inr, length, map, take, drop, append-nil, length-append, length-drop, length-take-le, ◌-◌, zero}
+use Rattle.std.specs.Prelude.{slice_index_or, slice_set}
+use Rattle.std.proofs.lemmas.List.{length-map, take-append-drop, take_all}
+use Rattle.mate_num.specs.declared.call.Stamp.{Stamp}
+use Rattle.vm_desc.specs.declared.description.Description.{Description}
+use Rattle.script_reader.specs.declared.steps.Step.{Step}
+use Rattle.script_reader.specs.Steps.{NodeScript}
+use Rattle.mate_journal.specs.Log.{Log, IsEmpty, IsSameLog}
+use Rattle.mate_journal.specs.Machine.{Machine, Meaning}
+use Rattle.mate_journal.specs.Journal.{Told, Event, Reading, journal_of, nothing_heard, heard_all, told_by, told_of}
+use Rattle.mate_journal.specs.Pace.{Pace, no_pace}
+use Rattle.mate_journal.specs.Turns.{Clock}
+use Rattle.mate_journal.specs.WellFormed.{NotBefore, start}
+use Rattle.mate_journal.specs.NodeScript as node
+use Rattle.mate_journal.specs.NodeScript.{RunEnd, Whole, Full, Cut, Makes, HaveMade, AreOfEvent, EndsRun, IsRunOf, ShowsOnce}
+use Rattle.mate_journal.specs.NodeRun.{IsNodeRun}
+use Rattle.mate_journal.specs.NodeReport.{IsNodeReport, is_whole}
+use Rattle.mate_journal.specs.declared.program.Program.{Program}
+use Rattle.mate_journal.specs.declared.entry.Stamped.{Stamped}
+use Rattle.mate_journal.specs.declared.report.Report.{Report}
+use Rattle.mate_journal.specs.declared.report.TheConstants.{RECORDS_MAX}
+use Rattle.journal_laws.specs.Growth.{last_stamp}
+use Rattle.journal_laws.proofs.Append.{journal_of-same, journal_of-empty}
+use Rattle.journal_laws.proofs.FewLemmas.{run-few}
+use Rattle.journal_laws.proofs.ScriptRuns.{HaveMade-push, told_by-at, AreOfEvent-at}
+use Rattle.vm_desc.specs.Shapes.{shape_of}
+use Rattle.node_invariant.specs.Meaning.{machine_in, clock_of, meaning_of}
+use Rattle.node_invariant.specs.Keeps.{reading, event_at, IsTimely, Grows}
+use Rattle.node_core.specs.View.{NodeView, heard_of, HasPace, Tells, IsSameNode}
+use Rattle.node_core.specs.Calls.{Pacing}
+use Rattle.node_core.specs.Journal.{KeepsJournal}
+use Rattle.node_programs.specs.Right.{AreRightPrograms}
+use Rattle.node_programs.specs.ScriptSteps.{step_of, steps_of}
+use Rattle.node_programs.proofs.MeaningLemmas.{meaning_by-right}
+use Rattle.run_steps.specs.Running.{MakesOn, at_event, HasRun, IsReportOf}
+
+-- ---- logs
+
+length-journal : (l : Log) → length (journal_of l) ≡ length l.entries
+length-journal l = length-map l.entries (λ (e : Stamped). let x : Event = record { stamp = e.stamp; told = told_of l e.entry } in x)
+
+-- the next event of a script may follow an event of it
+next-timely : (n : ℕ) (l : Log) → IsTimely (at_event n) l → IsTimely (at_event (suc n)) l
+next-timely n l t = record {
+  after_last = record {
+    event = let h = t.after_last.event in omega (arith, h);
+    time = t.after_last.time;
+    same = λ e. let h = t.after_last.event in absurd (omega (arith, h, e));
+  };
+}
+
+same-timely : (at : Stamp) (a b : Log) → IsSameLog a b → IsTimely at b → IsTimely at a
+same-timely at a b same t =
+    let P : List Event → Type 0 = λ es. NotBefore (last_stamp start es) at in
+    record { after_last = subst P (sym (journal_of-same b a same)) t.after_last }
+
+-- ---- the run
+
+pub HasRun-new : (d : Description) (ps : List Program) (v : NodeView) → v.description ≡ d → IsEmpty v.log → HasPace v no_pace → HasRun d ps [] v
+HasRun-new d ps v is empty has =
+    let none : journal_of v.log ≡ [] = journal_of-empty v.log empty in
+    record {
+      description = is;
+      pace = no_pace;
+      has = has;
+      made = (none, refl);
+      timely =
+          let P : List Event → Type 0 = λ es. NotBefore (last_stamp start es) (at_event 0) in
+          record { after_last = subst P (sym none) (record { event = omega arith; time = omega arith; same = λ _. refl }) };
+    }
+
+-- it stays where nothing but room changes
+pub HasRun-same : (d : Description) (ps : List Program) (done : List Step) (old new : NodeView) → IsSameNode old new → ((p : Pace) → HasPace old p → HasPace new p) → HasRun d ps done old → HasRun d ps done new
+HasRun-same d ps done old new same paces h =
+    let journals : journal_of new.log ≡ journal_of old.log = journal_of-same old.log new.log same.log in
+    record {
+      description = same.description ∙ h.description;
+      pace = h.pace;
+      has = paces h.pace h.has;
+      made =
+          subst (λ (es : List Event). HaveMade (clock_of d) (machine_in d) 0 1 (nothing_heard (machine_in d)) no_pace (map (step_of ps) done) es h.pace) (sym journals) h.made;
+      timely = same-timely (at_event (length done)) new.log old.log same.log h.timely;
+    }
+
+map-append : {A B : Type 0} (f : A → B) (xs ys : List A) → map f (xs ++ ys) ≡ map f xs ++ map f ys
+map-append f [] ys = refl
+map-append f (x ∷ xs) ys = ap (λ zs. f x ∷ zs) (map-append f xs ys)
+
+-- what is told by new entries
+told-new : (at : Stamp) (told : List Told) → told_by (map (event_at at) told) ≡ told
+told-new at told = told_by-at at told
+
+heard-is : (d : Description) (v : NodeView) → v.description ≡ d → heard_of v ≡ heard_all (machine_in d) (nothing_heard (machine_in d)) (journal_of v.log)
+unfolding reading
+heard-is d v is = ap (λ (x : Description). reading x v.log) is
+
+-- one more step
+one-more : (d : Description) (ps : List Program) (done : List Step) (step : Step) (old new : NodeView) → HasRun d ps done old → length old.log.entries < RECORDS_MAX
+    → Tells old new (at_event (suc (length done))) (MakesOn old (step_of ps step)) → HasRun d ps (done ++ step ∷ []) new
+one-more d ps done step old new h few t =
+    let made = t.paces h.pace h.has in
+    let at : Stamp = at_event (suc (length done)) in
+    let front : List Event = map (event_at at) t.told in
+    let long : length (done ++ step ∷ []) ≡ suc (length done) = length-append done (step ∷ []) ∙ omega arith in
+    let count : length (map (step_of ps) done) ≡ length done = length-map done (step_of ps) in
+    let entries : length (journal_of old.log) ≡ length old.log.entries = length-journal old.log in
+    let event : suc (length done) ≡ 1 + length (map (step_of ps) done) = omega (arith, count) in
+    let by_description : Makes (clock_of d) (machine_in d) (heard_of old) h.pace (step_of ps step) t.told made.0 =
+        subst (λ (x : Description). Makes (clock_of x) (machine_in x) (heard_of old) h.pace (step_of ps step) t.told made.0) h.description made.1 in
+    let makes : Makes (clock_of d) (machine_in d) (heard_all (machine_in d) (nothing_heard (machine_in d)) (journal_of old.log)) h.pace (step_of ps step) (told_by front) made.0 =
+        subst (λ (ts : List Told). Makes (clock_of d) (machine_in d) (heard_all (machine_in d) (nothing_heard (machine_in d)) (journal_of old.log)) h.pace (step_of ps step) ts made.0) (sym (told-new at t.told))
+        (subst (λ (r : Reading). Makes (clock_of d) (machine_in d) r h.pace (step_of ps step) t.told made.0) (heard-is d old h.description) by_description) in
+    let P : List node.Step → List Event → Type 0 = λ steps es. HaveMade (clock_of d) (machine_in d) 0 1 (nothing_heard (machine_in d)) no_pace steps es made.0 in
+    record {
+      description = t.description ∙ h.description;
+      pace = made.0;
+      has = made.2;
+      made =
+          subst (P (map (step_of ps) (done ++ step ∷ []))) (sym t.grows.journal)
+          (subst (λ (steps : List node.Step). P steps (journal_of old.log ++ front)) (sym (map-append (step_of ps) done (step ∷ [])))
+          (HaveMade-push (clock_of d) (machine_in d) 0 1 (nothing_heard (machine_in d)) no_pace (map (step_of ps) done) (journal_of old.log) h.pace (step_of ps step) front made.0 h.made
+          (omega (arith, few, entries))
+          (subst (λ (n : ℕ). AreOfEvent n front) event (AreOfEvent-at (suc (length done)) t.told)) makes));
+      timely = subst (λ (n : ℕ). IsTimely (at_event n) new.log) (sym long) t.grows.timely;
+    }
+
+taken : (list : List Step) (i : ℕ) → i ≤ length list → length (take i list) ≡ i
+taken list i le = length-take-le i list le
+
+-- the first i + 1 steps
+take-next : (list : List Step) (i : ℕ) (x : Step) → i < length list → x ≡ slice_index_or list i x → take i list ++ x ∷ [] ≡ take (i + 1) list
+take-next [] i x below is = absurd (omega (arith, below))
+take-next (y ∷ list) zero x below is = ap (λ (z : Step). z ∷ []) is
+take-next (y ∷ list) (suc i) x below is =
+    let next : suc i + 1 ≡ suc (i + 1) = omega arith in
+    ap (λ (zs : List Step). y ∷ zs) (take-next list i x (omega (arith, below)) is) ∙ ap (λ (k : ℕ). take k (y ∷ list)) (sym next)
+
+-- one more step of a list, as the next event
+pub HasRun-step : (d : Description) (ps : List Program) (list : List Step) (i event : ℕ) (step : Step) (old new : NodeView) → HasRun d ps (take i list) old → i < length list → event ≡ i
+    → step ≡ slice_index_or list i step → length old.log.entries < RECORDS_MAX → Tells old new (at_event (event + 1)) (MakesOn old (step_of ps step)) → HasRun d ps (take (i + 1) list) new
+HasRun-step d ps list i event step old new h below same is few t =
+    let len : length (take i list) ≡ i = taken list i (omega (arith, below)) in
+    let number : event + 1 ≡ suc (length (take i list)) = omega (arith, same, len) in
+    subst (λ (done : List Step). HasRun d ps done new) (take-next list i step below is)
+    (one-more d ps (take i list) step old new h few (subst (λ (n : ℕ). Tells old new (at_event n) (MakesOn old (step_of ps step))) number t))
+
+-- the next event may be made
+pub timely-next : (d : Description) (ps : List Program) (list : List Step) (i event : ℕ) (v : NodeView) → HasRun d ps (take i list) v → i ≤ length list → event ≡ i → IsTimely (at_event (event + 1)) v.log
+timely-next d ps list i event v h within same =
+    let len : length (take i list) ≡ i = taken list i within in
+    let number : suc (length (take i list)) ≡ event + 1 = omega (arith, same, len) in
+    subst (λ (n : ℕ). IsTimely (at_event n) v.log) number (next-timely (length (take i list)) v.log h.timely)
+
+-- no log of a run is near a position's end
+pub few-entries : (d : Description) (ps : List Program) (done : List Step) (v : NodeView) → HasRun d ps done v → KeepsJournal v.description (machine_in v.description) v.log
+    → length v.log.entries < 4000000000
+few-entries d ps done v h keeps =
+    let k : KeepsJournal d (machine_in d) v.log = subst (λ (x : Description). KeepsJournal x (machine_in x) v.log) h.description keeps in
+    let few = run-few (clock_of d) (machine_in d) (map (step_of ps) done) (journal_of v.log) h.pace h.made k.well_formed.follow in
+    let entries = length-journal v.log in
+    omega (arith, few, entries)
+
+-- ---- the report
+
+-- the report of a log that keeps what a node's log keeps
+pub report-by : (d : Description) (steps : List node.Step) (how : RunEnd) (l : Log) (events : ℕ) → KeepsJournal d (machine_in d) l → (run : IsRunOf (clock_of d) (machine_in d) how steps (journal_of l)) → events ≡ length run.done
+    → (r : Report) → r ≡ record { nodes = l ∷ []; air = []; events = events; whole = is_whole how } → IsNodeReport d (clock_of d) (meaning_of (shape_of d)) steps how r
+report-by d steps how l events keeps run count r is = record {
+  log = l;
+  one_node = ap (λ (x : Report). x.nodes) is;
+  no_air = ap (λ (x : Report). x.air) is;
+  whole = ap (λ (x : Report). x.whole) is;
+  run = record { well_formed = keeps.well_formed; serial = keeps.serial; stores = keeps.stores; grants = keeps.grants; devices = keeps.devices; events = run };
+  events = ap (λ (x : Report). x.events) is ∙ count;
+  tidy = keeps.tidy;
+  images = keeps.full;
+}
+
+-- ---- how it ends
+
+-- all steps were made, and the store is shown
+whole-run : (d : Description) (ps : List Program) (steps : List Step) (old new : NodeView) (h : HasRun d ps steps old)
+    → Tells old new (at_event (suc (length steps))) (Pacing (ShowsOnce (clock_of old.description) (machine_in old.description) (heard_of old)))
+    → (run : IsRunOf (clock_of d) (machine_in d) Whole (map (step_of ps) steps) (journal_of new.log)) × (length steps ≡ length run.done)
+whole-run d ps steps old new h t =
+    let k : Clock = clock_of d in
+    let m : Machine = machine_in d in
+    let shown = t.paces h.pace h.has in
+    let at : Stamp = at_event (suc (length steps)) in
+    let last : List Event = map (event_at at) t.told in
+    let count : length (map (step_of ps) steps) ≡ length steps = length-map steps (step_of ps) in
+    let by_description : ShowsOnce k m (heard_of old) h.pace t.told = subst (λ (x : Description). ShowsOnce (clock_of x) (machine_in x) (heard_of old) h.pace t.told) h.description shown.1.0 in
+    let by_heard : ShowsOnce k m (heard_all m (nothing_heard m) (journal_of old.log)) h.pace t.told = subst (λ (r : Reading). ShowsOnce k m r h.pace t.told) (heard-is d old h.description) by_description in
+    (
+      record {
+        done = map (step_of ps) steps;
+        left = [];
+        front = journal_of old.log;
+        last = last;
+        pace = h.pace;
+        steps_are = sym (append-nil (map (step_of ps) steps));
+        events_are = t.grows.journal;
+        made = h.made;
+        ends = (
+          refl,
+          subst (λ (ts : List Told). ShowsOnce k m (heard_all m (nothing_heard m) (journal_of old.log)) h.pace ts) (sym (told-new at t.told)) by_heard,
+          subst (λ (n : ℕ). AreOfEvent n last) (ap suc (sym count)) (AreOfEvent-at (suc (length steps)) t.told),
+        );
+      },
+      sym count,
+    )
+
+-- the log is full, and a step is left
+pub run-full : (d : Description) (ps : List Program) (steps : List Step) (i event : ℕ) (v : NodeView) (h : HasRun d ps (take i steps) v) → i < length steps → event ≡ i → RECORDS_MAX ≤ length v.log.entries
+    → (run : IsRunOf (clock_of d) (machine_in d) Full (map (step_of ps) steps) (journal_of v.log)) × (event ≡ length run.done)
+run-full d ps steps i event v h within same full =
+    let f = step_of ps in
+    let m : Machine = machine_in d in
+    let count : length (map f (take i steps)) ≡ length (take i steps) = length-map (take i steps) f in
+    let len : length (take i steps) ≡ i = taken steps i (omega (arith, within)) in
+    let entries : length (journal_of v.log) ≡ length v.log.entries = length-journal v.log in
+    let left : length (map f (drop i steps)) ≡ length (drop i steps) = length-map (drop i steps) f in
+    let dropped : length (drop i steps) ≡ length steps - i = length-drop i steps in
+    (
+      record {
+        done = map f (take i steps);
+        left = map f (drop i steps);
+        front = journal_of v.log;
+        last = [];
+        pace = h.pace;
+        steps_are = ap (map f) (sym (take-append-drop i steps)) ∙ map-append f (take i steps) (drop i steps);
+        events_are = sym (append-nil (journal_of v.log));
+        made = h.made;
+        ends = (λ none. let no_length : length (map f (drop i steps)) ≡ 0 = ap (λ (xs : List node.Step). length xs) none in omega (arith, within, left, dropped, no_length), omega (arith, full, entries), refl);
+      },
+      same ∙ sym (count ∙ len),
+    )
+
+pub run-whole : (d : Description) (ps : List Program) (list : List Step) (i event : ℕ) (old new : NodeView) → HasRun d ps (take i list) old → i ≤ length list → length list ≤ i → event ≡ i
+    → Tells old new (at_event (event + 1)) (Pacing (ShowsOnce (clock_of old.description) (machine_in old.description) (heard_of old)))
+    → (run : IsRunOf (clock_of d) (machine_in d) Whole (map (step_of ps) list) (journal_of new.log)) × (event ≡ length run.done)
+run-whole d ps list i event old new h within all same t =
+    let whole : take i list ≡ list = take_all i list all in
+    let number : event + 1 ≡ suc (length list) = omega (arith, same, within, all) in
+    let run = whole-run d ps list old new (subst (λ (done : List Step). HasRun d ps done old) whole h)
+    (subst (λ (n : ℕ). Tells old new (at_event n) (Pacing (ShowsOnce (clock_of old.description) (machine_in old.description) (heard_of old)))) number t) in
+    let count = run.1 in
+    (run.0, omega (arith, same, within, all, count))
+
+-- ---- reports by sources
+
+-- the log of a node that ran so is that of the script's report
+pub reported : (d : Description) (script : NodeScript) (ps : List Program) (how : RunEnd) (list : List Step) (v : NodeView) (events : ℕ) → list ≡ script.steps → AreRightPrograms d ps → v.description ≡ d
+    → KeepsJournal v.description (machine_in v.description) v.log → (run : IsRunOf (clock_of d) (machine_in d) how (map (step_of ps) list) (journal_of v.log)) × (events ≡ length run.done)
+    → (r : Report) → r ≡ record { nodes = v.log ∷ []; air = []; events = events; whole = is_whole how } → IsReportOf d script ps how r
+reported d script ps how list v events steps right description keeps run r is =
+    let k : KeepsJournal d (machine_in d) v.log = subst (λ (x : Description). KeepsJournal x (machine_in x) v.log) description keeps in
+    let by_code : IsNodeReport d (clock_of d) (meaning_of (shape_of d)) (map (step_of ps) list) how r = report-by d (map (step_of ps) list) how v.log events k run.0 run.1 r is in
+    subst (λ (meaning : Meaning). IsNodeReport d (clock_of d) meaning (steps_of script ps) how r) (sym (meaning_by-right d ps right))
+    (subst (λ (ss : List Step). IsNodeReport d (clock_of d) (meaning_of (shape_of d)) (map (step_of ps) ss) how r) steps by_code)
+
+-- ---- one log among one
+
+pub set-one : (logs : List Log) (l : Log) → length logs ≡ 1 → slice_set logs 0 l ≡ l ∷ []
+set-one [] l count = cc
+set-one (x ∷ []) l count = refl
+set-one (x ∷ (y ∷ logs)) l count = absurd (omega (arith, count))

@@ -1,0 +1,20 @@
+use Rattle.std.proofs.Common.{refl, inl, inr}
+use Rattle.std.proofs.lemmas.Int.{to_z-of_z}
+use Rattle.std.specs.Int.{w16}
+use Rattle.mate_journal.specs.declared.entry.VoidCause.TheVariants as void
+use Rattle.mate_journal.specs.NodeScript.{Answer as AnswerStep, Answers}
+use Rattle.node_core.specs.View.{heard_of}
+use Rattle.node_core.specs.Calls.{Pacing}
+use Rattle.run_steps.specs.Running.{MakesOn}
+use Rattle.run_steps.proofs.EventLemmas.{Tells-by, Tells-void}
+use Rattle.run_steps.proofs.events.answer.Goals as goal
+
+pub returns-in-Ok : goal.returns-in-Ok
+returns-in-Ok c =
+    Tells-by c.args.node.now c.answer.new.self c.args.at (Pacing (λ _. Answers (heard_of c.args.node.now) c.args.ctx c.args.value)) (MakesOn c.args.node.now (AnswerStep c.args.ctx c.args.value))
+    (λ p told q x. (inl x.0, x.1)) (rw (to_z-of_z w16 c.args.value c.ranges.value) at c.in-Ok.ensures)
+
+pub returns-in-Err : goal.returns-in-Err
+returns-in-Err c =
+    Tells-void c.args.node.now c.answer.new.self c.void.new.self c.args.at void.NotWaiting (MakesOn c.args.node.now (AnswerStep c.args.ctx c.args.value)) c.in-Err.ensures.1
+    (λ p. (inr (record { none = c.in-Err.ensures.0; made = refl }), refl)) c.void.ensures

@@ -1,0 +1,57 @@
+-- The run of a node script: what it gives, and what it keeps on its way.
+use Rattle.std.specs.Prelude.{◌≡◌, ◌≤◌, ◌<◌, ℕ, List, length, map, Result, Ok, Err}
+use Rattle.mate_num.specs.declared.call.Stamp.{Stamp}
+use Rattle.vm_desc.specs.declared.description.Description.{Description}
+use Rattle.script_reader.specs.Steps.{NodeScript}
+use Rattle.script_reader.specs.declared.steps.Step.{Step}
+use Rattle.mate_journal.specs.Journal.{Told, journal_of, nothing_heard}
+use Rattle.mate_journal.specs.Pace.{Pace, no_pace}
+use Rattle.mate_journal.specs.NodeScript as node
+use Rattle.mate_journal.specs.NodeScript.{RunEnd, Whole, Full, Makes, HaveMade}
+use Rattle.mate_journal.specs.NodeReport.{IsNodeReport}
+use Rattle.mate_journal.specs.declared.program.Program.{Program}
+use Rattle.mate_journal.specs.declared.report.Report.{Report}
+use Rattle.mate_journal.specs.declared.report.RunFault.{RunFault}
+use Rattle.mate_journal.specs.declared.report.RunFault.TheVariants.{LogFull, NoMemory}
+use Rattle.mate_journal.specs.declared.report.TheConstants.{RECORDS_MAX}
+use Rattle.node_invariant.specs.Meaning.{machine_in, clock_of}
+use Rattle.node_invariant.specs.Keeps.{IsTimely}
+use Rattle.node_core.specs.View.{NodeView, heard_of, HasPace}
+use Rattle.node_programs.specs.Sources.{meaning_by}
+use Rattle.node_programs.specs.ScriptSteps.{step_of, steps_of}
+
+-- ---- what a run gives
+
+-- the report of the script with its programs, by their sources; turns are counted in instructions of the installed code
+abbrev pub IsReportOf : Description → NodeScript → List Program → RunEnd → Report → Type 0
+IsReportOf d script ps how r = IsNodeReport d (clock_of d) (meaning_by d ps) (steps_of script ps) how r
+
+-- a whole report, or one whose log is full before a step
+abbrev pub RunGives : Description → NodeScript → List Program → Result Report RunFault → Type 0
+RunGives d script ps (Ok r) = IsReportOf d script ps Whole r
+RunGives d script ps (Err (LogFull r)) = IsReportOf d script ps Full r
+RunGives d script ps (Err NoMemory) = Unit {0}
+
+-- ---- on the way
+
+-- an event of this stamp can be made on the node, whatever its step is
+pub record IsReadyFor (v : NodeView) (at : Stamp) : Type 0 where
+  pub timely : IsTimely at v.log
+  pub few : length v.log.entries < RECORDS_MAX
+  pub room : 32 ≤ v.log.spare
+
+-- what a step makes on a node
+abbrev pub MakesOn : NodeView → node.Step → Pace → List Told → Pace → Type 0
+MakesOn v step p told q = Makes (clock_of v.description) (machine_in v.description) (heard_of v) p step told q
+
+-- the stamp of an event of a script
+abbrev pub at_event : ℕ → Stamp
+at_event n = record { event = n; time = 0 }
+
+-- the node made these steps, one event each
+pub record HasRun (d : Description) (ps : List Program) (done : List Step) (v : NodeView) : Type 0 where
+  pub description : v.description ≡ d
+  pub pace : Pace
+  pub has : HasPace v pace
+  pub made : HaveMade (clock_of d) (machine_in d) 0 1 (nothing_heard (machine_in d)) no_pace (map (step_of ps) done) (journal_of v.log) pace
+  pub timely : IsTimely (at_event (length done)) v.log

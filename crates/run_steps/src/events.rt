@@ -1,0 +1,88 @@
+//! The event that a step of a script is, on a node.
+
+ghost use Rattle.std.specs.Prelude.{◌<◌, ◌≤◌, length};
+ghost use Rattle.vm_desc.specs.Whole.{context_count};
+ghost use Rattle.mate_journal.specs.NodeScript.{Install, StepIn, Answer as AnswerStep};
+ghost use Rattle.script_reader.specs.Steps.{IsRightStep, IsRightTurn};
+ghost use Rattle.node_core.specs.View.{Tells};
+ghost use Rattle.node_programs.specs.Right.{IsRightProgram, AreRightPrograms};
+ghost use Rattle.node_programs.specs.Sources.{held_as};
+ghost use Rattle.node_programs.specs.ScriptSteps.{step_of, IsProgramOf, program_at};
+ghost use Rattle.run_steps.specs.Running.{IsReadyFor, MakesOn};
+
+use mate_journal::{Program, Programs, VoidCause};
+use mate_num::{ContextId, Stamp};
+use node_calls::InstallFault;
+use node_core::Node;
+use script_reader::Step;
+
+/// The program is installed, or it is told that the node holds a version that isn't older.
+fn install(node: &mut Node, program: &Program, at: Stamp)
+    requires ready { IsReadyFor node.old at }
+    requires right { IsRightProgram node.old.description program.now }
+    ensures { Tells node.old node.new at (MakesOn node.old (Install (held_as program.now))) }
+{
+    match node.install(program.image.as_slice(), at) {
+        Ok(()) => {}
+        Err(InstallFault::NotNewer { held }) => node.void(VoidCause::NotNewer { held }, at),
+        Err(InstallFault::Capsule(_)) => unreachable!(),
+        Err(InstallFault::Code(_)) => unreachable!(),
+    }
+}
+
+/// The context has one turn, or it is told that nobody is ready there.
+fn take_turn(node: &mut Node, ctx: ContextId, n: u32, at: Stamp)
+    requires ready { IsReadyFor node.old at }
+    requires right { IsRightTurn node.old.description ctx.0 n }
+    requires contexts { context_count node.old.description ≤ 16 }
+    ensures { Tells node.old node.new at (MakesOn node.old (StepIn ctx n)) }
+{
+    match node.step(ctx, n, at) {
+        Ok(_) => {}
+        Err(_) => node.void(VoidCause::NotReady, at),
+    }
+}
+
+/// The call that the context waits with is answered, or it is told that nobody waits there.
+fn answer(node: &mut Node, ctx: ContextId, value: i16, at: Stamp)
+    requires ready { IsReadyFor node.old at }
+    requires context { ctx.0 < 16 }
+    ensures { Tells node.old node.new at (MakesOn node.old (AnswerStep ctx value)) }
+{
+    match node.answer(ctx, value, at) {
+        Ok(()) => {}
+        Err(_) => node.void(VoidCause::NotWaiting, at),
+    }
+}
+
+/// The file's program is installed, or it is told that the node holds a version that isn't older.
+fn install_file(node: &mut Node, programs: &Programs, file: u32, at: Stamp)
+    requires ready { IsReadyFor node.old at }
+    requires below { file < length programs.now }
+    requires programs { AreRightPrograms node.old.description programs.now }
+    ensures { Tells node.old node.new at (MakesOn node.old (Install (program_at programs.now file))) }
+{
+    install(node, &programs.as_slice()[file as usize], at);
+}
+
+/// The step is one event, with this stamp.
+pub(crate) fn make_step(node: &mut Node, step: &Step, programs: &Programs, at: Stamp)
+    requires ready { IsReadyFor node.old at }
+    requires right { IsRightStep node.old.description (length programs.now) step.now }
+    requires programs { AreRightPrograms node.old.description programs.now }
+    requires contexts { context_count node.old.description ≤ 16 }
+    ensures { Tells node.old node.new at (MakesOn node.old (step_of programs.now step.now)) }
+{
+    match step {
+        Step::Install { program, .. } => install_file(node, programs, *program, at),
+        Step::Load { program } => install_file(node, programs, *program, at),
+        Step::Post { handler, payload } => {
+            let _ = node.post(*handler, payload, at);
+        }
+        Step::Step { ctx, n } => take_turn(node, *ctx, *n, at),
+        Step::Run => node.settle(at),
+        Step::Answer { ctx, value } => answer(node, *ctx, *value, at),
+        Step::Show => node.seen(at),
+        Step::Reset => node.reset(at),
+    }
+}

@@ -1,0 +1,73 @@
+//! The run of a node script.
+
+ghost use Rattle.std.specs.Prelude.{◌≡◌, ◌≤◌, ◌∷◌, [], length, nat_le};
+ghost use Rattle.mate_journal.specs.declared.report.TheConstants.{RECORDS_MAX as records_max};
+ghost use Rattle.node_invariant.specs.Meaning.{machine_in};
+ghost use Rattle.node_core.specs.Journal.{KeepsJournal};
+ghost use Rattle.node_programs.specs.ScriptSteps.{AreProgramsOf};
+ghost use Rattle.run_steps.specs.Running.{RunGives};
+
+use crate::events::make_step;
+use mate_journal::{Airs, NodeLogs, Programs, RECORDS_MAX, Report, RunFault};
+use mate_num::Stamp;
+use node_core::Node;
+use script_reader::Steps;
+use std::alloc::Global;
+use vm_desc::Description;
+
+/// No further event is begun on the node.
+fn is_full(node: &Node) -> bool
+    ensures { result ≡ nat_le records_max (length node.now.log.entries) }
+{
+    node.log().entries().len() >= RECORDS_MAX
+}
+
+/// The report of a run on one node. It takes no memory.
+fn report_of(alloc: Global, logs: NodeLogs, node: Node, events: u64, whole: bool) -> Report
+    requires { length logs ≡ 1 }
+    ensures is { result ≡ record { nodes = node.log ∷ []; air = []; events = events; whole = whole } }
+    ensures keeps { KeepsJournal node.description (machine_in node.description) node.log }
+{
+    let mut logs = logs;
+    logs.put(0, node.into_log());
+    Report::new(logs, Airs::new(alloc), events, whole)
+}
+
+/// Runs the steps of a script on a node of this machine, with the programs of its files: the k-th step is event k, at time
+/// 0, and at the end the store is seen. `LogFull` comes exactly where 1,000,000 records stand or more and a step is left, with
+/// the report so far.
+pub fn run_steps(
+    alloc: Global,
+    desc: &Description,
+    steps: &Steps,
+    programs: &Programs,
+) -> Result<Report, RunFault>
+    requires { AreProgramsOf desc.now steps.now programs.now }
+    ensures { RunGives desc.now steps.now programs.now result }
+{
+    let _contexts = desc.contexts();
+    let logs = NodeLogs::empty(alloc, 1)?;
+    let mut node = Node::new(alloc, desc)?;
+    let mut events = 0;
+    let list = steps.steps();
+    for step in list {
+        if is_full(&node) {
+            return Err(RunFault::LogFull(report_of(alloc, logs, node, events, false)));
+        }
+        node.reserve(32)?;
+        events += 1;
+        let at = Stamp {
+            event: events,
+            time: 0,
+        };
+        make_step(&mut node, step, programs, at);
+    }
+    node.reserve(1)?;
+    let _log = node.log();
+    let at = Stamp {
+        event: events + 1,
+        time: 0,
+    };
+    node.seen(at);
+    Ok(report_of(alloc, logs, node, events, true))
+}
