@@ -28,6 +28,8 @@ pub enum Refusal {
     },
     /// The file of this name is refused, for this cause.
     InFile(Text, Cause),
+    /// The run met the limit of records before its end.
+    LogFull,
     SinkFault,
     NoMemory,
 }
@@ -43,6 +45,7 @@ impl Refusal {
             Refusal::BadDescription(_) => Status::BadDescription,
             Refusal::BadScript { .. } => Status::BadScript,
             Refusal::InFile(_, cause) => cause.status(),
+            Refusal::LogFull => Status::LogFull,
             Refusal::SinkFault => Status::SinkFault,
             Refusal::NoMemory => Status::NoMemory,
         }
@@ -56,6 +59,7 @@ impl Refusal {
             Refusal::BadDescription(cause) => bad_description(pen, err, cause),
             Refusal::BadScript { line, cause } => bad_script(pen, err, *line, *cause),
             Refusal::InFile(name, cause) => cause.print(pen, err, name.as_str()),
+            Refusal::LogFull => pen.text(err, "log full\n"),
             Refusal::SinkFault => pen.text(err, "sink fault\n"),
             Refusal::NoMemory => pen.text(err, "no memory\n"),
         }
