@@ -107,10 +107,10 @@ one-more d ps done step old new h few t =
     let entries : length (journal_of old.log) ≡ length old.log.entries = length-journal old.log in
     let event : suc (length done) ≡ 1 + length (map (step_of ps) done) = omega (arith, count) in
     let by_description : Makes (clock_of d) (machine_in d) (heard_of old) h.pace (step_of ps step) t.told made.0 =
-        subst (λ (x : Description). Makes (clock_of x) (machine_in x) (heard_of old) h.pace (step_of ps step) t.told made.0) h.description made.1 in
+    subst (λ (x : Description). Makes (clock_of x) (machine_in x) (heard_of old) h.pace (step_of ps step) t.told made.0) h.description made.1 in
     let makes : Makes (clock_of d) (machine_in d) (heard_all (machine_in d) (nothing_heard (machine_in d)) (journal_of old.log)) h.pace (step_of ps step) (told_by front) made.0 =
-        subst (λ (ts : List Told). Makes (clock_of d) (machine_in d) (heard_all (machine_in d) (nothing_heard (machine_in d)) (journal_of old.log)) h.pace (step_of ps step) ts made.0) (sym (told-new at t.told))
-        (subst (λ (r : Reading). Makes (clock_of d) (machine_in d) r h.pace (step_of ps step) t.told made.0) (heard-is d old h.description) by_description) in
+    subst (λ (ts : List Told). Makes (clock_of d) (machine_in d) (heard_all (machine_in d) (nothing_heard (machine_in d)) (journal_of old.log)) h.pace (step_of ps step) ts made.0) (sym (told-new at t.told))
+    (subst (λ (r : Reading). Makes (clock_of d) (machine_in d) r h.pace (step_of ps step) t.told made.0) (heard-is d old h.description) by_description) in
     let P : List node.Step → List Event → Type 0 = λ steps es. HaveMade (clock_of d) (machine_in d) 0 1 (nothing_heard (machine_in d)) no_pace steps es made.0 in
     record {
       description = t.description ∙ h.description;
@@ -191,8 +191,7 @@ whole-run d ps steps old new h t =
     let last : List Event = map (event_at at) t.told in
     let count : length (map (step_of ps) steps) ≡ length steps = length-map steps (step_of ps) in
     let by_description : ShowsOnce k m (heard_of old) h.pace t.told = subst (λ (x : Description). ShowsOnce (clock_of x) (machine_in x) (heard_of old) h.pace t.told) h.description shown.1.0 in
-    let by_heard : ShowsOnce k m (heard_all m (nothing_heard m) (journal_of old.log)) h.pace t.told = subst (λ (r : Reading). ShowsOnce k m r h.pace t.told) (heard-is d old h.description) by_description in
-    (
+    let by_heard : ShowsOnce k m (heard_all m (nothing_heard m) (journal_of old.log)) h.pace t.told = subst (λ (r : Reading). ShowsOnce k m r h.pace t.told) (heard-is d old h.description) by_description in (
       record {
         done = map (step_of ps) steps;
         left = [];
@@ -221,8 +220,7 @@ run-full d ps steps i event v h within same full =
     let len : length (take i steps) ≡ i = taken steps i (omega (arith, within)) in
     let entries : length (journal_of v.log) ≡ length v.log.entries = length-journal v.log in
     let left : length (map f (drop i steps)) ≡ length (drop i steps) = length-map (drop i steps) f in
-    let dropped : length (drop i steps) ≡ length steps - i = length-drop i steps in
-    (
+    let dropped : length (drop i steps) ≡ length steps - i = length-drop i steps in (
       record {
         done = map f (take i steps);
         left = map f (drop i steps);

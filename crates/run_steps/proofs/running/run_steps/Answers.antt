@@ -62,7 +62,7 @@ pub seen-requires-clause-few : goal.seen-requires-clause-few
 seen-requires-clause-few c =
     let i = c.loop-step.invariant in
     let run = HasRun-same c.args.desc.now c.args.programs.now (take c.loop-step.step-index c.steps-list.result.now) c.loop-step.node c.reserve-2.new.self c.in_ok-reserve-2.ensures.same c.in_ok-reserve-2.ensures.pace i.run in
-    few-entries c.args.desc.now c.args.programs.now (take c.loop-step.step-index c.steps-list.result.now) c.reserve-2.new.self run c.log-_log.ensures.keeps
+    few-entries c.args.desc.now c.args.programs.now (take c.loop-step.step-index c.steps-list.result.now) c.reserve-2.new.self run c.log-log.ensures.keeps
 
 pub report_of-requires-2 : goal.report_of-requires-2
 report_of-requires-2 c = c.loop-step.invariant.one
