@@ -1,5 +1,5 @@
-use Rattle.std.proofs.Common.{refl}
-use Rattle.mate_cli.specs.Ends.{done, failed, wanting}
+use Rattle.std.proofs.Common.{refl, sym}
+use Rattle.mate_cli.specs.Ends.{done, full, failed, wanting}
 use Rattle.mate_cli.proofs.top.written.Goals as goal
 
 pub returns-in-Ok : goal.returns-in-Ok
