@@ -95,9 +95,9 @@ are_made f d fold names done (x ∷ xs) total ps numbered (goes_on o step rest) 
         let made = later done left (subst (λ (l : List Program). programs_after f d fold names l xs (Ok ps)) (append-nil done) rest) in
         record { more = made.more; is = made.is; each = All-cons (IsProgramOf ps) x xs (is.1 ps) made.each; count = made.count }
     by (Some p) is rest later =
-        let left : (is.0 ≡ length done) × IsNumbered (length done + 1) xs total = subst (λ (q : Option ℕ). NamesNext q (length done) (λ m. IsNumbered m xs total)) is.1.0 numbered in
+        let left : (is.0 ≡ length done) × IsNumbered (length done + 1) xs total = subst (λ (q : Option ℕ). NamesNext q (length done) (λ m. IsNumbered m xs total)) is.1 numbered in
         let made = later (done ++ p ∷ []) (subst (λ (n : ℕ). IsNumbered n xs total) (sym (length_push done p)) left.1) rest in
         let whole : ps ≡ done ++ p ∷ made.more = made.is ∙ append_assoc done (p ∷ []) made.more in
         let at : slice_get ps is.0 ≡ Some p =
         ap (λ (k : ℕ). slice_get ps k) left.0 ∙ ap (λ (l : List Program). slice_get l (length done)) whole ∙ slice_get-seam done p made.more in
-        record { more = p ∷ made.more; is = whole; each = All-cons (IsProgramOf ps) x xs (is.1.1 ps at) made.each; count = made.count }
+        record { more = p ∷ made.more; is = whole; each = All-cons (IsProgramOf ps) x xs (is.2 ps at) made.each; count = made.count }

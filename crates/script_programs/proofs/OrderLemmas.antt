@@ -128,10 +128,13 @@ after_line-in_order d p q words is next = by (is_skipped words) (a_line d p.newe
 
 script-in_order : (d : Description) (number : ℕ) (p : Progress) (ls : List (List ℕ)) (s : NodeScript) → NamesInOrder p.script → script_from (after_line d) (λ number p. Ok p.script) number p ls ≡ Ok s → NamesInOrder s
 script-in_order d number p [] s is next = let same : p.script ≡ s = cc in subst NamesInOrder same is
-script-in_order d number p (line ∷ ls) s is next = by (after_line d p (words_of line)) refl next where
-  by : (r : Result Progress Cause) → after_line d p (words_of line) ≡ r → numbered number (λ p. script_from (after_line d) (λ number p. Ok p.script) (number + 1) p ls) r ≡ Ok s → NamesInOrder s
-  by (Ok q) after next = script-in_order d (number + 1) q ls s (after_line-in_order d p q (words_of line) is after) next
-  by (Err cause) after next = cc
+script-in_order d number p (line ∷ ls) s is next = by (after_line d p (words_of line)) refl next (λ q h rest. script-in_order d (number + 1) q ls s h rest) where
+  rest_of : Progress → Result NodeScript ScriptFault
+  rest_of q = script_from (after_line d) (λ number p. Ok p.script) (number + 1) q ls
+
+  by : (r : Result Progress Cause) → after_line d p (words_of line) ≡ r → numbered number rest_of r ≡ Ok s → ((q : Progress) → NamesInOrder q.script → rest_of q ≡ Ok s → NamesInOrder s) → NamesInOrder s
+  by (Ok q) after next later = later q (after_line-in_order d p q (words_of line) is after) next
+  by (Err cause) after next later = cc
 
 pub node_script-in_order : (d : Description) (bytes : List ℕ) (s : NodeScript) → node_script_in d bytes ≡ Ok s → NamesInOrder s
 unfolding node_script_in

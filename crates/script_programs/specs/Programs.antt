@@ -10,6 +10,7 @@ use Rattle.script_reader.specs.declared.steps.Step.TheVariants as step
 use Rattle.source_code.specs.declared.code.CompiledScript.{CompiledScript}
 use Rattle.vm_desc.specs.declared.description.Description.{Description}
 use Rattle.mate_refusals.specs.declared.refusal.Refusal.{Refusal}
+use Rattle.mate_refusals.specs.declared.refusal.Refusal.TheVariants.{NoMemory}
 use Rattle.mate_steps.specs.CapsuleFiles.{capsule}
 use Rattle.mate_steps.specs.Parts.{Folder}
 use Rattle.mate_steps.specs.Sources.{source}
@@ -45,11 +46,11 @@ gives_program given (Ok None) = ⊥
 gives_program given (Ok (Some p)) = given (Ok p)
 gives_program given (Err r) = given (Err r)
 
--- no program is named
+-- no program is named, unless memory is wanting
 abbrev pub gives_none : Result (Option Program) Refusal → Type 0
 gives_none (Ok None) = ⊤
 gives_none (Ok (Some p)) = ⊥
-gives_none (Err r) = ⊥
+gives_none (Err r) = r ≡ NoMemory
 
 -- the program that a step of the script names
 abbrev pub step_program : Folder → Description → Bool → List (List ℕ) → Step → Result (Option Program) Refusal → Type 0

@@ -1,4 +1,7 @@
 use Rattle.std.proofs.Common.{refl, Some}
+use Rattle.capsule_codec.specs.Image.{CapsuleParts}
+use Rattle.mate_journal.specs.declared.program.Program.{Program}
+use Rattle.mate_steps.specs.Parts.{Folder}
 use Rattle.mate_steps.specs.Steps.{goes_on}
 use Rattle.mate_steps.proofs.Laws.{stops_by}
 use Rattle.script_programs.proofs.EachLemmas.{source-tree}
@@ -14,10 +17,9 @@ returns-clause-does g c =
 
 pub returns-clause-right : goal.returns-clause-right
 returns-clause-right g c =
-    let f = record { told = g.F.Files.contents c.args.files.old; steady = g.F.Files.steady c.args.files.old } in
+    let f : Folder = record { told = g.F.Files.contents c.args.files.now; steady = g.F.Files.steady c.args.files.now } in
     let x = c.in_ok-source.source in
     let tree = source-tree f c.args.desc.now c.args.fold c.args.name.now x c.in_ok-source.ensures.does in
-    IsRightProgram-compiled c.args.desc.now c.args.fold tree.0 x
-    (record { vm_id = c.args.desc.now.vm_id; handler = c.args.handler.0; version = c.args.version; code = x.code.items })
-    (record { handler = c.args.handler; version = c.args.version; source = Some x.script; image = c.encode.result })
-    tree.1 c.encode.ensures.fits (record { vm_id = refl; handler = c.requires.handler }) refl refl refl refl c.encode.ensures.bytes
+    let parts : CapsuleParts = record { vm_id = c.args.desc.now.vm_id; handler = c.args.handler.0; version = c.args.version; code = x.code.items } in
+    let p : Program = record { handler = c.args.handler; version = c.args.version; source = Some x.script; image = c.encode.result } in
+    IsRightProgram-compiled c.args.desc.now c.args.fold tree.0 x parts p tree.1 c.encode.ensures.fits (record { vm_id = refl; handler = c.requires.handler }) refl refl refl refl c.encode.ensures.bytes

@@ -1,5 +1,7 @@
 use Rattle.std.proofs.Common.{refl, None}
 use Rattle.capsule_codec.specs.Image.{capsule_parts}
+use Rattle.mate_journal.specs.declared.program.Program.{Program}
+use Rattle.mate_steps.specs.Parts.{Folder}
 use Rattle.mate_steps.specs.Steps.{goes_on}
 use Rattle.mate_steps.proofs.Laws.{stops_by}
 use Rattle.script_programs.proofs.EachLemmas.{capsule-text}
@@ -16,9 +18,8 @@ returns-clause-does g c =
 
 pub returns-clause-right : goal.returns-clause-right
 returns-clause-right g c =
-    let f = record { told = g.F.Files.contents c.args.files.old; steady = g.F.Files.steady c.args.files.old } in
+    let f : Folder = record { told = g.F.Files.contents c.args.files.now; steady = g.F.Files.steady c.args.files.now } in
     let x = c.in_ok-capsule.capsule in
     let text = capsule-text f c.args.desc.now c.args.name.now (x, c.in_ok-capsule._code) c.in_ok-capsule.ensures.does in
-    IsRightProgram-loaded c.args.desc.now c.in_ok-capsule._code (capsule_parts x)
-    (record { handler = x.handler; version = x.version; source = None; image = c.encode.result })
-    text.1.is_verified text.1.is_for.shape_is text.1.is_for.bytes_are c.encode.ensures.fits text.1.is_for.of_machine refl refl refl c.encode.ensures.bytes
+    let p : Program = record { handler = x.handler; version = x.version; source = None; image = c.encode.result } in
+    IsRightProgram-loaded c.args.desc.now c.in_ok-capsule._code (capsule_parts x) p text.1.is_verified text.1.is_for.shape_is text.1.is_for.bytes_are c.encode.ensures.fits text.1.is_for.of_machine refl refl refl c.encode.ensures.bytes
