@@ -25,3 +25,14 @@ returns-in_err-programs-clause-does g c =
     (moved (λ f. script_programs f c.in_ok-desc.desc c.args.words.fold c.in_ok-script.script (Err c.in_err-programs.field-0.0)) c.in_ok-script.ensures.reads
     c.in_err-programs.ensures.does))
     c.from_residual-in_err-programs.ensures.1))
+
+pub returns-in_err-report-clause-does : goal.returns-in_err-report-clause-does
+returns-in_err-report-clause-does g c =
+    goes_on c.in_ok-desc.desc c.in_ok-desc.ensures.does
+    (goes_on c.in_ok-script.script
+    (moved (λ f. script f c.in_ok-desc.desc c.args.words.script.now (Ok c.in_ok-script.script)) c.in_ok-desc.ensures.reads c.in_ok-script.ensures.does)
+    (goes_on c.in_ok-programs.programs
+    (moved (λ f. script_programs f c.in_ok-desc.desc c.args.words.fold c.in_ok-script.script (Ok c.in_ok-programs.programs)) c.in_ok-desc.ensures.reads
+    (moved (λ f. script_programs f c.in_ok-desc.desc c.args.words.fold c.in_ok-script.script (Ok c.in_ok-programs.programs)) c.in_ok-script.ensures.reads
+    c.in_ok-programs.ensures.does))
+    (stops_by c.in_err-report.field-0.0 c.from_residual-in_err-report.result c.in_err-report.ensures.does c.from_residual-in_err-report.ensures.1)))

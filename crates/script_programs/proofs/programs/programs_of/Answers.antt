@@ -1,5 +1,6 @@
-use Rattle.std.proofs.Common.{◌≡◌, ℕ, ◌+◌, ◌<◌, List, [], ◌++◌, option_to_list, length, get_or, drop, Ok, Err, refl, sym, ◌∙◌, ap, subst, rules, arith}
+use Rattle.std.proofs.Common.{◌≡◌, ℕ, ◌+◌, ◌<◌, List, [], ◌++◌, option_to_list, length, get_or, drop, Ok, Err, refl, sym, ◌∙◌, ap, subst, arith}
 use Rattle.std.specs.Prelude.{All, IsErrAnd}
+use Rattle.std.proofs.lemmas.List.{drop_all}
 use Rattle.mate_journal.specs.declared.program.Program.{Program}
 use Rattle.mate_refusals.specs.declared.refusal.Refusal.{Refusal}
 use Rattle.mate_refusals.specs.declared.refusal.Refusal.TheVariants.{NoMemory}
@@ -78,6 +79,10 @@ returns-clause-programs g c =
     let d = c.args.desc.now in
     let s = c.args.script.now in
     let ps = c.loop-step.programs in
-    let does : script_programs f d c.args.fold s (Ok ps) = search rules in
+    let past = c.loop-step-test.false in
+    let same = ap (λ (l : List Step). length l) c.steps-steps.ensures in
+    let nothing : drop c.loop-step.step-index s.steps ≡ [] = drop_all c.loop-step.step-index s.steps (omega (arith, past, same)) in
+    let does : script_programs f d c.args.fold s (Ok ps) =
+    c.loop-step.invariant.owing.owed (Ok ps) (subst (λ (l : List Step). programs_after f d c.args.fold s.files ps l (Ok ps)) (sym nothing) refl) in
     let made = are_made f d c.args.fold s.files [] s.steps (length s.files) ps c.requires.in_order does in
     record { steps = c.requires.right; programs = c.loop-step.invariant.right; count = made.count; each = made.each }
