@@ -1,32 +1,28 @@
--- The command `node`, on the built-in machine and with scripts of one form, until the reader of all scripts stands.
-use Rattle.std.specs.Prelude.{◌≡◌, ℕ, List, Result, ⊤}
-use Rattle.ts_syntax.specs.Statement.{Block}
+-- The command `node`: the report of the run of a node script with the programs of its files, or its summary.
+use Rattle.std.specs.Prelude.{◌≡◌, ℕ, Bool, true, false, List, Result, ◌⊎◌}
+use Rattle.mate_journal.specs.NodeScript.{Whole, Full}
+use Rattle.mate_journal.specs.declared.program.Program.{Program}
 use Rattle.mate_journal.specs.declared.report.Report.{Report}
-use Rattle.report_text.specs.Text.{text}
-use Rattle.vm_desc.specs.Shapes.{shape_of}
+use Rattle.run_steps.specs.Running.{IsReportOf}
+use Rattle.script_programs.specs.Programs.{script_programs}
+use Rattle.script_programs.specs.Scripts.{script}
+use Rattle.script_reader.specs.Steps.{NodeScript}
 use Rattle.vm_desc.specs.declared.description.Description.{Description}
-use Rattle.mate_steps.specs.Sources.{accepted}
-use Rattle.first_runs.specs.FirstRun.{IsFirstReport}
-use Rattle.first_runs.specs.FirstScript.{IsFirstScript}
-use Rattle.mate_cli.specs.Outputs.{output_text}
-use Rattle.mate_steps.specs.Parts.{Folder, file, built_in}
-use Rattle.mate_steps.specs.Steps.{judged, obtained, ◌▸◌}
+use Rattle.mate_steps.specs.Parts.{Folder, machine}
+use Rattle.mate_steps.specs.Steps.{obtained, ◌▸◌}
 use Rattle.mate_cli.specs.declared.output.Output.{Output}
-use Rattle.mate_refusals.specs.declared.cause.Cause.TheVariants as cause
+use Rattle.mate_cli.specs.declared.output.Output.TheVariants as output
 use Rattle.mate_refusals.specs.declared.refusal.Refusal.{Refusal}
-use Rattle.mate_refusals.specs.declared.refusal.Refusal.TheVariants.{InFile}
 
--- the version and the file of a script of the one form; any script may be refused as one that isn't read yet
-abbrev pub first_script : List ℕ → List ℕ → Result (ℕ × List ℕ) Refusal → Type 0
-first_script name bytes = judged (λ s. IsFirstScript bytes s.0 s.1) (λ (_ : ⊤). ⊤) (λ _. InFile name cause.Unbuilt)
+-- a report of the script's run, which is whole or was ended by a full log
+abbrev pub reported : Description → NodeScript → List Program → Result Report Refusal → Type 0
+reported d s ps = obtained (λ r. IsReportOf d s ps Whole r ⊎ IsReportOf d s ps Full r)
 
--- the text of a report of the run is to be written
-pub record WritesRun (d : Description) (version : ℕ) (tree : Block) (o : Output) : Type 0 where
-  pub report : Report
-  pub is : IsFirstReport d version (shape_of d) tree report
-  pub text_is : output_text o ≡ text d report
+-- its summary where that is asked for, and else the report
+abbrev pub report_output : Bool → Description → Report → Output
+report_output true d r = output.Summary d r
+report_output false d r = output.Report d r
 
-abbrev pub node : Folder → List ℕ → Result Output Refusal → Type 0
-node f script =
-    built_in ▸ λ d. file f script ▸ λ bytes. first_script script bytes.items ▸ λ s.
-    file f s.1 ▸ λ source. accepted d s.1 source.items ▸ λ tree. obtained (WritesRun d s.0 tree)
+abbrev pub node : Folder → (fold brief : Bool) → (vm name : List ℕ) → Result Output Refusal → Type 0
+node f fold brief vm name =
+    machine f vm ▸ λ d. script f d name ▸ λ s. script_programs f d fold s ▸ λ ps. reported d s ps ▸ λ r. obtained (λ o. o ≡ report_output brief d r)

@@ -16,17 +16,18 @@ use std::alloc::Global;
 
 /// Runs the command that `words` give, without the program's own name.
 ///
-/// - `node builtin SCRIPT` reads the script and the source that it names from `files`, runs the source once on the
-///   built-in machine, and writes the report to `out`.
-/// - `table VM` writes the opcode table of the machine that the file `VM` describes, or of the built-in one where the
-///   word is `builtin`.
+/// - `node VM SCRIPT` runs the node script in the file `SCRIPT`, with the programs of the files that it names, on a node of
+///   the machine that the file `VM` describes, or of the built-in one where the word is `builtin`. It writes the report's
+///   text, or with `--brief` its summary; with `--fold` sources are folded before they are compiled. `LogFull` comes where
+///   the run met the limit of records before its end; what was written then is of the run so far.
+/// - `table VM` writes the opcode table of such a machine.
 /// - `compile VM HANDLER VERSION SOURCE` writes the image of the source's capsule, in hexadecimal digits; with `--fold`
 ///   the source is folded before it is compiled.
 /// - `check VM HEX` decodes and verifies the capsule whose image the file `HEX` has in hexadecimal digits, and writes its
 ///   head line, its listing and its locks.
 ///
-/// For any other status than `Ok` one line goes to `err`, and, but for a fault of `out` and want of memory, nothing to
-/// `out`. A failing `err` changes nothing.
+/// For any other status than `Ok` one line goes to `err`, and, but for `LogFull`, a fault of `out` and want of memory,
+/// nothing to `out`. A failing `err` changes nothing.
 pub fn mate<F: Files, S: Sink, E: Sink>(
     alloc: Global,
     words: &Vec<String>,
@@ -47,11 +48,12 @@ pub fn mate<F: Files, S: Sink, E: Sink>(
 /// Writes an output.
 fn written<S: Sink, E: Sink>(output: &Output, out: &mut S, err: &mut E) -> Status
     requires { CanBeWritten output.now }
-    ensures { IsWritten (output_text output.now)
+    ensures { IsWritten output.now
         (record { out = S.written out.old; out_faults = S.faults out.old; err = E.written err.old; err_faults = E.faults err.old })
         (record { out = S.written out.new; out_faults = S.faults out.new; err = E.written err.new; err_faults = E.faults err.new }) result }
 {
     match output.write(out) {
+        Ok(()) if output.is_full() => Refusal::LogFull.refuse(err),
         Ok(()) => Status::Ok,
         Err(SinkFault::Failed) => Refusal::SinkFault.refuse(err),
         Err(SinkFault::NoMemory) => Refusal::NoMemory.refuse(err),
@@ -82,7 +84,7 @@ fn task_output<F: Files>(alloc: Global, files: &mut F, task: Command<'_>) -> Res
     ensures writable { IfOk result CanBeWritten }
 {
     match task {
-        Command::Node { script } => node::output(alloc, files, script),
+        Command::Node(words) => node::output(alloc, files, words),
         Command::Table { machine } => table::output(alloc, files, machine),
         Command::Compile(words) => compile::output(alloc, files, words),
         Command::Check { machine, capsule } => check::output(alloc, files, machine, capsule),

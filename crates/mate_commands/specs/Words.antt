@@ -12,8 +12,8 @@ use Rattle.mate_commands.specs.declared.command.Command.TheVariants as command
 
 -- a command with the words that go to it
 pub data Task : Type 0 where
-  -- run a script of node steps on the built-in machine
-  Node : (script : List ℕ) → Task
+  -- run a node script on a machine, with sources folded or not, and write its report or the summary of it
+  Node : (fold brief : Bool) (machine script : List ℕ) → Task
   -- write the opcode table of a machine
   Table : (machine : List ℕ) → Task
   -- write the image of a source's capsule, for the handler of a machine that has this name; the source is folded or not
@@ -25,9 +25,9 @@ pub data Task : Type 0 where
 abbrev pub builtin_word : List ℕ
 builtin_word = codes "builtin"
 
-abbrev pub node_task : List (List ℕ) → Option Task
-node_task (machine ∷ script ∷ []) = if bytes_eq machine builtin_word then Some (Node script) else None
-node_task words = None
+abbrev pub node_task : Bool → Bool → List (List ℕ) → Option Task
+node_task fold brief (machine ∷ script ∷ []) = Some (Node fold brief machine script)
+node_task fold brief words = None
 
 abbrev pub table_task : List (List ℕ) → Option Task
 table_task (machine ∷ []) = Some (Table machine)
@@ -50,12 +50,12 @@ abbrev pub check_task : List (List ℕ) → Option Task
 check_task (machine ∷ file ∷ []) = Some (Check machine file)
 check_task words = None
 
--- the task of a line; `compile` takes the flag `--fold`, and no other command takes a flag
+-- the task of a line; `node` takes both flags, `compile` takes `--fold`, and no other command takes a flag
 abbrev pub task_of : Line → Option Task
 task_of l =
+    if bytes_eq l.command (codes "node") then node_task l.fold l.brief l.args else
     if bytes_eq l.command (codes "compile") && not l.brief then compile_task l.fold l.args else
     if l.brief || l.fold then None else
-    if bytes_eq l.command (codes "node") then node_task l.args else
     if bytes_eq l.command (codes "table") then table_task l.args else
     if bytes_eq l.command (codes "check") then check_task l.args else None
 
@@ -75,7 +75,7 @@ abbrev pub line_said : CommandLine → Line
 line_said l = record { brief = l.brief; fold = l.fold; command = l.command.now; args = map (λ w. w.now) l.args.items }
 
 abbrev pub task_held : Command → Task
-task_held (command.Node script) = Node script.now
+task_held (command.Node r) = Node r.fold r.brief r.machine.now r.script.now
 task_held (command.Table machine) = Table machine.now
 task_held (command.Compile c) = Compile c.fold c.machine.now c.handler.now c.version c.source.now
 task_held (command.Check machine file) = Check machine.now file.now

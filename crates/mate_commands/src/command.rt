@@ -6,13 +6,14 @@ ghost use Rattle.std.specs.List.{list_all};
 ghost use Rattle.mate_commands.specs.Words.{task_held, line_said, task_of, node_task, table_task, compile_task, check_task, version_said, is_counting};
 
 use crate::compilation::Compilation;
+use crate::script_run::ScriptRun;
 use command_line::CommandLine;
 
 /// A command, with the words that go to it.
 #[derive(Clone, Copy, Debug)]
 pub enum Command<'a> {
-    /// Runs the script of node steps in this file on the built-in machine.
-    Node { script: &'a str },
+    /// Runs a node script.
+    Node(ScriptRun<'a>),
     /// Writes the opcode table of a machine: of the description in this file, or `builtin`.
     Table { machine: &'a str },
     /// Writes the image of a source's capsule.
@@ -25,14 +26,14 @@ pub enum Command<'a> {
 pub fn command_of<'a>(line: &CommandLine<'a>) -> Option<Command<'a>>
     ensures { option_map task_held result ≡ task_of (line_said line.now) }
 {
+    if line.command == "node" {
+        return node(line.args.as_slice(), line.fold, line.brief);
+    }
     if line.command == "compile" && !line.brief {
         return compile(line.args.as_slice(), line.fold);
     }
     if line.brief || line.fold {
         return None;
-    }
-    if line.command == "node" {
-        return node(line.args.as_slice());
     }
     if line.command == "table" {
         return table(line.args.as_slice());
@@ -43,17 +44,18 @@ pub fn command_of<'a>(line: &CommandLine<'a>) -> Option<Command<'a>>
     None
 }
 
-fn node<'a>(args: &[&'a str]) -> Option<Command<'a>>
-    ensures { option_map task_held result ≡ node_task (map (λ w. w.now) args.now) }
+fn node<'a>(args: &[&'a str], fold: bool, brief: bool) -> Option<Command<'a>>
+    ensures { option_map task_held result ≡ node_task fold brief (map (λ w. w.now) args.now) }
 {
     let [machine, script] = args else {
         return None;
     };
-    if *machine == "builtin" {
-        Some(Command::Node { script })
-    } else {
-        None
-    }
+    Some(Command::Node(ScriptRun {
+        machine,
+        script,
+        fold,
+        brief,
+    }))
 }
 
 fn table<'a>(args: &[&'a str]) -> Option<Command<'a>>

@@ -3,6 +3,8 @@
 
 pub mod command;
 pub mod compilation;
+pub mod script_run;
 
 pub use command::{Command, command_of};
 pub use compilation::Compilation;
+pub use script_run::ScriptRun;

@@ -16,4 +16,3 @@ status_code status.SinkFault = 9
 status_code status.NoMemory = 10
 status_code status.Refuted = 11
 status_code status.BadStream = 12
-status_code status.Unbuilt = 13

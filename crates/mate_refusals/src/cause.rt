@@ -32,8 +32,6 @@ pub enum Cause {
     Code(CompileFault),
     /// It has no capsule of the machine.
     Capsule(CapsuleCause),
-    /// It is a script of a form that isn't read yet.
-    Unbuilt,
 }
 
 impl Cause {
@@ -47,7 +45,6 @@ impl Cause {
             Cause::Source(_) => Status::BadSource,
             Cause::Code(_) => Status::BadSource,
             Cause::Capsule(_) => Status::BadCapsule,
-            Cause::Unbuilt => Status::Unbuilt,
         }
     }
 
@@ -61,7 +58,6 @@ impl Cause {
             Cause::Source(cause) => bad_source(pen, err, name, cause),
             Cause::Code(fault) => bad_code(pen, err, name, *fault),
             Cause::Capsule(cause) => bad_capsule(pen, err, name, *cause),
-            Cause::Unbuilt => print_about(pen, err, "unbuilt ", name),
         }
     }
 }

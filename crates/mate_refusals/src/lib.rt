@@ -6,6 +6,7 @@ pub mod cause;
 pub mod description_cause;
 mod line_ends;
 pub mod refusal;
+mod script_cause;
 pub mod source_cause;
 pub mod status;
 

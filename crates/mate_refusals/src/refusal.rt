@@ -4,10 +4,12 @@ ghost use Rattle.std.specs.Prelude.{◌≡◌, ◌++◌, ◌⊎◌, codes};
 ghost use Rattle.mate_files.specs.Pen.{Prints};
 ghost use Rattle.mate_files.specs.Sink.{Puts};
 ghost use Rattle.mate_refusals.specs.DescriptionCauses.{description_words};
+ghost use Rattle.mate_refusals.specs.ScriptCauses.{line_words};
 ghost use Rattle.mate_refusals.specs.declared.refusal.Refusal.TheVariants.{InFile, NoMemory};
 
 use crate::cause::Cause;
 use crate::description_cause::DescriptionCause;
+use crate::script_cause::print_line;
 use crate::status::Status;
 use mate_files::{Pen, Sink, SinkFault};
 use mate_num::Text;
@@ -19,8 +21,15 @@ pub enum Refusal {
     Usage,
     /// The machine's description is refused, for this cause.
     BadDescription(DescriptionCause),
+    /// The script is refused: its first line that is refused, from 1, and the first cause in it from left to right.
+    BadScript {
+        line: u32,
+        cause: script_reader::Cause,
+    },
     /// The file of this name is refused, for this cause.
     InFile(Text, Cause),
+    /// The run met the limit of records before its end.
+    LogFull,
     SinkFault,
     NoMemory,
 }
@@ -34,7 +43,9 @@ impl Refusal {
         match self {
             Refusal::Usage => Status::Usage,
             Refusal::BadDescription(_) => Status::BadDescription,
+            Refusal::BadScript { .. } => Status::BadScript,
             Refusal::InFile(_, cause) => cause.status(),
+            Refusal::LogFull => Status::LogFull,
             Refusal::SinkFault => Status::SinkFault,
             Refusal::NoMemory => Status::NoMemory,
         }
@@ -46,7 +57,9 @@ impl Refusal {
         match self {
             Refusal::Usage => pen.text(err, "usage\n"),
             Refusal::BadDescription(cause) => bad_description(pen, err, cause),
+            Refusal::BadScript { line, cause } => bad_script(pen, err, *line, *cause),
             Refusal::InFile(name, cause) => cause.print(pen, err, name.as_str()),
+            Refusal::LogFull => pen.text(err, "log full\n"),
             Refusal::SinkFault => pen.text(err, "sink fault\n"),
             Refusal::NoMemory => pen.text(err, "no memory\n"),
         }
@@ -78,6 +91,13 @@ fn bad_description<E: Sink>(pen: &mut Pen, err: &mut E, cause: &DescriptionCause
 {
     pen.text(err, "bad description ");
     cause.print(pen, err);
+}
+
+fn bad_script<E: Sink>(pen: &mut Pen, err: &mut E, line: u32, cause: script_reader::Cause)
+    ensures { Prints (E.written err.old) (E.faults err.old) pen.old.result (E.written err.new) (E.faults err.new) pen.new.result (codes "bad script line " ++ line_words line cause) }
+{
+    pen.text(err, "bad script line ");
+    print_line(pen, err, line, cause);
 }
 
 /// The refusal of the file `name` for this cause, unless memory is wanting for its name.

@@ -30,8 +30,6 @@ pub enum Status {
     Refuted,
     /// A stream ends within a frame.
     BadStream,
-    /// A file has a form that isn't read yet.
-    Unbuilt,
 }
 
 impl Status {
@@ -52,7 +50,6 @@ impl Status {
             Status::NoMemory => 10,
             Status::Refuted => 11,
             Status::BadStream => 12,
-            Status::Unbuilt => 13,
         }
     }
 }

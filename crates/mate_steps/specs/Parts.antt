@@ -44,7 +44,6 @@ IsUnreadCause (cause.Unread why) = ⊤
 IsUnreadCause (cause.Source why) = ⊥
 IsUnreadCause (cause.Code why) = ⊥
 IsUnreadCause (cause.Capsule why) = ⊥
-IsUnreadCause cause.Unbuilt = ⊥
 
 abbrev pub IsUnreadAnswer : {A : Type 0} → Result A Refusal → Type 0
 IsUnreadAnswer (Ok a) = ⊥

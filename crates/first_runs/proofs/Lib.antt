@@ -1,3 +1,0 @@
-pub mod FirstReport
-pub mod Stripped
-mod NoWants

@@ -1,2 +1,0 @@
-pub mod FirstScript
-pub mod FirstRun

@@ -1,0 +1,4 @@
+pub mod StepLaws
+pub mod OrderLemmas
+pub mod RightLemmas
+pub mod EachLemmas

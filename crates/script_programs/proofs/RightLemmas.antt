@@ -1,0 +1,99 @@
+-- Programs that come from files are right.
+use Rattle.std.proofs.Common.{◌≡◌, ℕ, ◌<◌, Bool, true, false, List, Option, None, Result, Ok, Err, refl, sym, ◌∙◌, ap, subst}
+use Rattle.std.specs.Prelude.{IsOk, IfSome, drop, length, if◌then◌else◌, nat_lt}
+use Rattle.arrayvec.specs.ArrayVec.{ArrayVec}
+use Rattle.mate_num.specs.declared.bounds.TheConstants.{CODE_MAX}
+use Rattle.mate_num.specs.declared.shape.Shape.{Shape}
+use Rattle.mate_code.specs.declared.decoding.DecodeFault.{DecodeFault}
+use Rattle.mate_code.specs.declared.decoding.DecodeFault.TheVariants.{BadOpcode, CutShort}
+use Rattle.mate_code.specs.BytesVerification.{bytes_verification, of_decoded, with_code}
+use Rattle.mate_code.specs.Code.{decoded}
+use Rattle.mate_code.specs.CodeUses.{uses_of as code_uses}
+use Rattle.mate_code.specs.Run.{Code, code_run}
+use Rattle.mate_code.specs.Table.{table_of}
+use Rattle.mate_code.specs.Verification.{Marks, Refusal, TooLong, verification}
+use Rattle.ts_syntax.specs.Statement.{Block}
+use Rattle.ts_syntax.specs.Checked.{tree_of}
+use Rattle.ts_meaning.specs.Meaning.{run_of}
+use Rattle.ts_meaning.specs.Uses.{uses_of}
+use Rattle.ts_translation.specs.Laws.{RunsAsItsScript, as_played}
+use Rattle.ts_translation.specs.Translation as translation
+use Rattle.capsule_codec.specs.Image.{CapsuleParts, image_of, IsCapsule, IsOfMachine}
+use Rattle.code_verifier.specs.Verified.{VerifiedCode, IsVerifiedCode, marks_of}
+use Rattle.source_code.specs.SourceCode.{IsCompiledOf, compiled_tree}
+use Rattle.source_code.specs.declared.code.CompiledScript.{CompiledScript}
+use Rattle.vm_desc.specs.Shapes.{shape_of}
+use Rattle.vm_desc.specs.declared.description.Description.{Description}
+use Rattle.mate_journal.specs.declared.program.Program.{Program}
+use Rattle.node_invariant.specs.Meaning.{code_of, code_in}
+use Rattle.node_programs.specs.Right.{IsSourceOf, IsRightProgram}
+
+-- verified bytes spell the code
+code-if : (b : Bool) (n : ℕ) (shape : Shape) (code : Code) (marks : Marks) (r : Result Code DecodeFault) → (if b then Err (TooLong n) else of_decoded shape r) ≡ Ok (code, marks) → code_in r ≡ code
+code-if true n shape code marks r is = cc
+code-if false n shape code marks (Ok found) is = by (verification shape found) is where
+  by : (v : Result Marks Refusal) → with_code found v ≡ Ok (code, marks) → found ≡ code
+  by (Ok other) is = let pair : (found, other) ≡ (code, marks) = cc in ap (λ (p : Code × Marks). p.0) pair
+  by (Err refusal) is = cc
+code-if false n shape code marks (Err (BadOpcode place)) is = cc
+code-if false n shape code marks (Err (CutShort place)) is = cc
+
+-- the image's code stands behind its first 16 bytes
+code-behind : (c : CapsuleParts) → drop 16 (image_of c) ≡ c.code
+code-behind c = refl
+
+-- the code of the image of a capsule with these bytes
+image-code : (shape : Shape) (c : CapsuleParts) (image : ArrayVec ℕ) (code : Code) (marks : Marks) → image.items ≡ image_of c → bytes_verification shape c.code ≡ Ok (code, marks) → code_of shape image ≡ code
+unfolding code_of
+image-code shape c image code marks is verified =
+    ap (λ (bs : List ℕ). code_in (decoded (table_of shape) (drop 16 bs))) is
+    ∙ ap (λ (bs : List ℕ). code_in (decoded (table_of shape) bs)) (code-behind c)
+    ∙ code-if (nat_lt CODE_MAX (length c.code)) (length c.code) shape code marks (decoded (table_of shape) c.code) verified
+
+IsOk-by : {A E : Type 0} (r : Result A E) (a : A) → r ≡ Ok a → IsOk r
+IsOk-by {A} {E} r a is = subst (λ (x : Result A E). IsOk x) (sym is) refl
+
+-- the compiled script is the source of its code
+source-of_code : (shape : Shape) (fold : Bool) (tree : Block) (x : CompiledScript) (c : CapsuleParts) (image : ArrayVec ℕ) → IsCompiledOf shape fold tree x → c.code ≡ x.code.items → image.items ≡ image_of c
+    → IsSourceOf shape (code_of shape image) x.script
+source-of_code shape fold tree x c image is bytes image_is =
+    let verified : bytes_verification shape c.code ≡ Ok (translation.code_of (compiled_tree fold tree), is.code_is.verified.0) = ap (bytes_verification shape) bytes ∙ is.code_is.verified.1 in
+    let code_is : code_of shape image ≡ translation.code_of (compiled_tree fold tree) = image-code shape c image (translation.code_of (compiled_tree fold tree)) is.code_is.verified.0 image_is verified in
+    let R : Code → Type 0 = λ code. (store : _) (msg : _) (answers : _) (turns : _) → as_played (code_run shape code store msg answers turns) ≡ run_of (compiled_tree fold tree) store msg answers turns in
+    record {
+      shape_is = is.shape_is;
+      runs = λ store msg answers turns.
+          subst R (sym code_is) is.code_is.plays store msg answers turns ∙ ap (λ (t : Block). run_of t store msg answers turns) (sym is.tree_is);
+      uses = ap (code_uses shape) code_is ∙ is.code_is.uses ∙ ap (uses_of shape) (sym is.tree_is);
+    }
+
+-- the program of a compiled script
+pub IsRightProgram-compiled : (d : Description) (fold : Bool) (tree : Block) (x : CompiledScript) (c : CapsuleParts) (p : Program) → IsCompiledOf (shape_of d) fold tree x → IsCapsule c → IsOfMachine d c → c.code ≡ x.code.items
+    → c.handler ≡ p.handler.0 → c.version ≡ p.version → p.source ≡ Option.Some x.script → p.image.items ≡ image_of c → IsRightProgram d p
+IsRightProgram-compiled d fold tree x c p is capsule machine bytes handler version source image = record {
+  capsule = c;
+  is_capsule = capsule;
+  of_machine = machine;
+  handler = handler;
+  version = version;
+  image = image;
+  verified = IsOk-by (bytes_verification (shape_of d) c.code) _ (ap (bytes_verification (shape_of d)) bytes ∙ is.code_is.verified.1);
+  source = subst (λ (o : _). IfSome o (IsSourceOf (shape_of d) (code_of (shape_of d) p.image))) (sym source) (source-of_code (shape_of d) fold tree x c p.image is bytes image);
+}
+
+-- the program of a capsule that the verifier takes
+pub IsRightProgram-loaded : (d : Description) (v : VerifiedCode) (c : CapsuleParts) (p : Program) → IsVerifiedCode v → v.shape ≡ shape_of d → v.bytes ≡ c.code → IsCapsule c → IsOfMachine d c
+    → c.handler ≡ p.handler.0 → c.version ≡ p.version → p.source ≡ None → p.image.items ≡ image_of c → IsRightProgram d p
+IsRightProgram-loaded d v c p is shape bytes capsule machine handler version source image =
+    let at_shape = subst (λ (s : Shape). bytes_verification s v.bytes ≡ Ok (v.code, marks_of v)) shape is.accepted in
+    let at_bytes = subst (λ (bs : List ℕ). bytes_verification (shape_of d) bs ≡ Ok (v.code, marks_of v)) bytes at_shape in
+    record {
+      capsule = c;
+      is_capsule = capsule;
+      of_machine = machine;
+      handler = handler;
+      version = version;
+      image = image;
+      verified = IsOk-by (bytes_verification (shape_of d) c.code) (v.code, marks_of v) at_bytes;
+      source = subst (λ (o : _). IfSome o (IsSourceOf (shape_of d) (code_of (shape_of d) p.image))) (sym source) tt;
+    }

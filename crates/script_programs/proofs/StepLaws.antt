@@ -1,0 +1,47 @@
+-- The laws of the loop over a script's steps.
+use Rattle.std.proofs.Common.{◌≡◌, inr, refl, Ok, Err, None, Some, [], ℕ, suc, ◌+◌, ◌<◌, Bool, List, ◌∷◌, ◌++◌, get_or, drop, length, option_to_list, Option, Result, sym, ◌∙◌, ap, subst, add-one, drop-cons}
+use Rattle.vm_desc.specs.declared.description.Description.{Description}
+use Rattle.mate_journal.specs.declared.program.Program.{Program}
+use Rattle.mate_refusals.specs.declared.refusal.Refusal.{Refusal}
+use Rattle.mate_refusals.specs.declared.refusal.Refusal.TheVariants.{NoMemory}
+use Rattle.mate_steps.specs.Parts.{Folder}
+use Rattle.mate_steps.specs.Steps.{Then, stops}
+use Rattle.script_programs.specs.Programs.{gives_program, step_program, programs_after, script_programs, Owing}
+use Rattle.script_reader.specs.Steps.{NodeScript}
+use Rattle.script_reader.specs.declared.steps.Step.{Step}
+use Rattle.script_reader.specs.declared.steps.Step.TheVariants as step
+use Rattle.std.specs.Prelude.{All, IfSome, IsErrAnd}
+use Rattle.std.proofs.lemmas.List.{append-nil}
+use Rattle.std.proofs.lemmas.List.Elements.{All-nil, All-cons, All-append}
+
+-- at the step of a place, what it gives and what follows is what is left
+pub at_step : (f : Folder) (d : Description) (fold : Bool) (script : NodeScript) (ps : List Program) (i : ℕ) (x y : Step) → i < length script.steps
+    → x ≡ get_or script.steps i y → Owing f d fold script ps (drop i script.steps) → (answer : Result (List Program) Refusal)
+    → Then (step_program f d fold script.files x) (λ o. programs_after f d fold script.files (ps ++ option_to_list o) (drop (i + 1) script.steps)) answer
+    → script_programs f d fold script answer
+at_step f d fold script ps i x y low is owing answer step =
+    let e : drop i script.steps ≡ get_or script.steps i y ∷ drop (suc i) script.steps = drop-cons script.steps i y low in
+    let h : x ∷ drop (i + 1) script.steps ≡ drop i script.steps =
+    ap (λ (s : Step). s ∷ drop (i + 1) script.steps) is ∙ ap (λ (k : ℕ). get_or script.steps i y ∷ drop k script.steps) (add-one i) ∙ sym e in
+    owing.owed answer (subst (λ (xs : List Step). programs_after f d fold script.files ps xs answer) h step)
+
+-- memory may be wanting at any step
+pub step_wants : (f : Folder) (d : Description) (fold : Bool) (names : List (List ℕ)) (x : Step) → step_program f d fold names x (Err NoMemory)
+step_wants f d fold names (step.Install h version k) = stops NoMemory (stops NoMemory (inr refl) refl) refl
+step_wants f d fold names (step.Load k) = stops NoMemory (stops NoMemory (inr refl) refl) refl
+step_wants f d fold names (step.Post h payload) = refl
+step_wants f d fold names (step.Step ctx n) = refl
+step_wants f d fold names step.Run = refl
+step_wants f d fold names (step.Answer ctx value) = refl
+step_wants f d fold names step.Show = refl
+step_wants f d fold names step.Reset = refl
+
+-- a step that names a program answers with its refusal, as a `?` does
+pub gives-stops : (given : Result Program Refusal → Type 0) (e : Refusal) (answer : Result (Option Program) Refusal) → given (Err e) → IsErrAnd answer (λ y. y ≡ e) → gives_program given answer
+gives-stops given e (Ok o) h is = absurd is
+gives-stops given e (Err r) h is = subst (λ (x : Refusal). given (Err x)) (sym is) h
+
+-- one more, if there is one
+pub All-with : {A : Type 0} (P : A → Type 0) (xs : List A) (o : Option A) → All P xs → IfSome o P → All P (xs ++ option_to_list o)
+All-with P xs None all one = subst (All P) (sym (append-nil xs)) all
+All-with P xs (Some x) all one = All-append P xs (x ∷ []) all (All-cons P x [] one (All-nil P))

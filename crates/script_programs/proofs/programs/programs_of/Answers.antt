@@ -1,0 +1,88 @@
+use Rattle.std.proofs.Common.{◌≡◌, ℕ, ◌+◌, ◌<◌, List, [], ◌++◌, option_to_list, length, get_or, drop, Ok, Err, refl, sym, ◌∙◌, ap, subst, arith}
+use Rattle.std.specs.Prelude.{All, IsErrAnd}
+use Rattle.std.proofs.lemmas.List.{drop_all}
+use Rattle.mate_journal.specs.declared.program.Program.{Program}
+use Rattle.mate_refusals.specs.declared.refusal.Refusal.{Refusal}
+use Rattle.mate_refusals.specs.declared.refusal.Refusal.TheVariants.{NoMemory}
+use Rattle.mate_steps.specs.Parts.{Folder}
+use Rattle.mate_steps.specs.Steps.{goes_on}
+use Rattle.mate_steps.proofs.Laws.{stops_by, moved}
+use Rattle.node_programs.specs.Right.{IsRightProgram}
+use Rattle.script_reader.specs.declared.steps.Step.{Step}
+use Rattle.script_programs.specs.Programs.{step_program, programs_after, script_programs}
+use Rattle.script_programs.proofs.StepLaws.{at_step, step_wants, All-with}
+use Rattle.script_programs.proofs.EachLemmas.{are_made}
+use Rattle.script_programs.proofs.programs.programs_of.Goals as goal
+
+pub returns-in_err-program-clause-does : goal.returns-in_err-program-clause-does
+returns-in_err-program-clause-does g c =
+    let f : Folder = record { told = g.F.Files.contents c.args.files.now; steady = g.F.Files.steady c.args.files.now } in
+    let d = c.args.desc.now in
+    let s = c.args.script.now in
+    let i = c.loop-step.step-index in
+    let x : Step = c.step-item.result in
+    let e = c.in_err-program.field-0.0 in
+    let low : i < length s.steps = subst (λ (l : List Step). i < length l) c.steps-steps.ensures c.loop-step-test.true in
+    let is : x ≡ get_or s.steps i x = c.step-item.is ∙ ap (λ (l : List Step). get_or l i x) c.steps-steps.ensures in
+    let does = subst (λ (names : List (List ℕ)). step_program f d c.args.fold names x (Err e)) c.files-names.ensures
+    (moved (λ h. step_program h d c.args.fold c.files-names.result.now x (Err e)) c.loop-step.invariant.reads c.in_err-program.ensures.does) in
+    at_step f d c.args.fold s c.loop-step.programs i x x low is c.loop-step.invariant.owing c.from_residual.result
+    (stops_by e c.from_residual.result does c.from_residual.ensures.1)
+
+pub returns-in_err-push-clause-does : goal.returns-in_err-push-clause-does
+returns-in_err-push-clause-does g c =
+    let f : Folder = record { told = g.F.Files.contents c.args.files.now; steady = g.F.Files.steady c.args.files.now } in
+    let d = c.args.desc.now in
+    let s = c.args.script.now in
+    let i = c.loop-step.step-index in
+    let x : Step = c.step-item.result in
+    let answer = c.from_residual-in_err-push.result in
+    let low : i < length s.steps = subst (λ (l : List Step). i < length l) c.steps-steps.ensures c.loop-step-test.true in
+    let is : x ≡ get_or s.steps i x = c.step-item.is ∙ ap (λ (l : List Step). get_or l i x) c.steps-steps.ensures in
+    let wants = subst (λ (r : Refusal). IsErrAnd answer (λ y. y ≡ r)) c.in_err-push.ensures.memory c.from_residual-in_err-push.ensures.1 in
+    at_step f d c.args.fold s c.loop-step.programs i x x low is c.loop-step.invariant.owing answer
+    (stops_by NoMemory answer (step_wants f d c.args.fold s.files x) wants)
+
+pub loop-step-preserved : goal.loop-step-preserved
+loop-step-preserved g c =
+    let f : Folder = record { told = g.F.Files.contents c.args.files.now; steady = g.F.Files.steady c.args.files.now } in
+    let d = c.args.desc.now in
+    let s = c.args.script.now in
+    let i = c.loop-step.step-index in
+    let x : Step = c.step-item.result in
+    let o = c.in_ok-program.program in
+    let r = c.loop-step.invariant.reads in
+    let t = c.in_ok-program.ensures.reads in
+    let low : i < length s.steps = subst (λ (l : List Step). i < length l) c.steps-steps.ensures c.loop-step-test.true in
+    let is : x ≡ get_or s.steps i x = c.step-item.is ∙ ap (λ (l : List Step). get_or l i x) c.steps-steps.ensures in
+    let items : c.push.new.programs ≡ c.loop-step.programs ++ option_to_list o = c.in_ok-push.ensures.items in
+    let does = subst (λ (names : List (List ℕ)). step_program f d c.args.fold names x (Ok o)) c.files-names.ensures
+    (moved (λ h. step_program h d c.args.fold c.files-names.result.now x (Ok o)) r c.in_ok-program.ensures.does) in
+    record {
+      owing = record {
+        owed = λ answer left.
+            at_step f d c.args.fold s c.loop-step.programs i x x low is c.loop-step.invariant.owing answer
+            (goes_on o does (subst (λ (ps : List Program). programs_after f d c.args.fold s.files ps (drop (i + 1) s.steps) answer) items left));
+      };
+      reads = record {
+        same_told = t.same_told ∙ r.same_told;
+        same_steady = t.same_steady ∙ r.same_steady;
+        later = omega (arith, r.later, t.later);
+        counted = λ unread. absurd unread;
+      };
+      right = subst (All (IsRightProgram d)) (sym items) (All-with (IsRightProgram d) c.loop-step.programs o c.loop-step.invariant.right c.in_ok-program.ensures.right);
+    }
+
+pub returns-clause-programs : goal.returns-clause-programs
+returns-clause-programs g c =
+    let f : Folder = record { told = g.F.Files.contents c.args.files.now; steady = g.F.Files.steady c.args.files.now } in
+    let d = c.args.desc.now in
+    let s = c.args.script.now in
+    let ps = c.loop-step.programs in
+    let past = c.loop-step-test.false in
+    let same = ap (λ (l : List Step). length l) c.steps-steps.ensures in
+    let nothing : drop c.loop-step.step-index s.steps ≡ [] = drop_all c.loop-step.step-index s.steps (omega (arith, past, same)) in
+    let does : script_programs f d c.args.fold s (Ok ps) =
+    c.loop-step.invariant.owing.owed (Ok ps) (subst (λ (l : List Step). programs_after f d c.args.fold s.files ps l (Ok ps)) (sym nothing) refl) in
+    let made = are_made f d c.args.fold s.files [] s.steps (length s.files) ps c.requires.in_order does in
+    record { steps = c.requires.right; programs = c.loop-step.invariant.right; count = made.count; each = made.each }

@@ -1,0 +1,8 @@
+//! A node script in a file, and the programs of the files that it names.
+#![tactic(auto)]
+
+pub mod programs;
+pub mod script;
+
+pub use programs::programs_of;
+pub use script::script_of;
