@@ -1,0 +1,11 @@
+use Rattle.std.proofs.Common.{drop, Ok}
+use Rattle.mate_steps.specs.Parts.{ReadsFiles}
+use Rattle.script_programs.specs.Programs.{Owing}
+use Rattle.script_programs.proofs.programs.programs_of.Given as goal
+
+abbrev pub invariant-loop-step : goal.invariant-loop-step
+invariant-loop-step g l = record {
+  owing : Owing (record { told = g.F.Files.contents l.fn.files; steady = g.F.Files.steady l.fn.files }) l.desc l.fold l.script l.programs (drop l.step-index l.script.steps);
+  reads : ReadsFiles {A = Unit {0}} (g.F.Files.contents l.fn.files) (g.F.Files.steady l.fn.files) (g.F.Files.faults l.fn.files)
+      (g.F.Files.contents l.files) (g.F.Files.steady l.files) (g.F.Files.faults l.files) (Ok (tt {0}));
+}

@@ -1,0 +1,77 @@
+-- The programs of the files that a node script names, in the order of its steps.
+use Rattle.std.specs.Prelude.{◌≡◌, ℕ, Bool, List, [], ◌∷◌, ◌++◌, slice_index_or, Option, Some, None, option_to_list, Result, Ok, Err, ⊤}
+use Rattle.mate_num.specs.declared.id.HandlerId.{HandlerId}
+use Rattle.capsule_codec.specs.Image.{capsule_parts, image_of}
+use Rattle.capsule_codec.specs.declared.capsule.Capsule.{Capsule}
+use Rattle.mate_journal.specs.declared.program.Program.{Program}
+use Rattle.script_reader.specs.Steps.{NodeScript}
+use Rattle.script_reader.specs.declared.steps.Step.{Step}
+use Rattle.script_reader.specs.declared.steps.Step.TheVariants as step
+use Rattle.source_code.specs.declared.code.CompiledScript.{CompiledScript}
+use Rattle.vm_desc.specs.declared.description.Description.{Description}
+use Rattle.mate_refusals.specs.declared.refusal.Refusal.{Refusal}
+use Rattle.mate_refusals.specs.declared.refusal.Refusal.TheVariants.{NoMemory}
+use Rattle.mate_steps.specs.CapsuleFiles.{capsule}
+use Rattle.mate_steps.specs.Parts.{Folder}
+use Rattle.mate_steps.specs.Sources.{source}
+use Rattle.mate_steps.specs.Steps.{obtained, ◌▸◌}
+
+-- the program of a source: the capsule's image with the machine's number, and the script that was compiled
+pub record IsInstalled (d : Description) (h : HandlerId) (version : ℕ) (c : CompiledScript) (p : Program) : Type 0 where
+  pub handler : p.handler ≡ h
+  pub version_is : p.version ≡ version
+  pub source : p.source ≡ Some c.script
+  pub image : p.image.items ≡ image_of (record { vm_id = d.vm_id; handler = h.0; version = version; code = c.code.items })
+
+-- the program of a capsule in a file
+pub record IsLoaded (c : Capsule) (p : Program) : Type 0 where
+  pub handler : p.handler ≡ c.handler
+  pub version_is : p.version ≡ c.version
+  pub source : p.source ≡ None
+  pub image : p.image.items ≡ image_of (capsule_parts c)
+
+abbrev pub installed : Folder → Description → Bool → HandlerId → ℕ → List ℕ → Result Program Refusal → Type 0
+installed f d fold h version name = source f d fold name ▸ λ c. obtained (IsInstalled d h version c)
+
+abbrev pub loaded : Folder → Description → List ℕ → Result Program Refusal → Type 0
+loaded f d name = capsule f d name ▸ λ c. obtained (IsLoaded c.0)
+
+-- the name of the file at a place
+abbrev pub name_at : List (List ℕ) → ℕ → List ℕ
+name_at names k = slice_index_or names k []
+
+-- a program is named, and this step gives it
+abbrev pub gives_program : (Result Program Refusal → Type 0) → Result (Option Program) Refusal → Type 0
+gives_program given (Ok None) = ⊥
+gives_program given (Ok (Some p)) = given (Ok p)
+gives_program given (Err r) = given (Err r)
+
+-- no program is named; memory may be wanting
+abbrev pub gives_none : Result (Option Program) Refusal → Type 0
+gives_none (Ok None) = ⊤
+gives_none (Ok (Some p)) = ⊥
+gives_none (Err r) = r ≡ NoMemory
+
+-- the program that a step of the script names
+abbrev pub step_program : Folder → Description → Bool → List (List ℕ) → Step → Result (Option Program) Refusal → Type 0
+step_program f d fold names (step.Install h version k) = gives_program (installed f d fold h version (name_at names k))
+step_program f d fold names (step.Load k) = gives_program (loaded f d (name_at names k))
+step_program f d fold names (step.Post h payload) = gives_none
+step_program f d fold names (step.Step ctx n) = gives_none
+step_program f d fold names step.Run = gives_none
+step_program f d fold names (step.Answer ctx value) = gives_none
+step_program f d fold names step.Show = gives_none
+step_program f d fold names step.Reset = gives_none
+
+-- after these programs, those of the steps that are left
+abbrev pub programs_after : Folder → Description → Bool → List (List ℕ) → List Program → List Step → Result (List Program) Refusal → Type 0
+programs_after f d fold names ps [] = obtained (λ all. all ≡ ps)
+programs_after f d fold names ps (x ∷ xs) = step_program f d fold names x ▸ λ o. programs_after f d fold names (ps ++ option_to_list o) xs
+
+-- the programs of a script's files
+abbrev pub script_programs : Folder → Description → Bool → NodeScript → Result (List Program) Refusal → Type 0
+script_programs f d fold script = programs_after f d fold script.files [] script.steps
+
+-- what is left to be owed at a step, after these programs, is all that is owed
+pub record Owing (f : Folder) (d : Description) (fold : Bool) (script : NodeScript) (ps : List Program) (left : List Step) : Type 0 where
+  pub owed : (answer : Result (List Program) Refusal) → programs_after f d fold script.files ps left answer → script_programs f d fold script answer

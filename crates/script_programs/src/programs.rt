@@ -1,0 +1,139 @@
+//! From a node script to its programs: each file is read, and then checked whole, in the order of the steps.
+
+ghost use Rattle.std.specs.Prelude.{◌≡◌, ◌++◌, ◌≤◌, ◌<◌, length, option_to_list, OnOk, IfErr};
+ghost use Rattle.mate_refusals.specs.declared.refusal.Refusal.TheVariants.{NoMemory};
+ghost use Rattle.mate_steps.specs.Parts.{ReadsFiles};
+ghost use Rattle.script_programs.specs.Programs.{installed, loaded, step_program, script_programs};
+ghost use Rattle.script_reader.specs.Steps.{IsRightStep, IsRightSteps};
+
+use capsule_codec::{Capsule, encode};
+use mate_files::Files;
+use mate_journal::{Program, Programs};
+use mate_num::{HandlerId, Text};
+use mate_refusals::Refusal;
+use mate_steps::{capsule_of, source_of};
+use script_reader::{Step, Steps};
+use std::alloc::Global;
+use vm_desc::Description;
+
+/// The programs of the files that the script names, in the order of its steps; or the first refusal of them. Sources are
+/// folded before they are compiled where `fold` says so.
+pub fn programs_of<F: Files>(
+    alloc: Global,
+    files: &mut F,
+    desc: &Description,
+    fold: bool,
+    script: &Steps,
+) -> Result<Programs, Refusal>
+    requires { IsRightSteps desc.now script.now }
+    ensures does { script_programs (record { told = F.contents files.old; steady = F.steady files.old }) desc.now fold script.now result }
+    ensures reads { ReadsFiles (F.contents files.old) (F.steady files.old) (F.faults files.old) (F.contents files.new) (F.steady files.new) (F.faults files.new) result }
+{
+    let mut programs = Programs::new(alloc);
+    let names = script.files();
+    let steps = script.steps();
+    for step in steps {
+        let program = step_program(alloc, files, desc, fold, names, step)?;
+        push(&mut programs, program)?;
+    }
+    Ok(programs)
+}
+
+/// Appends a program, if there is one.
+fn push(programs: &mut Programs, program: Option<Program>) -> Result<(), Refusal>
+    ensures items { OnOk result (programs.new ≡ programs.old ++ option_to_list program) }
+    ensures memory { IfErr result (λ r. r ≡ NoMemory) }
+{
+    let Some(program) = program else {
+        return Ok(());
+    };
+    match programs.push(program) {
+        Ok(()) => Ok(()),
+        Err(_) => Err(Refusal::NoMemory),
+    }
+}
+
+/// The program that a step names, if it names one.
+fn step_program<F: Files>(
+    alloc: Global,
+    files: &mut F,
+    desc: &Description,
+    fold: bool,
+    names: &[Text],
+    step: &Step,
+) -> Result<Option<Program>, Refusal>
+    requires { IsRightStep desc.now (length names.now) step.now }
+    ensures does { step_program (record { told = F.contents files.old; steady = F.steady files.old }) desc.now fold names.now step.now result }
+    ensures reads { ReadsFiles (F.contents files.old) (F.steady files.old) (F.faults files.old) (F.contents files.new) (F.steady files.new) (F.faults files.new) result }
+{
+    match step {
+        Step::Install {
+            handler,
+            version,
+            program,
+        } => {
+            let name = names[*program as usize].as_str();
+            let program = installed(alloc, files, desc, fold, *handler, *version, name)?;
+            Ok(Some(program))
+        }
+        Step::Load { program } => {
+            let name = names[*program as usize].as_str();
+            let program = loaded(alloc, files, desc, name)?;
+            Ok(Some(program))
+        }
+        Step::Post { .. } => Ok(None),
+        Step::Step { .. } => Ok(None),
+        Step::Run => Ok(None),
+        Step::Answer { .. } => Ok(None),
+        Step::Show => Ok(None),
+        Step::Reset => Ok(None),
+    }
+}
+
+/// The program of a source, for a handler as a version.
+fn installed<F: Files>(
+    alloc: Global,
+    files: &mut F,
+    desc: &Description,
+    fold: bool,
+    handler: HandlerId,
+    version: u32,
+    name: &str,
+) -> Result<Program, Refusal>
+    requires { 1 ≤ version }
+    ensures does { installed (record { told = F.contents files.old; steady = F.steady files.old }) desc.now fold handler version name.now result }
+    ensures reads { ReadsFiles (F.contents files.old) (F.steady files.old) (F.faults files.old) (F.contents files.new) (F.steady files.new) (F.faults files.new) result }
+{
+    let source = source_of(alloc, files, desc, fold, name)?;
+    let capsule = Capsule {
+        vm_id: desc.vm_id,
+        handler,
+        version,
+        code: source.code,
+    };
+    Ok(Program {
+        handler,
+        version,
+        source: Some(source.script),
+        image: encode(&capsule),
+    })
+}
+
+/// The program of the capsule in a file.
+fn loaded<F: Files>(
+    alloc: Global,
+    files: &mut F,
+    desc: &Description,
+    name: &str,
+) -> Result<Program, Refusal>
+    ensures does { loaded (record { told = F.contents files.old; steady = F.steady files.old }) desc.now name.now result }
+    ensures reads { ReadsFiles (F.contents files.old) (F.steady files.old) (F.faults files.old) (F.contents files.new) (F.steady files.new) (F.faults files.new) result }
+{
+    let (capsule, _code) = capsule_of(alloc, files, desc, name)?;
+    Ok(Program {
+        handler: capsule.handler,
+        version: capsule.version,
+        source: None,
+        image: encode(&capsule),
+    })
+}
