@@ -1,5 +1,5 @@
 -- Every cause has its event.
-use Rattle.std.proofs.Common.{◌≡◌, ◌≢◌, ◌<◌, ◌≤◌, ℕ, suc, ◌+◌, Bool, true, false, cond, List, [], ◌∷◌, ◌++◌, drop, refl, sym, ◌∙◌, ap, subst, arith, inl, inr, ◌⊎◌, append_assoc}
+use Rattle.std.proofs.Common.{◌≡◌, ◌≤◌, ℕ, Bool, true, false, cond, List, [], ◌∷◌, ◌++◌, drop, refl, sym, ◌∙◌, ap, subst, arith, inl, inr, ◌⊎◌, append_assoc}
 use Rattle.std.specs.Prelude.{◌==◌, if◌then◌else◌}
 use Rattle.std.specs.List.{filter}
 use Rattle.std.proofs.lemmas.List.{append-nil}
@@ -7,11 +7,11 @@ use Rattle.std.proofs.lemmas.Bool.Decides.{eqb_tells}
 use Rattle.world_rules.specs.Cause.{Cause}
 use Rattle.world_rules.specs.World.{World}
 use Rattle.world_rules.specs.Effect.{begun_length, event_node}
-use Rattle.world_rules.specs.State.{Moment, WorldState, Scheduled, of_time, node_at, effect_at, schedules, is_kept, is_some_length, after_moment, world_start, state}
-use Rattle.world_rules.specs.Run.{IsNext, MayCome, HaveCome, IsDone}
+use Rattle.world_rules.specs.State.{Moment, WorldState, of_time, node_at, effect_at, schedules, is_kept, is_some_length, after_moment, world_start, state}
+use Rattle.world_rules.specs.Run.{IsNext, HaveCome}
 use Rattle.world_laws.specs.Causes.{IsSublist, came_at, scheduled_for, ComeInOrder, HasEvent, IsCancelled, EachComes}
-use Rattle.world_laws.proofs.Among.{Among, among-left, among-right, none-among}
-use Rattle.world_laws.proofs.Due.{Outlasts, due-keeps}
+use Rattle.world_laws.proofs.Among.{Among, among-right, none-among}
+use Rattle.world_laws.proofs.Due.{due-keeps}
 
 -- ---- parts of lists
 
@@ -65,13 +65,13 @@ come-step w s m t came sched next before = elim (eqb_tells m.time t) [ inl same 
       let left_is : (if t == m.time then drop 1 (s.due t) else s.due t) ≡ next.others = rw (at_time same) (ap (drop 1) due_is) in
       part-of ((came ++ (if m.time == t then m.cause ∷ [] else [])) ++ (filter P (if t == m.time then drop 1 (s.due t) else s.due t) ++ new)) ((came ++ (m.cause ∷ filter P next.others)) ++ new) (sched ++ new)
       (ap (λ (b : Bool). (came ++ (if b then m.cause ∷ [] else [])) ++ (filter P (if t == m.time then drop 1 (s.due t) else s.due t) ++ new)) is
-        ∙ ap (λ (xs : List Cause). (came ++ m.cause ∷ []) ++ (filter P xs ++ new)) left_is
-        ∙ regroup came m.cause (filter P next.others) new) all where
-          at_time : m.time ≡ t → (t == m.time) ≡ true
-          at_time e = elim (eqb_tells t m.time) [ inl yes_so ↦ yes_so.0 | inr not_so ↦ absurd (not_so.1 (sym e)) ]
+      ∙ ap (λ (xs : List Cause). (came ++ m.cause ∷ []) ++ (filter P xs ++ new)) left_is
+      ∙ regroup came m.cause (filter P next.others) new) all where
+        at_time : m.time ≡ t → (t == m.time) ≡ true
+        at_time e = elim (eqb_tells t m.time) [ inl yes_so ↦ yes_so.0 | inr not_so ↦ absurd (not_so.1 (sym e)) ]
 
-          regroup : (a : List Cause) (x : Cause) (b c : List Cause) → (a ++ x ∷ []) ++ (b ++ c) ≡ (a ++ (x ∷ b)) ++ c
-          regroup a x b c = simp append_assoc
+        regroup : (a : List Cause) (x : Cause) (b c : List Cause) → (a ++ x ∷ []) ++ (b ++ c) ≡ (a ++ (x ∷ b)) ++ c
+        regroup a x b c = simp append_assoc
 
   later : (m.time == t) ≡ false → (t ≡ m.time → ⊥) → Goal
   later is other =
@@ -79,13 +79,13 @@ come-step w s m t came sched next before = elim (eqb_tells m.time t) [ inl same 
       let all : IsSublist ((came ++ filter P (s.due t)) ++ new) (sched ++ new) = part-append (came ++ filter P (s.due t)) sched new new old (part-same new) in
       part-of ((came ++ (if m.time == t then m.cause ∷ [] else [])) ++ (filter P (if t == m.time then drop 1 (s.due t) else s.due t) ++ new)) ((came ++ filter P (s.due t)) ++ new) (sched ++ new)
       (ap (λ (b : Bool). (came ++ (if b then m.cause ∷ [] else [])) ++ (filter P (if t == m.time then drop 1 (s.due t) else s.due t) ++ new)) is
-        ∙ ap (λ (b : Bool). (came ++ []) ++ (filter P (if b then drop 1 (s.due t) else s.due t) ++ new)) (elsewhere other)
-        ∙ regroup came (filter P (s.due t)) new) all where
-          elsewhere : (t ≡ m.time → ⊥) → (t == m.time) ≡ false
-          elsewhere e = elim (eqb_tells t m.time) [ inl yes_so ↦ absurd (e yes_so.1) | inr not_so ↦ not_so.0 ]
+      ∙ ap (λ (b : Bool). (came ++ []) ++ (filter P (if b then drop 1 (s.due t) else s.due t) ++ new)) (elsewhere other)
+      ∙ regroup came (filter P (s.due t)) new) all where
+        elsewhere : (t ≡ m.time → ⊥) → (t == m.time) ≡ false
+        elsewhere e = elim (eqb_tells t m.time) [ inl yes_so ↦ absurd (e yes_so.1) | inr not_so ↦ not_so.0 ]
 
-          regroup : (a b c : List Cause) → (a ++ []) ++ (b ++ c) ≡ (a ++ b) ++ c
-          regroup a b c = simp (append-nil, append_assoc)
+        regroup : (a b c : List Cause) → (a ++ []) ++ (b ++ c) ≡ (a ++ b) ++ c
+        regroup a b c = simp (append-nil, append_assoc)
 
 pub come_in_order : (w : World) → ComeInOrder w
 come_in_order w [] t come = part-same ((world_start w).due t)

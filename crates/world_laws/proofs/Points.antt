@@ -1,7 +1,7 @@
 -- When the points of a node's timer come.
-use Rattle.std.proofs.Common.{◌≡◌, ◌≢◌, ◌<◌, ◌≤◌, ℕ, zero, suc, ◌+◌, ◌*◌, ◌/◌, ◌%◌, ◌^◌, min, Bool, true, false, not, ◌&&◌, IsTrue, List, [], ◌∷◌, ◌++◌, map, drop, refl, sym, ◌∙◌, ap, subst, arith, rules, inl, inr, ◌⊎◌}
-use Rattle.std.specs.Prelude.{Option, Some, None, ◌==◌, if◌then◌else◌, nat_lt}
-use Rattle.std.specs.List.{filter, flat_map, filter_map, cons_option, range_with_len}
+use Rattle.std.proofs.Common.{◌≡◌, ◌≢◌, ◌<◌, ◌≤◌, ℕ, zero, suc, ◌+◌, ◌*◌, ◌/◌, ◌%◌, min, Bool, true, false, not, ◌&&◌, List, [], ◌∷◌, ◌++◌, refl, sym, ◌∙◌, ap, subst, arith, inl, inr, ◌⊎◌}
+use Rattle.std.specs.Prelude.{Option, Some, None, ◌==◌}
+use Rattle.std.specs.List.{flat_map, filter_map, cons_option, range_with_len}
 use Rattle.std.specs.Option.{option_map_or}
 use Rattle.std.proofs.lemmas.Bool.Decides.{eqb_tells}
 use Rattle.std.proofs.lemmas.Bool.{cases_lt}
@@ -14,8 +14,8 @@ use Rattle.world_rules.specs.Cause.{Cause}
 use Rattle.world_rules.specs.Cause as event
 use Rattle.world_rules.specs.World.{World, PlannedLine, period_of, handlers}
 use Rattle.world_rules.specs.Effect.{Node, NodeEffect, node_effect, begun_length, resets, event_node}
-use Rattle.world_rules.specs.State.{Moment, WorldState, Scheduled, of_time, of_interval, timer_after, node_at, effect_at, node_after, schedules, is_kept, is_some_length, after_moment, start_node, lines_from, first_of, world_start, state}
-use Rattle.world_rules.specs.Run.{IsNext, MayCome, HaveCome, IsDone}
+use Rattle.world_rules.specs.State.{Moment, WorldState, Scheduled, of_interval, node_at, effect_at, node_after, schedules, is_some_length, after_moment, start_node, lines_from, first_of, world_start, state}
+use Rattle.world_rules.specs.Run.{IsNext, MayCome, HaveCome}
 use Rattle.world_laws.specs.Times.{IsRightSet, last_time, StandsIn, NeverResets, Fires, FiresInTime}
 use Rattle.world_laws.proofs.Among.{Among, among-left, among-right, among-append, among-flat_map, none-among, among-of_time, among-un_of_time, apart}
 use Rattle.world_laws.proofs.Timers.{IsSameInterval, timer_kept, timer_begun, Begins, shortened, again, expired, why_begun, few}
@@ -122,10 +122,12 @@ source-ahead w s m x (pump is) = omega (arith, time_is _ _ is)
 source-ahead w s m x (answer k later call) = later
 
 pub past-step : (w : World) (s : WorldState) (m : Moment) → IsNext s m.time m.cause → IsPast (after_moment w s m) m.time
-past-step w s m next = record { none = λ t before. none_is_empty ((after_moment w s m).due t) (λ c h. elim (due-from w s m t c h) [
-  | inl old ↦ none-among c (s.due t) (next.none_before t before) old.0
-  | inr new ↦ let ahead : m.time ≤ t = source-ahead w s m (at t c) (source w s m (at t c) new) in absurd (omega arith)
-]) }
+past-step w s m next = record {
+  none = λ t before. none_is_empty ((after_moment w s m).due t) (λ c h. elim (due-from w s m t c h) [
+    | inl old ↦ none-among c (s.due t) (next.none_before t before) old.0
+    | inr new ↦ let ahead : m.time ≤ t = source-ahead w s m (at t c) (source w s m (at t c) new) in absurd (omega arith)
+  ]);
+}
 
 -- what schedules the end of an interval is that one began
 expire-source : (w : World) (s : WorldState) (m : Moment) (i t : ℕ) → Source w s m (at t (event.Expire i))
@@ -487,7 +489,7 @@ start-timed w i right below = record {
     | inl a ↦ absurd (apart 3 0 refl (line-kind _ 0 w.plan a))
     | inr b ↦ let node = among-flat_map (first_of w) (at t (event.Expire i)) (range_with_len 0 w.nodes) b in
         elim (among-append (at t (event.Expire i)) (of_interval node.0 (start_node w node.0).timer) _ node.2) [
-          | inl c ↦ let e = end-in i node.0 t (start_node w node.0).timer c in e.1 
+          | inl c ↦ let e = end-in i node.0 t (start_node w node.0).timer c in e.1
           | inr d ↦ absurd (apart 3 1 refl (period-kind w _ node.0 d))
         ]
   ]

@@ -1,24 +1,23 @@
 -- When a pump sends a slot that is marked.
-use Rattle.std.proofs.Common.{◌≡◌, ◌≢◌, ◌<◌, ◌≤◌, ℕ, zero, suc, ◌+◌, ◌-◌, ◌*◌, ◌/◌, ◌%◌, Bool, true, false, cond, not, ◌&&◌, ◌||◌, IsTrue, List, [], ◌∷◌, ◌++◌, refl, sym, ◌∙◌, ap, subst, arith, rules, inl, inr, ◌⊎◌}
+use Rattle.std.proofs.Common.{◌≡◌, ◌≢◌, ◌<◌, ◌≤◌, ℕ, zero, suc, ◌+◌, ◌-◌, ◌*◌, ◌/◌, ◌%◌, Bool, true, false, cond, not, ◌&&◌, ◌||◌, List, [], ◌∷◌, ◌++◌, refl, sym, ◌∙◌, ap, subst, arith, inl, inr, ◌⊎◌}
 use Rattle.std.specs.Prelude.{Option, Some, None, ◌==◌, if◌then◌else◌, nat_le}
 use Rattle.std.specs.List.{find, list_any, range_with_len}
 use Rattle.std.specs.Option.{option_or}
 use Rattle.std.proofs.lemmas.Bool.Decides.{eqb_tells}
-use Rattle.std.proofs.lemmas.Bool.{cases_lt, cases_Bool}
+use Rattle.std.proofs.lemmas.Bool.{cases_lt}
 use Rattle.mate_journal.specs.Machine.{HeldProgram}
-use Rattle.packet_codec.specs.declared.packet.Packet.{Packet}
-use Rattle.capsule_exchange.specs.Happenings.{Happening, Hears, Sends, Installs, Forgets, asks_of, is_marked, is_marked_slot, last_sent, next_place, slots_from, next_slot, fragment_for}
+use Rattle.capsule_exchange.specs.Happenings.{Happening, Hears, Sends, Installs, asks_of, is_marked_slot, last_sent, next_place, slots_from, next_slot}
 use Rattle.world_rules.specs.Cause.{Cause}
 use Rattle.world_rules.specs.Cause as event
 use Rattle.world_rules.specs.World.{World, handlers}
-use Rattle.world_rules.specs.Effect.{Node, NodeEffect, Deed, Installing, Resetting, node_effect, of_slot, begun_length, resets, is_owing, event_node}
-use Rattle.world_rules.specs.State.{Moment, WorldState, Scheduled, node_at, effect_at, node_after, schedules, is_pump, still_pumps, new_pump, next_period, new_interval, is_some_length, after_moment, world_start, state}
-use Rattle.world_rules.specs.Run.{IsNext, MayCome, HaveCome, IsDone}
+use Rattle.world_rules.specs.Effect.{Node, NodeEffect, Installing, node_effect, of_slot, begun_length, resets, is_owing, event_node}
+use Rattle.world_rules.specs.State.{Moment, WorldState, Scheduled, node_at, effect_at, node_after, schedules, is_pump, still_pumps, new_pump, next_period, new_interval, after_moment, state}
+use Rattle.world_rules.specs.Run.{MayCome, HaveCome}
 use Rattle.world_laws.specs.Times.{IsRightSet, last_time}
 use Rattle.world_laws.specs.Slots.{IsSparing, AreSparing, SendsSlot, SendsInTime}
-use Rattle.world_laws.proofs.Among.{Among, among-left, among-right, among-append, none-among}
-use Rattle.world_laws.proofs.Due.{at, Outlasts, due-keeps, due-new, kind}
-use Rattle.world_laws.proofs.Points.{IsPast, among-range, next-before, last-before, nodes-here, nodes-other, run-timed, earlier-come}
+use Rattle.world_laws.proofs.Among.{Among, among-left, among-right, none-among}
+use Rattle.world_laws.proofs.Due.{at, Outlasts, due-keeps, due-new}
+use Rattle.world_laws.proofs.Points.{among-range, next-before, last-before, nodes-here, nodes-other, run-timed, earlier-come}
 use Rattle.world_laws.proofs.Happens.{Happens, nothing, injected, heard, completed, forgot, sent, happens}
 
 -- ---- the first of a range that passes
@@ -346,11 +345,11 @@ pending-pump w s m i z by may cause below pending = next (next_slot (handlers w)
   sent_is k is =
       subst (λ (j : ℕ). ((after_moment w s m).nodes j).exchange ≡ Sends k ∷ (s.nodes j).exchange) same
       (ap (λ (n : Node). n.exchange) (nodes-here w s m) ∙ (let E : NodeEffect → Type 0 = λ e. e.happened ++ (node_at w s m).exchange ≡ Sends k ∷ (node_at w s m).exchange in
-        subst E (sym effect_is) refl)) where
-          effect_is : effect_at w s m ≡ of_slot (s.nodes (event_node w m.cause)).exchange (Some k)
-          effect_is =
-              ap (node_effect w (node_at w s m)) cause
-              ∙ ap (of_slot (s.nodes (event_node w m.cause)).exchange) (subst (λ (j : ℕ). next_slot (handlers w) (s.nodes j).exchange ≡ Some k) (sym same) is)
+      subst E (sym effect_is) refl)) where
+        effect_is : effect_at w s m ≡ of_slot (s.nodes (event_node w m.cause)).exchange (Some k)
+        effect_is =
+            ap (node_effect w (node_at w s m)) cause
+            ∙ ap (of_slot (s.nodes (event_node w m.cause)).exchange) (subst (λ (j : ℕ). next_slot (handlers w) (s.nodes j).exchange ≡ Some k) (sym same) is)
 
   next : (o : Option ℕ) → next_slot (handlers w) (s.nodes i).exchange ≡ o → SendsNow w s m i z by ⊎ IsPending w (after_moment w s m) i z by
   next None is = absurd (next-some (is_marked_slot (s.nodes i).exchange) (22 * handlers w) (next_place (last_sent (s.nodes i).exchange)) z below pending.marked is)
@@ -359,14 +358,14 @@ pending-pump w s m i z by may cause below pending = next (next_slot (handlers w)
     | inr other ↦ elim (nearer (is_marked_slot (s.nodes i).exchange) (22 * handlers w) (next_place (last_sent (s.nodes i).exchange)) z k below pending.marked is) [
       | inl one ↦ absurd (other.1 one)
       | inr near ↦ inr (record {
-          marked = still_marked k is other.1;
-          pump = m.time + w.description.radio.gap;
-          waits = subst (λ (j : ℕ). Among (event.Pump j) ((after_moment w s m).due (m.time + w.description.radio.gap))) same
-              (due-new w s m _ (event.Pump (event_node w m.cause)) (pump-scheduled w s m (pump-comes m.cause (effect_at w s m) (node_at w s m) _ (ap is_pump cause) (owes k is other.1))));
-          turns = behind (22 * handlers w) (k + 1) z;
-          nearest = subst (λ (hs : List Happening). behind (22 * handlers w) (next_place (last_sent hs)) z ≤ behind (22 * handlers w) (k + 1) z) (sym (sent_is k is)) (omega arith);
-          in_time = one_less pending.turns (behind (22 * handlers w) (k + 1) z) w.description.radio.gap pending.pump m.time by (omega (arith, near, pending.nearest)) early pending.in_time;
-        })
+        marked = still_marked k is other.1;
+        pump = m.time + w.description.radio.gap;
+        waits = subst (λ (j : ℕ). Among (event.Pump j) ((after_moment w s m).due (m.time + w.description.radio.gap))) same
+            (due-new w s m _ (event.Pump (event_node w m.cause)) (pump-scheduled w s m (pump-comes m.cause (effect_at w s m) (node_at w s m) _ (ap is_pump cause) (owes k is other.1))));
+        turns = behind (22 * handlers w) (k + 1) z;
+        nearest = subst (λ (hs : List Happening). behind (22 * handlers w) (next_place (last_sent hs)) z ≤ behind (22 * handlers w) (k + 1) z) (sym (sent_is k is)) (omega arith);
+        in_time = one_less pending.turns (behind (22 * handlers w) (k + 1) z) w.description.radio.gap pending.pump m.time by (omega (arith, near, pending.nearest)) early pending.in_time;
+      })
     ]
   ] where
     still_marked : (k : ℕ) → next_slot (handlers w) (s.nodes i).exchange ≡ Some k → k ≢ z → is_marked_slot ((after_moment w s m).nodes i).exchange z ≡ true
@@ -403,14 +402,14 @@ pending-along : (w : World) (i z by : ℕ) (before later : List Moment) → z < 
 pending-along w i z by before [] below come spares pending = inr pending
 pending-along w i z by before (m ∷ later) below come spares pending = elim (pending-along w i z by before later below come.0 spares.0 pending) [
   | inl found ↦ inl (record {
-      moment = found.moment;
-      newer = m ∷ found.newer;
-      older = found.older;
-      split = ap (λ (ms : List Moment). m ∷ ms) found.split;
-      cause = found.cause;
-      sends = found.sends;
-      in_time = found.in_time;
-    })
+    moment = found.moment;
+    newer = m ∷ found.newer;
+    older = found.older;
+    split = ap (λ (ms : List Moment). m ∷ ms) found.split;
+    cause = found.cause;
+    sends = found.sends;
+    in_time = found.in_time;
+  })
   | inr still ↦ elim (pending-step w (state w (later ++ before)) m i z by come.1 spares.1 below still) [
     | inl now ↦ inl (record { moment = m; newer = []; older = later; split = refl; cause = now.0; sends = now.1; in_time = now.2 })
     | inr goes_on ↦ inr goes_on
@@ -420,16 +419,16 @@ pending-along w i z by before (m ∷ later) below come spares pending = elim (pe
 pub sends_in_time : (w : World) → IsRightSet w.description.trickle → SendsInTime w
 sends_in_time w right i z time before later below valid come last marked spares done =
     elim (pending-along w i z (time + 22 * handlers w * w.description.radio.gap) before later (omega arith) come spares
-      (pending-start w (state w before) (last_time before) i z time (omega arith) marked (run-pumped w i before right below (earlier-come w before later come)) last)) [
-        | inl found ↦ record { moment = found.moment; newer = found.newer; older = found.older; split = found.split; cause = found.cause; sends = found.sends; in_time = omega (arith, found.in_time, same_time) }
-        | inr still ↦ absurd (over still)
-      ] where
-        same_time : time + 22 * handlers w * w.description.radio.gap ≡ time + handlers w * 22 * w.description.radio.gap
-        same_time = ap (λ (k : ℕ). time + k * w.description.radio.gap) swapped where
-          swapped : 22 * handlers w ≡ handlers w * 22
-          swapped = omega arith
+    (pending-start w (state w before) (last_time before) i z time (omega arith) marked (run-pumped w i before right below (earlier-come w before later come)) last)) [
+      | inl found ↦ record { moment = found.moment; newer = found.newer; older = found.older; split = found.split; cause = found.cause; sends = found.sends; in_time = omega (arith, found.in_time, same_time) }
+      | inr still ↦ absurd (over still)
+    ] where
+      same_time : time + 22 * handlers w * w.description.radio.gap ≡ time + handlers w * 22 * w.description.radio.gap
+      same_time = ap (λ (k : ℕ). time + k * w.description.radio.gap) swapped where
+        swapped : 22 * handlers w ≡ handlers w * 22
+        swapped = omega arith
 
-        over : IsPending w (state w (later ++ before)) i z (time + 22 * handlers w * w.description.radio.gap) → ⊥
-        over pending =
-            let due_by : pending.pump ≤ time + handlers w * 22 * w.description.radio.gap = omega (arith, pending.in_time, same_time) in
-            none-among (event.Pump i) _ (done pending.pump due_by) pending.waits
+      over : IsPending w (state w (later ++ before)) i z (time + 22 * handlers w * w.description.radio.gap) → ⊥
+      over pending =
+          let due_by : pending.pump ≤ time + handlers w * 22 * w.description.radio.gap = omega (arith, pending.in_time, same_time) in
+          none-among (event.Pump i) _ (done pending.pump due_by) pending.waits
