@@ -1,39 +1,36 @@
 -- One hop.
-use Rattle.std.proofs.Common.{◌≡◌, ◌≢◌, ◌<◌, ◌≤◌, ℕ, zero, suc, ◌+◌, ◌*◌, ◌/◌, ◌%◌, Bool, true, false, cond, not, ◌&&◌, ◌||◌, IsTrue, List, [], ◌∷◌, ◌++◌, map, length, get_or, ltb, Option, Some, None, refl, sym, ◌∙◌, ap, subst, arith, inl, inr, ◌⊎◌, append_assoc}
-use Rattle.std.specs.Prelude.{is_some, nat_lt, slice_index, slice_get, slice_index_or, Contains, ◌==◌, if◌then◌else◌}
+use Rattle.std.proofs.Common.{◌≡◌, ◌≢◌, ◌<◌, ◌≤◌, ℕ, zero, suc, ◌+◌, ◌*◌, ◌/◌, ◌%◌, Bool, true, false, List, [], ◌∷◌, ◌++◌, map, length, Some, None, refl, sym, ◌∙◌, ap, subst, arith, inl, inr, ◌⊎◌, append_assoc}
+use Rattle.std.specs.Prelude.{is_some, nat_lt, slice_index, slice_get, slice_index_or, ◌==◌, if◌then◌else◌}
 use Rattle.std.specs.Int.{bit_at}
-use Rattle.std.specs.List.{filter, filter_map, flat_map, range_with_len, cons_option}
-use Rattle.std.specs.Option.{option_map_or}
-use Rattle.std.proofs.lemmas.Bool.{cases_Bool, cases_lt, ltb-true, ltb-false, lt-ltb}
+use Rattle.std.specs.List.{filter, flat_map, range_with_len}
+use Rattle.std.proofs.lemmas.Bool.{cases_lt, ltb-true, lt-ltb}
 use Rattle.std.proofs.lemmas.Bool.Decides.{eqb_tells}
 use Rattle.mate_num.specs.declared.id.HandlerId.{HandlerId}
 use Rattle.arrayvec.specs.ArrayVec.{ArrayVec}
 use Rattle.capsule_codec.specs.Fragments.{count_of, piece_at}
-use Rattle.vm_desc.specs.Limits.{longest, round_time}
 use Rattle.mate_journal.specs.Machine.{HeldProgram}
 use Rattle.packet_codec.specs.declared.packet.Packet.{Packet}
 use Rattle.packet_codec.specs.declared.packet.Packet.TheVariants.{Vector, Status, Fragment, App}
-use Rattle.capsule_exchange.specs.Happenings.{Happening, Hears, Sends, Installs, Forgets, held_version, held_image, held_versions, heard_since, target_version, Part, part_in, target_parts, collected_at, places_of, gaps, mask_of, collected_image, complete_version, completed_by, asks_after, ask_for, asks_of, is_marked, is_marked_slot, next_slot, fragment_for}
+use Rattle.capsule_exchange.specs.Happenings.{Happening, Hears, Installs, held_version, held_image, heard_since, target_version, target_parts, collected_at, places_of, gaps, mask_of, collected_image, complete_version, completed_by, asks_after, ask_for, asks_of, is_marked, is_marked_slot, fragment_for}
 use Rattle.capsule_exchange.proofs.CollectLemmas.{target_over}
 use Rattle.world_rules.specs.Cause.{Cause}
 use Rattle.world_rules.specs.Cause as event
 use Rattle.script_reader.specs.declared.world.Link.{Link}
 use Rattle.world_rules.specs.World.{World, handlers, receiver, leaves, links_from, loss, stream_word}
-use Rattle.world_rules.specs.Effect.{Node, NodeEffect, Deed, Installing, Resetting, node_effect, of_packet, of_fragment, collected, event_node, resets}
-use Rattle.world_rules.specs.State.{Moment, WorldState, Scheduled, Sending, numbered_sendings, sendings, is_lost, deliveries, next_period, new_interval, packets_of, messages, schedules, node_at, effect_at, node_after, after_moment, state}
+use Rattle.world_rules.specs.Effect.{Node, NodeEffect, Installing, node_effect, of_packet, event_node, resets}
+use Rattle.world_rules.specs.State.{Moment, WorldState, Scheduled, Sending, numbered_sendings, sendings, is_lost, deliveries, next_period, new_interval, packets_of, messages, schedules, node_at, effect_at, after_moment, state}
 use Rattle.world_rules.specs.Run.{MayCome, HaveCome, IsDone}
 use Rattle.hop_bound.specs.Hops.{HasLink}
-use Rattle.world_laws.specs.Times.{last_time}
 use Rattle.world_images.specs.Newest.{Version, IsWorldVersion, IsNewest}
-use Rattle.hop_bound.specs.Spread.{IsOpenWorld, IsQuiet, AreQuiet, HoldsVersion}
-use Rattle.world_laws.proofs.Among.{Among, among-left, among-right, among-append, among-filter, none-among}
-use Rattle.world_laws.specs.Causes.{HasEvent, IsCancelled}
+use Rattle.hop_bound.specs.Spread.{IsQuiet, AreQuiet}
+use Rattle.world_laws.proofs.Among.{Among, among-left, among-right, among-filter, none-among}
+use Rattle.world_laws.specs.Causes.{HasEvent}
 use Rattle.world_laws.proofs.Comes.{come-along}
 use Rattle.world_laws.proofs.Due.{at, due-new}
 use Rattle.world_laws.proofs.Points.{nodes-here, nodes-other, among-next, among-range, among-map_of, earlier-come}
 use Rattle.world_laws.proofs.Happens.{Happens, nothing, injected, heard, completed, forgot, sent, happens, Installer, installer}
-use Rattle.world_images.proofs.Collect.{IsTame, AreTame, tame-push, IsAlike, AreAlike, Has, target-most, parts-alike, target-stays, parts-grow, target-set, has-push, has-stays, has-got, asks-gap, complete-all, at-range}
-use Rattle.world_images.proofs.Tame.{IsTameNode, IsTameWorld, node-step, run-tame}
+use Rattle.world_images.proofs.Collect.{IsTame, AreTame, tame-push, Has, target-most, parts-alike, target-stays, target-set, has-stays, asks-gap}
+use Rattle.world_images.proofs.Tame.{IsTameNode, IsTameWorld, run-tame}
 
 -- ---- who holds the version goes on to hold it
 
@@ -166,7 +163,7 @@ node-stays w v Q s m k stays may tame quiet q = elim (eqb_tells k (event_node w 
   | inl same ↦ subst (λ (i : ℕ). Q ((after_moment w s m).nodes i).exchange) (sym same.1)
       (subst (λ (n : Node). Q n.exchange) (sym (nodes-here w s m))
       (stays.step (node_at w s m).exchange m.cause (effect_at w s m) (happens w (node_at w s m) m.cause) quiet.no_inject quiet.no_reset (tame-cause w v s m may tame)
-        (tame.nodes (event_node w m.cause)) (subst (λ (i : ℕ). Q (s.nodes i).exchange) same.1 q)))
+      (tame.nodes (event_node w m.cause)) (subst (λ (i : ℕ). Q (s.nodes i).exchange) same.1 q)))
 ]
 
 -- a part of a run, from `now` on, up to a time at which all is done
@@ -316,7 +313,7 @@ among-map f x (y ∷ xs) (inr a) = inr (among-map f x xs a)
 -- a Vector with the version: the node seeks it, and has a fragment or asks for it
 pub vector-got : (w : World) (v : Version) (hs : List Happening) (versions : ArrayVec ℕ) (i : ℕ) → IsWorldVersion w v → IsTameNode v hs → IsTame v (Vector versions) → slice_index versions.items v.handler ≡ v.version → i < count_of v.image
     → Seeks v (λ k. k ≡ i) (Hears (Vector versions) ∷ hs)
-      ⊎ (Seeks v (λ k. ⊥) (Hears (Vector versions) ∷ hs) × (missing : ℕ) × Among (own_status v missing) (asks_after (handlers w) (Vector versions) hs) × (bit_at missing i ≡ 1))
+    ⊎ (Seeks v (λ k. ⊥) (Hears (Vector versions) ∷ hs) × (missing : ℕ) × Among (own_status v missing) (asks_after (handlers w) (Vector versions) hs) × (bit_at missing i ≡ 1))
 vector-got w v hs versions i right node tame is below = elim (cases_lt (held_version v.handler hs) v.version) [
   | inr not_less ↦ inl (inl (let most = node.held in omega (arith, not_less, most)))
   | inl less ↦ seeking less
@@ -344,8 +341,12 @@ vector-got w v hs versions i right node tame is below = elim (cases_lt (held_ver
     by : (b : Bool) → is_some (collected_at (target_parts v.handler (Hears (Vector versions) ∷ hs)) i) ≡ b → Seeks v (λ k. k ≡ i) (Hears (Vector versions) ∷ hs)
         ⊎ (Seeks v (λ k. ⊥) (Hears (Vector versions) ∷ hs) × (missing : ℕ) × Among (own_status v missing) (asks_after (handlers w) (Vector versions) hs) × (bit_at missing i ≡ 1))
     by true has = inl (inr ((target, less), λ k same. subst (λ (n : ℕ). Has (target_parts v.handler (Hears (Vector versions) ∷ hs)) n) (sym same) has))
-    by false lacks = inr (inr ((target, less), λ k no_one. absurd no_one), mask_of (gaps (places_of (target_parts v.handler (Hears (Vector versions) ∷ hs)))), asked,
-        asks-gap v (target_parts v.handler (Hears (Vector versions) ∷ hs)) i (parts-alike v (Hears (Vector versions) ∷ hs) target tame_new) right.few below lacks)
+    by false lacks = inr (
+      inr ((target, less), λ k no_one. absurd no_one),
+      mask_of (gaps (places_of (target_parts v.handler (Hears (Vector versions) ∷ hs)))),
+      asked,
+      asks-gap v (target_parts v.handler (Hears (Vector versions) ∷ hs)) i (parts-alike v (Hears (Vector versions) ∷ hs) target tame_new) right.few below lacks,
+    )
 
 -- a Status for the held version marks what it asks for
 pub status-got : (v : Version) (hs : List Happening) (missing i : ℕ) → held_version v.handler hs ≡ v.version → held_image v.handler hs ≡ v.image → i < count_of v.image → i < 22 → bit_at missing i ≡ 1

@@ -1,24 +1,23 @@
 -- The hop bound.
-use Rattle.std.proofs.Common.{◌≡◌, ◌<◌, ◌≤◌, ℕ, ◌+◌, ◌*◌, true, false, List, [], ◌∷◌, ◌++◌, Option, Some, None, refl, sym, ◌∙◌, ap, subst, arith, inl, inr, append_assoc}
-use Rattle.std.specs.Prelude.{slice_get, ◌==◌, if◌then◌else◌}
+use Rattle.std.proofs.Common.{◌≡◌, ◌<◌, ◌≤◌, ℕ, ◌+◌, ◌*◌, List, [], ◌∷◌, ◌++◌, Option, Some, refl, sym, ◌∙◌, ap, subst, arith, inl, inr, append_assoc}
+use Rattle.std.specs.Prelude.{slice_get}
 use Rattle.std.specs.Option.{option_map_or}
 use Rattle.std.proofs.lemmas.Bool.Decides.{eqb_tells}
 use Rattle.vm_desc.specs.Limits.{longest}
 use Rattle.mate_journal.specs.Machine.{HeldProgram}
-use Rattle.capsule_exchange.specs.Happenings.{Happening, Installs, held_version}
+use Rattle.capsule_exchange.specs.Happenings.{Installs, held_version}
 use Rattle.world_rules.specs.Cause.{Cause}
 use Rattle.world_rules.specs.Cause as event
-use Rattle.world_rules.specs.World.{World, PlannedLine, Want, Inject}
-use Rattle.world_rules.specs.Effect.{Node, NodeEffect, Deed, Installing, no_effect, node_effect, of_line, event_node, resets}
-use Rattle.world_rules.specs.State.{Moment, WorldState, node_at, effect_at, node_after, after_moment, state}
-use Rattle.world_rules.specs.Run.{HaveCome, IsDone}
+use Rattle.world_rules.specs.World.{World, PlannedLine, Inject}
+use Rattle.world_rules.specs.Effect.{Node, NodeEffect, Installing, no_effect, node_effect, of_line, event_node}
+use Rattle.world_rules.specs.State.{Moment, WorldState, node_at, effect_at, after_moment, state}
+use Rattle.world_rules.specs.Run.{HaveCome}
 use Rattle.world_laws.specs.Times.{last_time}
-use Rattle.world_images.specs.Newest.{Version, IsWorldVersion, IsNewest}
+use Rattle.world_images.specs.Newest.{IsNewest}
 use Rattle.hop_bound.specs.Spread.{IsOpenWorld, IsQuiet, AreQuiet, HoldsVersion}
-use Rattle.world_images.specs.Versions.{InjectsAt, WasInjected, IsOneImage, InjectsAtMost}
-use Rattle.world_images.specs.Lines.{IsPlanTimely}
-use Rattle.hop_bound.specs.HopBound.{AreVersionsRising, IsRightPlan, version_of, IsUndisturbed, HoldsBy, HopBound}
-use Rattle.world_laws.proofs.Points.{IsPast, nodes-here, last-before, run-timed, earlier-come, past-step}
+use Rattle.world_images.specs.Versions.{InjectsAt}
+use Rattle.hop_bound.specs.HopBound.{IsRightPlan, version_of, HoldsBy, HopBound}
+use Rattle.world_laws.proofs.Points.{IsPast, nodes-here, last-before, earlier-come, past-step}
 use Rattle.world_images.proofs.Versions.{option-injects}
 use Rattle.world_images.proofs.Newest.{installs_at_most}
 use Rattle.world_images.proofs.Lines.{lines_in_order}

@@ -1,5 +1,5 @@
 -- The premises of the hop bound, from a description's limits and a right script.
-use Rattle.std.proofs.Common.{◌≡◌, ◌<◌, ◌≤◌, ℕ, zero, suc, ◌+◌, ◌*◌, ◌^◌, ◌/◌, ◌%◌, true, false, List, [], ◌∷◌, ◌++◌, map, length, Option, Some, None, refl, sym, ◌∙◌, ap, subst, arith, inl, inr, append_assoc}
+use Rattle.std.proofs.Common.{◌≡◌, ◌<◌, ◌≤◌, ℕ, zero, suc, ◌+◌, ◌*◌, ◌^◌, ◌/◌, ◌%◌, List, [], ◌∷◌, ◌++◌, map, length, Option, Some, None, refl, sym, ◌∙◌, ap, subst, arith, inl, inr, append_assoc}
 use Rattle.std.specs.Prelude.{slice_get, slice_index_or, All}
 use Rattle.std.specs.Option.{option_map, option_map_or}
 use Rattle.std.specs.List.{AllPairs}
@@ -10,11 +10,8 @@ use Rattle.std.proofs.lemmas.List.Elements.{All-head, All-tail, All-contains}
 use Rattle.std.proofs.lemmas.Option.{slice_get-map, slice_get_within, get_or_from_slice_get}
 use Rattle.mate_num.specs.declared.id.HandlerId.{HandlerId}
 use Rattle.vm_desc.specs.declared.description.Description.{Description}
-use Rattle.vm_desc.specs.declared.settings.TrickleSet.{TrickleSet}
-use Rattle.vm_desc.specs.Bounds.{HasBounds}
 use Rattle.vm_desc.specs.Limits.{longest}
 use Rattle.vm_desc.proofs.DescriptionLemmas.{bounds_of}
-use Rattle.capsule_exchange.specs.Happenings.{held_version}
 use Rattle.mate_journal.specs.Machine.{Meaning, HeldProgram}
 use Rattle.mate_journal.specs.Turns.{Clock}
 use Rattle.script_reader.specs.declared.world.World.{World as Script}
@@ -23,7 +20,7 @@ use Rattle.script_reader.specs.declared.world.Planned.{Planned}
 use Rattle.script_reader.specs.declared.world.What.{What}
 use Rattle.script_reader.specs.declared.world.What.TheVariants as what
 use Rattle.script_reader.specs.World.{IsRightLink, IsRightPlanned, IsRightWhat, Follow, IfInjects}
-use Rattle.world_rules.specs.World.{World, PlannedLine, Want, Inject, loss, want_of, line_planned, world_of}
+use Rattle.world_rules.specs.World.{World, PlannedLine, Inject, want_of, line_planned, world_of}
 use Rattle.world_rules.specs.Cause.{Cause}
 use Rattle.world_rules.specs.Cause as event
 use Rattle.world_rules.specs.Effect.{event_node}
@@ -35,7 +32,7 @@ use Rattle.world_images.specs.Newest.{IsWorldVersion}
 use Rattle.world_images.specs.Installs.{WasInstalled}
 use Rattle.world_images.proofs.Installs.{held_was_installed}
 use Rattle.world_laws.proofs.Points.{earlier-come}
-use Rattle.hop_bound.specs.Premises.{IsOpenScript, IsInjectedProgram, AreInjectedPrograms, IsRightScript, OpenScriptsAreOpen, RightScriptsPlanRightly, InjectedAreVersions, InstalledBy, InjectedIsInstalled}
+use Rattle.hop_bound.specs.Premises.{IsInjectedProgram, IsRightScript, OpenScriptsAreOpen, RightScriptsPlanRightly, InjectedAreVersions, InstalledBy, InjectedIsInstalled}
 use Rattle.hop_bound.specs.HopBound.{HoldsBy, version_of}
 use Rattle.hop_bound.proofs.HopBound.{same-line, hop_bound}
 
@@ -214,19 +211,19 @@ injected-node d meaning clock script programs i p c right cause injects =
 pub injected_is_installed : InjectedIsInstalled
 injected_is_installed d meaning clock script programs right is before later m i b hops p come cause injects away calm done =
     by (hop_bound (world_of d meaning clock script programs) (open_scripts d meaning clock script programs right is) (plans_rightly d meaning clock script programs right) before later m i b hops p come cause injects
-      version (injected-node d meaning clock script programs i p m.cause right cause injects) away calm done) where
-  version : IsWorldVersion (world_of d meaning clock script programs) (version_of p)
-  version = injected_are_versions d meaning clock script programs i p right injects
+    version (injected-node d meaning clock script programs i p m.cause right cause injects) away calm done) where
+      version : IsWorldVersion (world_of d meaning clock script programs) (version_of p)
+      version = injected_are_versions d meaning clock script programs i p right injects
 
-  by : HoldsBy (world_of d meaning clock script programs) p b (m.time + 3 * longest d.trickle * hops) (m ∷ before) later → InstalledBy (world_of d meaning clock script programs) p b (m.time + 3 * longest d.trickle * hops) (m ∷ before) later
-  by held = record {
-    newer = held.newer;
-    older = held.older;
-    split = held.split;
-    in_time = held.in_time;
-    installed = subst (λ (v : ℕ). WasInstalled (world_of d meaning clock script programs) (held.older ++ (m ∷ before)) b p.handler.0 v) held.holds
-        (held_was_installed (world_of d meaning clock script programs) b p.handler.0 (held.older ++ (m ∷ before)) come_older (subst (λ (v : ℕ). 1 ≤ v) (sym held.holds) version.low));
-  } where
-    come_older : HaveCome (world_of d meaning clock script programs) (held.older ++ (m ∷ before))
-    come_older = earlier-come (world_of d meaning clock script programs) (held.older ++ (m ∷ before)) held.newer
-        (subst (λ (ms : List Moment). HaveCome (world_of d meaning clock script programs) ms) (ap (λ (ms : List Moment). ms ++ (m ∷ before)) held.split ∙ append_assoc held.newer held.older (m ∷ before)) come)
+      by : HoldsBy (world_of d meaning clock script programs) p b (m.time + 3 * longest d.trickle * hops) (m ∷ before) later → InstalledBy (world_of d meaning clock script programs) p b (m.time + 3 * longest d.trickle * hops) (m ∷ before) later
+      by held = record {
+        newer = held.newer;
+        older = held.older;
+        split = held.split;
+        in_time = held.in_time;
+        installed = subst (λ (v : ℕ). WasInstalled (world_of d meaning clock script programs) (held.older ++ (m ∷ before)) b p.handler.0 v) held.holds
+            (held_was_installed (world_of d meaning clock script programs) b p.handler.0 (held.older ++ (m ∷ before)) come_older (subst (λ (v : ℕ). 1 ≤ v) (sym held.holds) version.low));
+      } where
+        come_older : HaveCome (world_of d meaning clock script programs) (held.older ++ (m ∷ before))
+        come_older = earlier-come (world_of d meaning clock script programs) (held.older ++ (m ∷ before)) held.newer
+            (subst (λ (ms : List Moment). HaveCome (world_of d meaning clock script programs) ms) (ap (λ (ms : List Moment). ms ++ (m ∷ before)) held.split ∙ append_assoc held.newer held.older (m ∷ before)) come)

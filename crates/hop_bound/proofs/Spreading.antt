@@ -1,14 +1,14 @@
 -- Many hops.
-use Rattle.std.proofs.Common.{◌≡◌, ◌<◌, ◌≤◌, ℕ, zero, suc, ◌+◌, ◌*◌, List, [], ◌∷◌, ◌++◌, refl, sym, ◌∙◌, ap, subst, arith, inl, inr, ◌⊎◌, append_assoc}
+use Rattle.std.proofs.Common.{◌≡◌, ◌<◌, ◌≤◌, ℕ, zero, suc, ◌+◌, ◌*◌, List, [], ◌∷◌, ◌++◌, refl, sym, ◌∙◌, ap, subst, arith, inl, inr, append_assoc}
 use Rattle.std.proofs.lemmas.Bool.{cases_lt}
 use Rattle.vm_desc.specs.Limits.{longest}
 use Rattle.world_rules.specs.World.{World}
-use Rattle.world_rules.specs.State.{Moment, WorldState, state}
+use Rattle.world_rules.specs.State.{Moment, state}
 use Rattle.world_rules.specs.Run.{HaveCome, IsDone}
-use Rattle.hop_bound.specs.Hops.{HasLink, IsAway}
+use Rattle.hop_bound.specs.Hops.{HasLink}
 use Rattle.world_laws.specs.Times.{last_time}
 use Rattle.world_images.specs.Newest.{Version, IsWorldVersion, IsNewest}
-use Rattle.hop_bound.specs.Spread.{IsOpenWorld, IsQuiet, AreQuiet, HoldsVersion, HopsInTime, SpreadsInTime}
+use Rattle.hop_bound.specs.Spread.{IsOpenWorld, IsQuiet, AreQuiet, HoldsVersion, SpreadsInTime}
 use Rattle.world_laws.proofs.Points.{earlier-come}
 use Rattle.hop_bound.proofs.Hop.{newest-earlier, stays-along}
 use Rattle.hop_bound.proofs.Stages.{Holding, holding, hops_in_time}
@@ -51,7 +51,7 @@ spreads_in_time w v open_ right a b (suc d) time before later below away come ne
     (λ older quiet_older last_older done_older come_older newest_older. spreads_in_time w v open_ right a away.0 d time before older below away.1 come_older newest_older quiet_older last done_older holds) where
       go : UpTo w before later (time + 3 * longest w.description.trickle * d)
           → ((older : List Moment) → AreQuiet w v.handler before older → last_time (older ++ before) ≤ time + 3 * longest w.description.trickle * d → IsDone (state w (older ++ before)) (time + 3 * longest w.description.trickle * d)
-            → HaveCome w (older ++ before) → IsNewest w v (older ++ before) → HoldsVersion w v away.0 (older ++ before))
+          → HaveCome w (older ++ before) → IsNewest w v (older ++ before) → HoldsVersion w v away.0 (older ++ before))
           → HoldsVersion w v b (later ++ before)
       go up on =
           let whole : later ++ before ≡ up.newer ++ (up.older ++ before) = ap (λ (ms : List Moment). ms ++ before) up.split ∙ append_assoc up.newer up.older before in
@@ -62,4 +62,4 @@ spreads_in_time w v open_ right a b (suc d) time before later below away come ne
           let holds_c : HoldsVersion w v away.0 (up.older ++ before) = on up.older quiets.0 up.last up.done (earlier-come w (up.older ++ before) up.newer come_all) (newest-earlier w v (up.older ++ before) up.newer newest_all) in
           subst (λ (ms : List Moment). HoldsVersion w v b ms) (sym whole)
           (hops_in_time w v open_ right away.0 b (time + 3 * longest w.description.trickle * d) (up.older ++ before) up.newer (linked-node w away.0 b open_ away.2) away.2 away.3 come_all newest_all quiets.1 up.last
-            (λ t early. done_all t (omega (arith, early, more_time (3 * longest w.description.trickle) time d))) holds_c)
+          (λ t early. done_all t (omega (arith, early, more_time (3 * longest w.description.trickle) time d))) holds_c)

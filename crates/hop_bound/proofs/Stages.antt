@@ -1,6 +1,6 @@
 -- The stages of one hop: the Vector, the request, the slot, the fragment.
-use Rattle.std.proofs.Common.{◌≡◌, ◌≢◌, ◌<◌, ◌≤◌, ℕ, zero, suc, ◌+◌, ◌*◌, ◌/◌, ◌%◌, Bool, true, false, cond, not, ◌&&◌, ◌||◌, IsTrue, List, [], ◌∷◌, ◌++◌, map, length, Option, Some, None, refl, sym, ◌∙◌, ap, subst, arith, inl, inr, ◌⊎◌}
-use Rattle.std.specs.Prelude.{is_some, nat_lt, nat_le, slice_index, ◌==◌, if◌then◌else◌}
+use Rattle.std.proofs.Common.{◌≡◌, ◌<◌, ◌≤◌, ℕ, ◌+◌, ◌*◌, ◌/◌, Bool, true, false, List, [], ◌∷◌, ◌++◌, length, Option, Some, None, refl, sym, ◌∙◌, ap, subst, arith, inl, inr}
+use Rattle.std.specs.Prelude.{nat_lt, slice_index, ◌==◌, if◌then◌else◌}
 use Rattle.std.specs.Int.{bit_at}
 use Rattle.std.specs.List.{cons_option}
 use Rattle.std.proofs.lemmas.Bool.{cases_lt}
@@ -8,31 +8,27 @@ use Rattle.std.proofs.lemmas.Bool.Decides.{eqb_tells}
 use Rattle.mate_num.specs.declared.id.HandlerId.{HandlerId}
 use Rattle.arrayvec.specs.ArrayVec.{ArrayVec}
 use Rattle.capsule_codec.specs.Fragments.{count_of, piece_at}
-use Rattle.vm_desc.specs.Limits.{longest, round_time}
-use Rattle.mate_journal.specs.Machine.{HeldProgram}
+use Rattle.vm_desc.specs.Limits.{longest}
 use Rattle.packet_codec.specs.declared.packet.Packet.{Packet}
-use Rattle.packet_codec.specs.declared.packet.Packet.TheVariants.{Vector, Status, Fragment, App}
+use Rattle.packet_codec.specs.declared.packet.Packet.TheVariants.{Vector}
 use Rattle.trickle_timer.specs.Intervals as trickle
-use Rattle.trickle_timer.specs.declared.timer.Fire.{Fire}
-use Rattle.trickle_timer.specs.declared.timer.Fire.TheVariants as fire
-use Rattle.capsule_exchange.specs.Happenings.{Happening, Hears, Installs, held_version, held_image, held_versions, heard_since, target_version, Part, part_in, target_parts, complete_version, completed_by, asks_after, is_marked_slot, next_slot, fragment_for}
+use Rattle.capsule_exchange.specs.Happenings.{Happening, Hears, held_version, held_image, held_versions, heard_since, target_version, Part, part_in, target_parts, complete_version, completed_by, asks_after, is_marked_slot, next_slot, fragment_for}
 use Rattle.world_rules.specs.Cause.{Cause}
 use Rattle.world_rules.specs.Cause as event
-use Rattle.world_rules.specs.World.{World, handlers, receiver, links_from, loss}
-use Rattle.world_rules.specs.Effect.{Node, NodeEffect, node_effect, of_packet, of_fragment, of_point, of_slot, event_node, resets}
-use Rattle.world_rules.specs.State.{Moment, WorldState, packets_of, messages, node_at, effect_at, after_moment, state}
-use Rattle.world_rules.specs.Run.{MayCome, HaveCome, IsDone}
-use Rattle.hop_bound.specs.Hops.{HasLink, IsAway}
-use Rattle.world_laws.specs.Times.{last_time, NeverResets, Fires, StandsIn}
-use Rattle.world_laws.specs.Slots.{IsSparing, AreSparing, SendsSlot}
+use Rattle.world_rules.specs.World.{World, handlers, receiver, links_from}
+use Rattle.world_rules.specs.Effect.{of_fragment, of_point, of_slot, event_node}
+use Rattle.world_rules.specs.State.{Moment, WorldState, packets_of, messages, node_at, after_moment, state}
+use Rattle.world_rules.specs.Run.{HaveCome}
+use Rattle.hop_bound.specs.Hops.{HasLink}
+use Rattle.world_laws.specs.Times.{last_time, NeverResets, Fires}
+use Rattle.world_laws.specs.Slots.{AreSparing, SendsSlot}
 use Rattle.world_laws.specs.Causes.{HasEvent}
 use Rattle.world_images.specs.Newest.{Version, IsWorldVersion, IsNewest}
-use Rattle.hop_bound.specs.Spread.{IsOpenWorld, IsQuiet, AreQuiet, HoldsVersion, HopsInTime, SpreadsInTime}
-use Rattle.world_laws.proofs.Among.{Among, among-left}
+use Rattle.hop_bound.specs.Spread.{IsOpenWorld, AreQuiet, HopsInTime}
+use Rattle.world_laws.proofs.Among.{Among}
 use Rattle.world_laws.proofs.Points.{fires_in_time}
 use Rattle.world_laws.proofs.Pumps.{sends_in_time}
-use Rattle.world_laws.proofs.Happens.{happens}
-use Rattle.world_images.proofs.Collect.{IsTame, AreTame, Has, IsAlike, parts-alike, target-stays, parts-grow, has-got, complete-all, at-range}
+use Rattle.world_images.proofs.Collect.{IsTame, AreTame, Has, parts-alike, target-stays, parts-grow, has-got, complete-all, at-range}
 use Rattle.world_images.proofs.Tame.{IsTameNode, IsTameWorld, run-tame}
 use Rattle.hop_bound.proofs.Hop.{held-stays, Aims, Seeks, seeks-on, Stays, node-stays, no-install, tame-cause, Onward, stays-along, Middle, middle, whole-is, link-at, sent-due, arrives, got-exchange, got-sends, own_status, vector-got, status-got, own_fragment, fragment-is}
 
@@ -114,31 +110,31 @@ stage-fragment w v now rest by j number i t right on early waits seeks = arrived
   arrived : HasEvent rest t (event.Deliver j number (own_fragment v i)) → At w (Seeks v (λ k. k ≡ i)) (receiver w j) (rest ++ now)
   arrived came = to-end w v (Seeks v (λ k. k ≡ i)) (receiver w j) now rest came.older came.newer came.moment by right (seeking w v (λ k. k ≡ i)) mid came.split
       (subst (λ (hs : List Happening). Seeks v (λ k. k ≡ i) hs) (sym there)
-        (fragment-got v hs i (completed_by (own_fragment v i) hs) refl tame (world.nodes (receiver w j)).heard_tame
-          (before-middle w v (Seeks v (λ k. ⊥)) (receiver w j) now came.moment came.older came.newer by right (seeking w v (λ k. ⊥)) mid seeks) kept)) where
-            mid : Middle w v now came.moment came.older came.newer by
-            mid = middle w v now rest came.older came.newer came.moment by on came.split
+      (fragment-got v hs i (completed_by (own_fragment v i) hs) refl tame (world.nodes (receiver w j)).heard_tame
+      (before-middle w v (Seeks v (λ k. ⊥)) (receiver w j) now came.moment came.older came.newer by right (seeking w v (λ k. ⊥)) mid seeks) kept)) where
+        mid : Middle w v now came.moment came.older came.newer by
+        mid = middle w v now rest came.older came.newer came.moment by on came.split
 
-            world : IsTameWorld w v (state w (came.older ++ now))
-            world = tame-there w v now came.moment came.older came.newer by right (middle w v now rest came.older came.newer came.moment by on came.split)
+        world : IsTameWorld w v (state w (came.older ++ now))
+        world = tame-there w v now came.moment came.older came.newer by right (middle w v now rest came.older came.newer came.moment by on came.split)
 
-            hs : List Happening
-            hs = ((state w (came.older ++ now)).nodes (receiver w j)).exchange
+        hs : List Happening
+        hs = ((state w (came.older ++ now)).nodes (receiver w j)).exchange
 
-            tame : IsTame v (own_fragment v i)
-            tame = tame-cause w v (state w (came.older ++ now)) came.moment (middle w v now rest came.older came.newer came.moment by on came.split).come.1
-                (tame-there w v now came.moment came.older came.newer by right (middle w v now rest came.older came.newer came.moment by on came.split)) j number (own_fragment v i) came.cause
+        tame : IsTame v (own_fragment v i)
+        tame = tame-cause w v (state w (came.older ++ now)) came.moment (middle w v now rest came.older came.newer came.moment by on came.split).come.1
+            (tame-there w v now came.moment came.older came.newer by right (middle w v now rest came.older came.newer came.moment by on came.split)) j number (own_fragment v i) came.cause
 
-            there : ((state w (came.moment ∷ (came.older ++ now))).nodes (receiver w j)).exchange
-                ≡ (of_fragment (own_fragment v i) ((state w (came.older ++ now)).nodes (receiver w j)).exchange (completed_by (own_fragment v i) ((state w (came.older ++ now)).nodes (receiver w j)).exchange)).happened ++ ((state w (came.older ++ now)).nodes (receiver w j)).exchange
-            there = got-exchange w (state w (came.older ++ now)) came.moment j number (own_fragment v i) came.cause
+        there : ((state w (came.moment ∷ (came.older ++ now))).nodes (receiver w j)).exchange
+            ≡ (of_fragment (own_fragment v i) ((state w (came.older ++ now)).nodes (receiver w j)).exchange (completed_by (own_fragment v i) ((state w (came.older ++ now)).nodes (receiver w j)).exchange)).happened ++ ((state w (came.older ++ now)).nodes (receiver w j)).exchange
+        there = got-exchange w (state w (came.older ++ now)) came.moment j number (own_fragment v i) came.cause
 
-            kept : held_version v.handler ((state w (came.older ++ now)).nodes (receiver w j)).exchange ≡ v.version
-                → held_version v.handler ((of_fragment (own_fragment v i) ((state w (came.older ++ now)).nodes (receiver w j)).exchange (completed_by (own_fragment v i) ((state w (came.older ++ now)).nodes (receiver w j)).exchange)).happened ++ ((state w (came.older ++ now)).nodes (receiver w j)).exchange) ≡ v.version
-            kept holds = subst (λ (hs : List Happening). held_version v.handler hs ≡ v.version) (got-exchange w (state w (came.older ++ now)) came.moment j number (own_fragment v i) came.cause)
-                (node-stays w v (Holding v) (state w (came.older ++ now)) came.moment (receiver w j) (holding w v) (middle w v now rest came.older came.newer came.moment by on came.split).come.1
-                  (tame-there w v now came.moment came.older came.newer by right (middle w v now rest came.older came.newer came.moment by on came.split))
-                  (middle w v now rest came.older came.newer came.moment by on came.split).quiet holds)
+        kept : held_version v.handler ((state w (came.older ++ now)).nodes (receiver w j)).exchange ≡ v.version
+            → held_version v.handler ((of_fragment (own_fragment v i) ((state w (came.older ++ now)).nodes (receiver w j)).exchange (completed_by (own_fragment v i) ((state w (came.older ++ now)).nodes (receiver w j)).exchange)).happened ++ ((state w (came.older ++ now)).nodes (receiver w j)).exchange) ≡ v.version
+        kept holds = subst (λ (hs : List Happening). held_version v.handler hs ≡ v.version) (got-exchange w (state w (came.older ++ now)) came.moment j number (own_fragment v i) came.cause)
+            (node-stays w v (Holding v) (state w (came.older ++ now)) came.moment (receiver w j) (holding w v) (middle w v now rest came.older came.newer came.moment by on came.split).come.1
+            (tame-there w v now came.moment came.older came.newer by right (middle w v now rest came.older came.newer came.moment by on came.split))
+            (middle w v now rest came.older came.newer came.moment by on came.split).quiet holds)
 
 -- ---- the slot
 
@@ -214,7 +210,7 @@ stage-slot w v now rest by a b i time open_ right on below linked within last ro
         arrived = stage-fragment w v (found.moment ∷ (found.older ++ now)) found.newer by link.0 due.0 i (found.moment.time + w.description.radio.delay) right (middle w v now rest found.older found.newer found.moment by on found.split).onward
             (omega (arith, found.in_time, room)) due.1
             (past-middle w v (Seeks v (λ k. ⊥)) (receiver w link.0) now found.moment found.older found.newer by right (seeking w v (λ k. ⊥)) (middle w v now rest found.older found.newer found.moment by on found.split)
-              (subst (λ (k : ℕ). At w (Seeks v (λ n. ⊥)) k now) (sym link.2) seeks))
+            (subst (λ (k : ℕ). At w (Seeks v (λ n. ⊥)) k now) (sym link.2) seeks))
 
 -- ---- the request
 
@@ -226,24 +222,24 @@ stage-status w v now rest by a b i j number missing t open_ right on below linke
       arrived : HasEvent rest t (event.Deliver j number (own_status v missing)) → At w (Seeks v (λ k. k ≡ i)) b (rest ++ now)
       arrived came = subst (λ (ms : List Moment). At w (Seeks v (λ k. k ≡ i)) b ms) (sym (whole-is now rest came.older came.newer came.moment came.split))
           (stage-slot w v (came.moment ∷ (came.older ++ now)) came.newer by a b i t open_ right mid.onward below linked within (omega (arith, came.time)) room marked
-            (past-middle w v (Holding v) a now came.moment came.older came.newer by right (holding w v) mid holds)
-            (past-middle w v (Seeks v (λ k. ⊥)) b now came.moment came.older came.newer by right (seeking w v (λ k. ⊥)) mid seeks)) where
-              mid : Middle w v now came.moment came.older came.newer by
-              mid = middle w v now rest came.older came.newer came.moment by on came.split
+          (past-middle w v (Holding v) a now came.moment came.older came.newer by right (holding w v) mid holds)
+          (past-middle w v (Seeks v (λ k. ⊥)) b now came.moment came.older came.newer by right (seeking w v (λ k. ⊥)) mid seeks)) where
+            mid : Middle w v now came.moment came.older came.newer by
+            mid = middle w v now rest came.older came.newer came.moment by on came.split
 
-              held_there : At w (Holding v) a (came.older ++ now)
-              held_there = before-middle w v (Holding v) a now came.moment came.older came.newer by right (holding w v) (middle w v now rest came.older came.newer came.moment by on came.split) holds
+            held_there : At w (Holding v) a (came.older ++ now)
+            held_there = before-middle w v (Holding v) a now came.moment came.older came.newer by right (holding w v) (middle w v now rest came.older came.newer came.moment by on came.split) holds
 
-              image_there : held_image v.handler ((state w (came.older ++ now)).nodes a).exchange ≡ v.image
-              image_there = ((tame-there w v now came.moment came.older came.newer by right (middle w v now rest came.older came.newer came.moment by on came.split)).nodes a).image held_there
+            image_there : held_image v.handler ((state w (came.older ++ now)).nodes a).exchange ≡ v.image
+            image_there = ((tame-there w v now came.moment came.older came.newer by right (middle w v now rest came.older came.newer came.moment by on came.split)).nodes a).image held_there
 
-              there : ((state w (came.moment ∷ (came.older ++ now))).nodes a).exchange ≡ Hears (own_status v missing) ∷ ((state w (came.older ++ now)).nodes a).exchange
-              there = subst (λ (k : ℕ). ((state w (came.moment ∷ (came.older ++ now))).nodes k).exchange ≡ Hears (own_status v missing) ∷ ((state w (came.older ++ now)).nodes k).exchange) to_a
-                  (got-exchange w (state w (came.older ++ now)) came.moment j number (own_status v missing) came.cause)
+            there : ((state w (came.moment ∷ (came.older ++ now))).nodes a).exchange ≡ Hears (own_status v missing) ∷ ((state w (came.older ++ now)).nodes a).exchange
+            there = subst (λ (k : ℕ). ((state w (came.moment ∷ (came.older ++ now))).nodes k).exchange ≡ Hears (own_status v missing) ∷ ((state w (came.older ++ now)).nodes k).exchange) to_a
+                (got-exchange w (state w (came.older ++ now)) came.moment j number (own_status v missing) came.cause)
 
-              marked : is_marked_slot ((state w (came.moment ∷ (came.older ++ now))).nodes a).exchange (22 * v.handler + i) ≡ true
-              marked = subst (λ (hs : List Happening). is_marked_slot hs (22 * v.handler + i) ≡ true) (sym there)
-                  (status-got v ((state w (came.older ++ now)).nodes a).exchange missing i held_there image_there within (omega (arith, within, right.few)) bit)
+            marked : is_marked_slot ((state w (came.moment ∷ (came.older ++ now))).nodes a).exchange (22 * v.handler + i) ≡ true
+            marked = subst (λ (hs : List Happening). is_marked_slot hs (22 * v.handler + i) ≡ true) (sym there)
+                (status-got v ((state w (came.older ++ now)).nodes a).exchange missing i held_there image_there within (omega (arith, within, right.few)) bit)
 
 -- ---- the Vector
 
@@ -277,15 +273,15 @@ stage-vector w v now rest by a b i j number t versions open_ right on below link
             → Among (own_status v missing) (asks_after (handlers w) (Vector versions) ((state w (came.older ++ now)).nodes b).exchange) → bit_at missing i ≡ 1 → At w (Seeks v (λ k. k ≡ i)) b (rest ++ now)
         asks seeks missing among bit = subst (λ (ms : List Moment). At w (Seeks v (λ k. k ≡ i)) b ms) (sym (whole-is now rest came.older came.newer came.moment came.split))
             (stage-status w v (came.moment ∷ (came.older ++ now)) came.newer by a b i link.0 due.0 missing (came.moment.time + w.description.radio.delay) open_ right mid.onward below linked within
-              (omega (arith, came.time, room)) link.2 bit due.1
-              (past-middle w v (Holding v) a now came.moment came.older came.newer by right (holding w v) mid holds)
-              (subst (λ (hs : List Happening). Seeks v (λ k. ⊥) hs) (sym there) seeks)) where
-                sends : Among (own_status v missing) (packets_of w (state w (came.older ++ now)) came.moment)
-                sends = got-sends w (state w (came.older ++ now)) came.moment j number (Vector versions) (own_status v missing) came.cause
-                    (subst (λ (k : ℕ). Among (own_status v missing) (asks_after (handlers w) (Vector versions) ((state w (came.older ++ now)).nodes k).exchange)) (sym to_b) among)
+            (omega (arith, came.time, room)) link.2 bit due.1
+            (past-middle w v (Holding v) a now came.moment came.older came.newer by right (holding w v) mid holds)
+            (subst (λ (hs : List Happening). Seeks v (λ k. ⊥) hs) (sym there) seeks)) where
+              sends : Among (own_status v missing) (packets_of w (state w (came.older ++ now)) came.moment)
+              sends = got-sends w (state w (came.older ++ now)) came.moment j number (Vector versions) (own_status v missing) came.cause
+                  (subst (λ (k : ℕ). Among (own_status v missing) (asks_after (handlers w) (Vector versions) ((state w (came.older ++ now)).nodes k).exchange)) (sym to_b) among)
 
-                due : (number : ℕ) × Among (event.Deliver link.0 number (own_status v missing)) ((after_moment w (state w (came.older ++ now)) came.moment).due (came.moment.time + w.description.radio.delay))
-                due = sent-due w (state w (came.older ++ now)) came.moment (own_status v missing) link.0 sends (subst (λ (k : ℕ). Among link.0 (links_from w k)) (sym node_is) link.1) (open_.lossless link.0)
+              due : (number : ℕ) × Among (event.Deliver link.0 number (own_status v missing)) ((after_moment w (state w (came.older ++ now)) came.moment).due (came.moment.time + w.description.radio.delay))
+              due = sent-due w (state w (came.older ++ now)) came.moment (own_status v missing) link.0 sends (subst (λ (k : ℕ). Among link.0 (links_from w k)) (sym node_is) link.1) (open_.lossless link.0)
 
 -- ---- the point
 
@@ -314,29 +310,29 @@ stage-fire w v a b i time before later open_ right on below linked back last wit
       fired : Fires a (time + 2 * longest w.description.trickle) later → At w (Seeks v (λ k. k ≡ i)) b (later ++ before)
       fired found = subst (λ (ms : List Moment). At w (Seeks v (λ k. k ≡ i)) b ms) (sym (whole-is before later found.among.older found.among.newer found.moment found.among.split))
           (stage-vector w v (found.moment ∷ (found.among.older ++ before)) found.among.newer (time + 3 * longest w.description.trickle) a b i link.0 due.0 (found.moment.time + w.description.radio.delay)
-            (record { items = held_versions (handlers w) ((state w (found.among.older ++ before)).nodes a).exchange }) open_ right mid.onward below linked back within
-            (omega (arith, found.in_time, round)) link.2 value due.1
-            (past-middle w v (Holding v) a before found.moment found.among.older found.among.newer (time + 3 * longest w.description.trickle) right (holding w v) mid holds)) where
-              mid : Middle w v before found.moment found.among.older found.among.newer (time + 3 * longest w.description.trickle)
-              mid = middle w v before later found.among.older found.among.newer found.moment (time + 3 * longest w.description.trickle) on found.among.split
+          (record { items = held_versions (handlers w) ((state w (found.among.older ++ before)).nodes a).exchange }) open_ right mid.onward below linked back within
+          (omega (arith, found.in_time, round)) link.2 value due.1
+          (past-middle w v (Holding v) a before found.moment found.among.older found.among.newer (time + 3 * longest w.description.trickle) right (holding w v) mid holds)) where
+            mid : Middle w v before found.moment found.among.older found.among.newer (time + 3 * longest w.description.trickle)
+            mid = middle w v before later found.among.older found.among.newer found.moment (time + 3 * longest w.description.trickle) on found.among.split
 
-              held_there : At w (Holding v) a (found.among.older ++ before)
-              held_there = before-middle w v (Holding v) a before found.moment found.among.older found.among.newer (time + 3 * longest w.description.trickle) right (holding w v)
-                  (middle w v before later found.among.older found.among.newer found.moment (time + 3 * longest w.description.trickle) on found.among.split) holds
+            held_there : At w (Holding v) a (found.among.older ++ before)
+            held_there = before-middle w v (Holding v) a before found.moment found.among.older found.among.newer (time + 3 * longest w.description.trickle) right (holding w v)
+                (middle w v before later found.among.older found.among.newer found.moment (time + 3 * longest w.description.trickle) on found.among.split) holds
 
-              value : slice_index (held_versions (handlers w) ((state w (found.among.older ++ before)).nodes a).exchange) v.handler ≡ v.version
-              value = at-range (λ (h : ℕ). held_version h ((state w (found.among.older ++ before)).nodes a).exchange) 0 0 (handlers w) v.handler right.handler
-                  ∙ ap (λ (h : ℕ). held_version h ((state w (found.among.older ++ before)).nodes a).exchange) (let e : 0 + v.handler ≡ v.handler = omega arith in e) ∙ held_there
+            value : slice_index (held_versions (handlers w) ((state w (found.among.older ++ before)).nodes a).exchange) v.handler ≡ v.version
+            value = at-range (λ (h : ℕ). held_version h ((state w (found.among.older ++ before)).nodes a).exchange) 0 0 (handlers w) v.handler right.handler
+                ∙ ap (λ (h : ℕ). held_version h ((state w (found.among.older ++ before)).nodes a).exchange) (let e : 0 + v.handler ≡ v.handler = omega arith in e) ∙ held_there
 
-              link : (j : ℕ) × Among j (links_from w a) × (receiver w j ≡ b)
-              link = link-at w a b linked
+            link : (j : ℕ) × Among j (links_from w a) × (receiver w j ≡ b)
+            link = link-at w a b linked
 
-              node_is : event_node w found.moment.cause ≡ a
-              node_is = ap (event_node w) found.cause
+            node_is : event_node w found.moment.cause ≡ a
+            node_is = ap (event_node w) found.cause
 
-              due : (number : ℕ) × Among (event.Deliver link.0 number (Vector (record { items = held_versions (handlers w) ((state w (found.among.older ++ before)).nodes a).exchange }))) ((after_moment w (state w (found.among.older ++ before)) found.moment).due (found.moment.time + w.description.radio.delay))
-              due = sent-due w (state w (found.among.older ++ before)) found.moment (Vector (record { items = held_versions (handlers w) ((state w (found.among.older ++ before)).nodes a).exchange })) link.0
-                  (fire-sends w (state w (found.among.older ++ before)) found.moment a found.cause open_.loud) (subst (λ (k : ℕ). Among link.0 (links_from w k)) (sym node_is) link.1) (open_.lossless link.0)
+            due : (number : ℕ) × Among (event.Deliver link.0 number (Vector (record { items = held_versions (handlers w) ((state w (found.among.older ++ before)).nodes a).exchange }))) ((after_moment w (state w (found.among.older ++ before)) found.moment).due (found.moment.time + w.description.radio.delay))
+            due = sent-due w (state w (found.among.older ++ before)) found.moment (Vector (record { items = held_versions (handlers w) ((state w (found.among.older ++ before)).nodes a).exchange })) link.0
+                (fire-sends w (state w (found.among.older ++ before)) found.moment a found.cause open_.loud) (subst (λ (k : ℕ). Among link.0 (links_from w k)) (sym node_is) link.1) (open_.lossless link.0)
 
 -- ---- the hop
 
@@ -364,7 +360,7 @@ hops_in_time w v open_ right a b time before later below linked back come newest
       clash less =
           let first = aims 0 less (seeks 0 (omega (arith, right.some))) in
           let whole : complete_version v.handler ((state w (later ++ before)).nodes b).exchange ≡ v.version = complete-all v ((state w (later ++ before)).nodes b).exchange first.0.0 node.heard_tame right.some
-              (λ i within. (aims i less (seeks i within)).1) in
+          (λ i within. (aims i less (seeks i within)).1) in
           let none : complete_version v.handler ((state w (later ++ before)).nodes b).exchange ≡ 0 = node.none_waits in
           let low : 1 ≤ v.version = right.low in
           omega (arith, whole, none, low)

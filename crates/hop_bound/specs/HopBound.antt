@@ -1,5 +1,5 @@
 -- The hop bound: an injected version reaches each node in time.
-use Rattle.std.specs.Prelude.{◌≡◌, ℕ, ◌+◌, ◌*◌, ◌<◌, ◌≤◌, false, List, [], ◌∷◌, ◌++◌}
+use Rattle.std.specs.Prelude.{◌≡◌, ℕ, ◌+◌, ◌*◌, ◌<◌, ◌≤◌, false, List, ◌∷◌, ◌++◌}
 use Rattle.vm_desc.specs.Limits.{longest}
 use Rattle.mate_journal.specs.Machine.{HeldProgram}
 use Rattle.world_rules.specs.Cause.{Cause}
@@ -11,7 +11,7 @@ use Rattle.world_rules.specs.Run.{HaveCome, IsDone}
 use Rattle.hop_bound.specs.Hops.{IsAway}
 use Rattle.world_laws.specs.Times.{last_time}
 use Rattle.world_images.specs.Newest.{Version, IsWorldVersion}
-use Rattle.hop_bound.specs.Spread.{IsOpenWorld, HoldsVersion}
+use Rattle.hop_bound.specs.Spread.{HoldsVersion}
 use Rattle.world_images.specs.Versions.{InjectsAt, IsOneImage}
 use Rattle.world_images.specs.Lines.{IsPlanTimely}
 

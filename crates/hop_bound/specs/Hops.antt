@@ -1,5 +1,5 @@
 -- Hops over pairs of nodes that have links both ways.
-use Rattle.std.specs.Prelude.{◌≡◌, ℕ, zero, suc, List, Contains}
+use Rattle.std.specs.Prelude.{◌≡◌, ℕ, zero, suc, Contains}
 use Rattle.script_reader.specs.declared.world.Link.{Link}
 use Rattle.world_rules.specs.World.{World}
 

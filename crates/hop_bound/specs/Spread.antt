@@ -1,16 +1,13 @@
 -- How a version spreads: one hop, and many.
-use Rattle.std.specs.Prelude.{◌≡◌, ℕ, suc, ◌+◌, ◌*◌, ◌<◌, ◌≤◌, Bool, true, false, nat_lt, List, [], ◌∷◌, ◌++◌, length, slice_index, Contains}
+use Rattle.std.specs.Prelude.{◌≡◌, ℕ, ◌+◌, ◌*◌, ◌<◌, ◌≤◌, false, List, [], ◌∷◌, ◌++◌, Contains}
 use Rattle.vm_desc.specs.Limits.{longest, round_time}
 use Rattle.mate_journal.specs.Machine.{HeldProgram}
-use Rattle.capsule_codec.specs.Fragments.{count_of}
-use Rattle.packet_codec.specs.declared.packet.Packet.{Packet}
-use Rattle.packet_codec.specs.declared.packet.Packet.TheVariants.{Vector, Status, Fragment, App}
-use Rattle.capsule_exchange.specs.Happenings.{Happening, held_version}
+use Rattle.capsule_exchange.specs.Happenings.{held_version}
 use Rattle.world_rules.specs.Cause.{Cause}
 use Rattle.world_rules.specs.Cause as event
 use Rattle.script_reader.specs.declared.world.Link.{Link}
 use Rattle.world_rules.specs.World.{World, handlers, loss}
-use Rattle.world_rules.specs.Effect.{Deed, Installing, event_node, resets}
+use Rattle.world_rules.specs.Effect.{Installing, resets}
 use Rattle.world_rules.specs.State.{Moment, WorldState, effect_at, state}
 use Rattle.world_rules.specs.Run.{HaveCome, IsDone}
 use Rattle.hop_bound.specs.Hops.{HasLink, IsAway}

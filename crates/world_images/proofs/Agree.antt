@@ -1,6 +1,6 @@
 -- The journal and the exchange agree on what is held.
-use Rattle.std.proofs.Common.{◌≡◌, ◌≢◌, ◌<◌, ◌+◌, ℕ, zero, suc, Bool, true, false, List, [], ◌∷◌, ◌++◌, length, Option, Some, None, refl, sym, ◌∙◌, ap, subst, arith, inl, inr, ◌⊎◌}
-use Rattle.std.specs.Prelude.{slice_get, ◌==◌, if◌then◌else◌, All, ℤ, IsTrue}
+use Rattle.std.proofs.Common.{◌≡◌, ◌≢◌, ◌+◌, ℕ, true, false, List, [], ◌∷◌, ◌++◌, Option, Some, None, refl, sym, ◌∙◌, ap, subst, inl, inr}
+use Rattle.std.specs.Prelude.{slice_get, ◌==◌, if◌then◌else◌, All, ℤ}
 use Rattle.std.specs.Option.{option_map_or}
 use Rattle.std.proofs.lemmas.List.Elements.{All-head, All-tail}
 use Rattle.std.proofs.lemmas.Bool.{cases_Bool, cases_lt}
@@ -20,13 +20,13 @@ use Rattle.packet_codec.specs.declared.packet.Packet.TheVariants.{Vector, Status
 use Rattle.trickle_timer.specs.Intervals as trickle
 use Rattle.trickle_timer.specs.declared.timer.Fire.{Fire}
 use Rattle.trickle_timer.specs.declared.timer.Fire.TheVariants as fire
-use Rattle.capsule_exchange.specs.Happenings.{Happening, Hears, Sends, Installs, Forgets, held_version, completed_by, next_slot}
+use Rattle.capsule_exchange.specs.Happenings.{Happening, held_version, completed_by, next_slot}
 use Rattle.world_rules.specs.Cause.{Cause}
 use Rattle.world_rules.specs.Cause as event
 use Rattle.world_rules.specs.World.{World, PlannedLine, Want, Inject, Post, Show, ResetNode, Noise, handlers}
 use Rattle.world_rules.specs.Effect.{Node, NodeEffect, Deed, Nothing, Installing, Posting, Answering, Showing, Resetting, no_effect, node_effect, of_line, of_packet, of_fragment, of_point, of_slot, event_node}
-use Rattle.world_rules.specs.State.{Moment, WorldState, node_at, effect_at, node_after, after_moment, state}
-use Rattle.world_rules.specs.Run.{FirstThen, Occasions, DeedMakes, MayCome, HaveCome}
+use Rattle.world_rules.specs.State.{node_at, effect_at, state}
+use Rattle.world_rules.specs.Run.{FirstThen, Occasions, DeedMakes}
 use Rattle.world_images.specs.Held.{HeldAgrees}
 use Rattle.world_laws.proofs.Points.{nodes-here, nodes-other}
 
@@ -146,11 +146,11 @@ event-after : (k : Clock) (m : Machine) (r : Reading) (q : Pace) (d : Deed) (tol
 event-after k m r q d told after h both =
     subst (λ (xs : List Told). (heard_told m r xs).installed h ≡ After d r.installed h) (sym both.made)
     (ap (λ (s : Reading). s.installed h) (hear-parts m r both.front both.rest)
-      ∙ ap (λ (f : HandlerId → Option HeldProgram). f h) (same-all m (heard_told m r both.front) both.rest (settles-none k m (heard_told m r both.front) (paced_all q both.front) both.rest after both.by_second))
-      ∙ deed-after k m r q d both.front h both.by_first) where
-        hear-parts : (m : Machine) (r : Reading) (xs ys : List Told) → heard_told m r (xs ++ ys) ≡ heard_told m (heard_told m r xs) ys
-        hear-parts m r [] ys = refl
-        hear-parts m r (x ∷ xs) ys = hear-parts m (heard m r x) xs ys
+    ∙ ap (λ (f : HandlerId → Option HeldProgram). f h) (same-all m (heard_told m r both.front) both.rest (settles-none k m (heard_told m r both.front) (paced_all q both.front) both.rest after both.by_second))
+    ∙ deed-after k m r q d both.front h both.by_first) where
+      hear-parts : (m : Machine) (r : Reading) (xs ys : List Told) → heard_told m r (xs ++ ys) ≡ heard_told m (heard_told m r xs) ys
+      hear-parts m r [] ys = refl
+      hear-parts m r (x ∷ xs) ys = hear-parts m (heard m r x) xs ys
 
 -- ---- what a deed does to the exchange's version
 

@@ -1,10 +1,10 @@
 -- What a node collects of the newest version.
-use Rattle.std.proofs.Common.{◌≡◌, ◌<◌, ◌≤◌, ℕ, zero, suc, ◌+◌, ◌*◌, max, Bool, true, false, cond, eqb, ltb, not, ◌&&◌, ◌||◌, IsTrue, List, [], ◌∷◌, ◌++◌, map, length, get_or, Option, Some, None, refl, sym, ◌∙◌, ap, subst, arith, inl, inr, ◌⊎◌}
+use Rattle.std.proofs.Common.{◌≡◌, ◌<◌, ◌≤◌, ℕ, zero, suc, ◌+◌, Bool, true, false, cond, ltb, ◌&&◌, IsTrue, List, [], ◌∷◌, ◌++◌, map, length, get_or, Option, Some, None, refl, sym, ◌∙◌, ap, subst, arith, inl, inr}
 use Rattle.std.specs.Prelude.{is_some, is_none, nat_lt, slice_index, ◌==◌, if◌then◌else◌}
 use Rattle.std.specs.Bool.{beq}
 use Rattle.std.specs.Int.{bit_at}
 use Rattle.std.specs.List.{filter, filter_map, list_all, range_with_len, cons_option}
-use Rattle.std.proofs.lemmas.Bool.{cases_Bool, cases_lt, ltb-true, ltb-false}
+use Rattle.std.proofs.lemmas.Bool.{cases_Bool, ltb-true, ltb-false}
 use Rattle.std.proofs.lemmas.Bool.Decides.{eqb_tells}
 use Rattle.std.proofs.lemmas.List.{append-nil}
 use Rattle.mate_num.specs.declared.id.HandlerId.{HandlerId}
@@ -12,11 +12,10 @@ use Rattle.arrayvec.specs.ArrayVec.{ArrayVec}
 use Rattle.capsule_codec.specs.Fragments.{count_of}
 use Rattle.packet_codec.specs.declared.packet.Packet.{Packet}
 use Rattle.packet_codec.specs.declared.packet.Packet.TheVariants.{Vector, Status, Fragment, App}
-use Rattle.capsule_exchange.specs.declared.handler_state.Form.{Form}
-use Rattle.capsule_exchange.specs.Happenings.{Happening, Hears, held_version, heard_since, version_in, greatest, target_version, Part, part_in, target_parts, collected_at, limit_of, places_of, gaps, mask_of, whole, collected_image, complete_version, completed_by}
+use Rattle.capsule_exchange.specs.Happenings.{Happening, Hears, held_version, heard_since, version_in, greatest, target_version, Part, part_in, target_parts, collected_at, limit_of, places_of, gaps, mask_of, whole, complete_version, completed_by}
 use Rattle.capsule_exchange.specs.Knowledge.{form_of}
 use Rattle.capsule_exchange.specs.Steps.{takes}
-use Rattle.capsule_exchange.proofs.CollectLemmas.{is_newer, target_next, target_over, parts_newer, parts_same, form_in, joins_parts, collected_push}
+use Rattle.capsule_exchange.proofs.CollectLemmas.{is_newer, target_next, parts_newer, parts_same, form_in, joins_parts, collected_push}
 use Rattle.capsule_exchange.proofs.LawLemmas.{gap_asked}
 use Rattle.world_images.specs.Newest.{Version}
 use Rattle.world_laws.proofs.Among.{Among}

@@ -1,22 +1,19 @@
 -- What is installed was injected: kept by each event.
-use Rattle.std.proofs.Common.{◌≡◌, ◌≢◌, ◌<◌, ◌≤◌, ℕ, zero, suc, ◌+◌, ◌*◌, ◌/◌, ◌%◌, Bool, true, false, cond, not, ◌&&◌, ◌||◌, List, [], ◌∷◌, ◌++◌, map, length, get_or, Option, Some, None, refl, sym, ◌∙◌, ap, subst, arith, inl, inr, ◌⊎◌}
-use Rattle.std.specs.Prelude.{is_some, nat_lt, slice_index, slice_get, slice_index_or, Contains, ◌==◌, if◌then◌else◌, unwrap_or}
+use Rattle.std.proofs.Common.{◌≡◌, ◌<◌, ℕ, zero, suc, ◌+◌, ◌*◌, ◌/◌, ◌%◌, Bool, true, false, not, ◌&&◌, ◌||◌, List, [], ◌∷◌, length, Some, None, refl, sym, ◌∙◌, ap, subst, arith, inl, inr, ◌⊎◌}
+use Rattle.std.specs.Prelude.{nat_lt, slice_index_or, ◌==◌, if◌then◌else◌}
 use Rattle.std.specs.Int.{bit_at}
-use Rattle.std.specs.List.{filter, filter_map, range_with_len}
-use Rattle.std.specs.Option.{option_map_or}
-use Rattle.std.proofs.lemmas.Bool.{cases_Bool, cases_lt, ltb-true}
+use Rattle.std.specs.List.{filter_map}
+use Rattle.std.proofs.lemmas.Bool.{ltb-true}
 use Rattle.std.proofs.lemmas.Bool.Decides.{eqb_tells}
-use Rattle.mate_num.specs.declared.id.HandlerId.{HandlerId}
 use Rattle.arrayvec.specs.ArrayVec.{ArrayVec}
 use Rattle.capsule_codec.specs.Fragments.{count_of, piece_at}
-use Rattle.mate_journal.specs.Machine.{HeldProgram}
 use Rattle.packet_codec.specs.declared.packet.Packet.{Packet}
 use Rattle.packet_codec.specs.declared.packet.Packet.TheVariants.{Vector, Status, Fragment, App}
-use Rattle.capsule_exchange.specs.Happenings.{Happening, Hears, Sends, Installs, Forgets, held_version, held_image, heard_since, target_version, Part, part_in, target_parts, places_of, whole, collected_image, completed_by, asks_of, is_marked, is_marked_slot, next_slot, fragment_for}
+use Rattle.capsule_exchange.specs.Happenings.{Happening, Hears, Sends, Installs, Forgets, held_version, held_image, heard_since, target_version, Part, part_in, target_parts, places_of, whole, collected_image, asks_of, is_marked, is_marked_slot, fragment_for}
 use Rattle.capsule_exchange.specs.Laws.{AreOf}
 use Rattle.capsule_exchange.proofs.LawLemmas.{one_image}
 use Rattle.world_rules.specs.World.{World}
-use Rattle.world_images.specs.Versions.{InjectsAt, WasInjected, IsOneImage}
+use Rattle.world_images.specs.Versions.{WasInjected, IsOneImage}
 use Rattle.world_laws.proofs.Among.{Among}
 use Rattle.world_laws.proofs.Points.{among-filter_map}
 use Rattle.world_rules.specs.State.{Moment}

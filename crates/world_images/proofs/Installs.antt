@@ -1,11 +1,8 @@
 -- The installs of a node over a whole run.
-use Rattle.std.proofs.Common.{◌≡◌, ◌≢◌, ◌<◌, ◌≤◌, ℕ, true, false, List, [], ◌∷◌, ◌++◌, refl, sym, ◌∙◌, ap, subst, arith, inl, inr, ◌⊎◌}
-use Rattle.std.specs.Prelude.{◌==◌, if◌then◌else◌}
-use Rattle.std.proofs.lemmas.Bool.{cases_Bool}
+use Rattle.std.proofs.Common.{◌≡◌, ◌<◌, ◌≤◌, ℕ, List, [], ◌∷◌, ◌++◌, refl, sym, ◌∙◌, ap, subst, arith, inl, inr, ◌⊎◌}
 use Rattle.std.proofs.lemmas.Bool.Decides.{eqb_tells}
-use Rattle.mate_num.specs.declared.id.HandlerId.{HandlerId}
 use Rattle.mate_journal.specs.Machine.{Machine, HeldProgram}
-use Rattle.mate_journal.specs.Journal.{Told, Installed, Seen, Reading, heard, held, heard_told}
+use Rattle.mate_journal.specs.Journal.{Told, Installed, Seen, Reading, heard_told}
 use Rattle.mate_journal.specs.Pace.{Pace, paced_all}
 use Rattle.mate_journal.specs.Turns.{Clock}
 use Rattle.capsule_exchange.specs.Happenings.{held_version}
@@ -140,7 +137,7 @@ held_was_installed w k h (m ∷ before) come some = elim (eqb_tells k (event_nod
 
   here : (1 ≤ held_version h ((state w before).nodes k).exchange → WasInstalled w before k h (held_version h ((state w before).nodes k).exchange)) → k ≡ event_node w m.cause
       → (HeldAfter (effect_at w (state w before) m).deed h (held_version h (node_at w (state w before) m).exchange) ≡ held_version h (node_at w (state w before) m).exchange)
-        ⊎ ((p : HeldProgram) × ((effect_at w (state w before) m).deed ≡ Installing p) × (p.handler.0 ≡ h) × (HeldAfter (effect_at w (state w before) m).deed h (held_version h (node_at w (state w before) m).exchange) ≡ p.version))
+      ⊎ ((p : HeldProgram) × ((effect_at w (state w before) m).deed ≡ Installing p) × (p.handler.0 ≡ h) × (HeldAfter (effect_at w (state w before) m).deed h (held_version h (node_at w (state w before) m).exchange) ≡ p.version))
       → WasInstalled w (m ∷ before) k h (held_version h ((state w (m ∷ before)).nodes k).exchange)
   here earlier same (inl kept) = as_before earlier (held_then same ∙ kept ∙ ap (λ (i : ℕ). held_version h ((state w before).nodes i).exchange) (sym same))
   here earlier same (inr found) = record {
@@ -168,10 +165,10 @@ installs_rise w before later x y p q come node tells_y tells_x handler =
     let come_y : HaveCome w (y ∷ before) = earlier-come w (y ∷ before) later come.0 in
     let held_y : held_version p.handler.0 ((state w (y ∷ before)).nodes (event_node w y.cause)).exchange ≡ p.version = held-now w before y p (installs_its_own w before y p come_y tells_y) in
     let never : held_version p.handler.0 ((state w (y ∷ before)).nodes (event_node w y.cause)).exchange ≤ held_version p.handler.0 ((state w (later ++ (y ∷ before))).nodes (event_node w y.cause)).exchange
-        = held_never_falls w (event_node w y.cause) p.handler.0 (y ∷ before) later come.0 in
+    = held_never_falls w (event_node w y.cause) p.handler.0 (y ∷ before) later come.0 in
     let newer : held_version q.handler.0 ((state w (later ++ (y ∷ before))).nodes (event_node w x.cause)).exchange < q.version
-        = newer-than w (later ++ (y ∷ before)) x q come (installs_its_own w (later ++ (y ∷ before)) x q come tells_x) in
+    = newer-than w (later ++ (y ∷ before)) x q come (installs_its_own w (later ++ (y ∷ before)) x q come tells_x) in
     let same : held_version p.handler.0 ((state w (later ++ (y ∷ before))).nodes (event_node w y.cause)).exchange < q.version
-        = subst (λ (h : ℕ). held_version h ((state w (later ++ (y ∷ before))).nodes (event_node w y.cause)).exchange < q.version) (sym handler)
-          (subst (λ (k : ℕ). held_version q.handler.0 ((state w (later ++ (y ∷ before))).nodes k).exchange < q.version) node newer) in
+    = subst (λ (h : ℕ). held_version h ((state w (later ++ (y ∷ before))).nodes (event_node w y.cause)).exchange < q.version) (sym handler)
+    (subst (λ (k : ℕ). held_version q.handler.0 ((state w (later ++ (y ∷ before))).nodes k).exchange < q.version) node newer) in
     omega (arith, held_y, never, same)

@@ -1,7 +1,7 @@
 -- The lines of a script come in their order.
-use Rattle.std.proofs.Common.{◌≡◌, ◌≢◌, ◌<◌, ◌≤◌, ℕ, zero, suc, ◌+◌, Bool, true, false, cond, List, [], ◌∷◌, ◌++◌, drop, refl, sym, ◌∙◌, ap, subst, arith, inl, inr, ◌⊎◌}
-use Rattle.std.specs.Prelude.{Option, Some, None, slice_get, ◌==◌, if◌then◌else◌}
-use Rattle.std.specs.List.{filter, flat_map, filter_map, range_with_len, cons_option}
+use Rattle.std.proofs.Common.{◌≡◌, ◌≢◌, ◌<◌, ◌≤◌, ℕ, suc, ◌+◌, Bool, true, false, cond, List, [], ◌∷◌, ◌++◌, drop, refl, sym, ◌∙◌, ap, subst, arith, inl, inr, ◌⊎◌}
+use Rattle.std.specs.Prelude.{Some, None, slice_get, ◌==◌, if◌then◌else◌}
+use Rattle.std.specs.List.{filter, flat_map, range_with_len, cons_option}
 use Rattle.std.proofs.lemmas.List.Elements.{filter_map-append}
 use Rattle.std.proofs.lemmas.Bool.{cases_lt}
 use Rattle.std.proofs.lemmas.Bool.Decides.{eqb_tells}
@@ -10,9 +10,9 @@ use Rattle.world_rules.specs.Cause as event
 use Rattle.world_rules.specs.World.{World, PlannedLine}
 use Rattle.world_rules.specs.Effect.{event_node, begun_length}
 use Rattle.world_rules.specs.State.{Moment, WorldState, Scheduled, at_this, of_time, of_interval, node_at, effect_at, node_after, schedules, is_kept, is_some_length, left_due, after_moment, start_node, lines_from, first_of, world_start, state}
-use Rattle.world_rules.specs.Run.{IsNext, MayCome, HaveCome}
+use Rattle.world_rules.specs.Run.{IsNext, HaveCome}
 use Rattle.world_images.specs.Lines.{IsPlanTimely, LinesInOrder}
-use Rattle.world_laws.proofs.Among.{Among, among-append, among-unfilter, among-flat_map, among-behind, among-un_of_time, none-among, apart}
+use Rattle.world_laws.proofs.Among.{Among, among-append, among-unfilter, among-flat_map, among-un_of_time, apart}
 use Rattle.world_laws.proofs.Due.{at, due-from, kind, Source, period, interval, delivery, pump, answer, source}
 use Rattle.world_laws.proofs.Points.{among-next, next-before, period-kind}
 
@@ -135,7 +135,7 @@ lines-start w = record {
   ];
   rising = λ t. subst Rising (sym (of_time-append t (lines_from 0 w.plan) (flat_map (first_of w) (range_with_len 0 w.nodes))))
       (rising-append (of_time t (lines_from 0 w.plan)) (of_time t (flat_map (first_of w) (range_with_len 0 w.nodes))) (lines-rising 0 w.plan t)
-        (λ j a. nodes-no_line w t j (among-un_of_time t (event.Planned j) (flat_map (first_of w) (range_with_len 0 w.nodes)) a)));
+      (λ j a. nodes-no_line w t j (among-un_of_time t (event.Planned j) (flat_map (first_of w) (range_with_len 0 w.nodes)) a)));
 }
 
 run-lines : (w : World) (ms : List Moment) → LinesDue w (state w ms)
@@ -154,7 +154,7 @@ after-line w s y i j t timely lines next is a = elim (eqb_tells t y.time) [ inl 
   now : (t == y.time) ≡ true → t ≡ y.time → i < j
   now test same =
       let behind : Among (event.Planned j) (drop 1 (s.due t)) = (among-unfilter (is_kept (event_node w y.cause) (effect_at w s y) (is_some_length (begun_length (node_at w s y) (effect_at w s y)))) (event.Planned j) (drop 1 (s.due t))
-        (subst (λ (b : Bool). Among (event.Planned j) (filter (is_kept (event_node w y.cause) (effect_at w s y) (is_some_length (begun_length (node_at w s y) (effect_at w s y)))) (if b then drop 1 (s.due t) else s.due t))) test stays)).0 in
+      (subst (λ (b : Bool). Among (event.Planned j) (filter (is_kept (event_node w y.cause) (effect_at w s y) (is_some_length (begun_length (node_at w s y) (effect_at w s y)))) (if b then drop 1 (s.due t) else s.due t))) test stays)).0 in
       let due_is : s.due t ≡ y.cause ∷ next.others = ap s.due same ∙ next.due in
       let rises : Rising (y.cause ∷ next.others) = subst Rising due_is (lines.rising t) in
       rises.0 i j is (subst (λ (es : List Cause). Among (event.Planned j) (drop 1 es)) due_is behind)

@@ -1,13 +1,9 @@
 -- Nothing newer is installed than was injected.
-use Rattle.std.proofs.Common.{◌≡◌, ◌≤◌, ℕ, List, [], ◌∷◌, ◌++◌, refl, sym, ◌∙◌, ap, subst, arith}
+use Rattle.std.proofs.Common.{◌≡◌, ◌≤◌, List, [], ◌∷◌, sym, ◌∙◌, ap, arith}
 use Rattle.mate_journal.specs.Machine.{HeldProgram}
-use Rattle.world_rules.specs.Cause as event
 use Rattle.world_rules.specs.World.{World}
-use Rattle.world_rules.specs.Effect.{Deed, Installing}
-use Rattle.world_rules.specs.State.{Moment, effect_at, state}
-use Rattle.world_rules.specs.Run.{HaveCome}
-use Rattle.world_images.specs.Newest.{Version, IsNewest}
-use Rattle.world_images.specs.Versions.{InjectsAt, WasInjected, IsOneImage, InjectsAtMost, InstallsAtMost}
+use Rattle.world_rules.specs.State.{Moment}
+use Rattle.world_images.specs.Versions.{WasInjected, IsOneImage, InstallsAtMost}
 use Rattle.world_images.proofs.Versions.{installs_injected}
 
 pub installs_at_most : (w : World) → IsOneImage w → InstallsAtMost w

@@ -1,12 +1,10 @@
 -- Nothing newer than a version is about, and of the version only fragments of its image.
-use Rattle.std.proofs.Common.{◌≡◌, ◌≢◌, ◌<◌, ◌≤◌, ℕ, zero, suc, ◌+◌, ◌*◌, ◌/◌, ◌%◌, Bool, true, false, cond, List, [], ◌∷◌, ◌++◌, map, length, get_or, Option, Some, None, refl, sym, ◌∙◌, ap, subst, arith, inl, inr, ◌⊎◌}
-use Rattle.std.specs.Prelude.{is_some, nat_lt, slice_index, slice_get, ◌==◌, if◌then◌else◌}
-use Rattle.std.specs.List.{filter, filter_map, range_with_len}
+use Rattle.std.proofs.Common.{◌≡◌, ◌≢◌, ◌≤◌, ℕ, suc, ◌+◌, ◌/◌, Bool, true, false, List, [], ◌∷◌, ◌++◌, map, length, Option, Some, None, refl, sym, ◌∙◌, ap, subst, arith, inl, inr}
+use Rattle.std.specs.Prelude.{nat_lt, slice_index, slice_get, ◌==◌, if◌then◌else◌}
+use Rattle.std.specs.List.{filter, range_with_len}
 use Rattle.std.specs.Option.{option_map_or}
 use Rattle.std.proofs.lemmas.Bool.Decides.{eqb_tells}
 use Rattle.mate_num.specs.declared.id.HandlerId.{HandlerId}
-use Rattle.mate_num.specs.declared.id.FunId.{FunId}
-use Rattle.arrayvec.specs.ArrayVec.{ArrayVec}
 use Rattle.capsule_codec.specs.Fragments.{count_of}
 use Rattle.mate_journal.specs.Machine.{HeldProgram}
 use Rattle.mate_journal.specs.Journal.{Told, Posted, Dropped, Started, Asked, Answered, Ended, Installed, Reset, Seen, Void}
@@ -15,13 +13,13 @@ use Rattle.packet_codec.specs.declared.packet.Packet.TheVariants.{Vector, Status
 use Rattle.trickle_timer.specs.Intervals as trickle
 use Rattle.trickle_timer.specs.declared.timer.Fire.{Fire}
 use Rattle.trickle_timer.specs.declared.timer.Fire.TheVariants as fire
-use Rattle.capsule_exchange.specs.Happenings.{Happening, Hears, Sends, Installs, Forgets, held_version, held_image, held_versions, heard_since, target_version, collected_image, complete_version, completed_by, asks_after, ask_for, next_slot, fragment_for}
+use Rattle.capsule_exchange.specs.Happenings.{Happening, Hears, Installs, held_version, held_image, held_versions, heard_since, complete_version, completed_by, ask_for, next_slot, fragment_for}
 use Rattle.mate_journal.specs.Pace.{no_pace}
 use Rattle.world_rules.specs.Cause.{Cause}
 use Rattle.world_rules.specs.Cause as event
 use Rattle.world_rules.specs.World.{World, PlannedLine, Want, Inject, Post, Show, ResetNode, Noise, handlers}
-use Rattle.world_rules.specs.Effect.{Node, NodeEffect, Deed, Installing, no_effect, node_effect, of_line, of_packet, of_fragment, of_point, of_slot, event_node}
-use Rattle.world_rules.specs.State.{Moment, WorldState, Scheduled, Sending, of_interval, numbered_sendings, sendings, messages, message_in, is_send_kind, packets_of, node_at, effect_at, node_after, after_moment, start_node, lines_from, first_of, world_start, state}
+use Rattle.world_rules.specs.Effect.{Node, NodeEffect, Installing, no_effect, node_effect, of_line, of_packet, of_fragment, of_point, of_slot, event_node}
+use Rattle.world_rules.specs.State.{Moment, WorldState, Scheduled, Sending, of_interval, numbered_sendings, messages, message_in, is_send_kind, packets_of, node_at, effect_at, node_after, after_moment, start_node, lines_from, first_of, world_start, state}
 use Rattle.world_rules.specs.Run.{MayCome, HaveCome}
 use Rattle.world_images.specs.Newest.{Version, IsWorldVersion, IsNewest}
 use Rattle.world_laws.proofs.Among.{Among, among-append, among-flat_map, among-un_of_time, apart}
@@ -117,10 +115,12 @@ vector-tame w v hs right old = let value : slice_index (held_versions (handlers 
 
 fragment-tame : (v : Version) (hs : List Happening) (slot : ℕ) → IsTameNode v hs → IsTame v (fragment_for hs slot)
 fragment-tame v hs slot old same =
-    let least : held_version (slot / 22) hs ≤ v.version = subst (λ (h : ℕ). held_version h hs ≤ v.version) (sym same) old.held in
-    (least, λ is.
-      let image : held_image (slot / 22) hs ≡ v.image = subst (λ (h : ℕ). held_image h hs ≡ v.image) (sym same) (old.image (subst (λ (h : ℕ). held_version h hs ≡ v.version) same is)) in
-      (ap count_of image, ap (λ (bytes : List ℕ). nat_lt 528 (length bytes)) image))
+    let least : held_version (slot / 22) hs ≤ v.version = subst (λ (h : ℕ). held_version h hs ≤ v.version) (sym same) old.held in (
+      least,
+      λ is.
+          let image : held_image (slot / 22) hs ≡ v.image = subst (λ (h : ℕ). held_image h hs ≡ v.image) (sym same) (old.image (subst (λ (h : ℕ). held_version h hs ≡ v.version) same is)) in
+          (ap count_of image, ap (λ (bytes : List ℕ). nat_lt 528 (length bytes)) image),
+    )
 
 asks-tame : (v : Version) (hs : List Happening) (hds : List ℕ) → EachTame v (map (ask_for hs) hds)
 asks-tame v hs [] p a = absurd a

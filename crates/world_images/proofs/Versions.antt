@@ -1,9 +1,9 @@
 -- Each install is of a program that a line injected before.
-use Rattle.std.proofs.Common.{◌≡◌, ◌≢◌, ◌<◌, ◌≤◌, ℕ, zero, suc, ◌+◌, ◌*◌, ◌/◌, ◌%◌, Bool, true, false, cond, not, List, [], ◌∷◌, ◌++◌, map, length, Option, Some, None, refl, sym, ◌∙◌, ap, subst, arith, inl, inr, ◌⊎◌}
-use Rattle.std.specs.Prelude.{is_some, nat_lt, slice_index, slice_get, ◌==◌, if◌then◌else◌, unwrap_or}
+use Rattle.std.proofs.Common.{◌≡◌, ◌<◌, ◌≤◌, ℕ, Bool, true, false, cond, List, [], ◌∷◌, ◌++◌, map, Option, Some, None, refl, sym, ◌∙◌, ap, subst, arith, inl, inr}
+use Rattle.std.specs.Prelude.{is_some, nat_lt, slice_index, slice_get, if◌then◌else◌, unwrap_or}
 use Rattle.std.specs.List.{filter, find, range_with_len}
 use Rattle.std.specs.Option.{option_map_or, option_or}
-use Rattle.std.proofs.lemmas.Bool.{cases_Bool, ltb-true}
+use Rattle.std.proofs.lemmas.Bool.{ltb-true}
 use Rattle.std.proofs.lemmas.Bool.Decides.{eqb_tells}
 use Rattle.mate_num.specs.declared.id.HandlerId.{HandlerId}
 use Rattle.arrayvec.specs.ArrayVec.{ArrayVec}
@@ -14,15 +14,15 @@ use Rattle.packet_codec.specs.declared.packet.Packet.TheVariants.{Vector, Status
 use Rattle.trickle_timer.specs.Intervals as trickle
 use Rattle.trickle_timer.specs.declared.timer.Fire.{Fire}
 use Rattle.trickle_timer.specs.declared.timer.Fire.TheVariants as fire
-use Rattle.capsule_exchange.specs.Happenings.{Happening, Hears, Sends, Installs, Forgets, held_version, held_image, heard_since, target_version, collected_image, complete_version, completed_by, ask_for, is_marked_slot, next_slot, next_place, last_sent, slots_from, fragment_for}
+use Rattle.capsule_exchange.specs.Happenings.{Happening, Hears, Installs, held_version, held_image, heard_since, target_version, collected_image, complete_version, completed_by, ask_for, is_marked_slot, next_slot, next_place, last_sent, slots_from}
 use Rattle.mate_journal.specs.Pace.{no_pace}
 use Rattle.world_rules.specs.Cause.{Cause}
 use Rattle.world_rules.specs.Cause as event
 use Rattle.world_rules.specs.World.{World, PlannedLine, Want, Inject, Post, Show, ResetNode, Noise, handlers}
-use Rattle.world_rules.specs.Effect.{Node, NodeEffect, Deed, Installing, no_effect, node_effect, of_line, of_packet, of_fragment, of_point, of_slot, collected, event_node}
-use Rattle.world_rules.specs.State.{Moment, WorldState, Scheduled, Sending, of_interval, messages, message_in, is_send_kind, packets_of, node_at, effect_at, node_after, after_moment, start_node, lines_from, first_of, world_start, state}
+use Rattle.world_rules.specs.Effect.{Node, Installing, no_effect, node_effect, of_line, of_packet, of_fragment, of_point, of_slot, collected, event_node}
+use Rattle.world_rules.specs.State.{Moment, WorldState, Scheduled, of_interval, messages, message_in, is_send_kind, packets_of, node_at, effect_at, node_after, start_node, lines_from, first_of, world_start, state}
 use Rattle.world_rules.specs.Run.{MayCome, HaveCome}
-use Rattle.world_images.specs.Versions.{InjectsAt, WasInjected, IsOneImage, InstallsInjected}
+use Rattle.world_images.specs.Versions.{WasInjected, IsOneImage, InstallsInjected}
 use Rattle.world_laws.proofs.Among.{Among, among-append, among-flat_map, among-un_of_time, apart}
 use Rattle.world_laws.proofs.Due.{at, due-from, kind, Source, period, interval, delivery, pump, answer, source}
 use Rattle.world_laws.proofs.Points.{nodes-here, nodes-other, among-next, among-filter_map, line-kind, period-kind}

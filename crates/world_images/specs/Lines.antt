@@ -1,9 +1,9 @@
 -- The lines of a script come in their order.
-use Rattle.std.specs.Prelude.{◌≡◌, ℕ, ◌<◌, ◌≤◌, List, [], ◌∷◌, ◌++◌, Some, slice_get}
+use Rattle.std.specs.Prelude.{◌≡◌, ℕ, ◌<◌, ◌≤◌, List, ◌∷◌, ◌++◌, Some, slice_get}
 use Rattle.world_rules.specs.Cause.{Cause}
 use Rattle.world_rules.specs.Cause as event
 use Rattle.world_rules.specs.World.{World, PlannedLine}
-use Rattle.world_rules.specs.State.{Moment, state}
+use Rattle.world_rules.specs.State.{Moment}
 use Rattle.world_rules.specs.Run.{HaveCome}
 
 -- a line's time isn't before that of an earlier one

@@ -1,11 +1,11 @@
 -- What is installed was injected.
-use Rattle.std.specs.Prelude.{◌≡◌, ℕ, ◌≤◌, List, [], ◌∷◌, ◌++◌, Some, slice_get}
+use Rattle.std.specs.Prelude.{◌≡◌, ℕ, ◌≤◌, List, ◌∷◌, ◌++◌, Some, slice_get}
 use Rattle.mate_journal.specs.Machine.{HeldProgram}
 use Rattle.world_rules.specs.Cause.{Cause}
 use Rattle.world_rules.specs.Cause as event
 use Rattle.world_rules.specs.World.{World, PlannedLine, Inject}
-use Rattle.world_rules.specs.Effect.{Deed, Installing}
-use Rattle.world_rules.specs.State.{Moment, WorldState, effect_at, state}
+use Rattle.world_rules.specs.Effect.{Installing}
+use Rattle.world_rules.specs.State.{Moment, effect_at, state}
 use Rattle.world_rules.specs.Run.{HaveCome}
 use Rattle.world_images.specs.Newest.{Version, IsNewest}
 

@@ -1,5 +1,5 @@
 -- Every cause has its event.
-use Rattle.std.proofs.Common.{◌≡◌, ◌≢◌, ◌<◌, ◌≤◌, ℕ, suc, ◌+◌, Bool, true, false, cond, List, [], ◌∷◌, ◌++◌, drop, refl, sym, ◌∙◌, ap, subst, arith, inl, inr, ◌⊎◌, append_assoc}
+use Rattle.std.proofs.Common.{◌≡◌, ◌≤◌, ℕ, Bool, true, false, cond, List, [], ◌∷◌, ◌++◌, drop, refl, sym, ◌∙◌, ap, subst, arith, inl, inr, ◌⊎◌, append_assoc}
 use Rattle.std.specs.Prelude.{◌==◌, if◌then◌else◌}
 use Rattle.std.specs.List.{filter}
 use Rattle.std.proofs.lemmas.List.{append-nil}
@@ -7,11 +7,11 @@ use Rattle.std.proofs.lemmas.Bool.Decides.{eqb_tells}
 use Rattle.world_rules.specs.Cause.{Cause}
 use Rattle.world_rules.specs.World.{World}
 use Rattle.world_rules.specs.Effect.{begun_length, event_node}
-use Rattle.world_rules.specs.State.{Moment, WorldState, Scheduled, of_time, node_at, effect_at, schedules, is_kept, is_some_length, after_moment, world_start, state}
-use Rattle.world_rules.specs.Run.{IsNext, MayCome, HaveCome, IsDone}
+use Rattle.world_rules.specs.State.{Moment, WorldState, of_time, node_at, effect_at, schedules, is_kept, is_some_length, after_moment, world_start, state}
+use Rattle.world_rules.specs.Run.{IsNext, HaveCome}
 use Rattle.world_laws.specs.Causes.{IsSublist, came_at, scheduled_for, ComeInOrder, HasEvent, IsCancelled, EachComes}
-use Rattle.world_laws.proofs.Among.{Among, among-left, among-right, none-among}
-use Rattle.world_laws.proofs.Due.{Outlasts, due-keeps}
+use Rattle.world_laws.proofs.Among.{Among, among-right, none-among}
+use Rattle.world_laws.proofs.Due.{due-keeps}
 
 -- ---- parts of lists
 

@@ -1,21 +1,20 @@
 -- What is due after an event.
-use Rattle.std.proofs.Common.{◌≡◌, ◌≢◌, ◌<◌, ◌≤◌, ℕ, suc, ◌+◌, ◌*◌, Bool, true, false, not, ◌&&◌, IsTrue, List, [], ◌∷◌, ◌++◌, map, drop, refl, sym, ◌∙◌, ap, subst, arith, inl, inr, ◌⊎◌, append_assoc}
-use Rattle.std.specs.Prelude.{Option, Some, None, ◌==◌, if◌then◌else◌, slice_get, ℤ}
-use Rattle.std.specs.List.{filter, flat_map, filter_map}
+use Rattle.std.proofs.Common.{◌≡◌, ◌≤◌, ℕ, ◌+◌, Bool, true, false, not, ◌&&◌, List, [], ◌∷◌, ◌++◌, drop, refl, sym, ◌∙◌, ap, arith, inl, inr, ◌⊎◌, append_assoc}
+use Rattle.std.specs.Prelude.{Option, Some, None, ◌==◌, if◌then◌else◌, ℤ}
+use Rattle.std.specs.List.{filter, flat_map}
 use Rattle.std.specs.Option.{option_map_or}
 use Rattle.std.proofs.lemmas.Bool.Decides.{eqb_tells}
 use Rattle.std.proofs.lemmas.List.{append-nil}
 use Rattle.arrayvec.specs.ArrayVec.{ArrayVec}
 use Rattle.mate_num.specs.declared.id.FunId.{FunId}
 use Rattle.mate_journal.specs.Journal.{Told, Posted, Dropped, Started, Asked, Answered, Ended, Installed, Reset, Seen, Void, Reading}
-use Rattle.trickle_timer.specs.Timer.{Timer}
 use Rattle.world_rules.specs.Cause.{Cause}
 use Rattle.world_rules.specs.Cause as event
 use Rattle.world_rules.specs.World.{World, links_from, period_of, latency_of}
-use Rattle.world_rules.specs.Effect.{Node, NodeEffect, node_effect, begun_length, resets, is_owing, event_node}
+use Rattle.world_rules.specs.Effect.{begun_length, is_owing, event_node}
 use Rattle.world_rules.specs.State.{Moment, WorldState, Scheduled, of_time, Sending, sendings, is_lost, deliveries, packets_of, next_period, of_interval, new_interval, new_pump, calls_in, answer_at, answers_due, still_pumps, node_at, effect_at, node_after, schedules, is_kept, is_some_length, left_due, after_moment}
 use Rattle.world_rules.specs.Run.{IsNext}
-use Rattle.world_laws.proofs.Among.{Among, among-left, among-right, among-append, among-filter, among-unfilter, among-flat_map, among-rest, among-behind, none-among, among-of_time, among-un_of_time}
+use Rattle.world_laws.proofs.Among.{Among, among-left, among-right, among-append, among-filter, among-unfilter, among-flat_map, among-rest, among-behind, among-of_time, among-un_of_time}
 
 abbrev pub at : ℕ → Cause → Scheduled
 at t c = record { time = t; cause = c }

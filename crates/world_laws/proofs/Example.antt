@@ -1,11 +1,8 @@
 -- A worked example: two nodes, a message from one to the other.
-use Rattle.std.proofs.Common.{◌≡◌, ◌<◌, refl, ap, arith, inl, inr, ℕ, Bool, true, false, List, [], ◌∷◌, ◌++◌, map, length}
-use Rattle.std.specs.Prelude.{ℤ, pos, None, Some}
+use Rattle.std.proofs.Common.{◌≡◌, ◌<◌, refl, ap, arith, inl, inr, ℕ, true, false, [], ◌∷◌, ◌++◌}
+use Rattle.std.specs.Prelude.{ℤ, pos, None}
 use Rattle.std.specs.List.{flat_map, range_with_len}
 use Rattle.arrayvec.specs.ArrayVec.{ArrayVec}
-use Rattle.mate_num.specs.declared.id.HandlerId.{HandlerId}
-use Rattle.mate_num.specs.declared.id.FunId.{FunId}
-use Rattle.mate_num.specs.declared.call.End.{End}
 use Rattle.mate_num.specs.declared.call.End.TheVariants as end
 use Rattle.vm_desc.specs.declared.description.Description.{Description}
 use Rattle.vm_desc.specs.declared.handler.HandlerKind.TheVariants as kind
@@ -14,14 +11,13 @@ use Rattle.mate_journal.specs.Machine.{Meaning, HeldProgram}
 use Rattle.mate_journal.specs.Pace.{no_pace}
 use Rattle.mate_journal.specs.Turns.{Clock}
 use Rattle.mate_journal.specs.Described.{machine_of}
-use Rattle.mate_journal.specs.Journal.{Told, Posted, Started, Asked, Answered, Ended, Installed, Seen, Unposted, Ready}
+use Rattle.mate_journal.specs.Journal.{Posted, Started, Asked, Installed, Seen, Unposted, Ready}
 use Rattle.mate_journal.specs.declared.air.Air.TheVariants as air
-use Rattle.packet_codec.specs.declared.packet.Packet.TheVariants.{Vector, Status, Fragment, App}
+use Rattle.packet_codec.specs.declared.packet.Packet.TheVariants.{App}
 use Rattle.rand_pcg.specs.Lcg.{state_after}
 use Rattle.world_rules.specs.Cause.{Cause}
 use Rattle.world_rules.specs.Cause as event
-use Rattle.script_reader.specs.declared.world.Link.{Link}
-use Rattle.world_rules.specs.World.{World, PlannedLine, Inject, Post}
+use Rattle.world_rules.specs.World.{World, Inject, Post}
 use Rattle.world_rules.specs.State.{Moment, Scheduled, air_made, schedules, lines_from, first_of, state, world_start}
 use Rattle.world_rules.specs.Run.{HaveCome}
 use Rattle.world_laws.proofs.Among.{Among, among-un_of_time}

@@ -1,13 +1,11 @@
 -- What an event adds to what happened to its node's exchange.
-use Rattle.std.proofs.Common.{◌≡◌, ℕ, Bool, true, false, List, [], ◌∷◌, ◌++◌, refl, sym, ◌∙◌, ap, subst, inl, inr, ◌⊎◌}
-use Rattle.std.specs.Prelude.{Option, Some, None, slice_get, Result, Ok, Err}
+use Rattle.std.proofs.Common.{◌≡◌, ℕ, List, [], ◌∷◌, refl, sym, ◌∙◌, ap, inl, inr, ◌⊎◌}
+use Rattle.std.specs.Prelude.{Option, Some, None, slice_get}
 use Rattle.std.specs.Option.{option_map_or}
 use Rattle.mate_num.specs.declared.id.HandlerId.{HandlerId}
 use Rattle.mate_journal.specs.Machine.{HeldProgram}
 use Rattle.packet_codec.specs.declared.packet.Packet.{Packet}
 use Rattle.packet_codec.specs.declared.packet.Packet.TheVariants.{Vector, Status, Fragment, App}
-use Rattle.packet_codec.specs.declared.decoding.PacketFault.{PacketFault}
-use Rattle.packet_codec.specs.Reading.{packet_in}
 use Rattle.trickle_timer.specs.Intervals as trickle
 use Rattle.trickle_timer.specs.declared.timer.Fire.{Fire}
 use Rattle.trickle_timer.specs.declared.timer.Fire.TheVariants as fire
@@ -15,7 +13,7 @@ use Rattle.capsule_exchange.specs.Happenings.{Happening, Hears, Sends, Installs,
 use Rattle.world_rules.specs.Cause.{Cause}
 use Rattle.world_rules.specs.Cause as event
 use Rattle.world_rules.specs.World.{World, PlannedLine, Want, Inject, Post, Show, ResetNode, Noise, handlers}
-use Rattle.world_rules.specs.Effect.{Node, NodeEffect, Deed, Nothing, Installing, Posting, Answering, Showing, Resetting, no_effect, node_effect, of_line, collected, of_packet, of_fragment, of_point, of_slot}
+use Rattle.world_rules.specs.Effect.{Node, NodeEffect, Installing, Resetting, no_effect, node_effect, of_line, collected, of_packet, of_fragment, of_point, of_slot}
 
 abbrev installs : HeldProgram → Happening
 installs p = Installs p.handler.0 p.version p.image.items

@@ -1,10 +1,9 @@
 -- Where the causes that are due come from; calls and their answers, packets and their arrivals.
-use Rattle.std.proofs.Common.{◌≡◌, ◌≢◌, ◌≤◌, ℕ, zero, suc, ◌+◌, Bool, true, false, List, [], ◌∷◌, ◌++◌, Option, Some, None, refl, sym, ◌∙◌, ap, subst, arith, inl, inr, ◌⊎◌, append_assoc}
-use Rattle.std.specs.Prelude.{◌==◌, not, ◌&&◌, if◌then◌else◌, slice_get, ℤ}
+use Rattle.std.proofs.Common.{◌≡◌, ◌≤◌, ℕ, zero, suc, ◌+◌, true, false, List, [], ◌∷◌, ◌++◌, Some, None, refl, sym, ◌∙◌, ap, subst, arith, inl, inr, ◌⊎◌, append_assoc}
+use Rattle.std.specs.Prelude.{not, ◌&&◌, if◌then◌else◌, slice_get, ℤ}
 use Rattle.std.specs.List.{flat_map, range_with_len}
 use Rattle.std.proofs.lemmas.List.{append-nil}
 use Rattle.arrayvec.specs.ArrayVec.{ArrayVec}
-use Rattle.mate_num.specs.declared.id.ContextId.{ContextId}
 use Rattle.mate_num.specs.declared.id.FunId.{FunId}
 use Rattle.mate_journal.specs.Journal.{Told, Posted, Dropped, Started, Asked, Answered, Ended, Installed, Reset, Seen, Void, Reading}
 use Rattle.packet_codec.specs.declared.packet.Packet.{Packet}
@@ -13,14 +12,14 @@ use Rattle.world_rules.specs.Cause.{Cause}
 use Rattle.world_rules.specs.Cause as event
 use Rattle.world_rules.specs.World.{World, links_from, latency_of}
 use Rattle.world_rules.specs.Effect.{event_node, is_owing}
-use Rattle.world_rules.specs.State.{Moment, WorldState, Scheduled, Sending, of_interval, new_interval, new_pump, next_period, still_pumps, deliveries, sendings, packets_of, is_lost, calls_in, answer_at, answers_due, node_at, node_after, effect_at, schedules, start_node, lines_from, first_of, world_start, state}
+use Rattle.world_rules.specs.State.{Moment, WorldState, Scheduled, Sending, of_interval, new_interval, new_pump, next_period, still_pumps, deliveries, sendings, packets_of, is_lost, calls_in, answers_due, node_at, node_after, effect_at, schedules, start_node, lines_from, first_of, world_start, state}
 use Rattle.world_rules.specs.Effect.{begun_length}
 use Rattle.world_rules.specs.Run.{HaveCome, IsDone}
 use Rattle.world_laws.specs.Causes.{HasEvent, IsCancelled}
 use Rattle.world_laws.specs.Calls.{answer_for, CallsAreAnswered, WasCalled, AnswersWereCalled}
 use Rattle.world_laws.specs.Arrivals.{sent_by, SentArrive, WasSent, ArrivalsWereSent}
 use Rattle.world_laws.proofs.Among.{Among, among-left, among-right, among-append, among-flat_map, among-un_of_time, none-among, apart}
-use Rattle.world_laws.proofs.Due.{at, due-from, due-new, kind, AnswerOf, answer_scheduled, Source, period, interval, delivery, pump, answer, source}
+use Rattle.world_laws.proofs.Due.{at, due-from, due-new, kind, answer_scheduled, Source, period, interval, delivery, pump, answer, source}
 use Rattle.world_laws.proofs.Points.{among-next, among-map_of, line-kind, period-kind}
 use Rattle.world_laws.proofs.Comes.{come-along}
 
@@ -81,7 +80,7 @@ answer-among w node time r called (Dropped g cause ∷ front) rest n f args = an
 answer-among w node time r called (Started k ∷ front) rest n f args = answer-among w node time r called front rest n f args
 answer-among w node time r called (Asked k g more ∷ front) rest n f args =
     inr (subst (λ (fs : List FunId). Among (answer_scheduled w node time r fs n f) (answers_due w node time r (called ++ g ∷ []) (front ++ Asked n f args ∷ rest))) (append_assoc called (g ∷ []) (calls_in front))
-      (answer-among w node time r (called ++ g ∷ []) front rest n f args))
+    (answer-among w node time r (called ++ g ∷ []) front rest n f args))
 answer-among w node time r called (Answered k value ∷ front) rest n f args = answer-among w node time r called front rest n f args
 answer-among w node time r called (Ended k how ∷ front) rest n f args = answer-among w node time r called front rest n f args
 answer-among w node time r called (Installed p ∷ front) rest n f args = answer-among w node time r called front rest n f args
@@ -167,9 +166,9 @@ sent_arrive w before later m i k j x come sent leaves_there kept done = elim (sc
   scheduled =
       among-right y (next_period w m.cause m.time) _ (among-right y (new_interval (event_node w m.cause) (begun_length (node_at w (state w before) m) (effect_at w (state w before) m)) (node_after w (node_at w (state w before) m) m).timer) _
       (among-left y (flat_map (deliveries w (event_node w m.cause) m.time) (sent_by w (state w before) m)) _
-        (among-map_of (deliveries w (event_node w m.cause) m.time) y x (sent_by w (state w before) m) (among-get (sent_by w (state w before) m) i x sent) own))) where
-          y : Scheduled
-          y = at (m.time + w.description.radio.delay) (event.Deliver j x.number x.packet)
+      (among-map_of (deliveries w (event_node w m.cause) m.time) y x (sent_by w (state w before) m) (among-get (sent_by w (state w before) m) i x sent) own))) where
+        y : Scheduled
+        y = at (m.time + w.description.radio.delay) (event.Deliver j x.number x.packet)
 
 pub arrivals_were_sent : (w : World) → ArrivalsWereSent w
 arrivals_were_sent w before x j number packet come is = by (came-from w before x come (λ low. (let k : kind x.cause ≡ 6 = ap kind is in absurd (omega (arith, low, k))))) where

@@ -1,10 +1,8 @@
 -- Why a node sends a packet, what its exchange looks back over, and what an install comes from.
-use Rattle.std.proofs.Common.{◌≡◌, ◌≢◌, ℕ, zero, suc, Bool, true, false, List, [], ◌∷◌, ◌++◌, Option, Some, None, refl, sym, ◌∙◌, ap, subst, inl, inr, ◌⊎◌}
-use Rattle.std.specs.Prelude.{◌==◌, if◌then◌else◌, slice_get, ℤ}
+use Rattle.std.proofs.Common.{◌≡◌, ℕ, Bool, true, false, List, [], ◌∷◌, ◌++◌, Option, Some, None, refl, sym, ◌∙◌, ap, subst, inl, inr}
+use Rattle.std.specs.Prelude.{◌==◌, if◌then◌else◌, slice_get}
 use Rattle.std.specs.Option.{option_map_or}
 use Rattle.std.proofs.lemmas.Bool.Decides.{eqb_tells}
-use Rattle.arrayvec.specs.ArrayVec.{ArrayVec}
-use Rattle.mate_num.specs.declared.id.FunId.{FunId}
 use Rattle.mate_num.specs.declared.id.HandlerId.{HandlerId}
 use Rattle.mate_journal.specs.Machine.{HeldProgram}
 use Rattle.mate_journal.specs.Journal.{Told, Posted, Dropped, Started, Asked, Answered, Ended, Installed, Reset, Seen, Void}
@@ -18,7 +16,7 @@ use Rattle.world_rules.specs.Cause.{Cause}
 use Rattle.world_rules.specs.Cause as event
 use Rattle.world_rules.specs.World.{World, PlannedLine, Want, Inject, Post, Show, ResetNode, Noise, handlers, called_kind}
 use Rattle.world_rules.specs.Effect.{Node, Installing, no_effect, node_effect, of_line, of_packet, of_fragment, of_point, of_slot, event_node}
-use Rattle.world_rules.specs.State.{Moment, WorldState, node_at, effect_at, node_after, messages, message_in, is_send_kind, packets_of, state}
+use Rattle.world_rules.specs.State.{Moment, WorldState, node_at, effect_at, messages, message_in, is_send_kind, packets_of, state}
 use Rattle.world_laws.specs.Packets.{SendsFor, TellsVersions, AsksFor, OwesFragment, IsMessage, PacketsHaveReasons, exchange_happenings, ExchangesStand, InstallsBy, ByLine, ByRadio, InstallsHaveReasons}
 use Rattle.world_laws.proofs.Among.{Among, among-append}
 use Rattle.world_laws.proofs.Happens.{installer}

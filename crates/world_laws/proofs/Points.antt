@@ -1,7 +1,7 @@
 -- When the points of a node's timer come.
-use Rattle.std.proofs.Common.{◌≡◌, ◌≢◌, ◌<◌, ◌≤◌, ℕ, zero, suc, ◌+◌, ◌*◌, ◌/◌, ◌%◌, ◌^◌, min, Bool, true, false, not, ◌&&◌, IsTrue, List, [], ◌∷◌, ◌++◌, map, drop, refl, sym, ◌∙◌, ap, subst, arith, rules, inl, inr, ◌⊎◌}
-use Rattle.std.specs.Prelude.{Option, Some, None, ◌==◌, if◌then◌else◌, nat_lt}
-use Rattle.std.specs.List.{filter, flat_map, filter_map, cons_option, range_with_len}
+use Rattle.std.proofs.Common.{◌≡◌, ◌≢◌, ◌<◌, ◌≤◌, ℕ, zero, suc, ◌+◌, ◌*◌, ◌/◌, ◌%◌, min, Bool, true, false, not, ◌&&◌, List, [], ◌∷◌, ◌++◌, refl, sym, ◌∙◌, ap, subst, arith, inl, inr, ◌⊎◌}
+use Rattle.std.specs.Prelude.{Option, Some, None, ◌==◌}
+use Rattle.std.specs.List.{flat_map, filter_map, cons_option, range_with_len}
 use Rattle.std.specs.Option.{option_map_or}
 use Rattle.std.proofs.lemmas.Bool.Decides.{eqb_tells}
 use Rattle.std.proofs.lemmas.Bool.{cases_lt}
@@ -14,8 +14,8 @@ use Rattle.world_rules.specs.Cause.{Cause}
 use Rattle.world_rules.specs.Cause as event
 use Rattle.world_rules.specs.World.{World, PlannedLine, period_of, handlers}
 use Rattle.world_rules.specs.Effect.{Node, NodeEffect, node_effect, begun_length, resets, event_node}
-use Rattle.world_rules.specs.State.{Moment, WorldState, Scheduled, of_time, of_interval, timer_after, node_at, effect_at, node_after, schedules, is_kept, is_some_length, after_moment, start_node, lines_from, first_of, world_start, state}
-use Rattle.world_rules.specs.Run.{IsNext, MayCome, HaveCome, IsDone}
+use Rattle.world_rules.specs.State.{Moment, WorldState, Scheduled, of_interval, node_at, effect_at, node_after, schedules, is_some_length, after_moment, start_node, lines_from, first_of, world_start, state}
+use Rattle.world_rules.specs.Run.{IsNext, MayCome, HaveCome}
 use Rattle.world_laws.specs.Times.{IsRightSet, last_time, StandsIn, NeverResets, Fires, FiresInTime}
 use Rattle.world_laws.proofs.Among.{Among, among-left, among-right, among-append, among-flat_map, none-among, among-of_time, among-un_of_time, apart}
 use Rattle.world_laws.proofs.Timers.{IsSameInterval, timer_kept, timer_begun, Begins, shortened, again, expired, why_begun, few}

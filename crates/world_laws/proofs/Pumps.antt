@@ -1,24 +1,23 @@
 -- When a pump sends a slot that is marked.
-use Rattle.std.proofs.Common.{◌≡◌, ◌≢◌, ◌<◌, ◌≤◌, ℕ, zero, suc, ◌+◌, ◌-◌, ◌*◌, ◌/◌, ◌%◌, Bool, true, false, cond, not, ◌&&◌, ◌||◌, IsTrue, List, [], ◌∷◌, ◌++◌, refl, sym, ◌∙◌, ap, subst, arith, rules, inl, inr, ◌⊎◌}
+use Rattle.std.proofs.Common.{◌≡◌, ◌≢◌, ◌<◌, ◌≤◌, ℕ, zero, suc, ◌+◌, ◌-◌, ◌*◌, ◌/◌, ◌%◌, Bool, true, false, cond, not, ◌&&◌, ◌||◌, List, [], ◌∷◌, ◌++◌, refl, sym, ◌∙◌, ap, subst, arith, inl, inr, ◌⊎◌}
 use Rattle.std.specs.Prelude.{Option, Some, None, ◌==◌, if◌then◌else◌, nat_le}
 use Rattle.std.specs.List.{find, list_any, range_with_len}
 use Rattle.std.specs.Option.{option_or}
 use Rattle.std.proofs.lemmas.Bool.Decides.{eqb_tells}
-use Rattle.std.proofs.lemmas.Bool.{cases_lt, cases_Bool}
+use Rattle.std.proofs.lemmas.Bool.{cases_lt}
 use Rattle.mate_journal.specs.Machine.{HeldProgram}
-use Rattle.packet_codec.specs.declared.packet.Packet.{Packet}
-use Rattle.capsule_exchange.specs.Happenings.{Happening, Hears, Sends, Installs, Forgets, asks_of, is_marked, is_marked_slot, last_sent, next_place, slots_from, next_slot, fragment_for}
+use Rattle.capsule_exchange.specs.Happenings.{Happening, Hears, Sends, Installs, asks_of, is_marked_slot, last_sent, next_place, slots_from, next_slot}
 use Rattle.world_rules.specs.Cause.{Cause}
 use Rattle.world_rules.specs.Cause as event
 use Rattle.world_rules.specs.World.{World, handlers}
-use Rattle.world_rules.specs.Effect.{Node, NodeEffect, Deed, Installing, Resetting, node_effect, of_slot, begun_length, resets, is_owing, event_node}
-use Rattle.world_rules.specs.State.{Moment, WorldState, Scheduled, node_at, effect_at, node_after, schedules, is_pump, still_pumps, new_pump, next_period, new_interval, is_some_length, after_moment, world_start, state}
-use Rattle.world_rules.specs.Run.{IsNext, MayCome, HaveCome, IsDone}
+use Rattle.world_rules.specs.Effect.{Node, NodeEffect, Installing, node_effect, of_slot, begun_length, resets, is_owing, event_node}
+use Rattle.world_rules.specs.State.{Moment, WorldState, Scheduled, node_at, effect_at, node_after, schedules, is_pump, still_pumps, new_pump, next_period, new_interval, after_moment, state}
+use Rattle.world_rules.specs.Run.{MayCome, HaveCome}
 use Rattle.world_laws.specs.Times.{IsRightSet, last_time}
 use Rattle.world_laws.specs.Slots.{IsSparing, AreSparing, SendsSlot, SendsInTime}
-use Rattle.world_laws.proofs.Among.{Among, among-left, among-right, among-append, none-among}
-use Rattle.world_laws.proofs.Due.{at, Outlasts, due-keeps, due-new, kind}
-use Rattle.world_laws.proofs.Points.{IsPast, among-range, next-before, last-before, nodes-here, nodes-other, run-timed, earlier-come}
+use Rattle.world_laws.proofs.Among.{Among, among-left, among-right, none-among}
+use Rattle.world_laws.proofs.Due.{at, Outlasts, due-keeps, due-new}
+use Rattle.world_laws.proofs.Points.{among-range, next-before, last-before, nodes-here, nodes-other, run-timed, earlier-come}
 use Rattle.world_laws.proofs.Happens.{Happens, nothing, injected, heard, completed, forgot, sent, happens}
 
 -- ---- the first of a range that passes

@@ -1,6 +1,6 @@
 -- The step of a simulator.
-use Rattle.std.proofs.Common.{◌≡◌, ◌≢◌, ◌<◌, ◌≤◌, ℕ, suc, ◌+◌, Bool, true, false, List, [], ◌∷◌, ◌++◌, map, length, refl, sym, ◌∙◌, ap, subst, arith, inl, inr, ◌⊎◌, append_assoc}
-use Rattle.std.specs.Prelude.{◌==◌, if◌then◌else◌, slice_get, Option, Some, None, IsSomeAnd}
+use Rattle.std.proofs.Common.{◌≡◌, ◌≢◌, ℕ, List, [], ◌∷◌, ◌++◌, map, refl, sym, ◌∙◌, ap, subst, inl, inr}
+use Rattle.std.specs.Prelude.{slice_get, Option, Some, None, IsSomeAnd}
 use Rattle.std.proofs.lemmas.List.{append-nil}
 use Rattle.std.proofs.lemmas.Bool.Decides.{eqb_tells}
 use Rattle.mate_journal.specs.Machine.{Machine}
@@ -10,10 +10,10 @@ use Rattle.mate_num.specs.declared.call.Stamp.{Stamp}
 use Rattle.world_rules.specs.World.{World, handlers}
 use Rattle.world_rules.specs.Effect.{Node, event_node}
 use Rattle.mate_journal.specs.Journal.{heard_told}
-use Rattle.world_rules.specs.State.{Moment, WorldState, air_made, node_at, node_after, after_moment, state}
-use Rattle.world_rules.specs.Run.{MayCome, HaveCome, stamp_of, airs, journal}
+use Rattle.world_rules.specs.State.{Moment, air_made, state}
+use Rattle.world_rules.specs.Run.{stamp_of, journal}
 use Rattle.world_rules.specs.Report.{IsRightJournal}
-use Rattle.world_laws.specs.Simulates.{NodePart, Sim, IsPartOf, IsSoFar, Simulates, Performs, ReadsJournals, aired}
+use Rattle.world_laws.specs.Simulates.{NodePart, Sim, IsPartOf, Simulates, Performs, ReadsJournals, aired}
 use Rattle.mate_journal.specs.declared.air.Aired.{Aired}
 use Rattle.capsule_exchange.specs.Knowledge.{knowledge}
 use Rattle.world_laws.proofs.Points.{nodes-here, nodes-other}

@@ -1,6 +1,6 @@
 -- A node's timer stands for all that happened to it.
-use Rattle.std.proofs.Common.{◌≡◌, ◌≢◌, ℕ, true, false, List, [], ◌∷◌, ◌++◌, Option, Some, None, refl, sym, ◌∙◌, ap, subst, inl, inr}
-use Rattle.std.specs.Prelude.{◌==◌, if◌then◌else◌, IsTrue}
+use Rattle.std.proofs.Common.{◌≡◌, ◌≢◌, ℕ, List, [], ◌∷◌, ◌++◌, Option, Some, None, refl, sym, ap, subst, inl, inr}
+use Rattle.std.specs.Prelude.{IsTrue}
 use Rattle.std.specs.Option.{option_map_or}
 use Rattle.std.proofs.lemmas.List.{append-nil}
 use Rattle.std.proofs.lemmas.Bool.Decides.{eqb_tells}
@@ -12,7 +12,7 @@ use Rattle.trickle_timer.specs.Timer.{Timer, IsTimerOf, after}
 use Rattle.trickle_timer.proofs.IntervalLemmas.{IsTimerOf-start, IsTimerOf-after, Decides-at_point}
 use Rattle.world_rules.specs.World.{World}
 use Rattle.world_rules.specs.Effect.{Node, event_node}
-use Rattle.world_rules.specs.State.{Moment, WorldState, node_at, effect_at, node_after, after_moment, state}
+use Rattle.world_rules.specs.State.{Moment, node_at, effect_at, state}
 use Rattle.world_laws.specs.Timing.{timed_happening, timer_happenings, timer_start, TimersStand, PointsDecide}
 use Rattle.world_laws.proofs.Points.{nodes-here, nodes-other}
 
@@ -39,7 +39,7 @@ timers_stand w k (m ∷ before) = elim (eqb_tells k (event_node w m.cause)) [
       → IsTimerOf (timer_start w (event_node w m.cause)) (timer_happenings w (event_node w m.cause) (m ∷ before)) ((state w (m ∷ before)).nodes (event_node w m.cause)).timer
   here held = subst (λ (hs : List trickle.Happening). IsTimerOf (timer_start w (event_node w m.cause)) hs ((state w (m ∷ before)).nodes (event_node w m.cause)).timer) (sym (happenings-here w m before))
       (subst (λ (n : Node). IsTimerOf (timer_start w (event_node w m.cause)) (timer_happenings w (event_node w m.cause) before ++ timed_happening m.time (effect_at w (state w before) m).timer) n.timer) (sym (nodes-here w (state w before) m))
-        (stands-by (timer_start w (event_node w m.cause)) (timer_happenings w (event_node w m.cause) before) (node_at w (state w before) m).timer (effect_at w (state w before) m).timer m.time held))
+      (stands-by (timer_start w (event_node w m.cause)) (timer_happenings w (event_node w m.cause) before) (node_at w (state w before) m).timer (effect_at w (state w before) m).timer m.time held))
 
 pub points_decide : (w : World) → PointsDecide w
 points_decide w k ms = Decides-at_point ((state w ms).nodes k).timer w.suppress _ right refl where

@@ -15,7 +15,7 @@ use Rattle.world_laws.specs.Causes.{HasEvent, IsCancelled}
 abbrev pub answer_for : World → WorldState → Moment → List Told → ℕ → FunId → Cause
 answer_for w s m front n f =
     event.Due (event_node w m.cause) ((node_after w (node_at w s m) m).reading.invocations n).context n
-        (answer_at w (event_node w m.cause) ((node_at w s m).called ++ calls_in front) f (m.time + latency_of w f))
+    (answer_at w (event_node w m.cause) ((node_at w s m).called ++ calls_in front) f (m.time + latency_of w f))
 
 -- a call has its answer then, or an event before cuts its invocation
 abbrev pub CallsAreAnswered : World → Type 0

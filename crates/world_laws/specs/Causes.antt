@@ -1,9 +1,9 @@
 -- Every cause has its event: what follows from the rules of a run, said without what is pending.
-use Rattle.std.specs.Prelude.{◌≡◌, ℕ, Bool, true, false, ◌==◌, if◌then◌else◌, List, [], ◌∷◌, ◌++◌, ◌⊎◌}
+use Rattle.std.specs.Prelude.{◌≡◌, ℕ, false, ◌==◌, if◌then◌else◌, List, [], ◌∷◌, ◌++◌, ◌⊎◌}
 use Rattle.world_rules.specs.Cause.{Cause}
 use Rattle.world_rules.specs.World.{World}
 use Rattle.world_rules.specs.Effect.{begun_length, event_node}
-use Rattle.world_rules.specs.State.{Moment, WorldState, Scheduled, of_time, node_at, effect_at, schedules, is_kept, is_some_length, world_start, state}
+use Rattle.world_rules.specs.State.{Moment, of_time, node_at, effect_at, schedules, is_kept, is_some_length, world_start, state}
 use Rattle.world_rules.specs.Run.{HaveCome, IsDone}
 
 -- xs are some of ys, in the same order

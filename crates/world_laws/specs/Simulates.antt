@@ -1,21 +1,18 @@
 -- A simulator's state, and how it stands for the events that came.
-use Rattle.std.specs.Prelude.{◌≡◌, ℕ, suc, ◌+◌, ◌<◌, ◌≤◌, Bool, true, false, ◌==◌, if◌then◌else◌, List, [], ◌∷◌, ◌++◌, map, length, slice_get, Option, Some, None, IsSomeAnd, sum_by}
-use Rattle.std.specs.List.{filter}
+use Rattle.std.specs.Prelude.{◌≡◌, ℕ, ◌<◌, ◌≤◌, Bool, List, ◌∷◌, ◌++◌, map, length, slice_get, IsSomeAnd}
 use Rattle.mate_num.specs.declared.id.FunId.{FunId}
-use Rattle.mate_num.specs.declared.call.Stamp.{Stamp}
-use Rattle.mate_journal.specs.Journal.{Told, Reading, nothing_heard, heard_all}
+use Rattle.mate_journal.specs.Journal.{nothing_heard, heard_all}
 use Rattle.mate_journal.specs.Journal.{Event as Entered}
 use Rattle.mate_journal.specs.Pace.{Pace}
 use Rattle.mate_journal.specs.declared.air.Air.{Air}
 use Rattle.mate_journal.specs.declared.air.Aired.{Aired}
 use Rattle.trickle_timer.specs.Timer.{Timer}
 use Rattle.capsule_exchange.specs.Knowledge.{Knowledge, knowledge}
-use Rattle.world_rules.specs.Cause.{Cause}
 use Rattle.world_rules.specs.World.{World, handlers}
 use Rattle.world_rules.specs.Effect.{Node, event_node}
-use Rattle.world_rules.specs.State.{Moment, WorldState, Scheduled, of_time, air_made, schedules, left_due, node_after, node_at, after_moment, state}
+use Rattle.world_rules.specs.State.{Moment, Scheduled, of_time, air_made, schedules, left_due, node_after, node_at, after_moment, state}
 use Rattle.world_rules.specs.Report.{IsRightJournal}
-use Rattle.world_rules.specs.Run.{IsNext, MayCome, HaveCome, stamp_of, airs, journal}
+use Rattle.world_rules.specs.Run.{MayCome, HaveCome, stamp_of, airs, journal}
 
 -- one node as the simulator keeps it: the journal of its log, the pace of its invocations, its timer, what its exchange knows, whether a pump is
 -- scheduled, and the functions that it called

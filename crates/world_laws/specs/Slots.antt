@@ -1,10 +1,10 @@
 -- When a node sends the fragments that it was asked for.
-use Rattle.std.specs.Prelude.{◌≡◌, ℕ, ◌+◌, ◌*◌, ◌/◌, ◌<◌, ◌≤◌, Bool, true, false, IsTrue, List, [], ◌∷◌, ◌++◌, Option, Some}
+use Rattle.std.specs.Prelude.{◌≡◌, ℕ, ◌+◌, ◌*◌, ◌/◌, ◌<◌, ◌≤◌, false, IsTrue, List, [], ◌∷◌, ◌++◌, Some}
 use Rattle.capsule_exchange.specs.Happenings.{next_slot, is_marked_slot}
 use Rattle.world_rules.specs.Cause.{Cause}
 use Rattle.world_rules.specs.Cause as event
 use Rattle.world_rules.specs.World.{World, handlers}
-use Rattle.world_rules.specs.Effect.{Deed, Installing, event_node, resets}
+use Rattle.world_rules.specs.Effect.{Installing, event_node, resets}
 use Rattle.world_rules.specs.State.{Moment, WorldState, effect_at, state}
 use Rattle.world_rules.specs.Run.{HaveCome, IsDone}
 use Rattle.world_laws.specs.Times.{last_time}

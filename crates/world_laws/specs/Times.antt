@@ -1,12 +1,12 @@
 -- When things happen in a world.
-use Rattle.std.specs.Prelude.{◌≡◌, ℕ, ◌+◌, ◌*◌, ◌<◌, ◌≤◌, Bool, true, false, IsTrue, List, [], ◌∷◌, ◌++◌}
+use Rattle.std.specs.Prelude.{◌≡◌, ℕ, ◌+◌, ◌*◌, ◌<◌, ◌≤◌, false, List, [], ◌∷◌, ◌++◌}
 use Rattle.vm_desc.specs.declared.settings.TrickleSet.{TrickleSet}
 use Rattle.vm_desc.specs.Limits.{longest}
 use Rattle.world_rules.specs.Cause.{Cause}
 use Rattle.world_rules.specs.Cause as event
 use Rattle.world_rules.specs.World.{World}
 use Rattle.world_rules.specs.Effect.{event_node, resets}
-use Rattle.world_rules.specs.State.{Moment, WorldState, effect_at, state}
+use Rattle.world_rules.specs.State.{Moment, effect_at, state}
 use Rattle.world_rules.specs.Run.{HaveCome, IsDone}
 
 -- the shortest interval is even and at least 2; the longest is a multiple of it

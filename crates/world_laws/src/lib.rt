@@ -1,4 +1,4 @@
-//! What follows from the rules of a world: of causes and their order, of points and slots in time, and of journals.
+//! What follows from the rules of a world: of causes and their order, calls and answers, packets, intervals, and journals.
 #![tactic(auto)]
 
 ghost use Rattle.world_rules.specs.World.{World};

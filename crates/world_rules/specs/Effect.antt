@@ -1,7 +1,7 @@
 -- What an event does to its node, one row a cause.
-use Rattle.std.specs.Prelude.{ℕ, Bool, true, false, bytes_eq, ◌==◌, List, [], ◌∷◌, ◌++◌, ℤ, Option, Some, None, slice_get, unwrap_or, Result, Ok, Err}
+use Rattle.std.specs.Prelude.{ℕ, Bool, true, false, bytes_eq, List, [], ◌∷◌, ℤ, Option, Some, None, slice_get, unwrap_or}
 use Rattle.std.specs.Option.{option_map_or}
-use Rattle.std.specs.List.{filter, list_any}
+use Rattle.std.specs.List.{list_any}
 use Rattle.arrayvec.specs.ArrayVec.{ArrayVec}
 use Rattle.mate_num.specs.declared.id.HandlerId.{HandlerId}
 use Rattle.mate_num.specs.declared.id.FunId.{FunId}
@@ -12,8 +12,6 @@ use Rattle.mate_journal.specs.declared.air.Air.{Air}
 use Rattle.mate_journal.specs.declared.air.Air.TheVariants as air
 use Rattle.packet_codec.specs.declared.packet.Packet.{Packet}
 use Rattle.packet_codec.specs.declared.packet.Packet.TheVariants.{Vector, Status, Fragment, App}
-use Rattle.packet_codec.specs.declared.decoding.PacketFault.{PacketFault}
-use Rattle.packet_codec.specs.Reading.{packet_in}
 use Rattle.trickle_timer.specs.Intervals as trickle
 use Rattle.trickle_timer.specs.Timer.{Timer, heard}
 use Rattle.trickle_timer.specs.declared.timer.Fire.{Fire}

@@ -1,29 +1,24 @@
 -- A world's state: what is due at each time, and what was heard of each node; and the state after an event.
-use Rattle.std.specs.Prelude.{ℕ, suc, ◌+◌, ◌*◌, ◌/◌, ◌%◌, min, pred, Bool, true, false, not, ◌&&◌, ◌||◌, nat_lt, ◌==◌, if◌then◌else◌, List, [], ◌∷◌, ◌++◌, map, length, take, drop, ℤ, pos, Option, Some, None, slice_get, slice_index_or, count_by}
+use Rattle.std.specs.Prelude.{ℕ, suc, ◌+◌, ◌*◌, ◌/◌, ◌%◌, min, pred, Bool, true, false, not, ◌&&◌, ◌||◌, nat_lt, ◌==◌, if◌then◌else◌, List, [], ◌∷◌, ◌++◌, map, length, drop, ℤ, pos, Option, Some, None, slice_index_or, count_by}
 use Rattle.std.specs.List.{filter, filter_map, flat_map, range_with_len}
 use Rattle.std.specs.Option.{option_map_or, option_to_list}
 use Rattle.arrayvec.specs.ArrayVec.{ArrayVec}
-use Rattle.mate_num.specs.declared.id.HandlerId.{HandlerId}
-use Rattle.mate_num.specs.declared.id.ContextId.{ContextId}
 use Rattle.mate_num.specs.declared.id.FunId.{FunId}
-use Rattle.mate_num.specs.declared.call.Stamp.{Stamp}
 use Rattle.vm_desc.specs.declared.function.FunKind.{FunKind}
 use Rattle.vm_desc.specs.declared.function.FunKind.TheVariants as fun
-use Rattle.mate_journal.specs.Machine.{Machine, HeldProgram}
 use Rattle.mate_journal.specs.Journal.{Told, Posted, Dropped, Started, Asked, Answered, Ended, Installed, Reset, Seen, Void, Reading, heard_told, nothing_heard}
 use Rattle.mate_journal.specs.Pace.{Pace, no_pace}
 use Rattle.mate_journal.specs.declared.air.Air.{Air}
 use Rattle.mate_journal.specs.declared.air.Air.TheVariants as air
 use Rattle.packet_codec.specs.declared.packet.Packet.{Packet}
-use Rattle.packet_codec.specs.declared.packet.Packet.TheVariants.{Vector, Status, Fragment, App}
+use Rattle.packet_codec.specs.declared.packet.Packet.TheVariants.{App}
 use Rattle.packet_codec.specs.Bytes.{packet_bytes}
 use Rattle.trickle_timer.specs.Intervals as trickle
 use Rattle.trickle_timer.specs.Timer.{Timer, after, started_timer}
-use Rattle.capsule_exchange.specs.Happenings.{Happening}
 use Rattle.world_rules.specs.Cause.{Cause}
 use Rattle.world_rules.specs.Cause as event
-use Rattle.world_rules.specs.World.{World, PlannedLine, handlers, stream_word, receiver, leaves, links_from, loss, period_of, called_kind, latency_of}
-use Rattle.world_rules.specs.Effect.{Node, NodeEffect, Deed, node_effect, event_node, begun_length, cuts, resets, is_owing}
+use Rattle.world_rules.specs.World.{World, PlannedLine, handlers, stream_word, receiver, links_from, loss, period_of, called_kind, latency_of}
+use Rattle.world_rules.specs.Effect.{Node, NodeEffect, node_effect, event_node, begun_length, cuts, resets, is_owing}
 
 -- an event: when, what it comes from, the entries that it made in its node's journal, and the pace that it left there
 pub record Moment : Type 0 where
