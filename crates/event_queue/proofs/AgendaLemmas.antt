@@ -1,6 +1,6 @@
 -- Lists in order of time, by what comes at each time.
 use Rattle.std.proofs.Common.{◌≡◌, ◌≢◌, ℕ, zero, suc, ◌<◌, ◌≤◌, Bool, true, false, List, [], ◌∷◌, ◌++◌, refl, sym, ◌∙◌, ap, arith, inl, inr, append_assoc}
-use Rattle.std.specs.Prelude.{◌==◌, if◌then◌else◌, Option, filter, not}
+use Rattle.std.specs.Prelude.{◌==◌, if◌then◌else◌, filter}
 use Rattle.std.proofs.lemmas.Bool.{cases_eq, cases_lt, le-leb, lt-leb}
 use Rattle.std.proofs.lemmas.Bool.Decides.{eqb_tells}
 use Rattle.std.proofs.lemmas.List.{append-nil, map-append}
@@ -162,14 +162,14 @@ pub scheduled_all_in_order : {T : Type 0} (until now : ℕ) (f g : ℕ → List 
     → record { until = until; now = now; items = in_order g (suc until) } ≡ scheduled_all (record { until = until; now = now; items = in_order f (suc until) }) t xs
 scheduled_all_in_order {T} until now f g t [] low last others =
     let with_items : List (Timed T) → Agenda T = λ ys. record { until = until; now = now; items = ys } in
-    ap with_items (in_order_cong g f (suc until) (λ s below. elim (cases_eq s t) [ | inl e ↦ ap g e ∙ last ∙ append-nil (f t) ∙ ap f (sym e) | inr other ↦ others s other ]))
+    ap with_items (in_order_cong g f (suc until) (λ s below. elim (cases_eq s t) [ inl e ↦ ap g e ∙ last ∙ append-nil (f t) ∙ ap f (sym e) | inr other ↦ others s other ]))
 scheduled_all_in_order {T} until now f g t (x ∷ xs) low last others =
     let mid : ℕ → List T = with_one f t x in
     let a : Agenda T = record { until = until; now = now; items = in_order f (suc until) } in
     let with_items : List (Timed T) → Agenda T = λ ys. record { until = until; now = now; items = ys } in
     let choice : Bool → Agenda T = λ b. if b then with_items (inserted (record { time = t; item = x }) (in_order f (suc until))) else a in
     let one : record { until = until; now = now; items = in_order mid (suc until) } ≡ scheduled a t x =
-      ap with_items (in_order_put f mid t x (suc until) (omega (arith, low)) (with_one_here f t x) (with_one_other f t x)) ∙ ap choice (sym (le-leb t until low)) in
+    ap with_items (in_order_put f mid t x (suc until) (omega (arith, low)) (with_one_here f t x) (with_one_other f t x)) ∙ ap choice (sym (le-leb t until low)) in
     scheduled_all_in_order until now mid g t xs low
     (last ∙ sym (append_assoc (f t) (x ∷ []) xs) ∙ ap (λ (ys : List T). ys ++ xs) (sym (with_one_here f t x))) (λ s other. others s other ∙ sym (with_one_other f t x s other))
     ∙ ap (λ (b : Agenda T). scheduled_all b t xs) one

@@ -1,6 +1,6 @@
 -- The links of a world, and the radio after a transmission.
-use Rattle.std.proofs.Common.{◌≡◌, ◌≢◌, ℕ, zero, suc, ◌+◌, ◌*◌, ◌<◌, ◌≤◌, ◌^◌, Bool, true, false, List, [], ◌∷◌, ◌++◌, length, map, get_or, set, take, refl, sym, ◌∙◌, ap, subst, arith, inl, inr}
-use Rattle.std.specs.Prelude.{◌==◌, ◌||◌, if◌then◌else◌, count_by}
+use Rattle.std.proofs.Common.{◌≡◌, ◌≢◌, ℕ, suc, ◌+◌, ◌*◌, ◌<◌, ◌≤◌, Bool, true, false, List, [], ◌∷◌, ◌++◌, length, map, get_or, set, take, refl, sym, ◌∙◌, ap, subst, arith, inl, inr}
+use Rattle.std.specs.Prelude.{◌==◌, ◌||◌, if◌then◌else◌}
 use Rattle.std.specs.List.{All, AllPairs, AllByRecursion, IsDistinct, list_any}
 use Rattle.std.proofs.lemmas.Bool.{cases_eq, ne_eqb, false≢true}
 use Rattle.std.proofs.lemmas.Bool.Decides.{eqb_tells}
@@ -9,14 +9,12 @@ use Rattle.std.proofs.lemmas.List.Sums.{sum_by_push}
 use Rattle.std.proofs.lemmas.Map.Steps.{length-le_from_distinct_below}
 use Rattle.script_reader.specs.declared.world.Link.{Link}
 use Rattle.script_reader.specs.declared.world.World.{World}
-use Rattle.script_reader.specs.World.{IsRightLink, AreOtherLinks, IsRightWorld}
+use Rattle.script_reader.specs.World.{AreOtherLinks, IsRightWorld}
 use Rattle.vm_desc.specs.declared.description.Description.{Description}
 use Rattle.radio_sim.specs.declared.wire.Wire.{Wire}
-use Rattle.radio_sim.specs.declared.wire.Sending.{Sending}
-use Rattle.arrayvec.specs.ArrayVec.{ArrayVec}
 use Rattle.radio_sim.specs.Wires.{wire_after, leaving, turned}
 use Rattle.radio_sim.specs.Sending.{AreLeaving}
-use Rattle.radio_sim.specs.Radio.{Ether, wires_of, transmitted, packets, IsEtherOf}
+use Rattle.radio_sim.specs.Radio.{Ether, wires_of, packets, IsEtherOf}
 use Rattle.radio_sim.proofs.WireLemmas.{leaving_push, turned_leaving}
 
 -- a link has its number of 4,096

@@ -1,5 +1,5 @@
 use Rattle.std.proofs.Common.{refl}
-use Rattle.event_queue.proofs.WheelLemmas.{keeps_grown, keeps_both, keeps_all}
+use Rattle.event_queue.proofs.WheelLemmas.{keeps_grown, keeps_both}
 use Rattle.event_queue.proofs.wheel.Wheel.reserve_all.Goals as goal
 
 pub loop-self-preserved : goal.loop-self-preserved

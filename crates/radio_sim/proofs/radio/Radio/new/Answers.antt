@@ -1,4 +1,4 @@
-use Rattle.std.proofs.Common.{◌≡◌, ◌≤◌, ℕ, List, length, ap, subst, refl, arith, rules}
+use Rattle.std.proofs.Common.{◌≡◌, List, length, ap, subst, refl, arith}
 use Rattle.script_reader.specs.declared.world.Link.{Link}
 use Rattle.radio_sim.specs.Sending.{AreLeaving}
 use Rattle.vm_desc.proofs.DescriptionLemmas.{bounds_of}
