@@ -1,0 +1,4 @@
+! reads the sensor twice
+shared level, steps;
+steps = steps + 2;
+level = light() + light();

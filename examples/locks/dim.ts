@@ -1,0 +1,4 @@
+! dims the lamp by half of the level
+shared level;
+level = level / 2;
+set(level);

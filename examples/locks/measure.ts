@@ -1,0 +1,4 @@
+! reads the sensor into the shared level
+shared level, steps;
+level = light();
+steps = steps + 1;

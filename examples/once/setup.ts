@@ -1,0 +1,3 @@
+! the values that work begins with
+shared limit, count;
+limit = 3; count = 10;

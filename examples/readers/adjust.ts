@@ -1,0 +1,3 @@
+! the limit comes with the event
+shared limit;
+limit = msg[0];
