@@ -4,12 +4,12 @@ ghost use Rattle.std.specs.Prelude.{◌≡◌, IfOk};
 ghost use Rattle.ts_syntax.specs.Checked.{tree_of};
 ghost use Rattle.ts_syntax.specs.Expression.{MsgSize};
 ghost use Rattle.ts_syntax.specs.Statement.{no_statements, Append, Clear};
-ghost use Rattle.language_callers.specs.Scripts.{two_calls, cleared_by, clearing, call_in_limit, compared, only, whole};
+ghost use Rattle.language_callers.specs.Scripts.{two_calls, cleared_by, clearing, compared, only, whole};
 
 use mate_num::{BufId, FunId, NoMemory};
 use std::alloc::Global;
 use ts_fold::fold;
-use ts_syntax::{CVar, Checked};
+use ts_syntax::Checked;
 
 pub fn calls_stay(alloc: Global, script: &Checked, fun: FunId) -> Result<Checked, NoMemory>
     requires { tree_of script.now ≡ two_calls fun }
@@ -83,18 +83,6 @@ pub fn a_comparison_is_from_the_left(
 ) -> Result<Checked, NoMemory>
     requires { tree_of script.now ≡ compared buffer 2 1 }
     ensures { IfOk result (λ new. tree_of new ≡ only (Append buffer (whole 1))) }
-{
-    fold(alloc, script)
-}
-
-pub fn a_limit_stays_behind_its_first_value(
-    alloc: Global,
-    script: &Checked,
-    variable: CVar,
-    fun: FunId,
-) -> Result<Checked, NoMemory>
-    requires { tree_of script.now ≡ call_in_limit variable fun }
-    ensures { IfOk result (λ new. tree_of new ≡ call_in_limit variable fun) }
 {
     fold(alloc, script)
 }
