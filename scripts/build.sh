@@ -111,7 +111,7 @@ build() {
     # the copy is what is built, whatever becomes of the checkout meanwhile
     sum=$(sum_of "$work")
     [ ! -x "$cache/$sum/$name" ] || return 0
-    # a session of its own, so that a stopped script stops all that it started
+    # in a process group of its own, so that a stopped script stops all that it started
     setsid sh "$top/scripts/build.sh" prove "$work" &
     prover=$!
     trap 'env kill -TERM -- "-$prover" 2>/dev/null; exit 130' INT TERM HUP

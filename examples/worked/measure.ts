@@ -1,0 +1,4 @@
+! reads the sensor, and keeps the lowest level
+shared level, low;
+level = light();
+if level < low then low = level; end if
