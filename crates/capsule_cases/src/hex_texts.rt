@@ -3,8 +3,9 @@
 
 use capsule_codec::{from_hex, to_hex};
 use std::alloc::{AllocError, Global};
+use vm_desc::Description;
 
-pub fn answer(alloc: Global, case: &str) -> Result<String, AllocError> {
+pub fn answer(alloc: Global, _desc: &Description, case: &str) -> Result<String, AllocError> {
     let (zeros, signs) = case.split_once('*').unwrap_or(("0", case));
     let Ok(zeros) = zeros.parse::<u16>() else {
         return "no number".to_string(alloc);

@@ -3,8 +3,9 @@
 use capsule_codec::{count, fragment};
 use mate_num::Image;
 use std::alloc::{AllocError, Global};
+use vm_desc::Description;
 
-pub fn answer(alloc: Global, case: &str) -> Result<String, AllocError> {
+pub fn answer(alloc: Global, _desc: &Description, case: &str) -> Result<String, AllocError> {
     let Ok(len) = case.parse::<u16>() else {
         return "no length".to_string(alloc);
     };

@@ -11,7 +11,7 @@ use Rattle.std.proofs.lemmas.List.Sums.{AllPass-from_list_all, list_all-from_All
 use Rattle.hex.specs.Hex.{IsBytes, decode_of, decode_sized, encode_lower, lower_digits, is_hex_digit}
 use Rattle.hex.specs.declared.error.FromHexError.{FromHexError}
 use Rattle.hex.proofs.HexLemmas.{decode_of-digits, decode_of-ok, decode_of-encode_lower, decode_sized-twice, length-encode_with}
-use Rattle.capsule_codec.specs.HexText.{is_blank, trimmed, is_hex, bytes_of, image_of_digits, image_in}
+use Rattle.capsule_codec.specs.HexText.{is_blank_byte, trimmed, is_hex, bytes_of_digits, image_of_digits, image_in}
 
 digit_is : (c : ℕ) → is_ascii_hexdigit c ≡ is_hex_digit c
 digit_is c = grind (arith, nat_tests)
@@ -21,7 +21,7 @@ digits_are [] = refl
 digits_are (c ∷ text) = rw (digit_is c, digits_are text) refl
 
 -- an even number of digits decodes
-decode_of-is_hex : (digits : List ℕ) → is_hex digits ≡ true → decode_of digits ≡ Ok (bytes_of digits)
+decode_of-is_hex : (digits : List ℕ) → is_hex digits ≡ true → decode_of digits ≡ Ok (bytes_of_digits digits)
 decode_of-is_hex digits known =
     let parts = and_parts (eqb (length digits % 2) 0) (list_all is_ascii_hexdigit digits) known in
     let all : AllPass is_hex_digit digits = AllPass-from_list_all is_hex_digit digits (sym (digits_are digits) ∙ parts.1) in
@@ -35,13 +35,13 @@ decodes_at (Err fault) bytes r out same h = absurd cc
 
 -- into room for as many bytes as digits tell, they decode
 pub decodes : (digits : List ℕ) (n : ℕ) (r : Result Unit FromHexError) (out : List ℕ) → is_hex digits ≡ true → length digits ≡ 2 * n
-    → MatchResult (decode_sized digits n) (λ bytes. (r ≡ Ok tt) × (out ≡ bytes)) (λ e. r ≡ Err e) → (r ≡ Ok tt) × (out ≡ bytes_of digits)
+    → MatchResult (decode_sized digits n) (λ bytes. (r ≡ Ok tt) × (out ≡ bytes)) (λ e. r ≡ Err e) → (r ≡ Ok tt) × (out ≡ bytes_of_digits digits)
 decodes digits n r out known twice h =
-    decodes_at (decode_sized digits n) (bytes_of digits) r out (decode_sized-twice digits n twice ∙ decode_of-is_hex digits known) h
+    decodes_at (decode_sized digits n) (bytes_of_digits digits) r out (decode_sized-twice digits n twice ∙ decode_of-is_hex digits known) h
 
 -- ---- what was encoded
 
-no_blank : (c : ℕ) → is_ascii_hexdigit c ≡ true → is_blank c ≡ false
+no_blank : (c : ℕ) → is_ascii_hexdigit c ≡ true → is_blank_byte c ≡ false
 no_blank c h = grind (arith, nat_tests)
 
 -- digits have no trailing blank
@@ -50,10 +50,10 @@ trimmed-digits digits all =
     elim (cases_lt 0 (length digits)) [
       | inl some ↦
           let last = no_blank (get_or digits (length digits - 1) 0) (all (length digits - 1) 0 (omega arith)) in
-          let none : suffix_len is_blank (take (length digits) digits) ≡ 0 = suffix_len-take_no is_blank digits (length digits) 0 some (omega arith) last in
+          let none : suffix_len is_blank_byte (take (length digits) digits) ≡ 0 = suffix_len-take_no is_blank_byte digits (length digits) 0 some (omega arith) last in
           let whole : take (length digits) digits ≡ digits = take_all (length digits) digits (omega arith) in
-          let same : suffix_len is_blank digits ≡ 0 = rw whole at none in
-          let kept : length digits - suffix_len is_blank digits ≡ length digits = omega arith in
+          let same : suffix_len is_blank_byte digits ≡ 0 = rw whole at none in
+          let kept : length digits - suffix_len is_blank_byte digits ≡ length digits = omega arith in
           rw kept whole
       | inr empty ↦ rw (nil_from_length digits (omega arith)) refl
     ]
@@ -67,7 +67,7 @@ image_in-encode_lower image fits short =
     let all : list_all is_ascii_hexdigit text ≡ true = digits_are text ∙ list_all-from_AllPass is_hex_digit text digits.1 in
     let known : is_hex text ≡ true = and_from _ _ (eq-eqb _ _ digits.0) all in
     let long : ltb 2112 (length text) ≡ false = le-ltb _ _ (omega arith) in
-    let bytes : bytes_of text ≡ image = ap (λ (r : Result (List ℕ) FromHexError). result_unwrap_or r []) back in
+    let bytes : bytes_of_digits text ≡ image = ap (λ (r : Result (List ℕ) FromHexError). result_unwrap_or r []) back in
     ap image_of_digits (trimmed-digits text (AllPass-from_list_all is_ascii_hexdigit text all))
     ∙ cond-false _ _ _ (not_from_true _ known)
     ∙ cond-false _ _ _ long

@@ -15,7 +15,7 @@ use Rattle.capsule_codec.specs.declared.capsule.Capsule.{Capsule}
 use Rattle.capsule_codec.specs.declared.decoding.CapsuleFault.{CapsuleFault}
 use Rattle.capsule_codec.specs.declared.decoding.CapsuleFault.TheVariants.{BadMagic}
 use Rattle.capsule_codec.specs.Image.{CapsuleParts, capsule_parts, magic, format_of, image_of, IsCapsule, IsOfMachine}
-use Rattle.capsule_codec.specs.Reading.{u16_at, u32_at, format_in, handler_in, vm_id_in, version_in, size_in, is_format, is_size, capsule_in, Gives}
+use Rattle.capsule_codec.specs.Reading.{u16_at, u32_at, format_in, handler_in, vm_id_in, version_field, size_in, is_format, is_size, capsule_in, GivesCapsule}
 
 is_format-format_of : (size : ℕ) → is_format (format_of size) ≡ true
 is_format-format_of size = grind (arith, nat_tests)
@@ -32,11 +32,11 @@ capsule_again d x fits right =
     let long : ltb (length (image_of x)) 16 ≡ false = le-ltb _ _ (omega arith) in
     let format : is_format (format_of (length x.code)) ≡ true = is_format-format_of (length x.code) in
     let vm : vm_id_in (image_of x) ≡ x.vm_id = from_be_bytes-to_be_bytes_4 x.vm_id fits.vm_id in
-    let version : version_in (image_of x) ≡ x.version = from_be_bytes-to_be_bytes_4 x.version fits.version_high in
+    let version : version_field (image_of x) ≡ x.version = from_be_bytes-to_be_bytes_4 x.version fits.version_high in
     let size : size_in (image_of x) ≡ length x.code = from_be_bytes-to_be_bytes_2 (length x.code) (omega arith) in
     let vm_same : eqb (vm_id_in (image_of x)) d.vm_id ≡ true = eq-eqb _ _ (vm ∙ right.vm_id) in
     let handler : ltb x.handler (length d.handlers.items) ≡ true = lt-ltb _ _ right.handler in
-    let numbered : eqb (version_in (image_of x)) 0 ≡ false = ne_eqb _ _ (λ e. omega arith) in
+    let numbered : eqb (version_field (image_of x)) 0 ≡ false = ne_eqb _ _ (λ e. omega arith) in
     let sized : is_size (format_of (length x.code)) (size_in (image_of x)) ≡ true = rw size (is_size-format_of (length x.code) fits.code_low fits.code_high) in
     let whole : eqb (size_in (image_of x) + 16) (length (image_of x)) ≡ true = eq-eqb _ _ (omega arith) in
     cond-false _ _ _ long
@@ -45,7 +45,7 @@ capsule_again d x fits right =
     ∙ cond-false _ _ _ (not_from_true _ handler)
     ∙ cond-false _ _ _ numbered
     ∙ cond-false _ _ _ (not_from_true _ (and_from _ _ sized whole))
-    ∙ made x (vm_id_in (image_of x)) (version_in (image_of x)) vm version
+    ∙ made x (vm_id_in (image_of x)) (version_field (image_of x)) vm version
 
 -- ---- what decodes is its one image
 
@@ -65,10 +65,10 @@ record Told (d : Description) (bytes : List ℕ) (x : CapsuleParts) : Type 0 whe
   format : is_format (format_in bytes) ≡ true
   vm_id : vm_id_in bytes ≡ d.vm_id
   handler : handler_in bytes < length d.handlers.items
-  version : version_in bytes ≡ 0 → ⊥
+  version : version_field bytes ≡ 0 → ⊥
   sized : is_size (format_in bytes) (size_in bytes) ≡ true
   whole : size_in bytes + 16 ≡ length bytes
-  read : record { vm_id = vm_id_in bytes; handler = handler_in bytes; version = version_in bytes; code = drop 16 bytes } ≡ x
+  read : record { vm_id = vm_id_in bytes; handler = handler_in bytes; version = version_field bytes; code = drop 16 bytes } ≡ x
 
 told : (d : Description) (bytes : List ℕ) (x : CapsuleParts) → capsule_in d bytes ≡ Ok x → Told d bytes x
 told d bytes x e =
@@ -124,9 +124,9 @@ image_is d (b0 ∷ b1 ∷ b2 ∷ b3 ∷ b4 ∷ b5 ∷ b6 ∷ b7 ∷ b8 ∷ b9 �
     let begins : magic ≡ b0 ∷ b1 ∷ b2 ∷ b3 ∷ [] = (bytes_eq-Decides magic (b0 ∷ b1 ∷ b2 ∷ b3 ∷ [])).0 t.begins in
     let format : format_of (length code) ≡ b4 = rw (← size) (format_is b4 (size_in bytes) t.format t.sized) in
     let vm_id : to_be_bytes w32 (vm_id_in bytes) ≡ b6 ∷ b7 ∷ b8 ∷ b9 ∷ [] = be_bytes_4 (b6 ∷ b7 ∷ b8 ∷ b9 ∷ []) (vm_id_in bytes) refl (part_fits 6 4 bytes fits) refl in
-    let version : to_be_bytes w32 (version_in bytes) ≡ b10 ∷ b11 ∷ b12 ∷ b13 ∷ [] = be_bytes_4 (b10 ∷ b11 ∷ b12 ∷ b13 ∷ []) (version_in bytes) refl (part_fits 10 4 bytes fits) refl in
+    let version : to_be_bytes w32 (version_field bytes) ≡ b10 ∷ b11 ∷ b12 ∷ b13 ∷ [] = be_bytes_4 (b10 ∷ b11 ∷ b12 ∷ b13 ∷ []) (version_field bytes) refl (part_fits 10 4 bytes fits) refl in
     let length_cells : to_be_bytes w16 (length code) ≡ b14 ∷ b15 ∷ [] = be_bytes_2 (b14 ∷ b15 ∷ []) (length code) refl (part_fits 14 2 bytes fits) (sym size) in
-    let made : CapsuleParts = record { vm_id = vm_id_in bytes; handler = b5; version = version_in bytes; code = code } in
+    let made : CapsuleParts = record { vm_id = vm_id_in bytes; handler = b5; version = version_field bytes; code = code } in
     let P : CapsuleParts → Type 0 = λ x. bytes ≡ image_of x in
     let same : P made = cc in
     subst P t.read same
@@ -135,7 +135,7 @@ image_is d _ x fits long t = absurd (omega arith)
 pub capsule_is : (d : Description) (bytes : List ℕ) (x : CapsuleParts) → IsBytes bytes → capsule_in d bytes ≡ Ok x → (bytes ≡ image_of x) × IsCapsule x × IsOfMachine d x
 capsule_is d bytes x fits e =
     let t : Told d bytes x = told d bytes x e in
-    let made : CapsuleParts = record { vm_id = vm_id_in bytes; handler = handler_in bytes; version = version_in bytes; code = drop 16 bytes } in
+    let made : CapsuleParts = record { vm_id = vm_id_in bytes; handler = handler_in bytes; version = version_field bytes; code = drop 16 bytes } in
     let low = size_low (format_in bytes) (size_in bytes) t.sized in
     let high = size_high (format_in bytes) (size_in bytes) t.sized in
     let size : length (drop 16 bytes) ≡ size_in bytes = omega (arith, t.whole, length-drop 16 bytes) in
@@ -171,12 +171,12 @@ same_capsule a b e = same_at (capsule_parts a) (capsule_parts b) e a.numbered a.
 
 -- ---- of a result
 
-pub image_found : (d : Description) (bytes : List ℕ) (r : Result Capsule CapsuleFault) → IsBytes bytes → Gives r (capsule_in d bytes)
+pub image_found : (d : Description) (bytes : List ℕ) (r : Result Capsule CapsuleFault) → IsBytes bytes → GivesCapsule r (capsule_in d bytes)
     → IfOk r (λ c. (bytes ≡ image_of (capsule_parts c)) × IsOfMachine d (capsule_parts c))
 image_found d bytes (Ok c) fits e = let h = capsule_is d bytes (capsule_parts c) fits e in (h.0, h.2)
 image_found d bytes (Err fault) fits e = tt
 
-pub only_capsule : (d : Description) (bytes : List ℕ) (r : Result Capsule CapsuleFault) (c : Capsule) → Gives r (capsule_in d bytes)
+pub only_capsule : (d : Description) (bytes : List ℕ) (r : Result Capsule CapsuleFault) (c : Capsule) → GivesCapsule r (capsule_in d bytes)
     → IsCapsule (capsule_parts c) → IsOfMachine d (capsule_parts c) → bytes ≡ image_of (capsule_parts c) → r ≡ Ok c
 only_capsule d bytes (Ok a) c e fits right same =
     let again : capsule_in d bytes ≡ Ok (capsule_parts c) = ap (capsule_in d) same ∙ capsule_again d (capsule_parts c) fits right in

@@ -3,10 +3,11 @@ use Rattle.std.specs.Prelude.{◌≡◌, ℕ, ◌≤◌, nat_le, if◌then◌els
 use Rattle.std.specs.Fork.{slice_chunk}
 use Rattle.std.specs.Int.{div_ceil}
 use Rattle.std.specs.List.{range_with_len}
+use Rattle.mate_num.specs.declared.bounds.TheConstants.{SHORT_IMAGE}
 
--- a piece of an image of so many bytes has 24 bytes, or 48 where there are more than 528
+-- a piece of an image of so many bytes has 24 bytes, or 48 where the image isn't short
 abbrev pub piece_len : ℕ → ℕ
-piece_len len = if nat_le len 528 then 24 else 48
+piece_len len = if nat_le len SHORT_IMAGE then 24 else 48
 
 -- how many pieces an image has
 abbrev pub count_of : List ℕ → ℕ

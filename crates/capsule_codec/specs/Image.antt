@@ -1,6 +1,7 @@
 -- A capsule's image: the bytes in which it is stored and sent. Numbers stand with the highest byte first.
 use Rattle.std.specs.Prelude.{◌≡◌, ℕ, ◌<◌, ◌≤◌, ◌^◌, nat_le, if◌then◌else◌, List, [], ◌∷◌, ◌++◌, length}
 use Rattle.std.specs.Int.{w16, w32, to_be_bytes}
+use Rattle.mate_num.specs.declared.bounds.TheConstants.{CODE_MAX, SHORT_CODE}
 pub use Rattle.hex.specs.Hex.{IsBytes}
 use Rattle.vm_desc.specs.declared.description.Description.{Description}
 use Rattle.capsule_codec.specs.declared.capsule.Capsule.{Capsule}
@@ -19,9 +20,9 @@ capsule_parts c = record { vm_id = c.vm_id; handler = c.handler.0; version = c.v
 abbrev pub magic : List ℕ
 magic = 0x4d ∷ 0x41 ∷ 0x54 ∷ 0x45 ∷ []
 
--- format 1 is for code of 1 to 512 bytes, format 2 for code of 513 to 1,040
+-- format 1 is for short code, format 2 for longer code
 abbrev pub format_of : ℕ → ℕ
-format_of size = if nat_le size 512 then 1 else 2
+format_of size = if nat_le size SHORT_CODE then 1 else 2
 
 -- the magic, the format, the handler, the machine, the version, the code's length, and the code
 abbrev pub image_of : CapsuleParts → List ℕ
@@ -41,7 +42,7 @@ pub record IsCapsule (c : CapsuleParts) : Type 0 where
   pub version_low : 1 ≤ c.version
   pub version_high : c.version < 2 ^ 32
   pub code_low : 1 ≤ length c.code
-  pub code_high : length c.code ≤ 1040
+  pub code_high : length c.code ≤ CODE_MAX
   pub code : IsBytes c.code
 
 -- a capsule of this machine, for one of its handlers

@@ -2,6 +2,7 @@
 use Rattle.std.specs.Prelude.{◌≡◌, ℕ, ◌+◌, nat_lt, nat_le, nat_eq, ◌==◌, Bool, not, ◌&&◌, ◌||◌, if◌then◌else◌, List, [], ◌∷◌, length, drop, slice_index, Result, Ok, Err}
 use Rattle.std.specs.Int.{w16, w32, from_be_bytes, is_in_range}
 use Rattle.std.specs.List.{starts_with}
+use Rattle.mate_num.specs.declared.bounds.TheConstants.{CODE_MAX, SHORT_CODE}
 use Rattle.vm_desc.specs.declared.description.Description.{Description}
 use Rattle.capsule_codec.specs.declared.decoding.CapsuleFault.{CapsuleFault}
 use Rattle.capsule_codec.specs.declared.decoding.CapsuleFault.TheVariants.{BadMagic, BadFormat, OtherVm, BadHandler, BadLength, BadVersion}
@@ -27,8 +28,8 @@ handler_in bytes = slice_index bytes 5
 abbrev pub vm_id_in : List ℕ → ℕ
 vm_id_in bytes = u32_at bytes 6
 
-abbrev pub version_in : List ℕ → ℕ
-version_in bytes = u32_at bytes 10
+abbrev pub version_field : List ℕ → ℕ
+version_field bytes = u32_at bytes 10
 
 abbrev pub size_in : List ℕ → ℕ
 size_in bytes = u16_at bytes 14
@@ -37,9 +38,9 @@ size_in bytes = u16_at bytes 14
 abbrev pub is_format : ℕ → Bool
 is_format format = format == 1 || format == 2
 
--- format 1 has 1 to 512 bytes of code, format 2 has 513 to 1,040
+-- format 1 has short code, of 1 byte at least, format 2 longer code
 abbrev pub is_size : ℕ → ℕ → Bool
-is_size format size = if format == 1 then is_in_range 1 512 size else is_in_range 513 1040 size
+is_size format size = if format == 1 then is_in_range 1 SHORT_CODE size else is_in_range (SHORT_CODE + 1) CODE_MAX size
 
 -- the capsule of this machine whose image the bytes are, or the first fault
 abbrev pub capsule_in : Description → List ℕ → Result CapsuleParts CapsuleFault
@@ -49,11 +50,11 @@ capsule_in d bytes =
     else if not (is_format (format_in bytes)) then Err BadFormat
     else if not (vm_id_in bytes == d.vm_id) then Err (OtherVm (vm_id_in bytes))
     else if not (nat_lt (handler_in bytes) (length d.handlers.items)) then Err BadHandler
-    else if version_in bytes == 0 then Err BadVersion
+    else if version_field bytes == 0 then Err BadVersion
     else if not (is_size (format_in bytes) (size_in bytes) && (size_in bytes + 16 == length bytes)) then Err BadLength
-    else Ok (record { vm_id = vm_id_in bytes; handler = handler_in bytes; version = version_in bytes; code = drop 16 bytes })
+    else Ok (record { vm_id = vm_id_in bytes; handler = handler_in bytes; version = version_field bytes; code = drop 16 bytes })
 
 -- what was answered is what was read
-abbrev pub Gives : Result Capsule CapsuleFault → Result CapsuleParts CapsuleFault → Type 0
-Gives (Ok c) read = read ≡ Ok (capsule_parts c)
-Gives (Err e) read = read ≡ Err e
+abbrev pub GivesCapsule : Result Capsule CapsuleFault → Result CapsuleParts CapsuleFault → Type 0
+GivesCapsule (Ok c) read = read ≡ Ok (capsule_parts c)
+GivesCapsule (Err e) read = read ≡ Err e

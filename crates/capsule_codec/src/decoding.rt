@@ -3,11 +3,11 @@
 ghost use Rattle.std.specs.Prelude.{◌≡◌, ◌+◌, ◌≤◌, length, IfOk, Ok};
 ghost use Rattle.capsule_codec.specs.declared.capsule.Capsule.{Capsule};
 ghost use Rattle.capsule_codec.specs.Image.{capsule_parts, image_of, IsCapsule, IsOfMachine};
-ghost use Rattle.capsule_codec.specs.Reading.{capsule_in, Gives, u16_at, u32_at, is_size};
+ghost use Rattle.capsule_codec.specs.Reading.{capsule_in, GivesCapsule, u16_at, u32_at, is_size};
 
 use crate::capsule::Capsule;
 use crate::encoding::{HEAD, MAGIC};
-use mate_num::{Code, HandlerId};
+use mate_num::{CODE_MAX, Code, HandlerId, SHORT_CODE};
 use vm_desc::Description;
 
 /// Why bytes are no capsule of the machine.
@@ -31,7 +31,7 @@ pub enum CapsuleFault {
 /// The capsule of the machine whose image the bytes are, or the first fault, in this order: `BadMagic`,
 /// `BadLength` for fewer than 16 bytes, `BadFormat`, `OtherVm`, `BadHandler`, `BadVersion`, `BadLength`.
 pub fn decode(desc: &Description, bytes: &[u8]) -> Result<Capsule, CapsuleFault>
-    ensures value { Gives result (capsule_in desc.now bytes.now) }
+    ensures value { GivesCapsule result (capsule_in desc.now bytes.now) }
 
     // The bytes are the capsule's one image.
     ensures image { IfOk result (λ c. (bytes.now ≡ image_of (capsule_parts c)) × IsOfMachine desc.now (capsule_parts c)) }
@@ -43,7 +43,7 @@ pub fn decode(desc: &Description, bytes: &[u8]) -> Result<Capsule, CapsuleFault>
 }
 
 fn read(desc: &Description, bytes: &[u8]) -> Result<Capsule, CapsuleFault>
-    ensures { Gives result (capsule_in desc.now bytes.now) }
+    ensures { GivesCapsule result (capsule_in desc.now bytes.now) }
 {
     if !bytes.starts_with(&MAGIC) {
         return Err(CapsuleFault::BadMagic);
@@ -86,10 +86,11 @@ fn read(desc: &Description, bytes: &[u8]) -> Result<Capsule, CapsuleFault>
 fn is_size(format: u8, size: u16) -> bool
     ensures { result ≡ is_size format size }
 {
+    let size = usize::from(size);
     if format == 1 {
-        1 <= size && size <= 512
+        1 <= size && size <= SHORT_CODE
     } else {
-        513 <= size && size <= 1040
+        SHORT_CODE + 1 <= size && size <= CODE_MAX
     }
 }
 

@@ -7,16 +7,13 @@ ghost use Rattle.capsule_codec.specs.Image.{capsule_parts, image_of, format_of, 
 ghost use Rattle.capsule_codec.specs.Reading.{capsule_in};
 
 use crate::capsule::Capsule;
-use mate_num::{IMAGE_MAX, Image};
+use mate_num::{IMAGE_MAX, Image, SHORT_CODE};
 
 /// The bytes with which every image begins.
 pub(crate) const MAGIC: [u8; 4] = *b"MATE";
 
 /// The length of what stands before the code, in bytes.
 pub(crate) const HEAD: usize = 16;
-
-/// The longest code of format 1, in bytes.
-const SHORT_CODE: usize = 512;
 
 /// The capsule's one image: the bytes in which it is stored and sent.
 pub fn encode(capsule: &Capsule) -> Image

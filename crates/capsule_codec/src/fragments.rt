@@ -5,13 +5,10 @@ ghost use Rattle.std.specs.Option.{SomeIff};
 ghost use Rattle.capsule_codec.specs.Fragments.{piece_len, count_of, piece_at};
 
 use arrayvec::ArrayVec;
-use mate_num::Image;
+use mate_num::{Image, SHORT_IMAGE};
 
 /// A piece of an image: at most 48 bytes.
 pub type Piece = ArrayVec<u8, 48>;
-
-/// The longest image that is sent in pieces of 24 bytes.
-const SHORT_IMAGE: usize = 528;
 
 /// How many pieces the image has: 22 at most.
 pub fn count(image: &Image) -> u8
@@ -23,7 +20,7 @@ pub fn count(image: &Image) -> u8
 
 /// The piece of the image at `index`, from 0. None exactly from `count` on.
 ///
-/// A piece has 24 bytes where the image has at most 528, and else 48. The last one is the rest.
+/// A piece has 24 bytes where the image has at most `SHORT_IMAGE`, and else 48. The last one is the rest.
 pub fn fragment(image: &Image, index: u8) -> Option<Piece>
     ensures { SomeIff result (index < count_of image.now.items) (record { items = piece_at image.now.items index }) }
 {

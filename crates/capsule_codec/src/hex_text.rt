@@ -4,7 +4,7 @@ ghost use Rattle.std.specs.Prelude.{◌≡◌, ◌≤◌, ◌*◌, string_bytes,
 ghost use Rattle.std.specs.Char.{is_ascii_hexdigit};
 ghost use Rattle.std.specs.List.{list_all};
 ghost use Rattle.hex.specs.Hex.{encode_lower};
-ghost use Rattle.capsule_codec.specs.HexText.{trimmed, is_hex, bytes_of, image_in};
+ghost use Rattle.capsule_codec.specs.HexText.{trimmed, is_hex, bytes_of_digits, image_in};
 
 use mate_num::{IMAGE_MAX, Image, NoMemory};
 use std::alloc::Global;
@@ -61,7 +61,7 @@ pub fn from_hex(text: &[u8]) -> Result<Image, HexFault>
 fn read_digits(digits: &[u8], bytes: &mut [u8])
     requires hex { IsTrue (is_hex digits.now) }
     requires room { length digits.now ≡ 2 * length bytes.old }
-    ensures { bytes.new ≡ bytes_of digits.now }
+    ensures { bytes.new ≡ bytes_of_digits digits.now }
 {
     let Ok(()) = hex::decode_to_slice(digits, bytes) else {
         unreachable!()

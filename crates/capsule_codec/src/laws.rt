@@ -2,6 +2,7 @@
 
 ghost use Rattle.std.specs.Prelude.{◌≡◌, ℕ, ◌<◌, ◌≤◌, List, length, Ok};
 ghost use Rattle.std.specs.List.{concat};
+ghost use Rattle.mate_num.specs.declared.bounds.TheConstants.{SHORT_IMAGE};
 ghost use Rattle.hex.specs.Hex.{IsBytes};
 ghost use Rattle.vm_desc.specs.declared.description.Description.{Description};
 ghost use Rattle.capsule_codec.specs.Image.{CapsuleParts, image_of, IsCapsule, IsOfMachine};
@@ -23,5 +24,5 @@ pub fn pieces_make_the_image()
     ensures cut { (image : List ℕ) → AreCut (piece_len (length image)) (pieces_of image) }
     ensures one { (a b : List ℕ) → pieces_of a ≡ pieces_of b → a ≡ b }
     ensures short { (pieces : List (List ℕ)) → AreCut 24 pieces → length pieces ≤ 22 → pieces_of (concat pieces) ≡ pieces }
-    ensures long { (pieces : List (List ℕ)) → AreCut 48 pieces → 528 < length (concat pieces) → pieces_of (concat pieces) ≡ pieces }
+    ensures long { (pieces : List (List ℕ)) → AreCut 48 pieces → SHORT_IMAGE < length (concat pieces) → pieces_of (concat pieces) ≡ pieces }
 {}

@@ -6,14 +6,14 @@ use Rattle.mate_code.specs.Listing.{listing_text}
 use Rattle.mate_code.specs.Run.{Code}
 use Rattle.capsule_codec.specs.Image.{CapsuleParts, IsOfMachine}
 use Rattle.code_verifier.specs.Verified.{VerifiedCode}
-use Rattle.opcode_gen.specs.TableText.{names_of}
+use Rattle.opcode_gen.specs.TableText.{names_of_functions}
 use Rattle.vm_desc.specs.Shapes.{shape_of}
 use Rattle.vm_desc.specs.declared.description.Description.{Description}
 use Rattle.capsule_listing.specs.LockLine.{lock_line}
 
 -- the name of the handler at a place
-abbrev pub handler_name : Description → ℕ → List ℕ
-handler_name d place = slice_index_or (map (λ h. h.name) d.handlers.items) place []
+abbrev pub handler_name_at : Description → ℕ → List ℕ
+handler_name_at d place = slice_index_or (map (λ h. h.name) d.handlers.items) place []
 
 -- the handler's name, the version, and how many bytes the code has
 abbrev pub head_line : List ℕ → ℕ → ℕ → List ℕ
@@ -23,7 +23,7 @@ head_line handler version size =
 -- the text of a capsule whose bytes of code are these instructions; its locks are what the code reads and writes
 abbrev pub capsule_text : Description → CapsuleParts → Code → List ℕ
 capsule_text d c code =
-    head_line (handler_name d c.handler) c.version (length c.code) ++ listing_text (names_of d) code ++ lock_line d (uses_of (shape_of d) code)
+    head_line (handler_name_at d c.handler) c.version (length c.code) ++ listing_text (names_of_functions d) code ++ lock_line d (uses_of (shape_of d) code)
 
 -- the capsule is for the machine, and this is its code, verified for the machine
 pub record IsVerifiedFor (d : Description) (c : CapsuleParts) (v : VerifiedCode) : Type 0 where

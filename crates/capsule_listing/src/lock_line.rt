@@ -2,7 +2,7 @@
 
 ghost use Rattle.std.specs.Prelude.{◌≡◌, ◌<◌, ◌≤◌, length, IsTrue, codes, ◌++◌};
 ghost use Rattle.mate_files.specs.Pen.{Prints};
-ghost use Rattle.mate_num.specs.Locks.{is_resource, uses_of};
+ghost use Rattle.mate_num.specs.Locks.{is_resource, lock_uses};
 ghost use Rattle.capsule_listing.specs.LockLine.{mention, mentions, lock_line, resource_at, room_of};
 
 use mate_files::{Pen, Sink};
@@ -34,7 +34,7 @@ impl Group {
 /// follows directly on a name that is only read.
 pub fn print_lock_line<S: Sink>(pen: &mut Pen, out: &mut S, desc: &Description, set: &LockSet)
     ensures { Prints (S.written out.old) (S.faults out.old) pen.old.result
-        (S.written out.new) (S.faults out.new) pen.new.result (lock_line desc.now (uses_of set.now)) }
+        (S.written out.new) (S.faults out.new) pen.new.result (lock_line desc.now (lock_uses set.now)) }
 {
     pen.text(out, "locks");
     print_group(pen, out, set, Group::Shared, desc.shared.as_slice());
@@ -47,7 +47,7 @@ pub fn print_lock_line<S: Sink>(pen: &mut Pen, out: &mut S, desc: &Description, 
 fn print_group<S: Sink>(pen: &mut Pen, out: &mut S, set: &LockSet, group: Group, names: &[Name])
     requires { length names.now ≤ room_of group }
     ensures { Prints (S.written out.old) (S.faults out.old) pen.old.result
-        (S.written out.new) (S.faults out.new) pen.new.result (mentions (uses_of set.now) group names.now) }
+        (S.written out.new) (S.faults out.new) pen.new.result (mentions (lock_uses set.now) group names.now) }
 {
     for (place, name) in names.iter().enumerate() {
         print_mention(pen, out, set, group.resource(place as u8), name);
@@ -64,7 +64,7 @@ fn print_mention<S: Sink>(
 )
     requires { IsTrue (is_resource resource) }
     ensures { Prints (S.written out.old) (S.faults out.old) pen.old.result
-        (S.written out.new) (S.faults out.new) pen.new.result (mention (uses_of set.now) resource name.now) }
+        (S.written out.new) (S.faults out.new) pen.new.result (mention (lock_uses set.now) resource name.now) }
 {
     if set.writes(resource) {
         print_name(pen, out, name);

@@ -5,9 +5,9 @@ ghost use Rattle.mate_code.specs.Listing.{listing_text};
 ghost use Rattle.mate_files.specs.Pen.{Prints};
 ghost use Rattle.mate_files.specs.Sink.{Puts};
 ghost use Rattle.capsule_codec.specs.Image.{capsule_parts};
-ghost use Rattle.opcode_gen.specs.TableText.{names_of};
+ghost use Rattle.opcode_gen.specs.TableText.{names_of_functions};
 ghost use Rattle.vm_desc.specs.Shapes.{shape_of};
-ghost use Rattle.capsule_listing.specs.CapsuleText.{capsule_text, handler_name, head_line, IsVerifiedFor};
+ghost use Rattle.capsule_listing.specs.CapsuleText.{capsule_text, handler_name_at, head_line, IsVerifiedFor};
 
 use crate::lock_line::print_lock_line;
 use capsule_codec::Capsule;
@@ -46,7 +46,7 @@ fn print_head<S: Sink>(pen: &mut Pen, out: &mut S, desc: &Description, capsule: 
     requires { capsule.now.handler.0 < length desc.now.handlers.items }
     ensures { Prints (S.written out.old) (S.faults out.old) pen.old.result
         (S.written out.new) (S.faults out.new) pen.new.result
-        (head_line (handler_name desc.now capsule.now.handler.0) capsule.now.version (length capsule.now.code.items)) }
+        (head_line (handler_name_at desc.now capsule.now.handler.0) capsule.now.version (length capsule.now.code.items)) }
 {
     pen.text(out, "capsule ");
     pen.text(out, handler_name(desc, capsule.handler).as_str());
@@ -59,7 +59,7 @@ fn print_head<S: Sink>(pen: &mut Pen, out: &mut S, desc: &Description, capsule: 
 
 fn handler_name(desc: &Description, handler: HandlerId) -> &Name
     requires { handler.0 < length desc.now.handlers.items }
-    ensures { result.now ≡ handler_name desc.now handler.0 }
+    ensures { result.now ≡ handler_name_at desc.now handler.0 }
 {
     &desc.handlers.as_slice()[handler.0 as usize].name
 }
@@ -68,7 +68,7 @@ fn handler_name(desc: &Description, handler: HandlerId) -> &Name
 fn print_instrs<S: Sink>(pen: &mut Pen, out: &mut S, desc: &Description, code: &Verified)
     requires { code.now.shape ≡ shape_of desc.now }
     ensures { Prints (S.written out.old) (S.faults out.old) pen.old.result
-        (S.written out.new) (S.faults out.new) pen.new.result (listing_text (names_of desc.now) code.now.code) }
+        (S.written out.new) (S.faults out.new) pen.new.result (listing_text (names_of_functions desc.now) code.now.code) }
 {
     if pen.result.is_ok() {
         let names = function_names(desc);

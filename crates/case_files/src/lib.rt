@@ -5,4 +5,4 @@ mod bytes;
 mod tables;
 
 pub use bytes::{bytes_of, in_one_line};
-pub use tables::{Answers, print_tables};
+pub use tables::print_table;

@@ -1,4 +1,4 @@
-//! Tables of cases: a line has the name of a machine, a space, and the case.
+//! Tables of cases, each printed with its answers.
 
 use std::alloc::{AllocError, Global};
 use std::rt::Files;
@@ -6,41 +6,21 @@ use std::{fs, io};
 use vm_desc::{Description, builtin};
 use vm_reader::read;
 
-/// What answers the cases of a program's tables.
-pub trait Answers {
-    /// The answer to a case of a machine. A case that can't be read has an answer of its own.
-    fn answer(
-        &self,
-        alloc: Global,
-        table: &str,
-        desc: &Description,
-        case: &str,
-    ) -> Result<String, AllocError>;
-}
-
-/// Prints each table: its name behind `==`, and each line of the file of this name with its answer behind ` => `.
-pub fn print_tables<A: Answers>(
-    rt: &(impl Files + Print + AllocGlobal),
-    tables: &[&str],
-    answers: &A,
-) -> io::Result<()> {
-    for table in tables {
-        println!(rt; "== {table}")?;
-        print_table(rt, table, answers)?;
-    }
-    Ok(())
-}
-
-fn print_table<A: Answers>(
+/// Prints a table: its name behind `==`, and each line of the file of this name with its answer behind ` => `. A line has
+/// the name of a machine, a space, and the case; a case that can't be read has an answer of its own.
+pub fn print_table<F: Fn(Global, &Description, &str) -> Result<String, AllocError>>(
     rt: &(impl Files + Print + AllocGlobal),
     table: &str,
-    answers: &A,
-) -> io::Result<()> {
+    answer: F,
+) -> io::Result<()>
+    requires { F.IsAlwaysCallable answer }
+{
+    println!(rt; "== {table}")?;
     let lines = fs::read_to_string(rt, table)?;
     for line in lines.lines() {
         let (machine, case) = line.split_once(' ').unwrap_or((line, ""));
         let answer = match description(rt, machine)? {
-            Some(desc) => answers.answer(rt.alloc(), table, &desc, case)?,
+            Some(desc) => answer(rt.alloc(), &desc, case)?,
             None => "no machine".to_string(rt.alloc())?,
         };
         println!(rt; "{line} => {answer}")?;

@@ -1,4 +1,5 @@
 pub mod SizeLemmas
+pub mod SlotsLemmas
 pub mod PlacedLemmas
 pub mod MarkLemmas
 pub mod PassLemmas

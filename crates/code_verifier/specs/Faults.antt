@@ -18,6 +18,6 @@ refusal_of NoHalt = refusal.NoHalt
 refusal_of (TooLong len) = refusal.TooLong len
 
 -- the refusal of bytes that can't be decoded
-abbrev pub fault_of : DecodeFault → VerifyFault
-fault_of (BadOpcode place) = Decode place
-fault_of (CutShort place) = Decode place
+abbrev pub decode_fault_of : DecodeFault → VerifyFault
+decode_fault_of (BadOpcode place) = Decode place
+decode_fault_of (CutShort place) = Decode place

@@ -1,15 +1,7 @@
--- Where an instruction goes on, as verification has it.
+-- The targets that verification goes on with.
 use Rattle.std.specs.Prelude.{ℕ, ◌<◌, ⊤}
-use Rattle.mate_code.specs.Flow as flow
-use Rattle.code_verifier.specs.declared.flow.Flow.{Flow}
-use Rattle.code_verifier.specs.declared.flow.Flow.TheVariants.{Next, Ends, Branches, Jumps, Returns}
-
-abbrev pub flow_in : Flow → flow.Flow
-flow_in Next = flow.Next
-flow_in Ends = flow.Ends
-flow_in (Branches target) = flow.Branches target
-flow_in (Jumps target) = flow.Jumps target
-flow_in (Returns target) = flow.Returns target
+use Rattle.mate_code.specs.declared.flow.Flow.TheVariants.{Next, Ends, Branches, Jumps, Returns}
+use Rattle.mate_code.specs.declared.flow.Flow.{Flow}
 
 -- the target, if there is one, is below the limit
 abbrev pub IsTargetBelow : ℕ → Flow → Type 0

@@ -4,7 +4,7 @@ use Rattle.mate_code.specs.Verification as verification
 use Rattle.code_verifier.specs.declared.marks.Mark.{Mark}
 use Rattle.code_verifier.specs.declared.marks.Mark.TheVariants.{Blank, Depth, Clash}
 
-abbrev pub mark_in : Mark → verification.Mark
+abbrev pub mark_in : Mark → verification.DepthMark
 mark_in Blank = verification.Blank
 mark_in (Depth n) = verification.Depth n
 mark_in Clash = verification.Clash

@@ -1,7 +1,7 @@
 //! Why code is refused.
 
 ghost use Rattle.std.specs.Prelude.{◌≡◌};
-ghost use Rattle.code_verifier.specs.Faults.{fault_of};
+ghost use Rattle.code_verifier.specs.Faults.{decode_fault_of};
 
 use mate_code::DecodeFault;
 
@@ -31,7 +31,7 @@ pub enum VerifyFault {
 impl VerifyFault {
     // The refusal of bytes that can't be decoded.
     pub(crate) fn of_decode(fault: DecodeFault) -> VerifyFault
-        ensures { result ≡ fault_of fault }
+        ensures { result ≡ decode_fault_of fault }
     {
         match fault {
             DecodeFault::BadOpcode { place } => VerifyFault::Decode { place },

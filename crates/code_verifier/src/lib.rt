@@ -2,15 +2,15 @@
 #![tactic(auto)]
 
 pub mod fault;
-mod flow;
 mod marks;
 mod pass;
 pub mod placed;
+mod slots;
 pub mod verification;
 pub mod verified;
 
 pub use fault::VerifyFault;
-pub use flow::args;
+pub use mate_code::args;
 pub use placed::Placed;
 pub use verification::verify;
 pub use verified::Verified;

@@ -2,23 +2,18 @@
 
 ghost use Rattle.std.specs.Prelude.{◌≡◌, ◌≤◌, ◌+◌, length, IsTrue};
 ghost use Rattle.mate_code.specs.Instr.{size_of};
-ghost use Rattle.mate_code.specs.Flow.{flow_of};
 ghost use Rattle.mate_code.specs.Run.{size_of_code};
 ghost use Rattle.mate_code.specs.Verification.{AreFrom, halts, has_target, has_direction, has_back_depth, marks_after};
 ghost use Rattle.mate_num.specs.declared.bounds.TheConstants.{CODE_MAX};
-ghost use Rattle.code_verifier.specs.Flows.{flow_in, IsTargetBelow};
+ghost use Rattle.code_verifier.specs.Flows.{IsTargetBelow};
 ghost use Rattle.code_verifier.specs.Marks.{marks_in};
 ghost use Rattle.code_verifier.specs.Pass.{PassGives, CheckGives};
 
 use crate::fault::VerifyFault;
-use crate::flow::{Flow, flow_of, is_in_range, pops, pushes};
 use crate::marks::{Mark, depth, first, give};
 use crate::placed::Placed;
-use mate_code::Instr;
-use mate_num::Shape;
-
-/// The room of a stack, in values.
-const ROOM: u16 = 16;
+use mate_code::{Flow, Instr};
+use mate_num::{STACK_MAX, Shape};
 
 /// Goes over the instructions by their places. Answers the first refusal.
 pub fn pass(shape: &Shape, code: &Placed, instrs: &[(u16, Instr)]) -> Result<(), VerifyFault>
@@ -39,7 +34,7 @@ pub fn halts(instrs: &[(u16, Instr)]) -> bool
     ensures { result ≡ halts instrs.now }
 {
     match instrs {
-        [.., (_, last)] => flow_of(*last).is_end(),
+        [.., (_, last)] => last.flow().is_end(),
         [] => false,
     }
 }
@@ -57,11 +52,11 @@ fn check_instr(
     ensures { CheckGives shape.now code.now place instr (marks_in marks.old) result (marks_in marks.new) }
 {
     let at = u32::from(place);
-    let flow = flow_of(instr);
+    let flow = instr.flow();
     if matches!(marks[usize::from(place)], Mark::Clash) {
         return Err(VerifyFault::DepthDiffers { place: at });
     }
-    if !is_in_range(shape, instr) {
+    if !instr.is_in_range(shape) {
         return Err(VerifyFault::BadIndex { place: at });
     }
     if !has_target(code, flow) {
@@ -71,12 +66,12 @@ fn check_instr(
         return Err(VerifyFault::BackJump { place: at });
     }
     let before = depth(marks, usize::from(place));
-    let taken = pops(shape, instr);
+    let taken = instr.pops(shape);
     if before < taken {
         return Err(VerifyFault::Underflow { place: at });
     }
-    let after = u16::from(before - taken) + u16::from(pushes(instr));
-    if after > ROOM {
+    let after = u16::from(before - taken) + u16::from(instr.pushes());
+    if usize::from(after) > STACK_MAX {
         return Err(VerifyFault::Overflow { place: at });
     }
     let after = after as u8;
@@ -89,7 +84,7 @@ fn check_instr(
 
 // Whether the target, if there is one, is an instruction's start.
 fn has_target(code: &Placed, flow: Flow) -> bool
-    ensures value { result ≡ has_target code.now (flow_in flow) }
+    ensures value { result ≡ has_target code.now flow }
     ensures below { IsTrue result → IsTargetBelow CODE_MAX flow }
 {
     match flow {
@@ -102,7 +97,7 @@ fn has_target(code: &Placed, flow: Flow) -> bool
 
 // Whether the target lies forward, or that of a going back doesn't.
 fn has_direction(place: u16, flow: Flow) -> bool
-    ensures { result ≡ has_direction place (flow_in flow) }
+    ensures { result ≡ has_direction place flow }
 {
     match flow {
         Flow::Next | Flow::Ends => true,
@@ -113,7 +108,7 @@ fn has_direction(place: u16, flow: Flow) -> bool
 
 // Whether the target of a going back has this depth.
 fn has_back_depth(marks: &[Mark], after: u8, flow: Flow) -> bool
-    ensures { result ≡ has_back_depth (marks_in marks.now) after (flow_in flow) }
+    ensures { result ≡ has_back_depth (marks_in marks.now) after flow }
 {
     match flow {
         Flow::Next | Flow::Ends | Flow::Branches(_) | Flow::Jumps(_) => true,
@@ -126,7 +121,7 @@ fn give_on(marks: &mut [Mark], flow: Flow, next: usize, after: u8)
     requires marks { length marks.old ≡ CODE_MAX + 1 }
     requires target { IsTargetBelow CODE_MAX flow }
     requires next { next ≤ CODE_MAX }
-    ensures { marks_in marks.new ≡ marks_after (flow_in flow) next after (marks_in marks.old) }
+    ensures { marks_in marks.new ≡ marks_after flow next after (marks_in marks.old) }
 {
     match flow {
         Flow::Next => give(marks, next, after),

@@ -56,17 +56,22 @@ impl Verified {
     pub fn instr(&self, place: u16) -> Instr
         requires { IsTrue (is_start self.now.code place) }
         ensures value { fetch self.now.code place ≡ Some result }
-        ensures within { place + size_of result ≤ CODE_MAX }
+    {
+        *self.at(usize::from(place))
+    }
+
+    /// The instruction that starts at the place, as it stands in the code.
+    pub fn at(&self, place: usize) -> &Instr
+        requires { IsTrue (is_start self.now.code place) }
+        ensures value { fetch self.now.code place ≡ Some result.now }
+        ensures within { place + size_of result.now ≤ CODE_MAX }
 
         // Its names are in range, its operands are there, and it goes on at an instruction.
-        ensures right { IsRight self.now.shape self.now.code (depth_of self.now) place result }
+        ensures right { IsRight self.now.shape self.now.code (depth_of self.now) place result.now }
         // What fits the code goes on fitting it.
-        ensures fits { KeepsFitting self.now place result }
+        ensures fits { KeepsFitting self.now place result.now }
     {
-        let Some(instr) = self.instrs.get(place) else {
-            unreachable!()
-        };
-        instr
+        self.instrs.at(place)
     }
 
     /// The pairs of place and instruction, in order.

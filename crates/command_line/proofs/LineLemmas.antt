@@ -6,7 +6,7 @@ use Rattle.clap.specs.declared.error.Error.{Error}
 use Rattle.clap.specs.declared.parser.matches.ArgMatches.{ArgMatches}
 use Rattle.clap.proofs.OnLiterals.{clap_on_literals}
 use Rattle.clap.proofs.WalkLemmas.{first_value-rows}
-use Rattle.command_line.specs.Words.{mate_command, rows_in, is_given, Line, IsLine, HasNoLine, Tells}
+use Rattle.command_line.specs.Words.{mate_command, rows_in, is_given, Line, IsLine, HasNoLine, TellsWordsFault}
 use Rattle.command_line.specs.declared.words.WordsFault.{WordsFault}
 use Rattle.command_line.specs.declared.words.WordsFault.TheVariants as fault
 
@@ -32,10 +32,10 @@ no_command a words m e h none = λ l is.
     cc
 
 -- words at which an error comes that isn't for want of memory are no line's
-pub not_taken : (a : App) (words : List Text) (error : Error) (f : WordsFault) → a ≡ mate_command → HasKind (fault_of a words) error → Tells (kind_of error) f → f ≡ fault.NotTaken → HasNoLine words
+pub not_taken : (a : App) (words : List Text) (error : Error) (f : WordsFault) → a ≡ mate_command → HasKind (fault_of a words) error → TellsWordsFault (kind_of error) f → f ≡ fault.NotTaken → HasNoLine words
 not_taken a words error f e h tells is = λ l line. by (fault_of a words) (ap (λ (x : App). fault_of x words) e ∙ line.taken) h where
   by : (kinds : Kinds) → kinds ≡ [] → HasKind kinds error → ⊥
-  by kinds none (inl memory) = subst (λ (g : WordsFault). Tells (kind_of error) g) is tells memory
+  by kinds none (inl memory) = subst (λ (g : WordsFault). TellsWordsFault (kind_of error) g) is tells memory
   by kinds none (inr among) = subst (λ (k : Kinds). IsAmong (kind_of error) k) none among
 
 pub line_of : (a : App) (words : List Text) (m : ArgMatches) (l : Line) → a ≡ mate_command → HasMatchesOf a words m → fault_of a words ≡ []

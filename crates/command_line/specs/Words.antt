@@ -69,9 +69,9 @@ abbrev pub HasNoLine : List Text → Type 0
 HasNoLine words = (l : Line) → IsLine words l → ⊥
 
 -- only an error for want of memory is no refusal of the words
-abbrev pub Tells : ErrorKind → WordsFault → Type 0
-Tells k NotTaken = k ≡ OutOfMemory → ⊥
-Tells k NoMemory = Unit {0}
+abbrev pub TellsWordsFault : ErrorKind → WordsFault → Type 0
+TellsWordsFault k NotTaken = k ≡ OutOfMemory → ⊥
+TellsWordsFault k NoMemory = Unit {0}
 
 -- a line is read exactly where there is one
 abbrev pub ReadsLine : List Text → Result CommandLine WordsFault → Type 0

@@ -3,7 +3,7 @@
 ghost use Rattle.std.specs.Prelude.{◌≡◌, false, map, string_bytes, unwrap_or, codes, [], IfOk, IfErr};
 ghost use Rattle.clap.specs.Words.{app_of, found_of, rows_of, rule_of, kind_of, all_of};
 ghost use Rattle.command_line.specs.declared.words.WordsFault.TheVariants.{NoMemory};
-ghost use Rattle.command_line.specs.Words.{ReadsLine, Tells, mate_command, flag, command_word, other_words, is_given};
+ghost use Rattle.command_line.specs.Words.{ReadsLine, TellsWordsFault, mate_command, flag, command_word, other_words, is_given};
 
 use clap::error::ErrorKind;
 use clap::parser::ValueSource;
@@ -124,7 +124,7 @@ fn args_in<'a>(alloc: Global, matches: &ArgMatches<'a>) -> Result<Vec<&'a str>, 
 }
 
 fn fault_of(error: &Error) -> WordsFault
-    ensures { Tells (kind_of error.now) result }
+    ensures { TellsWordsFault (kind_of error.now) result }
 {
     if error.kind() == ErrorKind::OutOfMemory {
         WordsFault::NoMemory

@@ -15,11 +15,12 @@ use Rattle.mate_num.specs.declared.resource.Resource.{Resource}
 use Rattle.mate_num.specs.declared.resource.Resource.TheVariants.{Shared, Buffer, Device}
 use Rattle.mate_num.specs.declared.shape.FunShape.{FunShape}
 use Rattle.mate_num.specs.declared.shape.Shape.{Shape}
-use Rattle.mate_num.specs.Uses.{Uses, Adds, IsSameUses, no_uses}
+use Rattle.mate_num.specs.Uses.{AddsResource, IsSameUses, no_uses, is_same_resource, function_shape, is_device_of, is_same_device}
 use Rattle.mate_code.specs.declared.instr.Instr.{Instr}
 use Rattle.mate_code.specs.declared.instr.Instr.TheVariants.{GetS, SetS, BGet, BSet, BAdd, BTake, BSize, BClear, FunBuf}
-use Rattle.mate_code.specs.Cells.{is_same}
-use Rattle.mate_code.specs.CodeUses.{Use, Nothing, Gets, Changes, Calls, Sends, use_of, uses_of, reads_in, writes_in, is_device, is_device_of, function_of}
+use Rattle.mate_code.specs.CodeUses.{use_of, reads_in, writes_in}
+use Rattle.mate_code.specs.declared.uses.Use.TheVariants.{Nothing, Gets, Changes, Calls, Sends}
+use Rattle.mate_code.specs.declared.uses.Use.{Use}
 use Rattle.mate_code.specs.Flow.{is_in_range}
 use Rattle.mate_code.specs.Instr.{size_of}
 use Rattle.mate_code.specs.Run.{Code, fetch}
@@ -32,11 +33,11 @@ use Rattle.vm_desc.specs.declared.function.Function.{Function}
 use Rattle.vm_desc.specs.Limits.{is_function, is_device as is_there}
 use Rattle.vm_desc.specs.Shapes.{fun_shape, shape_of}
 use Rattle.vm_desc.proofs.DescriptionLemmas.{bounds_of, function_at}
-use Rattle.lock_inference.specs.Locks.{held, AreLocksOf, device_in, names_resource, Gains}
+use Rattle.lock_inference.specs.Locks.{held_uses, AreLocksOf, device_in, names_resource, Gains}
 
 -- ---- one resource more
 
-is_same-true : (r q : Resource) → is_same r q ≡ true → r ≡ q
+is_same-true : (r q : Resource) → is_same_resource r q ≡ true → r ≡ q
 is_same-true (Shared v) (Shared w) e = ap (λ (n : ℕ). Shared record { 0 = n }) (eqb-true v.0 w.0 e)
 is_same-true (Shared v) (Buffer c) e = cc
 is_same-true (Shared v) (Device d) e = cc
@@ -56,14 +57,14 @@ or-true true = refl
 or-true false = refl
 
 -- a set with r has q where it had it, and where q is r
-adds-at : (before after : Resource → Bool) (r q : Resource) → Adds before after r → after q ≡ (before q || is_same r q)
+adds-at : (before after : Resource → Bool) (r q : Resource) → AddsResource before after r → after q ≡ (before q || is_same_resource r q)
 adds-at before after r q adds =
-    elim (cases_Bool (is_same r q)) [
+    elim (cases_Bool (is_same_resource r q)) [
       | inl same ↦
           let e : r ≡ q = is_same-true r q same in
           ap after (sym e) ∙ adds.added ∙ sym (or-true (before q)) ∙ ap (λ (b : Bool). before q || b) (sym same)
       | inr other ↦
-          let apart : q ≢ r = λ e. cc (sym other ∙ ap (λ (x : Resource). is_same r x) e ∙ is_same-refl r) in
+          let apart : q ≢ r = λ e. cc (sym other ∙ ap (λ (x : Resource). is_same_resource r x) e ∙ is_same-refl r) in
           adds.others q apart ∙ sym (or-false (before q)) ∙ ap (λ (b : Bool). before q || b) (sym other)
     ]
 
@@ -72,37 +73,37 @@ kept-at before after q e = ap (λ (f : Resource → Bool). f q) e ∙ sym (or-fa
 
 pub Gains-nothing : (shape : Shape) (set : LockSet) → Gains shape set set Nothing
 Gains-nothing shape set = record {
-  reads = λ r. sym (or-false ((held set).reads r));
-  writes = λ r. sym (or-false ((held set).writes r));
+  reads = λ r. sym (or-false ((held_uses set).reads r));
+  writes = λ r. sym (or-false ((held_uses set).writes r));
 }
 
-pub Gains-gets : (shape : Shape) (old new : LockSet) (r : Resource) → Adds (held old).reads (held new).reads r → (held new).writes ≡ (held old).writes → Gains shape old new (Gets r)
+pub Gains-gets : (shape : Shape) (old new : LockSet) (r : Resource) → AddsResource (held_uses old).reads (held_uses new).reads r → (held_uses new).writes ≡ (held_uses old).writes → Gains shape old new (Gets r)
 Gains-gets shape old new r adds same = record {
-  reads = λ q. adds-at (held old).reads (held new).reads r q adds;
-  writes = λ q. kept-at (held old).writes (held new).writes q same;
+  reads = λ q. adds-at (held_uses old).reads (held_uses new).reads r q adds;
+  writes = λ q. kept-at (held_uses old).writes (held_uses new).writes q same;
 }
 
-pub Gains-changes : (shape : Shape) (old new : LockSet) (r : Resource) → (held new).reads ≡ (held old).reads → Adds (held old).writes (held new).writes r → Gains shape old new (Changes r)
+pub Gains-changes : (shape : Shape) (old new : LockSet) (r : Resource) → (held_uses new).reads ≡ (held_uses old).reads → AddsResource (held_uses old).writes (held_uses new).writes r → Gains shape old new (Changes r)
 Gains-changes shape old new r same adds = record {
-  reads = λ q. kept-at (held old).reads (held new).reads q same;
-  writes = λ q. adds-at (held old).writes (held new).writes r q adds;
+  reads = λ q. kept-at (held_uses old).reads (held_uses new).reads q same;
+  writes = λ q. adds-at (held_uses old).writes (held_uses new).writes r q adds;
 }
 
 -- the device of a called function is written
-device-at : (f : Option FunShape) (device : Option DeviceId) (r : Resource) → device ≡ device_in f → is_device_of f r ≡ is_device device r
-device-at None device r e = ap (λ (d : Option DeviceId). is_device d r) (sym e)
-device-at (Some f) device r e = ap (λ (d : Option DeviceId). is_device d r) (sym e)
+device-at : (f : Option FunShape) (device : Option DeviceId) (r : Resource) → device ≡ device_in f → is_device_of f r ≡ is_same_device device r
+device-at None device r e = ap (λ (d : Option DeviceId). is_same_device d r) (sym e)
+device-at (Some f) device r e = ap (λ (d : Option DeviceId). is_same_device d r) (sym e)
 
-pub Gains-calls : (shape : Shape) (old new : LockSet) (fun : FunId) (d : DeviceId) → Some d ≡ device_in (function_of shape fun) → Gains shape old new (Changes (Device d)) → Gains shape old new (Calls fun)
+pub Gains-calls : (shape : Shape) (old new : LockSet) (fun : FunId) (d : DeviceId) → Some d ≡ device_in (function_shape shape fun) → Gains shape old new (Changes (Device d)) → Gains shape old new (Calls fun)
 Gains-calls shape old new fun d e gains = record {
   reads = gains.reads;
-  writes = λ r. gains.writes r ∙ ap (λ (b : Bool). (held old).writes r || b) (sym (device-at (function_of shape fun) (Some d) r e));
+  writes = λ r. gains.writes r ∙ ap (λ (b : Bool). (held_uses old).writes r || b) (sym (device-at (function_shape shape fun) (Some d) r e));
 }
 
-pub Gains-calls_none : (shape : Shape) (set : LockSet) (fun : FunId) → None ≡ device_in (function_of shape fun) → Gains shape set set (Calls fun)
+pub Gains-calls_none : (shape : Shape) (set : LockSet) (fun : FunId) → None ≡ device_in (function_shape shape fun) → Gains shape set set (Calls fun)
 Gains-calls_none shape set fun e = record {
-  reads = λ r. sym (or-false ((held set).reads r));
-  writes = λ r. sym (or-false ((held set).writes r)) ∙ ap (λ (b : Bool). (held set).writes r || b) (sym (device-at (function_of shape fun) None r e));
+  reads = λ r. sym (or-false ((held_uses set).reads r));
+  writes = λ r. sym (or-false ((held_uses set).writes r)) ∙ ap (λ (b : Bool). (held_uses set).writes r || b) (sym (device-at (function_shape shape fun) None r e));
 }
 
 -- a sent buffer is read, and then the function's device is written
@@ -111,8 +112,8 @@ or-again a b = or-false (a || b)
 
 pub Gains-sends : (shape : Shape) (old between new : LockSet) (fun : FunId) (buf : BufId) → Gains shape old between (Gets (Buffer buf)) → Gains shape between new (Calls fun) → Gains shape old new (Sends fun buf)
 Gains-sends shape old between new fun buf first second = record {
-  reads = λ r. second.reads r ∙ or-false ((held between).reads r) ∙ first.reads r;
-  writes = λ r. second.writes r ∙ ap (λ (b : Bool). b || is_device_of (function_of shape fun) r) (first.writes r ∙ or-false ((held old).writes r));
+  reads = λ r. second.reads r ∙ or-false ((held_uses between).reads r) ∙ first.reads r;
+  writes = λ r. second.writes r ∙ ap (λ (b : Bool). b || is_device_of (function_shape shape fun) r) (first.writes r ∙ or-false ((held_uses old).writes r));
 }
 
 -- ---- the code's instructions
@@ -162,12 +163,12 @@ below_eight devices (Some d) few h = let k : d.0 < devices = ltb-true d.0 device
 
 -- a description's function has its device, which is one of 8
 pub device-some : (d : Description) (functions : List Function) (n : ℕ) (fun : FunId) (f : Function) → functions ≡ d.functions.items → n ≡ fun.0 → n < length functions → f ≡ get_or functions n f
-    → (f.device ≡ device_in (function_of (shape_of d) fun)) × IfSome f.device (λ device. device.0 < 8)
+    → (f.device ≡ device_in (function_shape (shape_of d) fun)) × IfSome f.device (λ device. device.0 < 8)
 device-some d functions n fun f same at lt is =
     let fs = d.functions.items in
     let lt' : fun.0 < length fs = (let k : length functions ≡ length fs = ap length same in omega arith) in
     let is' : f ≡ get_or fs fun.0 f = is ∙ ap (λ (xs : List Function). get_or xs n f) same ∙ ap (λ (k : ℕ). get_or fs k f) at in
-    let found : function_of (shape_of d) fun ≡ Some (fun_shape (get_or fs fun.0 f)) =
+    let found : function_shape (shape_of d) fun ≡ Some (fun_shape (get_or fs fun.0 f)) =
     slice_get-map fun_shape fs fun.0 ∙ ap (option_map fun_shape) (slice_get-get_or fs fun.0 f lt') in
     let rules : is_function (length d.devices.items) f ≡ true = ap (is_function (length d.devices.items)) is' ∙ function_at d fun.0 f lt' in
     let there : is_there (length d.devices.items) f.device ≡ true = grind (arith, and_parts) in (
@@ -177,7 +178,7 @@ device-some d functions n fun f same at lt is =
 
 -- ---- the loop over them
 
-pub locks-none : (shape : Shape) (set : LockSet) → IsSameUses (held set) no_uses → AreLocksOf shape [] set
+pub locks-none : (shape : Shape) (set : LockSet) → IsSameUses (held_uses set) no_uses → AreLocksOf shape [] set
 locks-none shape set empty = record { reads = empty.reads; writes = empty.writes }
 
 pub locks-more : (shape : Shape) (code pairs : Code) (k : ℕ) (d : ℕ × Instr) (old new : LockSet) (u : Use) → pairs ≡ code → k < length pairs → u ≡ use_of (get_or pairs k d).1 → AreLocksOf shape (take k code) old → Gains shape old new u → AreLocksOf shape (take (k + 1) code) new

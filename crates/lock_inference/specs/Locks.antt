@@ -9,26 +9,17 @@ use Rattle.mate_num.specs.Uses.{Uses, IsSameUses}
 use Rattle.mate_num.specs.Locks as locks
 use Rattle.mate_num.specs.Locks.{is_resource}
 use Rattle.mate_code.specs.Run.{Code}
+use Rattle.mate_code.specs.declared.uses.Use.{Use}
 use Rattle.mate_code.specs.CodeUses as code_uses
 use Rattle.mate_code.specs.CodeUses.{cell_in, reads_in, writes_in}
-use Rattle.lock_inference.specs.declared.uses.Use.{Use}
-use Rattle.lock_inference.specs.declared.uses.Use.TheVariants.{Nothing, Gets, Changes, Calls, Sends}
 
 -- the sets that a lock set holds
-abbrev pub held : LockSet → Uses
-held set = locks.uses_of set
+abbrev pub held_uses : LockSet → Uses
+held_uses set = locks.lock_uses set
 
 -- the set holds as read exactly what the code reads, and as written exactly what it writes
 abbrev pub AreLocksOf : Shape → Code → LockSet → Type 0
-AreLocksOf shape code set = IsSameUses (held set) (code_uses.uses_of shape code)
-
--- what an instruction has to do with resources, as code has it
-abbrev pub use_in : Use → code_uses.Use
-use_in Nothing = code_uses.Nothing
-use_in (Gets cell) = code_uses.Gets cell
-use_in (Changes cell) = code_uses.Changes cell
-use_in (Calls fun) = code_uses.Calls fun
-use_in (Sends fun buf) = code_uses.Sends fun buf
+AreLocksOf shape code set = IsSameUses (held_uses set) (code_uses.uses_of shape code)
 
 -- a machine can have the resource, if there is one
 abbrev pub is_some_resource : Option Resource → Bool
@@ -36,7 +27,7 @@ is_some_resource None = true
 is_some_resource (Some r) = is_resource r
 
 -- the variable or the buffer that an instruction names, if it names one, is one that a machine can have
-abbrev pub names_resource : code_uses.Use → Bool
+abbrev pub names_resource : Use → Bool
 names_resource u = is_some_resource (cell_in u)
 
 -- the device of a function, if there is one
@@ -45,6 +36,6 @@ device_in None = None
 device_in (Some f) = f.device
 
 -- the new set holds what the old one does, and what is read and written in this way
-pub record Gains (shape : Shape) (old new : LockSet) (u : code_uses.Use) : Type 0 where
-  pub reads : (r : Resource) → (held new).reads r ≡ ((held old).reads r || reads_in u r)
-  pub writes : (r : Resource) → (held new).writes r ≡ ((held old).writes r || writes_in shape u r)
+pub record Gains (shape : Shape) (old new : LockSet) (u : Use) : Type 0 where
+  pub reads : (r : Resource) → (held_uses new).reads r ≡ ((held_uses old).reads r || reads_in u r)
+  pub writes : (r : Resource) → (held_uses new).writes r ≡ ((held_uses old).writes r || writes_in shape u r)

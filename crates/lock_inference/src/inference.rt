@@ -1,12 +1,13 @@
 //! The lock set of code, gathered over its instructions.
 
 ghost use Rattle.std.specs.Prelude.{◌≡◌, ◌<◌, IsTrue, IfSome};
-ghost use Rattle.mate_code.specs.CodeUses as code_uses;
+ghost use Rattle.mate_code.specs.declared.uses.Use.TheVariants.{Calls};
+ghost use Rattle.mate_num.specs.Uses.{function_shape};
 ghost use Rattle.vm_desc.specs.Shapes.{shape_of};
-ghost use Rattle.lock_inference.specs.Locks.{AreLocksOf, Gains, device_in, names_resource, use_in};
+ghost use Rattle.lock_inference.specs.Locks.{AreLocksOf, Gains, device_in, names_resource};
 
-use crate::uses::{Use, use_of};
 use code_verifier::Verified;
+use mate_code::Use;
 use mate_num::{DeviceId, FunId, LockSet, Resource};
 use vm_desc::Description;
 
@@ -21,15 +22,15 @@ pub fn locks(desc: &Description, code: &Verified) -> LockSet
     let instrs = code.instrs();
     let pairs = instrs.as_slice();
     'instrs: for (_, instr) in pairs {
-        set = with_use(set, desc, use_of(*instr));
+        set = with_use(set, desc, instr.uses());
     }
     set
 }
 
 // The set with what is read and written in this way.
 fn with_use(set: LockSet, desc: &Description, made: Use) -> LockSet
-    requires { IsTrue (names_resource (use_in made)) }
-    ensures { Gains (shape_of desc.now) set result (use_in made) }
+    requires { IsTrue (names_resource made) }
+    ensures { Gains (shape_of desc.now) set result made }
 {
     match made {
         Use::Nothing => set,
@@ -42,7 +43,7 @@ fn with_use(set: LockSet, desc: &Description, made: Use) -> LockSet
 
 // The set with the function's device, if it has one, to write.
 fn with_device(set: LockSet, desc: &Description, fun: FunId) -> LockSet
-    ensures { Gains (shape_of desc.now) set result (code_uses.Calls fun) }
+    ensures { Gains (shape_of desc.now) set result (Calls fun) }
 {
     match device_of(desc, fun) {
         Some(device) => set.with_write(Resource::Device(device)),
@@ -52,7 +53,7 @@ fn with_device(set: LockSet, desc: &Description, fun: FunId) -> LockSet
 
 // The device that the function speaks to, if there is such a function and it has one.
 fn device_of(desc: &Description, fun: FunId) -> Option<DeviceId>
-    ensures value { result ≡ device_in (code_uses.function_of (shape_of desc.now) fun) }
+    ensures value { result ≡ device_in (function_shape (shape_of desc.now) fun) }
     ensures below { IfSome result (λ device. device.0 < 8) }
 {
     match desc.functions.get(usize::from(fun.0)) {

@@ -2,6 +2,5 @@
 #![tactic(auto)]
 
 mod inference;
-mod uses;
 
 pub use inference::locks;

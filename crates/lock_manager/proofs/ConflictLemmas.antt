@@ -9,7 +9,7 @@ use Rattle.mate_num.specs.declared.resource.Resource.{Resource}
 use Rattle.mate_num.specs.declared.resource.Resource.TheVariants.{Shared, Buffer, Device}
 use Rattle.mate_num.specs.declared.lock_set.LockSet.{LockSet}
 use Rattle.mate_num.specs.Uses.{Uses, uses, ConflictsAt, Conflicts, IsCompatible}
-use Rattle.mate_num.specs.Locks.{is_resource, uses_of}
+use Rattle.mate_num.specs.Locks.{is_resource, lock_uses}
 use Rattle.lock_manager.specs.Conflict.{resources, conflicts_at, conflict}
 
 -- ---- each resource of a machine is in the list
@@ -50,23 +50,23 @@ conflicts_at-from : (a b : Uses) (r : Resource) → ConflictsAt a b r → confli
 conflicts_at-from a b r (inl h) = or_left (a.writes r && uses b r) (b.writes r && uses a r) (and_from (a.writes r) (uses b r) h.0 h.1)
 conflicts_at-from a b r (inr h) = or_right (a.writes r && uses b r) (b.writes r && uses a r) (and_from (b.writes r) (uses a r) h.0 h.1)
 
-known_at : (s t : LockSet) (r : Resource) → ConflictsAt (uses_of s) (uses_of t) r → IsTrue (is_resource r)
+known_at : (s t : LockSet) (r : Resource) → ConflictsAt (lock_uses s) (lock_uses t) r → IsTrue (is_resource r)
 known_at s t r (inl h) = (and_parts (is_resource r) _ h.0).0
 known_at s t r (inr h) = (and_parts (is_resource r) _ h.0).0
 
 -- ---- the test
-pub conflict-true : (s t : LockSet) → conflict s t ≡ true → Conflicts (uses_of s) (uses_of t)
+pub conflict-true : (s t : LockSet) → conflict s t ≡ true → Conflicts (lock_uses s) (lock_uses t)
 unfolding conflict
 conflict-true s t h =
-    let found = Any-from_list_any (conflicts_at (uses_of s) (uses_of t)) resources h in
-    record { resource = found.1; at = conflicts_at-true (uses_of s) (uses_of t) found.1 found.4 }
+    let found = Any-from_list_any (conflicts_at (lock_uses s) (lock_uses t)) resources h in
+    record { resource = found.1; at = conflicts_at-true (lock_uses s) (lock_uses t) found.1 found.4 }
 
-pub conflict-from : (s t : LockSet) → Conflicts (uses_of s) (uses_of t) → conflict s t ≡ true
+pub conflict-from : (s t : LockSet) → Conflicts (lock_uses s) (lock_uses t) → conflict s t ≡ true
 unfolding conflict
 conflict-from s t c =
-    in_resources (conflicts_at (uses_of s) (uses_of t)) c.resource (known_at s t c.resource c.at) (conflicts_at-from (uses_of s) (uses_of t) c.resource c.at)
+    in_resources (conflicts_at (lock_uses s) (lock_uses t)) c.resource (known_at s t c.resource c.at) (conflicts_at-from (lock_uses s) (lock_uses t) c.resource c.at)
 
-pub conflict-false : (s t : LockSet) → conflict s t ≡ false → IsCompatible (uses_of s) (uses_of t)
+pub conflict-false : (s t : LockSet) → conflict s t ≡ false → IsCompatible (lock_uses s) (lock_uses t)
 conflict-false s t h = record { apart = λ r at. both_ways (conflict s t) h (conflict-from s t record { resource = r; at = at }) }
 
 swapped_at : (a b : Uses) (r : Resource) → ConflictsAt a b r → ConflictsAt b a r
@@ -76,14 +76,14 @@ swapped_at a b r (inr h) = inl h
 pub conflict-swap : (s t : LockSet) → conflict s t ≡ false → conflict t s ≡ false
 conflict-swap s t h = elim (cases_Bool (conflict t s)) [
   | inl yes_both ↦
-      (let c : Conflicts (uses_of t) (uses_of s) = conflict-true t s yes_both in
-      absurd (both_ways (conflict s t) h (conflict-from s t record { resource = c.resource; at = swapped_at (uses_of t) (uses_of s) c.resource c.at })))
+      (let c : Conflicts (lock_uses t) (lock_uses s) = conflict-true t s yes_both in
+      absurd (both_ways (conflict s t) h (conflict-from s t record { resource = c.resource; at = swapped_at (lock_uses t) (lock_uses s) c.resource c.at })))
   | inr none ↦ none
 ]
 
-pub conflict_from_compatible : (s t : LockSet) (b : Bool) → MatchBool b (IsCompatible (uses_of s) (uses_of t)) (Conflicts (uses_of s) (uses_of t)) → not b ≡ conflict s t
+pub conflict_from_compatible : (s t : LockSet) (b : Bool) → MatchBool b (IsCompatible (lock_uses s) (lock_uses t)) (Conflicts (lock_uses s) (lock_uses t)) → not b ≡ conflict s t
 conflict_from_compatible s t true h = elim (cases_Bool (conflict s t)) [
-  | inl both ↦ (let c : Conflicts (uses_of s) (uses_of t) = conflict-true s t both in absurd (h.apart c.resource c.at))
+  | inl both ↦ (let c : Conflicts (lock_uses s) (lock_uses t) = conflict-true s t both in absurd (h.apart c.resource c.at))
   | inr none ↦ sym none
 ]
 conflict_from_compatible s t false h = sym (conflict-from s t h)

@@ -11,8 +11,8 @@ use Rattle.mate_num.specs.declared.lock_set.LockSet.{LockSet}
 use Rattle.lock_manager.specs.declared.claim.Claim.{Claim}
 use Rattle.lock_manager.specs.declared.claim.Waiter.{Waiter}
 use Rattle.lock_manager.specs.Conflict.{conflict}
-use Rattle.lock_manager.specs.Claims.{is_of, set_of, against, blocked_of, IsHeldBack, IsFree, AllHeldBack}
-use Rattle.lock_manager.specs.Counts.{claims_of, number_of, AreCounts, lowered}
+use Rattle.lock_manager.specs.Claims.{is_of, set_of, against, blocked_of, IsClaimHeldBack, IsFree, AreClaimsHeldBack}
+use Rattle.lock_manager.specs.Counts.{claims_of, waiting_number, AreCounts, lowered}
 use Rattle.lock_manager.proofs.ClaimLemmas.{one_if-true, one_if-false}
 use Rattle.lock_manager.proofs.ConflictLemmas.{conflict-true, conflict-false, conflict-swap}
 
@@ -85,11 +85,11 @@ AreCounts-beside c ahead other (w ∷ ws) same apart h =
     (h.0 ∙ same w.claim.set apart.0, AreCounts-beside c (ahead ++ w.claim ∷ []) (other ++ w.claim ∷ []) ws (λ set ne. against-grow set ahead other w.claim (same set ne)) apart.1 h.1)
 
 -- ---- the number of a context
-pub number-is : (ahead : List Claim) (ws : List Waiter) (ctx : ContextId) → AreCounts ahead ws → number_of ws ctx ≡ blocked_of ahead (claims_of ws) ctx
+pub number-is : (ahead : List Claim) (ws : List Waiter) (ctx : ContextId) → AreCounts ahead ws → waiting_number ws ctx ≡ blocked_of ahead (claims_of ws) ctx
 number-is ahead [] ctx h = refl
 number-is ahead (w ∷ ws) ctx h = by_test (is_of ctx w.claim) (number-is (ahead ++ w.claim ∷ []) ws ctx h.1)
   where
-    by_test : (b : Bool) → number_of ws ctx ≡ blocked_of (ahead ++ w.claim ∷ []) (claims_of ws) ctx → option_map (λ (v : Waiter). v.blocked) (cond b (Some w) (find (λ (v : Waiter). is_of ctx v.claim) ws)) ≡ cond b (Some (against w.claim.set ahead)) (blocked_of (ahead ++ w.claim ∷ []) (claims_of ws) ctx)
+    by_test : (b : Bool) → waiting_number ws ctx ≡ blocked_of (ahead ++ w.claim ∷ []) (claims_of ws) ctx → option_map (λ (v : Waiter). v.blocked) (cond b (Some w) (find (λ (v : Waiter). is_of ctx v.claim) ws)) ≡ cond b (Some (against w.claim.set ahead)) (blocked_of (ahead ++ w.claim ∷ []) (claims_of ws) ctx)
     by_test true rest = ap (λ (n : ℕ). Some n) h.0
     by_test false rest = rest
 
@@ -138,7 +138,7 @@ IsFree-from_count started earlier c none =
 -- ---- waiters whose numbers are not 0 are held back
 abbrev HeldInTurn : List Claim → List Claim → List Claim → Type 0
 HeldInTurn started earlier [] = Unit {0}
-HeldInTurn started earlier (c ∷ cs) = IsHeldBack started earlier c × HeldInTurn started (earlier ++ c ∷ []) cs
+HeldInTurn started earlier (c ∷ cs) = IsClaimHeldBack started earlier c × HeldInTurn started (earlier ++ c ∷ []) cs
 
 held_in_turn : (started earlier : List Claim) (ws : List Waiter) → AreCounts (started ++ earlier) ws → AllByRecursion (λ w. eqb w.blocked 0 ≡ false) ws → HeldInTurn started earlier (claims_of ws)
 held_in_turn started earlier [] h some = tt
@@ -151,13 +151,13 @@ held_in_turn started earlier (w ∷ ws) h some =
       held_in_turn started (earlier ++ w.claim ∷ []) ws (subst P (append_assoc started earlier (w.claim ∷ [])) h.1) some.1,
     )
 
-held_at : (started earlier front : List Claim) (c : Claim) (back : List Claim) → HeldInTurn started earlier (front ++ c ∷ back) → IsHeldBack started (earlier ++ front) c
-held_at started earlier [] c back h = let P : List Claim → Type 0 = λ l. IsHeldBack started l c in subst P (sym (append-nil earlier)) h.0
+held_at : (started earlier front : List Claim) (c : Claim) (back : List Claim) → HeldInTurn started earlier (front ++ c ∷ back) → IsClaimHeldBack started (earlier ++ front) c
+held_at started earlier [] c back h = let P : List Claim → Type 0 = λ l. IsClaimHeldBack started l c in subst P (sym (append-nil earlier)) h.0
 held_at started earlier (b ∷ front) c back h =
-    let P : List Claim → Type 0 = λ l. IsHeldBack started l c in
+    let P : List Claim → Type 0 = λ l. IsClaimHeldBack started l c in
     subst P (append_assoc earlier (b ∷ []) front) (held_at started (earlier ++ b ∷ []) front c back h.1)
 
-pub AllHeldBack-from_counts : (started : List Claim) (ws : List Waiter) → AreCounts started ws → AllByRecursion (λ w. eqb w.blocked 0 ≡ false) ws → AllHeldBack started (claims_of ws)
+pub AllHeldBack-from_counts : (started : List Claim) (ws : List Waiter) → AreCounts started ws → AllByRecursion (λ w. eqb w.blocked 0 ≡ false) ws → AreClaimsHeldBack started (claims_of ws)
 AllHeldBack-from_counts started ws h some = record {
   each = λ earlier c later e.
       (let P : List Claim → Type 0 = λ l. HeldInTurn started [] l in

@@ -6,7 +6,7 @@ use Rattle.std.proofs.lemmas.Bool.{cases_Bool, cases_eq, cases_lt, eq-eqb, eqb-t
 use Rattle.mate_num.specs.declared.id.ContextId.{ContextId}
 use Rattle.mate_num.specs.declared.lock_set.LockSet.{LockSet}
 use Rattle.lock_manager.specs.declared.claim.Claim.{Claim}
-use Rattle.lock_manager.specs.Claims.{Claims, is_of, set_of, AreOnce, IsHeldBack, Grants}
+use Rattle.lock_manager.specs.Claims.{Claims, is_of, set_of, AreOnce, IsClaimHeldBack, Grants}
 use Rattle.lock_manager.proofs.ClaimLemmas.{one_if-true, times, times-cons, set_of-none, AreOnce-tail, same_context}
 
 -- ---- claims by context
@@ -46,7 +46,7 @@ set_of-Contains xs c once among = claimed xs among.0 c once among.1 among.2
 no_way_back : (old mid new : Claims) (first second : ContextId) (a : Grants old mid first) (b : Grants mid new second) (rest : List Claim) → a.earlier ≡ b.earlier ++ b.claim ∷ rest → ⊥
 no_way_back old mid new first second a b rest e = held (a.held.each b.earlier b.claim rest e)
   where
-    held : IsHeldBack old.started b.earlier b.claim → ⊥
+    held : IsClaimHeldBack old.started b.earlier b.claim → ⊥
     held h = by_place h.ahead
       where
         by_place : Contains old.started h.by ⊎ Contains b.earlier h.by → ⊥

@@ -3,7 +3,7 @@ use Rattle.std.specs.Prelude.{◌≡◌, ◌≢◌, ◌≤◌, ◌<◌, ◌⊎�
 use Rattle.mate_num.specs.declared.id.ContextId.{ContextId}
 use Rattle.mate_num.specs.declared.lock_set.LockSet.{LockSet}
 use Rattle.mate_num.specs.Uses.{Conflicts, IsCompatible}
-use Rattle.mate_num.specs.Locks.{uses_of}
+use Rattle.mate_num.specs.Locks.{lock_uses}
 use Rattle.lock_manager.specs.declared.claim.Claim.{Claim}
 use Rattle.lock_manager.specs.Conflict.{conflict}
 
@@ -40,22 +40,22 @@ pub record AreOnce (claims : List Claim) : Type 0 where
   pub within : (ctx : ContextId) → 0 < count_by (is_of ctx) claims → ctx.0 < 16
 
 -- a claim of a started context or of an earlier waiter conflicts with c
-pub record IsHeldBack (started earlier : List Claim) (c : Claim) : Type 0 where
+pub record IsClaimHeldBack (started earlier : List Claim) (c : Claim) : Type 0 where
   pub by : Claim
   pub ahead : Contains started by ⊎ Contains earlier by
-  pub conflict : Conflicts (uses_of c.set) (uses_of by.set)
+  pub conflict : Conflicts (lock_uses c.set) (lock_uses by.set)
 
 -- no claim of a started context or of an earlier waiter conflicts with c
 pub record IsFree (started earlier : List Claim) (c : Claim) : Type 0 where
-  pub of_started : (a : Claim) → Contains started a → IsCompatible (uses_of c.set) (uses_of a.set)
-  pub of_earlier : (a : Claim) → Contains earlier a → IsCompatible (uses_of c.set) (uses_of a.set)
+  pub of_started : (a : Claim) → Contains started a → IsCompatible (lock_uses c.set) (lock_uses a.set)
+  pub of_earlier : (a : Claim) → Contains earlier a → IsCompatible (lock_uses c.set) (lock_uses a.set)
 
 -- each waiter is held back
-pub record AllHeldBack (started waiting : List Claim) : Type 0 where
-  pub each : (earlier : List Claim) (c : Claim) (later : List Claim) → waiting ≡ earlier ++ c ∷ later → IsHeldBack started earlier c
+pub record AreClaimsHeldBack (started waiting : List Claim) : Type 0 where
+  pub each : (earlier : List Claim) (c : Claim) (later : List Claim) → waiting ≡ earlier ++ c ∷ later → IsClaimHeldBack started earlier c
 
 -- the claims of the context in two lists, and that all other contexts have the claims that they had
-pub record Moves (old new : Claims) (ctx : ContextId) (waiting started : Option LockSet) : Type 0 where
+pub record MovesClaims (old new : Claims) (ctx : ContextId) (waiting started : Option LockSet) : Type 0 where
   pub waits : set_of new.waiting ctx ≡ waiting
   pub holds : set_of new.started ctx ≡ started
   pub others_wait : (c : ContextId) → c.0 ≢ ctx.0 → set_of new.waiting c ≡ set_of old.waiting c
@@ -65,7 +65,7 @@ pub record Moves (old new : Claims) (ctx : ContextId) (waiting started : Option 
 pub record Enqueues (old new : Claims) (ctx : ContextId) (set : LockSet) : Type 0 where
   pub waiting : new.waiting ≡ old.waiting ++ record { ctx = ctx; set = set } ∷ []
   pub started : new.started ≡ old.started
-  pub moves : Moves old new ctx (Some set) None
+  pub moves : MovesClaims old new ctx (Some set) None
 
 -- the context is started: it is the first waiter that nothing holds back
 pub record Grants (old new : Claims) (ctx : ContextId) : Type 0 where
@@ -77,12 +77,12 @@ pub record Grants (old new : Claims) (ctx : ContextId) : Type 0 where
   pub waiting : new.waiting ≡ earlier ++ later
   pub started : new.started ≡ old.started ++ claim ∷ []
   pub free : IsFree old.started earlier claim
-  pub held : AllHeldBack old.started earlier
-  pub moves : Moves old new ctx None (Some claim.set)
+  pub held : AreClaimsHeldBack old.started earlier
+  pub moves : MovesClaims old new ctx None (Some claim.set)
 
 -- no waiter can be started, and nothing changes
 pub record GrantsNone (old new : Claims) : Type 0 where
-  pub held : AllHeldBack old.started old.waiting
+  pub held : AreClaimsHeldBack old.started old.waiting
   pub same : new ≡ old
 
 -- the context is no longer started
@@ -94,4 +94,4 @@ pub record Releases (old new : Claims) (ctx : ContextId) : Type 0 where
   pub was : old.started ≡ front ++ claim ∷ back
   pub started : new.started ≡ front ++ back
   pub waiting : new.waiting ≡ old.waiting
-  pub moves : Moves old new ctx None None
+  pub moves : MovesClaims old new ctx None None

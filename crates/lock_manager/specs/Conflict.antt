@@ -5,7 +5,7 @@ use Rattle.mate_num.specs.declared.resource.Resource.{Resource}
 use Rattle.mate_num.specs.declared.resource.Resource.TheVariants.{Shared, Buffer, Device}
 use Rattle.mate_num.specs.declared.lock_set.LockSet.{LockSet}
 use Rattle.mate_num.specs.Uses.{Uses, uses}
-use Rattle.mate_num.specs.Locks.{uses_of}
+use Rattle.mate_num.specs.Locks.{lock_uses}
 
 -- what a machine can have: 16 shared variables, 8 buffers and 8 devices
 abbrev pub resources : List Resource
@@ -17,4 +17,4 @@ conflicts_at a b r = (a.writes r && uses b r) || (b.writes r && uses a r)
 
 -- there is such a resource
 unfoldable pub conflict : LockSet → LockSet → Bool
-conflict s t = list_any (conflicts_at (uses_of s) (uses_of t)) resources
+conflict s t = list_any (conflicts_at (lock_uses s) (lock_uses t)) resources

@@ -26,5 +26,5 @@ pub record AreLocks (waiters : List Waiter) (started : List Claim) : Type 0 wher
   pub counts : AreCounts started waiters
 
 -- the number that is kept with the waiter
-abbrev pub number_of : List Waiter → ContextId → Option ℕ
-number_of waiters ctx = option_map (λ w. w.blocked) (find (λ w. is_of ctx w.claim) waiters)
+abbrev pub waiting_number : List Waiter → ContextId → Option ℕ
+waiting_number waiters ctx = option_map (λ w. w.blocked) (find (λ w. is_of ctx w.claim) waiters)

@@ -2,7 +2,7 @@
 
 ghost use Rattle.std.specs.Prelude.{◌≡◌, ◌==◌, position};
 ghost use Rattle.lock_manager.specs.Claims.{is_of};
-ghost use Rattle.lock_manager.specs.Counts.{number_of as number_in};
+ghost use Rattle.lock_manager.specs.Counts.{waiting_number as number_in};
 
 use crate::claim::{Claim, Waiter};
 use mate_num::ContextId;

@@ -6,7 +6,7 @@ use opcode_gen::{function_names, print_table};
 use std::alloc::{AllocError, Global};
 use vm_desc::Description;
 
-pub fn answer(alloc: Global, desc: &Description) -> Result<String, AllocError> {
+pub fn answer(alloc: Global, desc: &Description, _case: &str) -> Result<String, AllocError> {
     let mut sink = MemSink::new(alloc);
     if print_table(desc, &mut sink).is_err() {
         return "no table".to_string(alloc);

@@ -8,7 +8,8 @@ use Rattle.mate_num.specs.Store.{payload}
 use Rattle.mate_num.specs.declared.resource.Resource.{Resource}
 use Rattle.mate_num.specs.declared.resource.Resource.TheVariants.{Shared, Buffer, Device}
 use Rattle.mate_num.specs.declared.store.Store.{Store}
-use Rattle.mate_code.specs.Cells.{read, write, is_same, number_in, AreAsLong, Agree}
+use Rattle.mate_code.specs.Cells.{read, write, number_in, AreAsLong, Agree}
+use Rattle.mate_num.specs.Uses.{is_same_resource}
 
 get_or-set_apart : {X : Type 0} (xs : List X) (i j : ℕ) (x d : X) → i == j ≡ false → get_or (set xs i x) j d ≡ get_or xs j d
 get_or-set_apart xs i j x d apart = get_or-set_other xs i j x d (λ e. eqb-false i j apart (sym e))
@@ -27,7 +28,7 @@ one : {a b : ℤ} → a ≡ b → ◌≡◌ {A = List ℤ} (a ∷ []) (b ∷ [])
 one e = ap (λ (x : ℤ). x ∷ []) e
 
 -- what a write leaves of every other cell
-pub read-write_other : (s : Store) (r q : Resource) (cell : List ℤ) → is_same r q ≡ false → read (write s r cell) q ≡ read s q
+pub read-write_other : (s : Store) (r q : Resource) (cell : List ℤ) → is_same_resource r q ≡ false → read (write s r cell) q ≡ read s q
 read-write_other s (Shared v) (Shared w) cell apart = one (get_or-set_apart s.shared.items v.0 w.0 (number_in cell) (pos 0) apart)
 read-write_other s (Shared v) (Buffer b) cell apart = refl
 read-write_other s (Shared v) (Device d) cell apart = refl
@@ -65,7 +66,7 @@ write-Agree test s t r cell agree =
       same = λ q in'. read-write_both s t r q cell agree.as_long (agree.same q in');
     }
 
-pub is_same-refl : (r : Resource) → is_same r r ≡ true
+pub is_same-refl : (r : Resource) → is_same_resource r r ≡ true
 is_same-refl (Shared v) = eq-eqb v.0 v.0 refl
 is_same-refl (Buffer b) = eq-eqb b.0 b.0 refl
 is_same-refl (Device d) = eq-eqb d.0 d.0 refl

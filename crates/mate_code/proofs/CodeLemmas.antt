@@ -14,7 +14,7 @@ use Rattle.mate_code.specs.declared.kind.OperandForm.TheVariants.{Absent, Byte, 
 use Rattle.mate_code.specs.declared.kind.Kind.{Kind}
 use Rattle.mate_code.specs.declared.instr.Instr.{Instr}
 use Rattle.mate_code.specs.Kind.{form_of, width_of}
-use Rattle.mate_code.specs.Instr.{kind_of, operand_of, instr_of, size_of, Fits}
+use Rattle.mate_code.specs.Instr.{kind_of, operand_of, instr_of, size_of, FitsForm}
 use Rattle.mate_code.specs.Table.{Layout, IsInTable, opcode_of}
 use Rattle.mate_code.specs.Code.{operand_bytes, instr_bytes, code_bytes, placed, operand_at, with_kind, instr_at, decoded_from, decoded, IsWritable}
 use Rattle.mate_code.proofs.OpcodeLemmas.{kind_at-opcode_of}
@@ -37,7 +37,7 @@ length-code_bytes t instrs =
 
 -- ---- one instruction
 
-operand_at-operand_bytes : (form : OperandForm) (n : ℕ) (rest : List ℕ) → Fits form n → operand_at form (operand_bytes form n ++ rest) ≡ n
+operand_at-operand_bytes : (form : OperandForm) (n : ℕ) (rest : List ℕ) → FitsForm form n → operand_at form (operand_bytes form n ++ rest) ≡ n
 operand_at-operand_bytes Absent n rest fits = sym fits
 operand_at-operand_bytes Byte n rest fits = refl
 operand_at-operand_bytes Word n rest fits = from_be_bytes-to_be_bytes_2 n fits
@@ -49,7 +49,7 @@ drop-operand_bytes Byte n rest = refl
 drop-operand_bytes Word n rest = refl
 drop-operand_bytes SignedWord n rest = refl
 
-with_kind-operand_bytes : (place : ℕ) (k : Kind) (n : ℕ) (rest : List ℕ) → Fits (form_of k) n → with_kind place (Some k) (operand_bytes (form_of k) n ++ rest) ≡ Ok (instr_of k n, rest)
+with_kind-operand_bytes : (place : ℕ) (k : Kind) (n : ℕ) (rest : List ℕ) → FitsForm (form_of k) n → with_kind place (Some k) (operand_bytes (form_of k) n ++ rest) ≡ Ok (instr_of k n, rest)
 with_kind-operand_bytes place k n rest fits =
     let len : length (operand_bytes (form_of k) n) ≡ width_of (form_of k) = length-operand_bytes (form_of k) n in
     let all : length (operand_bytes (form_of k) n ++ rest) ≡ length (operand_bytes (form_of k) n) + length rest = length-append (operand_bytes (form_of k) n) rest in

@@ -14,7 +14,7 @@ use Rattle.mate_code.specs.declared.instr.Instr.{Instr}
 use Rattle.mate_code.specs.declared.decoding.DecodeFault.{DecodeFault}
 use Rattle.mate_code.specs.declared.decoding.DecodeFault.TheVariants.{BadOpcode, CutShort}
 use Rattle.mate_code.specs.Kind.{form_of, width_of}
-use Rattle.mate_code.specs.Instr.{kind_of, operand_of, instr_of, size_of, Fits}
+use Rattle.mate_code.specs.Instr.{kind_of, operand_of, instr_of, size_of, FitsForm}
 use Rattle.mate_code.specs.Table.{Layout, IsInTable, opcode_of, kind_at}
 use Rattle.mate_code.specs.Code.{operand_bytes, instr_bytes, code_bytes, instrs_of, operand_at, with_kind, instr_at, decoded_from, decoded, IsWritable, ◌>>=◌, AreBytes, IsDecoded, CannotRead, StopsAt}
 use Rattle.mate_code.proofs.ReadLemmas.{kind_of-instr_of, operand_of-instr_of, IsRead, instr_at_ok, size_of-read}
@@ -23,7 +23,7 @@ use Rattle.mate_code.proofs.CodeLemmas.{length-instr_bytes}
 
 -- ---- one operand
 
-Fits-operand_at : (form : OperandForm) (bytes : List ℕ) → AreBytes bytes → Fits form (operand_at form bytes)
+Fits-operand_at : (form : OperandForm) (bytes : List ℕ) → AreBytes bytes → FitsForm form (operand_at form bytes)
 Fits-operand_at Absent bytes fits = refl
 Fits-operand_at Byte bytes fits = fits 0
 Fits-operand_at Word bytes fits = omega (arith, fits 0, fits 1)
@@ -68,12 +68,12 @@ reads_back t opcode bytes i after fits r =
     let n : ℕ = operand_at (form_of k) bytes in
     let rest : List ℕ = drop (width_of (form_of k)) bytes in
     let made : Instr = instr_of k n in
-    let n_fits : Fits (form_of k) n = Fits-operand_at (form_of k) bytes fits in
+    let n_fits : FitsForm (form_of k) n = Fits-operand_at (form_of k) bytes fits in
     let kind : kind_of made ≡ k = kind_of-instr_of k n in
     let operand : operand_of made ≡ n = operand_of-instr_of k n n_fits in
     let stands = opcode_of-kind_at t opcode k r.known in
     let spelled : Kind → ℕ → List ℕ = λ k m. (opcode_of t k ∷ operand_bytes (form_of k) m) ++ rest in
-    let fits_as : Kind → ℕ → Type 0 = λ k m. Fits (form_of k) m in
+    let fits_as : Kind → ℕ → Type 0 = λ k m. FitsForm (form_of k) m in
     let back : ReadsBack t opcode bytes made rest = record {
       encoding =
           ap (λ (k : Kind). spelled k (operand_of made)) kind

@@ -3,7 +3,7 @@ use Rattle.std.proofs.Common.{◌≡◌, ◌≢◌, ℕ, zero, suc, ◌+◌, ◌
 use Rattle.std.proofs.lemmas.Bool.{cases_lt}
 use Rattle.std.specs.Prelude.{◌==◌, ◌||◌, if◌then◌else◌}
 use Rattle.std.specs.List.{list_any}
-use Rattle.mate_num.specs.Uses.{uses}
+use Rattle.mate_num.specs.Uses.{uses, is_same_resource}
 use Rattle.arrayvec.specs.ArrayVec.{ArrayVec}
 use Rattle.mate_num.specs.declared.call.End.TheVariants as end
 use Rattle.mate_num.specs.declared.id.FunId.{FunId}
@@ -12,10 +12,12 @@ use Rattle.mate_num.specs.declared.resource.Resource.TheVariants.{Buffer}
 use Rattle.mate_num.specs.declared.shape.Shape.{Shape}
 use Rattle.mate_num.specs.declared.store.Store.{Store}
 use Rattle.mate_code.specs.declared.instr.Instr.{Instr}
-use Rattle.mate_code.specs.Cells.{read, is_same, AreAsLong, Agree}
-use Rattle.mate_code.specs.CodeUses.{Use, Nothing, Gets, Changes, Calls, Sends, use_of, cell_in, reads_in, writes_in, uses_of}
+use Rattle.mate_code.specs.Cells.{read, AreAsLong, Agree}
+use Rattle.mate_code.specs.CodeUses.{use_of, cell_in, reads_in, writes_in, uses_of}
+use Rattle.mate_code.specs.declared.uses.Use.TheVariants.{Nothing, Gets, Changes, Calls, Sends}
+use Rattle.mate_code.specs.declared.uses.Use.{Use}
 use Rattle.mate_code.specs.Effect.{Private, Effect, Goes, Writes, Asks, Halts, Faults, Sticks, push, effect}
-use Rattle.mate_code.specs.Run.{Code, fetch, Status, Going, Over, Stuck, Own, Run, read_cell, changed, store_after, own_after, effect_in, run_by, executed, executed_at, step_at, step, after, asked}
+use Rattle.mate_code.specs.Run.{Code, fetch, Status, Going, Over, Stuck, Own, Run, read_cell, changed, store_after, own_after_effect, effect_in, run_by, executed, executed_at, step_at, step, after, asked}
 use Rattle.mate_code.proofs.CellLemmas.{read-write_other, write-AreAsLong, write-Agree, is_same-refl}
 
 or-left : (a b : Bool) → a ≡ true → (a || b) ≡ true
@@ -148,11 +150,11 @@ store_after-Agree test Sticks u s t agree = agree
 -- an instruction sees the same in the cell that it names
 pub read_cell-same : (test : Resource → Bool) (shape : Shape) (u : Use) (s t : Store) → Agree test s t → ((r : Resource) → (reads_in u r || writes_in shape u r) ≡ true → test r ≡ true) → read_cell s (cell_in u) ≡ read_cell t (cell_in u)
 read_cell-same test shape Nothing s t agree within = refl
-read_cell-same test shape (Gets r) s t agree within = agree.same r (within r (or-left (is_same r r) false (is_same-refl r)))
+read_cell-same test shape (Gets r) s t agree within = agree.same r (within r (or-left (is_same_resource r r) false (is_same-refl r)))
 read_cell-same test shape (Changes r) s t agree within = agree.same r (within r (is_same-refl r))
 read_cell-same test shape (Calls f) s t agree within = refl
 read_cell-same test shape (Sends f b) s t agree within =
-    agree.same (Buffer b) (within (Buffer b) (or-left (is_same (Buffer b) (Buffer b)) (writes_in shape (Sends f b) (Buffer b)) (is_same-refl (Buffer b))))
+    agree.same (Buffer b) (within (Buffer b) (or-left (is_same_resource (Buffer b) (Buffer b)) (writes_in shape (Sends f b) (Buffer b)) (is_same-refl (Buffer b))))
 
 executed-Matches : (test : Resource → Bool) (shape : Shape) (i : Instr) (o : Own) (s t : Store) → Agree test s t → ((r : Resource) → (reads_in (use_of i) r || writes_in shape (use_of i) r) ≡ true → test r ≡ true) → Matches test (executed shape i record { own = o; store = s }) (executed shape i record { own = o; store = t })
 executed-Matches test shape i o s t agree within =
@@ -242,7 +244,7 @@ asked-IsMore : (a : ℤ) (p : Private) (f : FunId) (args : ArrayVec ℤ) (left :
 asked-IsMore a p f args [] o = refl
 asked-IsMore a p f args (b ∷ left) o = refl
 
-own_after-IsMore : (a : ℤ) (e : Effect) (o : Own) → IsMore a (own_after e (going o)).status (own_after e (going o)) (own_after e (more_own a (going o)))
+own_after-IsMore : (a : ℤ) (e : Effect) (o : Own) → IsMore a (own_after_effect e (going o)).status (own_after_effect e (going o)) (own_after_effect e (more_own a (going o)))
 own_after-IsMore a (Goes p) o = refl
 own_after-IsMore a (Writes p cell) o = refl
 own_after-IsMore a (Asks p f args) o = asked-IsMore a p f args o.left o
@@ -297,7 +299,7 @@ asked-count : (p : Private) (f : FunId) (args : ArrayVec ℤ) (left : List ℤ) 
 asked-count p f args [] o = refl
 asked-count p f args (a ∷ left) o = refl
 
-pub own_after-count : (e : Effect) (o : Own) → (own_after e o).count ≡ o.count + 1
+pub own_after-count : (e : Effect) (o : Own) → (own_after_effect e o).count ≡ o.count + 1
 own_after-count (Goes p) o = refl
 own_after-count (Writes p cell) o = refl
 own_after-count (Asks p f args) o = asked-count p f args o.left o

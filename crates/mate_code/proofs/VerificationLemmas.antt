@@ -4,10 +4,12 @@ use Rattle.std.specs.Prelude.{◌==◌, not, nat_lt, nat_le, is_some, if◌then�
 use Rattle.std.proofs.lemmas.Bool.{eqb-true, ne_eqb, eq-eqb, ltb-true, leb-true}
 use Rattle.mate_num.specs.declared.shape.Shape.{Shape}
 use Rattle.mate_code.specs.declared.instr.Instr.{Instr}
-use Rattle.mate_code.specs.Flow.{Flow, Next, Ends, Branches, Jumps, Returns, flow_of, pops_of, is_in_range}
+use Rattle.mate_code.specs.Flow.{flow_of, pops_of, is_in_range}
+use Rattle.mate_code.specs.declared.flow.Flow.TheVariants.{Next, Ends, Branches, Jumps, Returns}
+use Rattle.mate_code.specs.declared.flow.Flow.{Flow}
 use Rattle.mate_code.specs.Instr.{size_of}
 use Rattle.mate_code.specs.Run.{Code, fetch, size_of_code}
-use Rattle.mate_code.specs.Verification.{Refusal, DepthDiffers, BadIndex, BadTarget, BackJump, Underflow, Overflow, Mark, Blank, Depth, Clash, Marks, given, depth_in, depth_at, is_clash, mark, first_marks, depth_after, is_start, has_target, has_direction, has_back_depth, demand, refusal_at, marks_after, instr_marks, unless, pass, is_end, halts, if_halts, AreFrom, IsVerified, IsPlace, Flows, IsRight, IsSound}
+use Rattle.mate_code.specs.Verification.{Refusal, DepthDiffers, BadIndex, BadTarget, BackJump, Underflow, Overflow, DepthMark, Blank, Depth, Clash, Marks, given, depth_in, depth_at, is_clash, mark, first_marks, depth_after, is_start, has_target, has_direction, has_back_depth, demand, refusal_at, marks_after, instr_marks, unless, pass, is_end, halts, if_halts, AreFrom, IsVerified, IsPlace, Flows, IsRight, IsSoundCode}
 
 -- ---- code from a place on
 
@@ -48,12 +50,12 @@ fetch-rest at p code place i from found =
 -- ---- what is given to a place
 
 -- the place was given this depth
-abbrev Holds : ℕ → Mark → Type 0
+abbrev Holds : ℕ → DepthMark → Type 0
 Holds n Blank = ⊥
 Holds n (Depth m) = m ≡ n
 Holds n Clash = Unit {0}
 
-given-Holds : (n : ℕ) (m : Mark) → Holds n (given m n)
+given-Holds : (n : ℕ) (m : DepthMark) → Holds n (given m n)
 given-Holds n Blank = refl
 given-Holds n (Depth m) = by (m == n) refl where
   by : (b : Bool) → (m == n) ≡ b → Holds n (if b then Depth m else Clash)
@@ -61,7 +63,7 @@ given-Holds n (Depth m) = by (m == n) refl where
   by false is = tt
 given-Holds n Clash = tt
 
-given-keeps : (n k : ℕ) (m : Mark) → Holds n m → Holds n (given m k)
+given-keeps : (n k : ℕ) (m : DepthMark) → Holds n m → Holds n (given m k)
 given-keeps n k Blank holds = absurd holds
 given-keeps n k (Depth m) holds = by (m == k) where
   by : (b : Bool) → Holds n (if b then Depth m else Clash)
@@ -81,7 +83,7 @@ mark-keeps place n q k marks holds = by (q == place) where
 mark-other : (place n q : ℕ) (marks : Marks) → q ≢ place → mark place n marks q ≡ marks q
 mark-other place n q marks other = let e : (q == place) ≡ false = ne_eqb q place other in rw e refl
 
-Holds-depth : (n : ℕ) (m : Mark) → Holds n m → is_clash m ≡ false → depth_in m ≡ n
+Holds-depth : (n : ℕ) (m : DepthMark) → Holds n m → is_clash m ≡ false → depth_in m ≡ n
 Holds-depth n Blank holds clear = absurd holds
 Holds-depth n (Depth m) holds clear = holds
 Holds-depth n Clash holds clear = cc
@@ -325,7 +327,7 @@ first_place (p ∷ code) marks shape from ends e =
     }
 
 -- verified code is sound
-pub verified-IsSound : {shape : Shape} {code : Code} {marks : Marks} → IsVerified shape code marks → IsSound shape code (depth_at marks)
+pub verified-IsSound : {shape : Shape} {code : Code} {marks : Marks} → IsVerified shape code marks → IsSoundCode shape code (depth_at marks)
 verified-IsSound {shape} {code} {marks} v =
     let h = if_halts-Ok (halts code) (pass shape code first_marks code) marks v.passed in
     let is : IsRest shape code marks 0 code = record { from = v.places; within = λ q i found. found; all = λ q i le found. found; ends = λ more. h.0 } in

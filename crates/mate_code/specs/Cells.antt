@@ -1,5 +1,5 @@
 -- Cells: what a store holds for a resource, and when stores agree on what a piece of code uses.
-use Rattle.std.specs.Prelude.{◌≡◌, ℤ, pos, List, [], ◌∷◌, Bool, false, IsTrue, ◌==◌, length, slice_index_or}
+use Rattle.std.specs.Prelude.{◌≡◌, ℤ, pos, List, [], ◌∷◌, Bool, IsTrue, length, slice_index_or}
 use Rattle.mate_num.specs.Store.{value_at, buffer_at, set_value, set_buffer}
 use Rattle.mate_num.specs.declared.resource.Resource.{Resource}
 use Rattle.mate_num.specs.declared.resource.Resource.TheVariants.{Shared, Buffer, Device}
@@ -20,18 +20,6 @@ abbrev pub write : Store → Resource → List ℤ → Store
 write s (Shared v) cell = set_value s v.0 (number_in cell)
 write s (Buffer b) cell = set_buffer s b.0 cell
 write s (Device d) cell = s
-
--- the same resource
-abbrev pub is_same : Resource → Resource → Bool
-is_same (Shared v) (Shared w) = v.0 == w.0
-is_same (Shared v) (Buffer b) = false
-is_same (Shared v) (Device d) = false
-is_same (Buffer b) (Shared w) = false
-is_same (Buffer b) (Buffer c) = b.0 == c.0
-is_same (Buffer b) (Device d) = false
-is_same (Device d) (Shared w) = false
-is_same (Device d) (Buffer b) = false
-is_same (Device d) (Device e) = d.0 == e.0
 
 -- the stores are as long
 pub record AreAsLong (s t : Store) : Type 0 where

@@ -1,6 +1,8 @@
 pub mod Code
 pub mod Instr
 pub mod Kind
+pub mod Row
+pub mod RowValue
 pub mod Listing
 pub mod Table
 pub mod Cells

@@ -1,8 +1,11 @@
 -- Verification: one pass over code, with a depth of the stack at each place, and the first refusal.
 use Rattle.std.specs.Prelude.{◌≡◌, ℕ, ◌+◌, ◌-◌, ◌<◌, ◌≤◌, Bool, true, false, not, IsTrue, ℤ, [], ◌∷◌, length, Option, None, Some, is_some, Result, Ok, Err, nat_lt, nat_le, ◌==◌, if◌then◌else◌, ⊤}
+use Rattle.mate_num.specs.declared.bounds.TheConstants.{STACK_MAX}
 use Rattle.mate_num.specs.declared.shape.Shape.{Shape}
 use Rattle.mate_code.specs.declared.instr.Instr.{Instr}
-use Rattle.mate_code.specs.Flow.{Flow, Next, Ends, Branches, Jumps, Returns, flow_of, pops_of, pushes_of, is_in_range}
+use Rattle.mate_code.specs.Flow.{flow_of, pops_of, pushes_of, is_in_range}
+use Rattle.mate_code.specs.declared.flow.Flow.TheVariants.{Next, Ends, Branches, Jumps, Returns}
+use Rattle.mate_code.specs.declared.flow.Flow.{Flow}
 use Rattle.mate_code.specs.Effect.{Private, Effect, Goes, Writes, Asks, Halts, Faults, Sticks, push}
 use Rattle.mate_code.specs.Instr.{size_of}
 use Rattle.mate_code.specs.Run.{Code, fetch}
@@ -20,22 +23,22 @@ pub data Refusal : Type 0 where
   TooLong : (len : ℕ) → Refusal
 
 -- the depths that were given to a place: none, one and the same, or two that differ
-pub data Mark : Type 0 where
-  Blank : Mark
-  Depth : (n : ℕ) → Mark
-  Clash : Mark
+pub data DepthMark : Type 0 where
+  Blank : DepthMark
+  Depth : (n : ℕ) → DepthMark
+  Clash : DepthMark
 
 abbrev pub Marks : Type 0
-Marks = ℕ → Mark
+Marks = ℕ → DepthMark
 
 -- the mark of a place that is given one more depth
-abbrev pub given : Mark → ℕ → Mark
+abbrev pub given : DepthMark → ℕ → DepthMark
 given Blank n = Depth n
 given (Depth m) n = if m == n then Depth m else Clash
 given Clash n = Clash
 
 -- the depth at a place; 0 where none was given
-abbrev pub depth_in : Mark → ℕ
+abbrev pub depth_in : DepthMark → ℕ
 depth_in Blank = 0
 depth_in (Depth n) = n
 depth_in Clash = 0
@@ -43,7 +46,7 @@ depth_in Clash = 0
 abbrev pub depth_at : Marks → ℕ → ℕ
 depth_at marks place = depth_in (marks place)
 
-abbrev pub is_clash : Mark → Bool
+abbrev pub is_clash : DepthMark → Bool
 is_clash Blank = false
 is_clash (Depth n) = false
 is_clash Clash = true
@@ -101,7 +104,7 @@ refusal_at shape code marks place i =
     (demand (has_target code (flow_of i)) (BadTarget place)
     (demand (has_direction place (flow_of i)) (BackJump place)
     (demand (nat_le (pops_of shape i) (depth_at marks place)) (Underflow place)
-    (demand (nat_le (depth_after shape i (depth_at marks place)) 16) (Overflow place)
+    (demand (nat_le (depth_after shape i (depth_at marks place)) STACK_MAX) (Overflow place)
     (demand (has_back_depth marks (depth_after shape i (depth_at marks place)) (flow_of i)) (DepthDiffers place) None))))))
 
 -- the marks that an instruction leaves: its depth goes on to the next place and to the target of a jump forward
@@ -176,11 +179,11 @@ Flows code depth place next n (Returns target) = IsPlace code depth target n × 
 pub record IsRight (shape : Shape) (code : Code) (depth : ℕ → ℕ) (place : ℕ) (i : Instr) : Type 0 where
   pub names : IsTrue (is_in_range shape i)
   pub operands : pops_of shape i ≤ depth place
-  pub room : depth_after shape i (depth place) ≤ 16
+  pub room : depth_after shape i (depth place) ≤ STACK_MAX
   pub flow : Flows code depth place (place + size_of i) (depth_after shape i (depth place)) (flow_of i)
 
 -- what verification tells of the code: it begins with depth 0, each instruction is right, and all stand below its size
-pub record IsSound (shape : Shape) (code : Code) (depth : ℕ → ℕ) : Type 0 where
+pub record IsSoundCode (shape : Shape) (code : Code) (depth : ℕ → ℕ) : Type 0 where
   pub begins : IsPlace code depth 0 0
   pub each : (place : ℕ) (i : Instr) → fetch code place ≡ Some i → IsRight shape code depth place i
 

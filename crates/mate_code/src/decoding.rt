@@ -2,7 +2,7 @@
 
 ghost use Rattle.std.specs.Prelude.{◌≡◌, ◌+◌, ◌≤◌, length, MatchResult, IfOk, IfErr, Ok, Err};
 ghost use Rattle.mate_code.specs.Kind.{width_of};
-ghost use Rattle.mate_code.specs.Instr.{Fits, size_of};
+ghost use Rattle.mate_code.specs.Instr.{FitsForm, size_of};
 ghost use Rattle.mate_code.specs.Code.{decoded, instr_at, operand_at, IsDecoded, StopsAt};
 
 use crate::instr::Instr;
@@ -77,7 +77,7 @@ fn read_instr<'a>(
 fn read_operand(form: OperandForm, bytes: &[u8]) -> u16
     requires { width_of form ≤ length bytes.now }
     ensures value { result ≡ operand_at form bytes.now }
-    ensures fits { Fits form result }
+    ensures fits { FitsForm form result }
 {
     match form {
         OperandForm::Absent => 0,

@@ -3,7 +3,7 @@
 ghost use Rattle.std.specs.Prelude.{◌≡◌, ◌+◌, ◌<◌, ◌≤◌, ◌++◌, ◌∷◌, ◌↔◌, length, sum_by, IfOk, IfErr, IsErr, Ok};
 ghost use Rattle.std.specs.Int.{w16, to_be_bytes};
 ghost use Rattle.mate_code.specs.Kind.{form_of, width_of};
-ghost use Rattle.mate_code.specs.Instr.{kind_of, operand_of, size_of, Fits};
+ghost use Rattle.mate_code.specs.Instr.{kind_of, operand_of, size_of, FitsForm};
 ghost use Rattle.mate_code.specs.Table.{AreInTable};
 ghost use Rattle.mate_code.specs.Code.{code_bytes, operand_bytes, decoded, placed, IsWritable};
 
@@ -63,7 +63,7 @@ fn put(code: &mut Code, opcode: u8, instr: Instr)
 // Appends an operand's bytes, the high one first.
 fn put_operand(code: &mut Code, form: OperandForm, operand: u16)
     requires room { length code.old.items + width_of form ≤ CODE_MAX }
-    requires fits { Fits form operand }
+    requires fits { FitsForm form operand }
     ensures { code.new.items ≡ code.old.items ++ operand_bytes form operand }
 {
     match form {

@@ -2,7 +2,7 @@
 
 ghost use Rattle.std.specs.Prelude.{◌≡◌};
 ghost use Rattle.mate_code.specs.Kind.{form_of};
-ghost use Rattle.mate_code.specs.Instr.{kind_of, operand_of, instr_of, size_of, Fits};
+ghost use Rattle.mate_code.specs.Instr.{kind_of, operand_of, instr_of, size_of, FitsForm};
 
 use crate::kind::Kind;
 use mate_num::{BufId, FunId, VarId};
@@ -134,7 +134,7 @@ impl Instr {
     /// The operand as its bytes tell it: a value with a sign is taken modulo 65536. It is 0 where there is none.
     pub fn operand(self) -> u16
         ensures value { result ≡ operand_of self }
-        ensures fits { Fits (form_of (kind_of self)) result }
+        ensures fits { FitsForm (form_of (kind_of self)) result }
         ensures whole { instr_of (kind_of self) result ≡ self }
     {
         match self {
@@ -179,7 +179,7 @@ impl Instr {
 
     /// The instruction of a kind and an operand.
     pub fn of(kind: Kind, operand: u16) -> Instr
-        requires { Fits (form_of kind) operand }
+        requires { FitsForm (form_of kind) operand }
         ensures { result ≡ instr_of kind operand }
     {
         match kind {

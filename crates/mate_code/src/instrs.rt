@@ -2,16 +2,18 @@
 
 ghost use Rattle.std.specs.Prelude.{◌≡◌, ◌<◌, ◌≤◌, [], ◌∷◌, ◌++◌, length, slice_get, IsTrue, ◌↔◌};
 ghost use Rattle.std.specs.Option.{option_copied};
+ghost use Rattle.mate_num.specs.declared.bounds.TheConstants.{CODE_MAX};
 
 use crate::instr::Instr;
 use arrayvec::ArrayVec;
+use mate_num::CODE_MAX;
 use std::marker::Model;
 
-/// At most 1,040 instructions, each with its place: the offset of its opcode in the code, in bytes.
+/// At most `CODE_MAX` instructions, each with its place: the offset of its opcode in the code, in bytes.
 /// Contracts see the list of pairs. It takes no memory.
 #[derive(Drop)]
 pub struct Instrs {
-    pairs: ArrayVec<(u16, Instr), 1040>,
+    pairs: ArrayVec<(u16, Instr), CODE_MAX>,
 }
 
 impl Model for Instrs {
@@ -37,7 +39,7 @@ impl Instrs {
 
     pub fn len(&self) -> usize
         ensures value { result ≡ length self.now }
-        ensures fits { result ≤ 1040 }
+        ensures fits { result ≤ CODE_MAX }
     {
         self.pairs.len()
     }
@@ -57,14 +59,14 @@ impl Instrs {
 
     pub fn as_slice(&self) -> &[(u16, Instr)]
         ensures value { result.now ≡ self.now }
-        ensures fits { length self.now ≤ 1040 }
+        ensures fits { length self.now ≤ CODE_MAX }
     {
         self.pairs.as_slice()
     }
 
     /// Appends a place and its instruction.
     pub fn push(&mut self, pair: (u16, Instr))
-        requires { length self.old < 1040 }
+        requires { length self.old < CODE_MAX }
         ensures { self.new ≡ self.old ++ pair ∷ [] }
     {
         self.pairs.push(pair);

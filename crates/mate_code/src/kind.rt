@@ -1,8 +1,9 @@
 //! The kinds of instructions, in the order of their opcodes, and what stands after each opcode.
 
 ghost use Rattle.std.specs.Prelude.{◌≡◌, ◌<◌, length, IsSome, slice_get};
-ghost use Rattle.mate_code.specs.Kind.{form_of, width_of, name_of, IsNamed};
+ghost use Rattle.mate_code.specs.Kind.{form_of, width_of, name_of, IsKindNamed};
 
+use crate::row::Opcode;
 use mate_num::{FunId, Name};
 
 /// What stands after an opcode.
@@ -81,88 +82,18 @@ impl Kind {
     pub fn form(self) -> OperandForm
         ensures { result ≡ form_of self }
     {
-        match self {
-            Kind::Halt => OperandForm::Absent,
-            Kind::PushW => OperandForm::SignedWord,
-            Kind::PushB => OperandForm::Byte,
-            Kind::GetS => OperandForm::Byte,
-            Kind::SetS => OperandForm::Byte,
-            Kind::GetP => OperandForm::Byte,
-            Kind::SetP => OperandForm::Byte,
-            Kind::Add => OperandForm::Absent,
-            Kind::Sub => OperandForm::Absent,
-            Kind::Mul => OperandForm::Absent,
-            Kind::Div => OperandForm::Absent,
-            Kind::Mod => OperandForm::Absent,
-            Kind::Neg => OperandForm::Absent,
-            Kind::Not => OperandForm::Absent,
-            Kind::And => OperandForm::Absent,
-            Kind::Or => OperandForm::Absent,
-            Kind::Eq => OperandForm::Absent,
-            Kind::Ne => OperandForm::Absent,
-            Kind::Lt => OperandForm::Absent,
-            Kind::Gt => OperandForm::Absent,
-            Kind::Le => OperandForm::Absent,
-            Kind::Ge => OperandForm::Absent,
-            Kind::Jz => OperandForm::Word,
-            Kind::Jmp => OperandForm::Word,
-            Kind::Back => OperandForm::Word,
-            Kind::Drop => OperandForm::Absent,
-            Kind::MsgGet => OperandForm::Absent,
-            Kind::MsgSize => OperandForm::Absent,
-            Kind::BGet => OperandForm::Byte,
-            Kind::BSet => OperandForm::Byte,
-            Kind::BAdd => OperandForm::Byte,
-            Kind::BTake => OperandForm::Byte,
-            Kind::BSize => OperandForm::Byte,
-            Kind::BClear => OperandForm::Byte,
-            Kind::Fun(_) => OperandForm::Absent,
-            Kind::FunBuf(_) => OperandForm::Byte,
-        }
+        self.row().form
     }
 
     /// The kind's name; a function's is its own, in `functions`.
     pub fn name(self, functions: &[Name]) -> &str
-        requires { IsNamed functions.now self }
+        requires { IsKindNamed functions.now self }
         ensures { result.now ≡ name_of functions.now self }
     {
-        match self {
-            Kind::Halt => "HALT",
-            Kind::PushW => "PUSHW",
-            Kind::PushB => "PUSHB",
-            Kind::GetS => "GETS",
-            Kind::SetS => "SETS",
-            Kind::GetP => "GETP",
-            Kind::SetP => "SETP",
-            Kind::Add => "ADD",
-            Kind::Sub => "SUB",
-            Kind::Mul => "MUL",
-            Kind::Div => "DIV",
-            Kind::Mod => "MOD",
-            Kind::Neg => "NEG",
-            Kind::Not => "NOT",
-            Kind::And => "AND",
-            Kind::Or => "OR",
-            Kind::Eq => "EQ",
-            Kind::Ne => "NE",
-            Kind::Lt => "LT",
-            Kind::Gt => "GT",
-            Kind::Le => "LE",
-            Kind::Ge => "GE",
-            Kind::Jz => "JZ",
-            Kind::Jmp => "JMP",
-            Kind::Back => "BACK",
-            Kind::Drop => "DROP",
-            Kind::MsgGet => "MSGGET",
-            Kind::MsgSize => "MSGSIZE",
-            Kind::BGet => "BGET",
-            Kind::BSet => "BSET",
-            Kind::BAdd => "BADD",
-            Kind::BTake => "BTAKE",
-            Kind::BSize => "BSIZE",
-            Kind::BClear => "BCLEAR",
-            Kind::Fun(fun) => functions[fun.0 as usize].as_str(),
-            Kind::FunBuf(fun) => functions[fun.0 as usize].as_str(),
+        let row = self.row();
+        match row.opcode {
+            Opcode::Base(_) | Opcode::Group(_) => row.name,
+            Opcode::Function(fun, _) => functions[fun.0 as usize].as_str(),
         }
     }
 }

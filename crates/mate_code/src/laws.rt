@@ -8,12 +8,12 @@ ghost use Rattle.mate_num.specs.declared.store.Store.{Store};
 ghost use Rattle.mate_code.specs.Cells.{Agree};
 ghost use Rattle.mate_code.specs.CodeUses.{uses_of};
 ghost use Rattle.mate_code.specs.Run.{Code, fetch};
-ghost use Rattle.mate_code.specs.Verification.{Marks, depth_at, IsVerified, IsSound, IsFitting, GoesOnFitting};
+ghost use Rattle.mate_code.specs.Verification.{Marks, depth_at, IsVerified, IsSoundCode, IsFitting, GoesOnFitting};
 ghost use Rattle.mate_code.specs.BytesVerification.{bytes_verification, AreVerified};
 ghost use Rattle.mate_code.specs.Code.{AreBytes};
 ghost use Rattle.mate_code.specs.Effect.{Private, effect};
 ghost use Rattle.mate_code.specs.declared.instr.Instr.{Instr};
-ghost use Rattle.mate_code.specs.Laws.{OnlyWrites, IsSameRun, GoesOn, EndsOnce, EndsInTime};
+ghost use Rattle.mate_code.specs.Laws.{OnlyWrites, IsSameRun, GoesOnAnswered, EndsOnce, EndsInTime};
 
 /// A run changes nothing outside what its code writes.
 pub fn changes_what_it_writes()
@@ -30,7 +30,7 @@ pub fn sees_what_it_uses()
 /// One more answer continues the same run.
 pub fn goes_on_with_an_answer()
     ensures { (shape : Shape) (code : Code) (store : Store) (msg : ArrayVec ℤ) (answers : List ℤ) (turns : ℕ) →
-        GoesOn shape code store msg answers turns }
+        GoesOnAnswered shape code store msg answers turns }
 {}
 
 /// Two ends of one run are one.
@@ -50,7 +50,7 @@ pub fn ends_in_time()
 pub fn is_sound_where_verified()
     ensures of_bytes { (shape : Shape) (bytes : List ℕ) (code : Code) (marks : Marks) →
         AreBytes bytes → bytes_verification shape bytes ≡ Ok (code, marks) → AreVerified shape bytes code marks }
-    ensures sound { (shape : Shape) (code : Code) (marks : Marks) → IsVerified shape code marks → IsSound shape code (depth_at marks) }
+    ensures sound { (shape : Shape) (code : Code) (marks : Marks) → IsVerified shape code marks → IsSoundCode shape code (depth_at marks) }
     ensures fits { (shape : Shape) (code : Code) (marks : Marks) (p : Private) (i : Instr) (cell : List ℤ) →
         IsVerified shape code marks → IsFitting code (depth_at marks) p → fetch code p.pc ≡ Some i → GoesOnFitting code (depth_at marks) (effect shape i p cell) }
 {}

@@ -4,16 +4,20 @@
 pub mod codec_laws;
 pub mod decoding;
 pub mod encoding;
+pub mod flow;
 pub mod instr;
 pub mod instrs;
 pub mod kind;
 pub mod laws;
 pub mod printing;
+pub mod row;
 pub mod table;
+pub mod uses;
 
 pub use codec_laws::{each_opcode_once, one_encoding};
 pub use decoding::{DecodeFault, decode};
 pub use encoding::{TooLong, encode};
+pub use flow::{Flow, args};
 pub use instr::Instr;
 pub use instrs::Instrs;
 pub use kind::{Kind, OperandForm};
@@ -22,4 +26,6 @@ pub use laws::{
     is_sound_where_verified, sees_what_it_uses,
 };
 pub use printing::listing;
+pub use row::{Access, Opcode, Pops, Row, Way};
 pub use table::Table;
+pub use uses::Use;

@@ -3,8 +3,8 @@
 ghost use Rattle.std.specs.Prelude.{◌≡◌, ◌++◌, length, codes, decimal};
 ghost use Rattle.mate_files.specs.Sink.{Puts};
 ghost use Rattle.mate_files.specs.Pen.{Prints};
-ghost use Rattle.mate_code.specs.Kind.{IsNamed, form_of};
-ghost use Rattle.mate_code.specs.Instr.{kind_of, Fits};
+ghost use Rattle.mate_code.specs.Kind.{IsKindNamed, form_of};
+ghost use Rattle.mate_code.specs.Instr.{kind_of, FitsForm};
 ghost use Rattle.mate_code.specs.Table.{AreInTable};
 ghost use Rattle.mate_code.specs.Code.{instrs_of};
 ghost use Rattle.mate_code.specs.Listing.{listing_text, line, operand_text};
@@ -38,7 +38,7 @@ pub fn listing<S: Sink>(
 
 // Prints the line of an instruction at its place.
 fn print_line<S: Sink>(pen: &mut Pen, out: &mut S, desc_names: &[Name], place: u16, instr: Instr)
-    requires { IsNamed desc_names.now (kind_of instr) }
+    requires { IsKindNamed desc_names.now (kind_of instr) }
     ensures { Prints (S.written out.old) (S.faults out.old) pen.old.result
         (S.written out.new) (S.faults out.new) pen.new.result (line desc_names.now (place, instr)) }
 {
@@ -52,7 +52,7 @@ fn print_line<S: Sink>(pen: &mut Pen, out: &mut S, desc_names: &[Name], place: u
 
 // Prints an operand behind a space.
 fn print_operand<S: Sink>(pen: &mut Pen, out: &mut S, form: OperandForm, operand: u16)
-    requires { Fits form operand }
+    requires { FitsForm form operand }
     ensures { Prints (S.written out.old) (S.faults out.old) pen.old.result
         (S.written out.new) (S.faults out.new) pen.new.result (operand_text form operand) }
 {

@@ -5,6 +5,7 @@ ghost use Rattle.std.specs.Option.{option_map};
 ghost use Rattle.mate_code.specs.Table.{table_of, opcode_of, kind_at, kinds_of, first_function, function_kind, IsInTable};
 
 use crate::kind::Kind;
+use crate::row::Opcode;
 use arrayvec::ArrayVec;
 use mate_num::{FunId, Shape};
 use std::marker::Model;
@@ -113,43 +114,9 @@ impl Table {
         requires { IsInTable self.now kind }
         ensures { result ≡ opcode_of self.now kind }
     {
-        match kind {
-            Kind::Halt => 0x00,
-            Kind::PushW => 0x01,
-            Kind::PushB => 0x02,
-            Kind::GetS => 0x03,
-            Kind::SetS => 0x04,
-            Kind::GetP => 0x05,
-            Kind::SetP => 0x06,
-            Kind::Add => 0x07,
-            Kind::Sub => 0x08,
-            Kind::Mul => 0x09,
-            Kind::Div => 0x0a,
-            Kind::Mod => 0x0b,
-            Kind::Neg => 0x0c,
-            Kind::Not => 0x0d,
-            Kind::And => 0x0e,
-            Kind::Or => 0x0f,
-            Kind::Eq => 0x10,
-            Kind::Ne => 0x11,
-            Kind::Lt => 0x12,
-            Kind::Gt => 0x13,
-            Kind::Le => 0x14,
-            Kind::Ge => 0x15,
-            Kind::Jz => 0x16,
-            Kind::Jmp => 0x17,
-            Kind::Back => 0x18,
-            Kind::Drop => 0x19,
-            Kind::MsgGet => 0x1a,
-            Kind::MsgSize => 0x1b,
-            Kind::BGet => 0x1c,
-            Kind::BSet => 0x1d,
-            Kind::BAdd => 0x1e,
-            Kind::BTake => 0x1f,
-            Kind::BSize => 0x20,
-            Kind::BClear => 0x21,
-            Kind::Fun(fun) => self.first_function() + fun.0,
-            Kind::FunBuf(fun) => self.first_function() + fun.0,
+        match kind.row().opcode {
+            Opcode::Base(opcode) | Opcode::Group(opcode) => opcode,
+            Opcode::Function(fun, _) => self.first_function() + fun.0,
         }
     }
 

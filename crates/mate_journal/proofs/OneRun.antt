@@ -10,7 +10,8 @@ use Rattle.mate_num.specs.declared.id.FunId.{FunId}
 use Rattle.mate_num.specs.declared.id.HandlerId.{HandlerId}
 use Rattle.mate_num.specs.declared.id.ContextId.{ContextId}
 use Rattle.mate_num.specs.declared.store.Store.{Store}
-use Rattle.mate_journal.specs.Machine.{Machine, HeldProgram, Outcome, IsContextOf}
+use Rattle.mate_journal.specs.Machine.{Machine, HeldProgram, IsContextOf}
+use Rattle.mate_num.specs.declared.outcome.Outcome.{Outcome}
 use Rattle.mate_journal.specs.Journal.{Phase, Ready, Waiting, Over, told_by, Told, Posted, Started, Asked, Ended, Installed, Seen, Event, Reading, nothing_heard, heard, is_started, Queued, changed, Invocation}
 use Rattle.mate_journal.specs.WellFormed.{IsWellFormed, Closes, NotBefore}
 use Rattle.mate_journal.specs.Serial.{IsSerial, RunsSoFar}

@@ -10,7 +10,8 @@ use Rattle.mate_num.specs.declared.id.ContextId.{ContextId}
 use Rattle.mate_num.specs.declared.id.FunId.{FunId}
 use Rattle.mate_num.specs.declared.store.Store.{Store}
 use Rattle.mate_journal.specs.Log.{Log}
-use Rattle.mate_journal.specs.Machine.{Machine, HeldProgram, Outcome}
+use Rattle.mate_journal.specs.Machine.{Machine, HeldProgram}
+use Rattle.mate_num.specs.declared.outcome.Outcome.{Outcome}
 use Rattle.mate_journal.specs.declared.entry.DropCause.{DropCause}
 use Rattle.mate_journal.specs.declared.entry.VoidCause.{VoidCause}
 use Rattle.mate_journal.specs.declared.entry.Entry.{Entry}

@@ -2,12 +2,11 @@
 use Rattle.std.specs.Prelude.{ℕ, ◌+◌, ◌<◌, ◌≤◌, Bool, List, ℤ, Option}
 use Rattle.arrayvec.specs.ArrayVec.{ArrayVec}
 use Rattle.mate_num.specs.Uses.{Uses}
-use Rattle.mate_num.specs.declared.call.Call.{Call}
-use Rattle.mate_num.specs.declared.call.End.{End}
 use Rattle.mate_num.specs.declared.id.DeviceId.{DeviceId}
 use Rattle.mate_num.specs.declared.id.FunId.{FunId}
 use Rattle.mate_num.specs.declared.id.HandlerId.{HandlerId}
 use Rattle.mate_num.specs.declared.id.ContextId.{ContextId}
+use Rattle.mate_num.specs.declared.outcome.Outcome.{Outcome}
 use Rattle.mate_num.specs.declared.store.Store.{Store}
 
 -- a program as a node holds it: the handler it is for, its version and its image
@@ -15,12 +14,6 @@ pub record HeldProgram : Type 0 where
   pub handler : HandlerId
   pub version : ℕ
   pub image : ArrayVec ℕ
-
--- what a run of a program gives: how far it came, the store that it left, and the calls that were answered
-pub record Outcome : Type 0 where
-  pub end : End
-  pub store : Store
-  pub calls : List Call
 
 -- what programs mean: the run of one on a store, a payload, the answers to its calls and a number of turns,
 -- and the resources that it may read and write

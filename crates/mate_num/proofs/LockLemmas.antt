@@ -6,8 +6,8 @@ use Rattle.std.specs.Int.Bits.{bit_and, and_lt}
 use Rattle.std.specs.Bool.{MatchBool}
 use Rattle.std.proofs.lemmas.Nat.Bits.{bit_at_or, bit_at_and, and_pow, bit_at-pow_same, bit_at-pow_other, bit_at-trailing_zeros, bit_at-zero, bit_at-lt, same_from_bits_below}
 use Rattle.std.proofs.lemmas.Bool.{ltb-true, lt-ltb, eqb-true, eqb-false, eq-eqb, ne_eqb, and_parts, and_from, cases_lt, cases_Bool}
-use Rattle.mate_num.specs.Locks.{bit_of, is_resource, has, uses_of, Share, IsApart}
-use Rattle.mate_num.specs.Uses.{Adds, Conflicts, IsCompatible, ConflictsAt, IsSameUses}
+use Rattle.mate_num.specs.Locks.{bit_of, is_resource, has, lock_uses, Share, IsApart}
+use Rattle.mate_num.specs.Uses.{AddsResource, Conflicts, IsCompatible, ConflictsAt, IsSameUses}
 use Rattle.mate_num.specs.declared.resource.Resource.{Resource}
 use Rattle.mate_num.specs.declared.resource.Resource.TheVariants.{Shared, Buffer, Device}
 use Rattle.mate_num.specs.declared.lock_set.LockSet.{LockSet}
@@ -84,7 +84,7 @@ adds_other w r q h ne (inl known) =
     let m = bit_at_or w (2 ^ bit_of r) (bit_of q) in omega arith in
     ap (λ (n : ℕ). is_resource q && eqb n 1) e
 
-adds_bit : (w : ℕ) (r : Resource) → IsTrue (is_resource r) → Adds (has w) (has (bit_or w (2 ^ bit_of r))) r
+adds_bit : (w : ℕ) (r : Resource) → IsTrue (is_resource r) → AddsResource (has w) (has (bit_or w (2 ^ bit_of r))) r
 adds_bit w r h = record {
   added =
       let one : bit_at (2 ^ bit_of r) (bit_of r) ≡ 1 = bit_at-pow_same (bit_of r) in
@@ -94,8 +94,8 @@ adds_bit w r h = record {
   others = λ q ne. adds_other w r q h ne (cases_Bool (is_resource q));
 }
 
-pub adds_word : (w n : ℕ) (r : Resource) → IsTrue (is_resource r) → n ≡ 2 ^ bit_of r → Adds (has w) (has (bit_or w n)) r
-adds_word w n r h e = let P : ℕ → Type 0 = λ m. Adds (has w) (has (bit_or w m)) r in subst P (sym e) (adds_bit w r h)
+pub adds_word : (w n : ℕ) (r : Resource) → IsTrue (is_resource r) → n ≡ 2 ^ bit_of r → AddsResource (has w) (has (bit_or w n)) r
+adds_word w n r h e = let P : ℕ → Type 0 = λ m. AddsResource (has w) (has (bit_or w m)) r in subst P (sym e) (adds_bit w r h)
 
 -- the test by the resource's bit
 test_of_bit : (x p : ℕ) → x < 2 → 0 < p → not (eqb (x * p) 0) ≡ eqb x 1
@@ -148,27 +148,27 @@ overlap_tells a b h k =
     ]
 
 -- what two lock sets have of each other
-conflict_left : (s t : LockSet) → Share s.written (bit_or t.read t.written) → Conflicts (uses_of s) (uses_of t)
+conflict_left : (s t : LockSet) → Share s.written (bit_or t.read t.written) → Conflicts (lock_uses s) (lock_uses t)
 conflict_left s t h = record {
   resource = h.resource;
   at = inl (h.left, sym (has-or t.read t.written h.resource) ∙ h.right);
 }
 
-conflict_right : (s t : LockSet) → Share t.written (bit_or s.read s.written) → Conflicts (uses_of s) (uses_of t)
+conflict_right : (s t : LockSet) → Share t.written (bit_or s.read s.written) → Conflicts (lock_uses s) (lock_uses t)
 conflict_right s t h = record {
   resource = h.resource;
   at = inr (h.left, sym (has-or s.read s.written h.resource) ∙ h.right);
 }
 
-no_conflict_at : (s t : LockSet) → IsApart s.written (bit_or t.read t.written) → IsApart t.written (bit_or s.read s.written) → (r : Resource) → ConflictsAt (uses_of s) (uses_of t) r → ⊥
+no_conflict_at : (s t : LockSet) → IsApart s.written (bit_or t.read t.written) → IsApart t.written (bit_or s.read s.written) → (r : Resource) → ConflictsAt (lock_uses s) (lock_uses t) r → ⊥
 no_conflict_at s t left right r (inl h) = left.apart r h.0 (has-or t.read t.written r ∙ h.1)
 no_conflict_at s t left right r (inr h) = right.apart r h.0 (has-or s.read s.written r ∙ h.1)
 
 -- the answer where the first overlap decides, and where the second does
-pub first_decides : (s t : LockSet) (b : Bool) → Share s.written (bit_or t.read t.written) → b ≡ true → MatchBool (not b) (IsCompatible (uses_of s) (uses_of t)) (Conflicts (uses_of s) (uses_of t))
+pub first_decides : (s t : LockSet) (b : Bool) → Share s.written (bit_or t.read t.written) → b ≡ true → MatchBool (not b) (IsCompatible (lock_uses s) (lock_uses t)) (Conflicts (lock_uses s) (lock_uses t))
 first_decides s t b h e = rw e (conflict_left s t h)
 
-pub second_decides : (s t : LockSet) (b : Bool) → IsApart s.written (bit_or t.read t.written) → MatchBool b (Share t.written (bit_or s.read s.written)) (IsApart t.written (bit_or s.read s.written)) → MatchBool (not b) (IsCompatible (uses_of s) (uses_of t)) (Conflicts (uses_of s) (uses_of t))
+pub second_decides : (s t : LockSet) (b : Bool) → IsApart s.written (bit_or t.read t.written) → MatchBool b (Share t.written (bit_or s.read s.written)) (IsApart t.written (bit_or s.read s.written)) → MatchBool (not b) (IsCompatible (lock_uses s) (lock_uses t)) (Conflicts (lock_uses s) (lock_uses t))
 second_decides s t true left h = conflict_right s t h
 second_decides s t false left h = record { apart = no_conflict_at s t left h }
 
@@ -195,7 +195,7 @@ same_words a b h k same = same_from_bits_below 32 a b h k (λ i below.
     let P : ℕ → Type 0 = λ n. bit_at a n ≡ bit_at b n in
     subst P s.bit (same_bit a b s.resource s.known (same s.resource)))
 
-pub same_sets : (s t : LockSet) → s.read < 2 ^ 32 → t.read < 2 ^ 32 → s.written < 2 ^ 32 → t.written < 2 ^ 32 → IsSameUses (uses_of s) (uses_of t) → s ≡ t
+pub same_sets : (s t : LockSet) → s.read < 2 ^ 32 → t.read < 2 ^ 32 → s.written < 2 ^ 32 → t.written < 2 ^ 32 → IsSameUses (lock_uses s) (lock_uses t) → s ≡ t
 same_sets s t a b c d same =
     let e : s.read ≡ t.read = same_words s.read t.read a b same.reads in
     let f : s.written ≡ t.written = same_words s.written t.written c d same.writes in

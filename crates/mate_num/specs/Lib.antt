@@ -1,5 +1,6 @@
 pub mod formers
 pub mod Number
+pub mod Operators
 pub mod Store
 pub mod Names
 pub mod Uses

@@ -2,6 +2,7 @@
 use Rattle.std.specs.Prelude.{ℕ, ◌+◌, Bool, nat_lt, ◌&&◌, ◌==◌, IsTrue}
 use Rattle.std.specs.Int.{bit_at}
 use Rattle.mate_num.specs.Uses.{Uses}
+use Rattle.mate_num.specs.declared.bounds.TheConstants.{BUFFERS_MAX, DEVICES_MAX, SHARED_MAX}
 use Rattle.mate_num.specs.declared.resource.Resource.{Resource}
 use Rattle.mate_num.specs.declared.resource.Resource.TheVariants.{Shared, Buffer, Device}
 use Rattle.mate_num.specs.declared.lock_set.LockSet.{LockSet}
@@ -12,19 +13,19 @@ bit_of (Shared v) = v.0
 bit_of (Buffer b) = 16 + b.0
 bit_of (Device d) = 24 + d.0
 
--- a machine can have the resource: 16 shared variables, 8 buffers and 8 devices
+-- a machine can have the resource
 abbrev pub is_resource : Resource → Bool
-is_resource (Shared v) = nat_lt v.0 16
-is_resource (Buffer b) = nat_lt b.0 8
-is_resource (Device d) = nat_lt d.0 8
+is_resource (Shared v) = nat_lt v.0 SHARED_MAX
+is_resource (Buffer b) = nat_lt b.0 BUFFERS_MAX
+is_resource (Device d) = nat_lt d.0 DEVICES_MAX
 
 -- the word has the resource
 abbrev pub has : ℕ → Resource → Bool
 has word r = is_resource r && (bit_at word (bit_of r) == 1)
 
 -- the sets that a lock set stands for
-abbrev pub uses_of : LockSet → Uses
-uses_of s = record { reads = has s.read; writes = has s.written }
+abbrev pub lock_uses : LockSet → Uses
+lock_uses s = record { reads = has s.read; writes = has s.written }
 
 -- both words have a resource
 pub record Share (a b : ℕ) : Type 0 where

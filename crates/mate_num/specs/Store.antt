@@ -2,6 +2,7 @@
 use Rattle.std.specs.Prelude.{ℕ, ◌-◌, ℤ, pos, negsuc, List, [], ◌∷◌, ◌++◌, Result, Ok, Err, length, take, replicate, slice_get, slice_index_or, slice_set, nat_lt, if◌then◌else◌}
 use Rattle.std.specs.Option.{ok_or}
 use Rattle.arrayvec.specs.ArrayVec.{ArrayVec}
+use Rattle.mate_num.specs.declared.bounds.TheConstants.{PAYLOAD_MAX}
 use Rattle.mate_num.specs.declared.store.Store.{Store}
 use Rattle.mate_num.specs.declared.call.FaultKind.{FaultKind}
 use Rattle.mate_num.specs.declared.call.FaultKind.TheVariants.{Index, BufferFull, BufferEmpty}
@@ -41,9 +42,9 @@ abbrev pub item_set : List ℤ → ℤ → ℤ → Result (List ℤ) FaultKind
 item_set values (pos i) value = if nat_lt i (length values) then Ok (slice_set values i value) else Err Index
 item_set values (negsuc i) value = Err Index
 
--- the values and one more, or the fault BufferFull from 10 values on
+-- the values and one more, or the fault BufferFull where there is no room
 abbrev pub appended : List ℤ → ℤ → Result (List ℤ) FaultKind
-appended values value = if nat_lt (length values) 10 then Ok (values ++ value ∷ []) else Err BufferFull
+appended values value = if nat_lt (length values) PAYLOAD_MAX then Ok (values ++ value ∷ []) else Err BufferFull
 
 -- the last value, or the fault BufferEmpty
 abbrev pub last_of : List ℤ → Result ℤ FaultKind

@@ -1,23 +1,49 @@
-//! The vectors of fixed room that a machine's values, code, images and packets stand in.
+//! The limits of a machine, and the vectors of fixed room that its values, code, images and packets stand in.
 
 use arrayvec::ArrayVec;
+
+/// The greatest number of shared variables.
+pub const SHARED_MAX: usize = 16;
+
+/// The greatest number of buffers.
+pub const BUFFERS_MAX: usize = 8;
+
+/// The greatest number of devices.
+pub const DEVICES_MAX: usize = 8;
+
+/// How many private variables an invocation has.
+pub const PRIVATES: usize = 8;
+
+/// The greatest number of values on an invocation's stack.
+pub const STACK_MAX: usize = 16;
+
+/// The greatest number of values in a message, a buffer or a call's arguments.
+pub const PAYLOAD_MAX: usize = 10;
 
 /// The greatest length of a handler's code, in bytes.
 pub const CODE_MAX: usize = 1_040;
 
+/// The greatest length of code that a capsule of format 1 holds, in bytes.
+pub const SHORT_CODE: usize = 512;
+
 /// The greatest length of a capsule's image, in bytes: 16 bytes of head and the code.
 pub const IMAGE_MAX: usize = 1_056;
 
-/// The values of a message, a buffer or a call's arguments: at most 10.
-pub type Payload = ArrayVec<i16, 10>;
+/// The greatest length of an image that is sent in small pieces, in bytes: that of a capsule of format 1.
+pub const SHORT_IMAGE: usize = 528;
 
-/// A handler's code: at most `CODE_MAX` bytes.
-pub type Code = ArrayVec<u8, 1040>;
+/// The values of a message, a buffer or a call's arguments.
+pub type Payload = ArrayVec<i16, PAYLOAD_MAX>;
 
-/// A capsule as it is stored and sent: at most `IMAGE_MAX` bytes.
-pub type Image = ArrayVec<u8, 1056>;
+/// A handler's code.
+pub type Code = ArrayVec<u8, CODE_MAX>;
+
+/// A capsule as it is stored and sent.
+pub type Image = ArrayVec<u8, IMAGE_MAX>;
 
 /// A radio packet: at most 64 bytes.
 pub type PacketBytes = ArrayVec<u8, 64>;
 
 const _: () = prove!(CODE_MAX + 16 == IMAGE_MAX);
+
+const _: () = prove!(SHORT_CODE + 16 == SHORT_IMAGE);

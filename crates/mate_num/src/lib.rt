@@ -9,12 +9,16 @@ pub mod lock_set;
 pub mod name;
 pub mod no_memory;
 pub mod num16;
+pub mod outcome;
 pub mod resource;
 pub mod shape;
 pub mod store;
 pub mod text;
 
-pub use bounds::{CODE_MAX, Code, IMAGE_MAX, Image, PacketBytes, Payload};
+pub use bounds::{
+    BUFFERS_MAX, CODE_MAX, Code, DEVICES_MAX, IMAGE_MAX, Image, PAYLOAD_MAX, PRIVATES, PacketBytes,
+    Payload, SHARED_MAX, SHORT_CODE, SHORT_IMAGE, STACK_MAX,
+};
 pub use call::{Call, End, FaultKind, Stamp};
 pub use id::{BufId, ContextId, DeviceId, FunId, HandlerId, VarId};
 pub use items::Items;
@@ -22,6 +26,7 @@ pub use lock_set::LockSet;
 pub use name::Name;
 pub use no_memory::NoMemory;
 pub use num16::Num16;
+pub use outcome::{Calls, Outcome};
 pub use resource::Resource;
 pub use shape::{FunShape, Shape};
 pub use store::{Store, copy_of};

@@ -1,8 +1,8 @@
 //! Which resources a handler reads and which it writes, as two words of bits.
 
 ghost use Rattle.std.specs.Prelude.{◌≡◌, ℕ, ◌<◌, ◌^◌, IsTrue, MatchBool};
-ghost use Rattle.mate_num.specs.Uses.{Adds, Conflicts, IsCompatible, no_uses, IsSameUses};
-ghost use Rattle.mate_num.specs.Locks.{bit_of, is_resource, has, uses_of, Share, IsApart};
+ghost use Rattle.mate_num.specs.Uses.{AddsResource, Conflicts, IsCompatible, no_uses, IsSameUses};
+ghost use Rattle.mate_num.specs.Locks.{bit_of, is_resource, has, lock_uses, Share, IsApart};
 
 use crate::resource::Resource;
 
@@ -28,7 +28,7 @@ fn bit(resource: Resource) -> u32
 
 /// A law on lock sets: two that stand for the same reads and the same writes are equal.
 pub fn lock_sets_are_their_words(a: LockSet, b: LockSet)
-    ensures { IsSameUses (uses_of a) (uses_of b) → a ≡ b }
+    ensures { IsSameUses (lock_uses a) (lock_uses b) → a ≡ b }
 {}
 
 /// Whether the two words share a resource.
@@ -41,7 +41,7 @@ fn overlap(a: u32, b: u32) -> bool
 impl LockSet {
     /// Nothing to read and nothing to write.
     pub fn empty() -> LockSet
-        ensures { IsSameUses (uses_of result) no_uses }
+        ensures { IsSameUses (lock_uses result) no_uses }
     {
         LockSet {
             read: 0,
@@ -52,8 +52,8 @@ impl LockSet {
     /// The set with `resource` among those to read.
     pub fn with_read(self, resource: Resource) -> LockSet
         requires { IsTrue (is_resource resource) }
-        ensures reads { Adds (uses_of self).reads (uses_of result).reads resource }
-        ensures writes { (uses_of result).writes ≡ (uses_of self).writes }
+        ensures reads { AddsResource (lock_uses self).reads (lock_uses result).reads resource }
+        ensures writes { (lock_uses result).writes ≡ (lock_uses self).writes }
     {
         LockSet {
             read: self.read | bit(resource),
@@ -64,8 +64,8 @@ impl LockSet {
     /// The set with `resource` among those to write.
     pub fn with_write(self, resource: Resource) -> LockSet
         requires { IsTrue (is_resource resource) }
-        ensures reads { (uses_of result).reads ≡ (uses_of self).reads }
-        ensures writes { Adds (uses_of self).writes (uses_of result).writes resource }
+        ensures reads { (lock_uses result).reads ≡ (lock_uses self).reads }
+        ensures writes { AddsResource (lock_uses self).writes (lock_uses result).writes resource }
     {
         LockSet {
             read: self.read,
@@ -76,7 +76,7 @@ impl LockSet {
     /// Whether `resource` is among those to read.
     pub fn reads(&self, resource: Resource) -> bool
         requires { IsTrue (is_resource resource) }
-        ensures { result ≡ (uses_of self.now).reads resource }
+        ensures { result ≡ (lock_uses self.now).reads resource }
     {
         self.read & bit(resource) != 0
     }
@@ -84,14 +84,14 @@ impl LockSet {
     /// Whether `resource` is among those to write.
     pub fn writes(&self, resource: Resource) -> bool
         requires { IsTrue (is_resource resource) }
-        ensures { result ≡ (uses_of self.now).writes resource }
+        ensures { result ≡ (lock_uses self.now).writes resource }
     {
         self.written & bit(resource) != 0
     }
 
     /// Whether no resource that one of the two writes is read or written by the other.
     pub fn compatible(&self, other: &LockSet) -> bool
-        ensures { MatchBool result (IsCompatible (uses_of self.now) (uses_of other.now)) (Conflicts (uses_of self.now) (uses_of other.now)) }
+        ensures { MatchBool result (IsCompatible (lock_uses self.now) (lock_uses other.now)) (Conflicts (lock_uses self.now) (lock_uses other.now)) }
     {
         !overlap(self.written, other.read | other.written)
             && !overlap(other.written, self.read | self.written)

@@ -2,15 +2,16 @@
 
 ghost use Rattle.std.specs.Prelude.{◌≡◌, ◌≤◌};
 ghost use Rattle.mate_num.specs.Store.{zero_store};
+ghost use Rattle.mate_num.specs.declared.bounds.TheConstants.{BUFFERS_MAX, SHARED_MAX};
 
-use crate::bounds::Payload;
+use crate::bounds::{BUFFERS_MAX, Payload, SHARED_MAX};
 use arrayvec::ArrayVec;
 
 /// The value of every shared variable and the values in every buffer, each in the description's order.
 #[derive(PartialEq, Eq, Debug, Drop)]
 pub struct Store {
-    pub shared: ArrayVec<i16, 16>,
-    pub buffers: ArrayVec<Payload, 8>,
+    pub shared: ArrayVec<i16, SHARED_MAX>,
+    pub buffers: ArrayVec<Payload, BUFFERS_MAX>,
 }
 
 /// The same values again. It takes no memory.
@@ -26,15 +27,15 @@ pub fn copy_of(payload: &Payload) -> Payload
 impl Store {
     /// A store of so many shared variables, each 0, and so many buffers, each empty.
     pub fn zero(shared: u8, buffers: u8) -> Store
-        requires shared { shared ≤ 16 }
-        requires buffers { buffers ≤ 8 }
+        requires shared { shared ≤ SHARED_MAX }
+        requires buffers { buffers ≤ BUFFERS_MAX }
         ensures { result ≡ zero_store shared buffers }
     {
         let mut values = ArrayVec::new();
         for _ in 0..shared {
             values.push(0);
         }
-        let mut empty: ArrayVec<Payload, 8> = ArrayVec::new();
+        let mut empty: ArrayVec<Payload, BUFFERS_MAX> = ArrayVec::new();
         for _ in 0..buffers {
             empty.push(ArrayVec::new());
         }
@@ -51,7 +52,7 @@ impl Store {
         let Ok(shared) = ArrayVec::try_from(self.shared.as_slice()) else {
             unreachable!()
         };
-        let mut buffers: ArrayVec<Payload, 8> = ArrayVec::new();
+        let mut buffers: ArrayVec<Payload, BUFFERS_MAX> = ArrayVec::new();
         for buffer in self.buffers.as_slice() {
             buffers.push(copy_of(buffer));
         }

@@ -8,8 +8,9 @@ use capsule_exchange::{Exchange, Heard};
 use mate_num::{HandlerId, Image};
 use packet_codec::Packet;
 use std::alloc::{AllocError, Global};
+use vm_desc::Description;
 
-pub fn answer(alloc: Global, case: &str) -> Result<String, AllocError> {
+pub fn answer(alloc: Global, _desc: &Description, case: &str) -> Result<String, AllocError> {
     let Ok(state) = case.parse::<u32>() else {
         return "no number".to_string(alloc);
     };

@@ -7,8 +7,9 @@ use capsule_codec::to_hex;
 use case_files::bytes_of;
 use slip_gateway::{Frame, Frames, Slip};
 use std::alloc::{AllocError, Global};
+use vm_desc::Description;
 
-pub fn answer(alloc: Global, case: &str) -> Result<String, AllocError> {
+pub fn answer(alloc: Global, _desc: &Description, case: &str) -> Result<String, AllocError> {
     let Some(bytes) = bytes_of(alloc, case)? else {
         return "no digits".to_string(alloc);
     };

@@ -9,9 +9,9 @@ ghost use Rattle.vm_desc.specs.Limits.{is_trickle};
 
 use std::alloc::{AllocError, Global};
 use trickle_timer::{Fire, Trickle};
-use vm_desc::TrickleSet;
+use vm_desc::{Description, TrickleSet};
 
-pub fn answer(alloc: Global, case: &str) -> Result<String, AllocError> {
+pub fn answer(alloc: Global, _desc: &Description, case: &str) -> Result<String, AllocError> {
     let Some((head, steps)) = case.split_once(" : ") else {
         return "no steps".to_string(alloc);
     };

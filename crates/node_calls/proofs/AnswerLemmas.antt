@@ -12,7 +12,7 @@ use Rattle.mate_num.specs.declared.store.Store.{Store}
 use Rattle.mate_num.specs.Uses.{uses}
 use Rattle.mate_code.specs.Cells.{Agree}
 use Rattle.mate_code.specs.Effect.{Private, push}
-use Rattle.mate_code.specs.Run.{Own, Run, Going, Over, begun, after}
+use Rattle.mate_code.specs.Run.{Own, Run, Going, Over, begun_run, after}
 use Rattle.mate_code.proofs.RunLemmas.{resumed_own, after-given}
 use Rattle.split_phase.specs.Calls.{Asked}
 use Rattle.lock_manager.specs.Claims.{Claims}
@@ -79,7 +79,7 @@ own-given d r i s now heap f args value waits counted pushed is =
       own p cs n = record { own = p; left = []; calls = cs; count = n; status = Going }
 
       runs : ℕ → List ℤ → Run
-      runs n answers = after n (shape_of d) (code_for d i) (begun r.serial i.payload answers d.turns)
+      runs n answers = after n (shape_of d) (code_for d i) (begun_run r.serial i.payload answers d.turns)
 
       calls-are : later.calls ≡ i.calls ++ call ∷ []
       calls-are = ap (λ (p : Phase). (given (machine_in d) r value (record i { phase = p })).calls) waits
@@ -93,7 +93,7 @@ own-given d r i s now heap f args value waits counted pushed is =
       is-given : runs s.count (answers_of i ++ value ∷ []) ≡ record { own = resumed_own f args value (runs s.count (answers_of i)).own; store = (runs s.count (answers_of i)).store }
       is-given =
           let none : s.count ≡ 0 + s.count = omega arith in
-          after-given s.count value f args (shape_of d) (code_for d i) (begun r.serial i.payload (answers_of i) d.turns) refl (ap (λ (o : Own). o.status) own-was) (ap (λ (o : Own). o.count) own-was ∙ none)
+          after-given s.count value f args (shape_of d) (code_for d i) (begun_run r.serial i.payload (answers_of i) d.turns) refl (ap (λ (o : Own). o.status) own-was) (ap (λ (o : Own). o.count) own-was ∙ none)
 
       run-is : own_run d later now.count r.serial ≡ record { own = resumed_own f args value (runs s.count (answers_of i)).own; store = (runs s.count (answers_of i)).store }
       run-is = ap (λ (n : ℕ). runs n (answers_of later)) counted ∙ ap (λ (xs : List ℤ). runs s.count xs) answers-are ∙ is-given

@@ -14,7 +14,7 @@ use Rattle.mate_num.specs.declared.lock_set.LockSet.{LockSet}
 use Rattle.capsule_codec.specs.declared.capsule.Capsule.{Capsule}
 use Rattle.capsule_codec.specs.Image.{CapsuleParts, capsule_parts, image_of, IsOfMachine}
 use Rattle.capsule_codec.specs.Reading.{capsule_in}
-use Rattle.code_verifier.specs.Verified.{VerifiedCode, marks_of, IsOf}
+use Rattle.code_verifier.specs.Verified.{VerifiedCode, marks_of, IsVerificationOf}
 use Rattle.code_verifier.specs.Faults.{refusal_of}
 use Rattle.code_verifier.specs.declared.fault.VerifyFault.{VerifyFault}
 use Rattle.lock_inference.specs.Locks.{AreLocksOf}
@@ -203,7 +203,7 @@ begins-some : (x : ℕ) (xs ys : List ℕ) → ys ≡ x ∷ xs → 0 < length ys
 begins-some x xs ys is = let e = ap length is in omega arith
 
 pub IsInstallable-from : (d : Description) (bytes : List ℕ) (c : Capsule) (v : VerifiedCode) (locks : LockSet) (image : ArrayVec ℕ) → capsule_in d bytes ≡ Ok (capsule_parts c) → bytes ≡ image_of (capsule_parts c) → IsOfMachine d (capsule_parts c)
-    → IsOf (shape_of d) c.code.items v → AreLocksOf (shape_of d) v.code locks → image.items ≡ bytes
+    → IsVerificationOf (shape_of d) c.code.items v → AreLocksOf (shape_of d) v.code locks → image.items ≡ bytes
     → IsInstallable d bytes record { handler = c.handler; held = record { version = c.version; image = image; code = v; locks = locks } }
 unfolding code_of
 IsInstallable-from d bytes c v locks image decoded_is image_is of_machine is_of are_locks same =

@@ -8,7 +8,7 @@ use Rattle.mate_journal.specs.WellFormed.{IsWaiting}
 use Rattle.node_contexts.specs.At.{AreIdle}
 use Rattle.vm_desc.specs.declared.description.Description.{Description}
 use Rattle.node_invariant.specs.declared.parts.Parts.{Parts}
-use Rattle.node_invariant.specs.Keeps.{reading, Adds}
+use Rattle.node_invariant.specs.Keeps.{reading, TellsMore}
 use Rattle.mate_journal.specs.Pace.{Pace, paced_all}
 use Rattle.mate_journal.specs.Turns.{ShowsReady}
 use Rattle.node_invariant.specs.Meaning.{machine_in, clock_of}
@@ -17,7 +17,7 @@ use Rattle.node_grants.specs.Starting.{Rests}
 
 -- The entries meet the rule, the node rests again, and its pace is the one that they make.
 pub record RestsAgain (d : Description) (old new : Parts) (at : Stamp) (Rule : List Told → Type 0) : Type 0 where
-  pub adds : Adds old.log new.log at Rule
+  pub adds : TellsMore old.log new.log at Rule
   pub rests : Rests d new
   pub pace : (p : Pace) → IsPace (reading d old.log) old.contexts p → IsPace (reading d new.log) new.contexts (paced_all p adds.told)
 

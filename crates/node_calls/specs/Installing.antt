@@ -28,12 +28,12 @@ pub record IsRightCapsule (d : Description) (bytes : List ℕ) (c : CapsuleParts
   pub verified : bytes_verification (shape_of d) c.code ≡ Ok (code, marks)
 
 -- the capsule's handler
-abbrev pub handler_of : CapsuleParts → HandlerId
-handler_of c = record { 0 = c.handler }
+abbrev pub capsule_handler : CapsuleParts → HandlerId
+capsule_handler c = record { 0 = c.handler }
 
 -- the program of a capsule with these bytes
 abbrev pub program_by : CapsuleParts → List ℕ → HeldProgram
-program_by c bytes = record { handler = handler_of c; version = c.version; image = record { items = bytes } }
+program_by c bytes = record { handler = capsule_handler c; version = c.version; image = record { items = bytes } }
 
 -- the bytes are a capsule of the machine, and its code is refused
 pub record IsUnverified (d : Description) (bytes : List ℕ) (fault : VerifyFault) : Type 0 where
@@ -45,8 +45,8 @@ pub record IsUnverified (d : Description) (bytes : List ℕ) (fault : VerifyFaul
 pub record IsNoNewer (d : Description) (r : Reading) (bytes : List ℕ) (version : ℕ) : Type 0 where
   pub capsule : CapsuleParts
   pub right : IsRightCapsule d bytes capsule
-  pub held_is : version ≡ held r (handler_of capsule)
-  pub older : capsule.version ≤ held r (handler_of capsule)
+  pub held_is : version ≡ held r (capsule_handler capsule)
+  pub older : capsule.version ≤ held r (capsule_handler capsule)
 
 -- the first refusal, in this order
 abbrev pub Refuses : Description → Reading → List ℕ → InstallFault → Type 0

@@ -11,7 +11,7 @@ use Rattle.lock_manager.proofs.ClaimLemmas.{same_context}
 use Rattle.mate_code.specs.Cells.{read, AreAsLong, Agree}
 use Rattle.mate_code.specs.CodeUses.{uses_of}
 use Rattle.mate_code.specs.Effect.{Private}
-use Rattle.mate_code.specs.Run.{Code, Own, Run, after, begun, step}
+use Rattle.mate_code.specs.Run.{Code, Own, Run, after, begun_run, step}
 use Rattle.mate_code.proofs.RunLemmas.{Matches, step-Matches, after-Matches, step-other, step-AreAsLong}
 use Rattle.code_verifier.specs.Verified.{VerifiedCode}
 use Rattle.exec_unit.specs.declared.step_end.StepEnd.{StepEnd}
@@ -105,7 +105,7 @@ IsOwnRun-heap d i s serial heap later is agree = record { own = is.own; stores =
 IsOwnRun-serial : (d : Description) (i : Invocation) (s : Seat) (serial next heap : Store) → IsOwnRun d i s serial heap → Agree (uses (uses_for d i)) next serial → IsOwnRun d i s next heap
 IsOwnRun-serial d i s serial next heap is agree =
     let test : Resource → Bool = uses (uses_for d i) in
-    let m = after-Matches s.count (shape_of d) (code_for d i) (begun next i.payload (answers_of i) d.turns) (begun serial i.payload (answers_of i) d.turns) record { own = refl; stores = agree } in
+    let m = after-Matches s.count (shape_of d) (code_for d i) (begun_run next i.payload (answers_of i) d.turns) (begun_run serial i.payload (answers_of i) d.turns) record { own = refl; stores = agree } in
     record { own = m.own ∙ is.own; stores = Agree-then test (own_run d i s.count next).store (own_run d i s.count serial).store heap m.stores is.stores }
 
 pub RunsOwn-heap : (p : Phase) (d : Description) (i : Invocation) (s : Seat) (serial heap later : Store) → RunsOwn d p i s serial heap → (is_started p ≡ true → Agree (uses (uses_for d i)) heap later) → RunsOwn d p i s serial later

@@ -15,9 +15,13 @@ use Rattle.mate_num.specs.declared.shape.Shape.{Shape}
 use Rattle.mate_num.specs.declared.store.Store.{Store}
 use Rattle.mate_code.specs.declared.instr.Instr.{Instr}
 use Rattle.mate_code.specs.declared.instr.Instr.TheVariants.{Halt, PushW, PushB, GetS, SetS, GetP, SetP, Add, Sub, Mul, Div, Mod, Neg, Not, And, Or, Eq, Ne, Lt, Gt, Le, Ge, Jz, Jmp, Back, Drop, MsgGet, MsgSize, BGet, BSet, BAdd, BTake, BSize, BClear, Fun, FunBuf}
-use Rattle.mate_code.specs.CodeUses.{Use, Nothing, Gets, Changes, Calls, Sends, use_of, function_of, is_device, is_device_of, writes_in, uses_of}
-use Rattle.mate_code.specs.Effect.{Private, Effect, Goes, Writes, Asks, Halts, Faults, Sticks, on_top, on_one, on_two, gives, changes, takes, pays, at_zero, asks, arguments, with_stack, does, args_of, sum_of, difference_of, product_of, quotient_of, remainder_of, negative_of, not_of, and_of, or_of, eq_of, ne_of, lt_of, gt_of, le_of, ge_of}
-use Rattle.mate_code.specs.Run.{Code, fetch, Status, Going, Over, Stuck, Own, Run, asked, own_after, effect_in, executed_at, step_at, step, after, begun, bound, end_of, code_run, whole_run}
+use Rattle.mate_code.specs.CodeUses.{use_of, writes_in, uses_of}
+use Rattle.mate_code.specs.declared.uses.Use.TheVariants.{Nothing, Gets, Changes, Calls, Sends}
+use Rattle.mate_code.specs.declared.uses.Use.{Use}
+use Rattle.mate_num.specs.Uses.{function_shape, is_device_of, is_same_device}
+use Rattle.mate_code.specs.Effect.{Private, Effect, Goes, Writes, Asks, Halts, Faults, Sticks, on_top, on_one, on_two, gives, changes, takes, pays, at_zero, asks, arguments, with_stack, does, args_of}
+use Rattle.mate_num.specs.Operators.{sum_of, difference_of, product_of, quotient_of, remainder_of, negative_of, not_of, and_of, or_of, eq_of, ne_of, lt_of, gt_of, le_of, ge_of}
+use Rattle.mate_code.specs.Run.{Code, fetch, Status, Going, Over, Stuck, Own, Run, asked, own_after_effect, effect_in, executed_at, step_at, step, after, begun_run, bound, end_of, code_run, whole_code_run}
 use Rattle.mate_code.specs.declared.decoding.DecodeFault.{DecodeFault}
 use Rattle.mate_code.specs.Code.{◌>>=◌, decoded, decoded_from, instr_at, operand_at}
 use Rattle.mate_code.specs.Instr.{kind_of, size_of}
@@ -139,7 +143,7 @@ asked-wants : (u : Use) (p : Private) (g : FunId) (given : ArrayVec ℤ) (left :
 asked-wants u p g given [] o f args calls going wants = let same : g ≡ f = cc in subst (IsCallOf u) same calls
 asked-wants u p g given (a ∷ left) o f args calls going wants = let both : Over (end.Wants f args) ≡ Going = sym wants ∙ going in cc
 
-own_after-wants : (u : Use) (e : Effect) (o : Own) (f : FunId) (args : ArrayVec ℤ) → AsksBy u e → o.status ≡ Going → (own_after e o).status ≡ Over (end.Wants f args) → IsCallOf u f
+own_after-wants : (u : Use) (e : Effect) (o : Own) (f : FunId) (args : ArrayVec ℤ) → AsksBy u e → o.status ≡ Going → (own_after_effect e o).status ≡ Over (end.Wants f args) → IsCallOf u f
 own_after-wants u (Goes p) o f args by going wants = let both : Over (end.Wants f args) ≡ Going = sym wants ∙ going in cc
 own_after-wants u (Writes p cell) o f args by going wants = let both : Over (end.Wants f args) ≡ Going = sym wants ∙ going in cc
 own_after-wants u (Asks p g given) o f args by going wants = asked-wants u p g given o.left o f args by going wants
@@ -178,25 +182,25 @@ end_of-wants Stuck f args wants = cc
 pub asked-by : (shape : Shape) (code : Code) (store : Store) (msg : ArrayVec ℤ) (answers : List ℤ) (turns : ℕ) (f : FunId) (args : ArrayVec ℤ)
     → (code_run shape code store msg answers turns).end ≡ end.Wants f args → CallsOf code f
 asked-by shape code store msg answers turns f args wants =
-    after-wants (bound code turns) shape code (begun store msg answers turns) f args refl (end_of-wants (whole_run shape code store msg answers turns).own.status f args wants)
+    after-wants (bound code turns) shape code (begun_run store msg answers turns) f args refl (end_of-wants (whole_code_run shape code store msg answers turns).own.status f args wants)
 
 -- ---- the device of the call
 
-call-writes : (shape : Shape) (u : Use) (f : FunId) (x : FunShape) (d : DeviceId) → IsCallOf u f → function_of shape f ≡ Some x → x.device ≡ Some d → writes_in shape u (Device d) ≡ true
+call-writes : (shape : Shape) (u : Use) (f : FunId) (x : FunShape) (d : DeviceId) → IsCallOf u f → function_shape shape f ≡ Some x → x.device ≡ Some d → writes_in shape u (Device d) ≡ true
 call-writes shape Nothing f x d calls is speaks = absurd calls
 call-writes shape (Gets r) f x d calls is speaks = absurd calls
 call-writes shape (Changes r) f x d calls is speaks = absurd calls
 call-writes shape (Calls g) f x d calls is speaks =
-    ap (λ (h : FunId). is_device_of (function_of shape h) (Device d)) calls
+    ap (λ (h : FunId). is_device_of (function_shape shape h) (Device d)) calls
     ∙ ap (λ (o : Option FunShape). is_device_of o (Device d)) is
-    ∙ ap (λ (o : Option DeviceId). is_device o (Device d)) speaks ∙ is_same-refl (Device d)
+    ∙ ap (λ (o : Option DeviceId). is_same_device o (Device d)) speaks ∙ is_same-refl (Device d)
 call-writes shape (Sends g b) f x d calls is speaks =
-    ap (λ (h : FunId). is_device_of (function_of shape h) (Device d)) calls
+    ap (λ (h : FunId). is_device_of (function_shape shape h) (Device d)) calls
     ∙ ap (λ (o : Option FunShape). is_device_of o (Device d)) is
-    ∙ ap (λ (o : Option DeviceId). is_device o (Device d)) speaks ∙ is_same-refl (Device d)
+    ∙ ap (λ (o : Option DeviceId). is_same_device o (Device d)) speaks ∙ is_same-refl (Device d)
 
 -- code that calls a function of a device writes the device
-pub CallsOf-writes : (shape : Shape) (code : Code) (f : FunId) (x : FunShape) (d : DeviceId) → CallsOf code f → function_of shape f ≡ Some x → x.device ≡ Some d
+pub CallsOf-writes : (shape : Shape) (code : Code) (f : FunId) (x : FunShape) (d : DeviceId) → CallsOf code f → function_shape shape f ≡ Some x → x.device ≡ Some d
     → (uses_of shape code).writes (Device d) ≡ true
 CallsOf-writes shape code f x d calls is speaks =
     fetch-Any (λ i. writes_in shape (use_of i) (Device d)) code calls.place calls.instr calls.stands (call-writes shape (use_of calls.instr) f x d calls.calls is speaks)

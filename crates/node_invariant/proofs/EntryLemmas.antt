@@ -18,7 +18,7 @@ use Rattle.mate_num.specs.declared.store.Store.{Store}
 use Rattle.mate_code.specs.Cells.{Agree}
 use Rattle.mate_code.specs.CodeUses.{uses_of}
 use Rattle.mate_code.specs.Effect.{Private}
-use Rattle.mate_code.specs.Run.{code_run, Own, Run, Status, Going, Over, begun, bound, end_of}
+use Rattle.mate_code.specs.Run.{code_run, Own, Run, Status, Going, Over, begun_run, bound, end_of}
 use Rattle.mate_code.proofs.RunLemmas.{Matches, after-other, after-AreAsLong}
 use Rattle.code_verifier.specs.Verified.{Fits as FitsCode}
 use Rattle.exec_unit.specs.declared.step_end.StepEnd.{StepEnd}
@@ -59,9 +59,9 @@ use Rattle.node_invariant.proofs.SerialLemmas.{HasVerified, started-live, verifi
 -- ---- locks and uses
 
 -- the locks of a seat are what its invocation uses
-pub seat-uses : (d : Description) (held : Programs) (posts : ℕ) (i : Invocation) (c : ContextId) (s : Seat) (a : At) (g : IsSeated held posts i c s a) → IsHeld d g.x → IsSameUses (locks.uses_of g.x.locks) (uses_for d i)
+pub seat-uses : (d : Description) (held : Programs) (posts : ℕ) (i : Invocation) (c : ContextId) (s : Seat) (a : At) (g : IsSeated held posts i c s a) → IsHeld d g.x → IsSameUses (locks.lock_uses g.x.locks) (uses_for d i)
 seat-uses d held posts i c s a g h =
-    let P : HeldProgram → Type 0 = λ p. IsSameUses (locks.uses_of g.x.locks) (uses_of (shape_of d) (code_of (shape_of d) p.image)) in
+    let P : HeldProgram → Type 0 = λ p. IsSameUses (locks.lock_uses g.x.locks) (uses_of (shape_of d) (code_of (shape_of d) p.image)) in
     subst P (sym g.program) h.locks_are
 
 pub uses-same : (a b : Uses) (q : Resource) → IsSameUses a b → uses b q ≡ true → uses a q ≡ true
@@ -108,12 +108,12 @@ module _ (d : Description) (old : Parts) (contexts : Contexts) (log : Log) (stam
       let waited : Some own.x.locks ≡ Some claim.set =
       ap (λ (a : At). a.waits) (sym (stood (machine_in d) held r old.contexts contexts c fits starts)) ∙ starts.waited ∙ ap (λ (a : At). a.holds) (sym starts.becomes.here) ∙ starts.grants.moves.holds in
       let set : claim.set ≡ own.x.locks = cc in
-      let L : LockSet → Type 0 = λ l. IsCompatible (locks.uses_of l) (locks.uses_of other.x.locks) in
+      let L : LockSet → Type 0 = λ l. IsCompatible (locks.lock_uses l) (locks.lock_uses other.x.locks) in
       let N : ℕ → Type 0 = λ n. IsCompatible (uses_for d (r.invocations g.seat.inv)) (uses_for d (r.invocations n)) in
       let S : Seat → Type 0 = λ t. IsCompatible (uses_for d (r.invocations t.inv)) (uses_for d (r.invocations m)) in
       subst S (start-seat (machine_in d) held r old.contexts contexts c fits starts s seat)
       (subst N p.number
-      (IsCompatible-same (locks.uses_of own.x.locks) (locks.uses_of other.x.locks) (uses_for d (r.invocations g.seat.inv)) (uses_for d (r.invocations p.seat.inv))
+      (IsCompatible-same (locks.lock_uses own.x.locks) (locks.lock_uses other.x.locks) (uses_for d (r.invocations g.seat.inv)) (uses_for d (r.invocations p.seat.inv))
       (seat-uses d held r.posts (r.invocations g.seat.inv) c g.seat (at old.contexts c) own (programs g.seat.handler own.x own.is_held))
       (seat-uses d held r.posts (r.invocations p.seat.inv) k p.seat (at old.contexts k) other (programs p.seat.handler other.x other.is_held))
       (subst L set compatible)))
@@ -380,7 +380,7 @@ module _ (d : Description) (old : Parts) (contexts : Contexts) (heap : Store) (c
     whole-Alters : Alters (uses_for d i) q.serial (whole d i q.serial).store
     whole-Alters =
         let b : ℕ = bound (code_for d i) d.turns in
-        let r : Run = begun q.serial i.payload (answers_of i) d.turns in
+        let r : Run = begun_run q.serial i.payload (answers_of i) d.turns in
         record { as_long = after-AreAsLong b (shape_of d) (code_for d i) r; others = λ z not. after-other b (shape_of d) (code_for d i) r z not }
 
     pub Continues-ended : Continues d old (record old { contexts = after; heap = heap; log = log }) old.log stamp told (Ended one.seat.inv e)

@@ -23,7 +23,7 @@ use Rattle.vm_desc.specs.declared.description.Description.{Description}
 use Rattle.node_invariant.specs.declared.parts.Parts.{Parts}
 use Rattle.node_invariant.specs.Meaning.{machine_in}
 use Rattle.node_invariant.specs.Keeps.{reading, Keeps, IsTimely, event_at, Grows}
-use Rattle.node_invariant.specs.Continues.{IsPrepared, AddsTidily, FitsAfter, Continues}
+use Rattle.node_invariant.specs.Continues.{IsPrepared, AddsTidily, AgreesAfter, Continues}
 
 pub NotBefore-same : (at : Stamp) → NotBefore at at
 NotBefore-same at = record { event = omega arith; time = omega arith; same = λ _. refl }
@@ -83,8 +83,8 @@ module _ (d : Description) (old new : Parts) (before : Log) (at : Stamp) (e : En
       let Q : Stamp → Type 0 = λ last. NotBefore last at in
       record { after_last = subst P (sym journal-new) (subst Q (sym (last_stamp-push start (journal_of old.log) (event_at at told))) (NotBefore-same at)) }
 
-  after-new : FitsAfter d (reading d new.log) new
-  after-new = let P : Reading → Type 0 = λ r. FitsAfter d r new in subst P (sym reading-new) next.after
+  after-new : AgreesAfter d (reading d new.log) new
+  after-new = let P : Reading → Type 0 = λ r. AgreesAfter d r new in subst P (sym reading-new) next.after
 
   serial-new : IsSerial m (nothing_heard m) (journal_of new.log)
   unfolding reading
@@ -162,8 +162,8 @@ pub Continues-same : (d : Description) (old : Parts) (log : Log) (at : Stamp) (e
     → Continues d old (record old { log = log }) old.log at e told
 Continues-same d old log at e told keeps timely pushed tells plain follows ends shown before_era same =
     let n = keeps.numbers in
-    let after : FitsAfter d (reading d old.log) (record old { log = log }) = record { posts = keeps.posts; installed = keeps.installed; fits = keeps.fits; lengths = keeps.lengths; agrees = keeps.agrees } in
-    let P : Reading → Type 0 = λ r. FitsAfter d r (record old { log = log }) in
+    let after : AgreesAfter d (reading d old.log) (record old { log = log }) = record { posts = keeps.posts; installed = keeps.installed; fits = keeps.fits; lengths = keeps.lengths; agrees = keeps.agrees } in
+    let P : Reading → Type 0 = λ r. AgreesAfter d r (record old { log = log }) in
     record {
       prepared = IsPrepared-same old.log;
       pushed = pushed;

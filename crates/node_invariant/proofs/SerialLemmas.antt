@@ -13,7 +13,7 @@ use Rattle.mate_num.specs.declared.shape.Shape.{Shape}
 use Rattle.mate_num.specs.declared.store.Store.{Store}
 use Rattle.mate_code.specs.Cells.{read, AreAsLong}
 use Rattle.mate_code.specs.Effect.{Effect, Goes, Writes as WritesCell, Asks, Halts, Faults, Sticks}
-use Rattle.mate_code.specs.Run.{Code, Status, Going, Over, Stuck, Own, Run, asked, own_after, effect_in, executed_at, step_at, step, after, bound, fetch, size_of_code, end_of}
+use Rattle.mate_code.specs.Run.{Code, Status, Going, Over, Stuck, Own, Run, asked, own_after_effect, effect_in, executed_at, step_at, step, after, bound, fetch, size_of_code, end_of}
 use Rattle.mate_code.specs.declared.instr.Instr.{Instr}
 use Rattle.mate_code.specs.Laws.{EndsInTime}
 use Rattle.mate_code.proofs.BoundLemmas.{verified-EndsInTime}
@@ -44,7 +44,7 @@ record IsSpent (before now : Own) : Type 0 where
   left : now.left ≡ []
   calls : now.calls ≡ before.calls
 
-own_after-spent : (e : Effect) (o : Own) → o.left ≡ [] → IsSpent o (own_after e o)
+own_after-spent : (e : Effect) (o : Own) → o.left ≡ [] → IsSpent o (own_after_effect e o)
 own_after-spent (Goes p) o none = record { left = none; calls = refl }
 own_after-spent (WritesCell p cell) o none = record { left = none; calls = refl }
 own_after-spent (Asks p f args) o none =

@@ -9,7 +9,7 @@ use Rattle.mate_num.specs.declared.resource.Resource.{Resource}
 use Rattle.mate_num.specs.declared.store.Store.{Store}
 use Rattle.mate_code.specs.Cells.{read, Agree}
 use Rattle.mate_code.specs.Effect.{Private}
-use Rattle.mate_code.specs.Run.{Own, Run, Going, begun, after}
+use Rattle.mate_code.specs.Run.{Own, Run, Going, begun_run, after}
 use Rattle.vm_desc.specs.declared.description.Description.{Description}
 use Rattle.vm_desc.specs.Shapes.{shape_of}
 use Rattle.mate_journal.specs.Journal.{Phase, Queued, Ready, is_started, in_phase, Invocation, Reading, changed}
@@ -68,14 +68,14 @@ module _ (d : Description) (r : Reading) (old new : Contexts) (heap : Store) (n 
   runs =
       let f = fresh in
       let answers : answers_of i ≡ [] = ap (λ (cs : List Call). map (λ (call : Call). call.result) cs) f.calls in
-      let R : ℕ → List ℤ → Run = λ k xs. after k (shape_of d) (code_for d i) (begun r.serial i.payload xs d.turns) in
+      let R : ℕ → List ℤ → Run = λ k xs. after k (shape_of d) (code_for d i) (begun_run r.serial i.payload xs d.turns) in
       let e : own_run d i t.count r.serial ≡ R 0 [] = ap (λ (k : ℕ). R k (answers_of i)) f.count ∙ ap (λ (xs : List ℤ). R 0 xs) answers in
       let A : Run → Type 0 = λ x. Agree (uses (uses_for d i)) x.store heap in
       record {
         own = ap (λ (x : Run). x.own) e ∙ own_is f;
         stores = subst A (sym e) (Agree-elsewhere d r old heap (uses_for d (r.invocations n)) agrees free);
       } where
-        own_is : IsFresh d (r.invocations n) t → (begun r.serial i.payload [] d.turns).own ≡ own_in i t
+        own_is : IsFresh d (r.invocations n) t → (begun_run r.serial i.payload [] d.turns).own ≡ own_in i t
         own_is f =
             let o : Private → List Call → ℕ → Own = λ p cs n. record { own = p; left = []; calls = cs; count = n; status = Going } in
             ap (λ (p : Private). o p [] 0) (sym f.machine) ∙ ap (λ (cs : List Call). o t.machine cs 0) (sym f.calls) ∙ ap (λ (k : ℕ). o t.machine i.calls k) (sym f.count)

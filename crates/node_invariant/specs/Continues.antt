@@ -32,7 +32,7 @@ pub record AddsTidily (d : Description) (old : Log) (e : Entry) (new : Log) : Ty
   pub full : HasFullImages old → HasFullImages new
 
 -- the parts agree with what is heard after the entry
-pub record FitsAfter (d : Description) (r : Reading) (new : Parts) : Type 0 where
+pub record AgreesAfter (d : Description) (r : Reading) (new : Parts) : Type 0 where
   pub posts : r.posts ≡ new.posts
   pub installed : AreInstalled d r.installed (held_at new.handlers.programs)
   pub fits : Fits (held_at new.handlers.programs) r new.contexts
@@ -51,4 +51,4 @@ pub record Continues (d : Description) (old new : Parts) (before : Log) (at : St
   pub shown : ShowsStore (machine_in d) (reading d old.log) told
   pub before_era : IsSeenBefore (last_is_seen false (journal_of old.log)) told
   pub numbers : new.posts ≤ length old.log.entries + 1
-  pub after : FitsAfter d (heard (machine_in d) (reading d old.log) told) new
+  pub after : AgreesAfter d (heard (machine_in d) (reading d old.log) told) new

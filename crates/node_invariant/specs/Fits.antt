@@ -30,7 +30,7 @@ pub record IsHeld (d : Description) (x : Held) : Type 0 where
   pub shape : x.code.shape ≡ shape_of d
   pub code : x.code.code ≡ code_of (shape_of d) x.image
   pub verified : IsVerifiedCode x.code
-  pub locks_are : IsSameUses (locks.uses_of x.locks) (uses_of (shape_of d) (code_of (shape_of d) x.image))
+  pub locks_are : IsSameUses (locks.lock_uses x.locks) (uses_of (shape_of d) (code_of (shape_of d) x.image))
   pub version_is : 0 < x.version
   pub full : 0 < length x.image.items
 

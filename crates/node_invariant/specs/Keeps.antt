@@ -51,7 +51,7 @@ pub record Grows (old new : Log) (at : Stamp) (told : List Told) : Type 0 where
   pub timely : IsTimely at new
 
 -- the log tells more that meets the rule
-pub record Adds (old new : Log) (at : Stamp) (Rule : List Told → Type 0) : Type 0 where
+pub record TellsMore (old new : Log) (at : Stamp) (Rule : List Told → Type 0) : Type 0 where
   pub told : List Told
   pub grows : Grows old new at told
   pub made : Rule told

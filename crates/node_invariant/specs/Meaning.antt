@@ -5,11 +5,10 @@ use Rattle.mate_num.specs.declared.shape.Shape.{Shape}
 use Rattle.mate_code.specs.declared.decoding.DecodeFault.{DecodeFault}
 use Rattle.mate_code.specs.Code.{decoded}
 use Rattle.mate_code.specs.CodeUses.{uses_of}
-use Rattle.mate_code.specs.Run as run
 use Rattle.mate_code.specs.Run.{Code, code_run, next_mark, code_after}
 use Rattle.mate_code.specs.Table.{table_of}
 use Rattle.mate_journal.specs.Described.{machine_of}
-use Rattle.mate_journal.specs.Machine.{Machine, Meaning, Outcome}
+use Rattle.mate_journal.specs.Machine.{Machine, Meaning}
 use Rattle.mate_journal.specs.Turns.{Clock}
 use Rattle.vm_desc.specs.declared.description.Description.{Description}
 use Rattle.vm_desc.specs.Shapes.{shape_of}
@@ -22,13 +21,10 @@ code_in (Err fault) = []
 unfoldable pub code_of : Shape → ArrayVec ℕ → Code
 code_of shape image = code_in (decoded (table_of shape) (drop 16 image.items))
 
-abbrev pub outcome_in : run.Outcome → Outcome
-outcome_in o = record { end = o.end; store = o.store; calls = o.calls }
-
 -- a program's run is that of its code, and it uses what its code uses
 abbrev pub meaning_of : Shape → Meaning
 meaning_of shape = record {
-  run = λ p store payload answers turns. outcome_in (code_run shape (code_of shape p.image) store payload answers turns);
+  run = λ p store payload answers turns. code_run shape (code_of shape p.image) store payload answers turns;
   uses = λ p. uses_of shape (code_of shape p.image);
 }
 

@@ -13,7 +13,7 @@ use Rattle.mate_journal.specs.Machine.{HeldProgram}
 use Rattle.mate_journal.specs.declared.program.Program.{Program}
 use Rattle.node_invariant.specs.Meaning.{code_of, meaning_of}
 use Rattle.node_programs.specs.Right.{IsSourceOf, IsRightProgram, AreRightPrograms}
-use Rattle.node_programs.specs.Sources.{is_held_as, source_in, outcome_of, run_from, uses_from, meaning_by}
+use Rattle.node_programs.specs.Sources.{is_held_as, source_in, run_from, uses_from, meaning_by}
 
 both-right : (a b : Bool) → (a && b) ≡ true → b ≡ true
 both-right true b is = is
@@ -45,7 +45,7 @@ run-same : (d : Description) (ps : List Program) → AreRightPrograms d ps → (
 run-same d ps right h store payload answers turns = by (source_in ps h) refl where
   by : (o : Option Checked) → source_in ps h ≡ o → run_from (shape_of d) o h store payload answers turns ≡ (meaning_of (shape_of d)).run h store payload answers turns
   by None is = refl
-  by (Some s) is = sym (ap outcome_of ((source-right d ps h s right is).runs store payload answers turns))
+  by (Some s) is = sym ((source-right d ps h s right is).runs store payload answers turns)
 
 uses-same : (d : Description) (ps : List Program) → AreRightPrograms d ps → (h : HeldProgram) → (meaning_by d ps).uses h ≡ (meaning_of (shape_of d)).uses h
 uses-same d ps right h = by (source_in ps h) refl where

@@ -11,7 +11,6 @@ use Rattle.ts_syntax.specs.Checked.{shape_of as shape_in, tree_of}
 use Rattle.ts_syntax.specs.declared.checked.Checked.{Checked}
 use Rattle.ts_meaning.specs.Meaning.{run_of}
 use Rattle.ts_meaning.specs.Uses.{uses_of}
-use Rattle.ts_translation.specs.Laws.{as_played}
 use Rattle.vm_desc.specs.Shapes.{shape_of}
 use Rattle.vm_desc.specs.declared.description.Description.{Description}
 use Rattle.mate_journal.specs.declared.program.Program.{Program}
@@ -20,7 +19,7 @@ use Rattle.node_invariant.specs.Meaning.{code_of}
 -- the source has the machine's shape, and the code has its run, its reads and its writes
 pub record IsSourceOf (shape : Shape) (code : Code) (source : Checked) : Type 0 where
   pub shape_is : shape_in source ≡ shape
-  pub runs : (store : Store) (msg : ArrayVec ℤ) (answers : List ℤ) (turns : ℕ) → as_played (code_run shape code store msg answers turns) ≡ run_of (tree_of source) store msg answers turns
+  pub runs : (store : Store) (msg : ArrayVec ℤ) (answers : List ℤ) (turns : ℕ) → code_run shape code store msg answers turns ≡ run_of (tree_of source) store msg answers turns
   pub uses : code_uses shape code ≡ uses_of shape (tree_of source)
 
 -- the image is the encoding of a capsule of this machine with the program's handler and version; its code is verified by

@@ -9,10 +9,10 @@ use Rattle.ts_syntax.specs.Checked.{tree_of}
 use Rattle.ts_syntax.specs.declared.checked.Checked.{Checked}
 use Rattle.ts_meaning.specs.Meaning.{run_of}
 use Rattle.ts_meaning.specs.Uses.{uses_of}
-use Rattle.ts_meaning.specs.declared.run.Played.{Played}
+use Rattle.mate_num.specs.declared.outcome.Outcome.{Outcome}
 use Rattle.vm_desc.specs.Shapes.{shape_of}
 use Rattle.vm_desc.specs.declared.description.Description.{Description}
-use Rattle.mate_journal.specs.Machine.{HeldProgram, Outcome, Meaning}
+use Rattle.mate_journal.specs.Machine.{HeldProgram, Meaning}
 use Rattle.mate_journal.specs.declared.program.Program.{Program}
 use Rattle.node_invariant.specs.Meaning.{meaning_of}
 
@@ -29,14 +29,11 @@ abbrev pub source_in : List Program → HeldProgram → Option Checked
 source_in [] h = None
 source_in (p ∷ ps) h = if is_held_as h p then p.source else source_in ps h
 
-abbrev pub outcome_of : Played → Outcome
-outcome_of o = record { end = o.end; store = o.store; calls = o.calls }
-
 -- the run of a program with a source is that of the source, and it uses what the source uses; that of one without is
 -- its code's
 abbrev pub run_from : Shape → Option Checked → HeldProgram → Store → ArrayVec ℤ → List ℤ → ℕ → Outcome
 run_from shape None h store payload answers turns = (meaning_of shape).run h store payload answers turns
-run_from shape (Some source) h store payload answers turns = outcome_of (run_of (tree_of source) store payload answers turns)
+run_from shape (Some source) h store payload answers turns = run_of (tree_of source) store payload answers turns
 
 abbrev pub uses_from : Shape → Option Checked → HeldProgram → Uses
 uses_from shape None h = (meaning_of shape).uses h

@@ -9,18 +9,18 @@ use Rattle.vm_desc.specs.declared.description.Description.{Description}
 use Rattle.vm_desc.specs.Shapes.{shape_of}
 
 -- the names of a machine's functions, in their order
-abbrev pub names_of : Description → List (List ℕ)
-names_of desc = map (λ f. f.name) desc.functions.items
+abbrev pub names_of_functions : Description → List (List ℕ)
+names_of_functions desc = map (λ f. f.name) desc.functions.items
 
 -- a line: the opcode in two hexadecimal digits, the name, and the number of operand bytes
-abbrev pub row : List (List ℕ) → ℕ × Kind → List ℕ
-row functions entry =
+abbrev pub table_row : List (List ℕ) → ℕ × Kind → List ℕ
+table_row functions entry =
     encode_lower (entry.0 ∷ []) ++ codes " " ++ name_of functions entry.1 ++ codes " " ++ decimal (width_of (form_of entry.1)) ++ codes "\n"
 
 -- the lines of the opcodes, from 0 on
-abbrev pub rows : List (List ℕ) → List Kind → List ℕ
-rows functions kinds = flat_map (row functions) (enumerate_from 0 kinds)
+abbrev pub table_rows : List (List ℕ) → List Kind → List ℕ
+table_rows functions kinds = flat_map (table_row functions) (enumerate_from 0 kinds)
 
 -- the text of a description's table
 abbrev pub table_text : Description → List ℕ
-table_text desc = rows (names_of desc) (kinds_of (table_of (shape_of desc)))
+table_text desc = table_rows (names_of_functions desc) (kinds_of (table_of (shape_of desc)))

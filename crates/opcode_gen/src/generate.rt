@@ -3,10 +3,10 @@
 ghost use Rattle.std.specs.Prelude.{◌≡◌, ◌∷◌, [], length};
 ghost use Rattle.mate_files.specs.Sink.{Puts};
 ghost use Rattle.mate_files.specs.Pen.{Prints};
-ghost use Rattle.mate_code.specs.Kind.{IsNamed};
+ghost use Rattle.mate_code.specs.Kind.{IsKindNamed};
 ghost use Rattle.mate_code.specs.Table.{table_of};
 ghost use Rattle.vm_desc.specs.Shapes.{shape_of};
-ghost use Rattle.opcode_gen.specs.TableText.{names_of, row, table_text};
+ghost use Rattle.opcode_gen.specs.TableText.{names_of_functions, table_row, table_text};
 
 use arrayvec::ArrayVec;
 use mate_code::{Kind, Table};
@@ -23,7 +23,7 @@ pub fn table(desc: &Description) -> Table
 
 /// The names of the machine's functions, in their order. It takes no memory.
 pub fn function_names(desc: &Description) -> ArrayVec<Name, 32>
-    ensures { result.items ≡ names_of desc.now }
+    ensures { result.items ≡ names_of_functions desc.now }
 {
     let mut names = ArrayVec::new();
     for function in desc.functions.as_slice() {
@@ -53,9 +53,9 @@ pub fn print_table<S: Sink>(desc: &Description, out: &mut S) -> Result<(), SinkF
 
 // Prints the line of an opcode.
 fn print_row<S: Sink>(pen: &mut Pen, out: &mut S, names: &[Name], opcode: u8, kind: Kind)
-    requires { IsNamed names.now kind }
+    requires { IsKindNamed names.now kind }
     ensures { Prints (S.written out.old) (S.faults out.old) pen.old.result
-        (S.written out.new) (S.faults out.new) pen.new.result (row names.now (opcode, kind)) }
+        (S.written out.new) (S.faults out.new) pen.new.result (table_row names.now (opcode, kind)) }
 {
     pen.hex_byte(out, opcode);
     pen.text(out, " ");

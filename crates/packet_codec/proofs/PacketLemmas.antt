@@ -16,8 +16,8 @@ use Rattle.packet_codec.specs.declared.decoding.PacketFault.{PacketFault}
 use Rattle.packet_codec.specs.declared.packet.Packet.{Packet}
 use Rattle.packet_codec.specs.declared.packet.Packet.TheVariants.{Vector, Status, Fragment, App}
 use Rattle.packet_codec.specs.Packet.{full_len, IsRight, IsRightStatus, IsRightFragment, HasRanges, HasStatusRanges, HasFragmentRanges}
-use Rattle.packet_codec.specs.Bytes.{kind_of, body_of, packet_bytes, version_bytes, value_bytes}
-use Rattle.packet_codec.specs.Reading.{u32_of, versions_in, values_in, vector_in, app_in, is_status, status_in, is_fragment, fragment_in, body_in, packet_in}
+use Rattle.packet_codec.specs.Bytes.{first_byte_of, body_of, packet_bytes, version_bytes, value_bytes}
+use Rattle.packet_codec.specs.Reading.{u32_of, versions_in, values_in, vector_in, app_in, is_status, status_read, is_fragment, fragment_read, body_in, packet_in}
 use Rattle.packet_codec.proofs.ItemLemmas.{length-version_bytes, versions_in-version_bytes, AreVersions, versions_are, length-value_bytes, values_in-value_bytes, AreValues, values_are}
 
 -- ---- what was written is read
@@ -45,7 +45,7 @@ is_status-right handlers handler version missing right =
     grind (arith, nat_tests)
 
 status_again : (handlers handler version missing : ℕ) → IsRightStatus handlers handler version missing → HasStatusRanges handler version missing
-    → status_in handlers ((handler ∷ []) ++ to_be_bytes w32 version ++ to_be_bytes w32 missing) ≡ Ok (Status (record { 0 = handler }) version missing)
+    → status_read handlers ((handler ∷ []) ++ to_be_bytes w32 version ++ to_be_bytes w32 missing) ≡ Ok (Status (record { 0 = handler }) version missing)
 status_again handlers handler version missing right ranges =
     let v = from_be_bytes-to_be_bytes_4 version ranges.version_fits in
     let m = from_be_bytes-to_be_bytes_4 missing ranges.missing_fits in
@@ -64,14 +64,14 @@ is_fragment-right handlers handler version index count large bytes right =
 
 fragment_again : (handlers handler version index count : ℕ) (large : Bool) (bytes : List ℕ) → IsRightFragment handlers handler version index count large bytes
     → HasFragmentRanges handler version index count bytes
-    → fragment_in handlers large ((handler ∷ []) ++ to_be_bytes w32 version ++ (index ∷ count ∷ []) ++ bytes) ≡ Ok (Fragment (record { 0 = handler }) version index count large (record { items = bytes }))
+    → fragment_read handlers large ((handler ∷ []) ++ to_be_bytes w32 version ++ (index ∷ count ∷ []) ++ bytes) ≡ Ok (Fragment (record { 0 = handler }) version index count large (record { items = bytes }))
 fragment_again handlers handler version index count large bytes right ranges =
     let v = from_be_bytes-to_be_bytes_4 version ranges.version_fits in
     let len : is_in_range 1 (full_len large) (length bytes) ≡ true = and_from _ _ (le-leb _ _ right.bytes_low) (le-leb _ _ right.bytes_high) in
     let known = is_fragment-right handlers handler version index count large bytes right in
     cond-false _ _ _ (not_from_true _ len) ∙ rw (v, known) refl
 
-body_again : (handlers : ℕ) (p : Packet) → IsRight handlers p → HasRanges p → body_in handlers (kind_of p) (body_of p) ≡ Ok p
+body_again : (handlers : ℕ) (p : Packet) → IsRight handlers p → HasRanges p → body_in handlers (first_byte_of p) (body_of p) ≡ Ok p
 body_again handlers (Vector versions) right ranges = vector_again handlers versions.items right ranges
 body_again handlers (Status handler version missing) right ranges = status_again handlers handler.0 version missing right ranges
 body_again handlers (Fragment handler version index count false bytes) right ranges = fragment_again handlers handler.0 version index count false bytes.items right ranges
@@ -104,7 +104,7 @@ same_read a b e = cc
 
 -- a kind and a body that are a packet's
 record Means (handlers kind : ℕ) (body : List ℕ) (p : Packet) : Type 0 where
-  kind_is : kind ≡ kind_of p
+  kind_is : kind ≡ first_byte_of p
   body_is : body ≡ body_of p
   right : IsRight handlers p
   ranges : HasRanges p
@@ -151,7 +151,7 @@ status_right handlers handler version missing known = record {
   missing_high = grind (arith, nat_tests, and_parts);
 }
 
-status_is : (handlers : ℕ) (body : List ℕ) (p : Packet) → IsBytes body → status_in handlers body ≡ Ok p → Means handlers 2 body p
+status_is : (handlers : ℕ) (body : List ℕ) (p : Packet) → IsBytes body → status_read handlers body ≡ Ok p → Means handlers 2 body p
 status_is handlers (handler ∷ v0 ∷ v1 ∷ v2 ∷ v3 ∷ m0 ∷ m1 ∷ m2 ∷ m3 ∷ []) p fits e =
     let body : List ℕ = handler ∷ v0 ∷ v1 ∷ v2 ∷ v3 ∷ m0 ∷ m1 ∷ m2 ∷ m3 ∷ [] in
     let known = passes_not _ _ _ p e in
@@ -188,11 +188,11 @@ fragment_right handlers handler version index count large bytes sized known =
     }
 
 -- a fragment's kind
-fragment_kind : (handler : HandlerId) (version index count : ℕ) (large : Bool) (bytes : ArrayVec ℕ) → cond large 5 3 ≡ kind_of (Fragment handler version index count large bytes)
+fragment_kind : (handler : HandlerId) (version index count : ℕ) (large : Bool) (bytes : ArrayVec ℕ) → cond large 5 3 ≡ first_byte_of (Fragment handler version index count large bytes)
 fragment_kind handler version index count true bytes = refl
 fragment_kind handler version index count false bytes = refl
 
-fragment_is : (handlers : ℕ) (large : Bool) (body : List ℕ) (p : Packet) → IsBytes body → fragment_in handlers large body ≡ Ok p → Means handlers (cond large 5 3) body p
+fragment_is : (handlers : ℕ) (large : Bool) (body : List ℕ) (p : Packet) → IsBytes body → fragment_read handlers large body ≡ Ok p → Means handlers (cond large 5 3) body p
 fragment_is handlers large (handler ∷ v0 ∷ v1 ∷ v2 ∷ v3 ∷ index ∷ count ∷ bytes) p fits e =
     let body : List ℕ = handler ∷ v0 ∷ v1 ∷ v2 ∷ v3 ∷ index ∷ count ∷ bytes in
     let sized = passes_not _ _ _ p e in

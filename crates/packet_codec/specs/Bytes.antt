@@ -6,12 +6,12 @@ use Rattle.packet_codec.specs.declared.packet.Packet.{Packet}
 use Rattle.packet_codec.specs.declared.packet.Packet.TheVariants.{Vector, Status, Fragment, App}
 
 -- a packet's first byte
-abbrev pub kind_of : Packet → ℕ
-kind_of (Vector versions) = 1
-kind_of (Status handler version missing) = 2
-kind_of (Fragment handler version index count false bytes) = 3
-kind_of (App payload) = 4
-kind_of (Fragment handler version index count true bytes) = 5
+abbrev pub first_byte_of : Packet → ℕ
+first_byte_of (Vector versions) = 1
+first_byte_of (Status handler version missing) = 2
+first_byte_of (Fragment handler version index count false bytes) = 3
+first_byte_of (App payload) = 4
+first_byte_of (Fragment handler version index count true bytes) = 5
 
 abbrev pub version_bytes : List ℕ → List ℕ
 version_bytes versions = flat_map (to_be_bytes w32) versions
@@ -28,4 +28,4 @@ body_of (App payload) = length payload.items ∷ value_bytes payload.items
 
 -- the packet's bytes on a machine with this number
 abbrev pub packet_bytes : ℕ → Packet → List ℕ
-packet_bytes vm_id packet = (kind_of packet ∷ []) ++ to_be_bytes w32 vm_id ++ body_of packet
+packet_bytes vm_id packet = (first_byte_of packet ∷ []) ++ to_be_bytes w32 vm_id ++ body_of packet

@@ -40,32 +40,32 @@ app_in (count ∷ bytes) =
 abbrev pub is_status : ℕ → ℕ → ℕ → ℕ → Bool
 is_status handlers handler version missing = (nat_lt handler handlers && not (version == 0)) && is_in_range 1 4194303 missing
 
-abbrev pub status_in : ℕ → List ℕ → Result Packet PacketFault
-status_in handlers (handler ∷ v0 ∷ v1 ∷ v2 ∷ v3 ∷ m0 ∷ m1 ∷ m2 ∷ m3 ∷ []) =
+abbrev pub status_read : ℕ → List ℕ → Result Packet PacketFault
+status_read handlers (handler ∷ v0 ∷ v1 ∷ v2 ∷ v3 ∷ m0 ∷ m1 ∷ m2 ∷ m3 ∷ []) =
     if not (is_status handlers handler (u32_of v0 v1 v2 v3) (u32_of m0 m1 m2 m3)) then Err BadField
     else Ok (Status (record { 0 = handler }) (u32_of v0 v1 v2 v3) (u32_of m0 m1 m2 m3))
-status_in handlers _ = Err BadLength
+status_read handlers _ = Err BadLength
 
 -- a handler of the machine, a version, 1 to 22 fragments, one of them, and a full piece unless it is the last one
 abbrev pub is_fragment : ℕ → ℕ → ℕ → ℕ → ℕ → Bool → ℕ → Bool
 is_fragment handlers handler version index count large len =
     ((nat_lt handler handlers && not (version == 0)) && (nat_le count 22 && nat_lt index count)) && (index + 1 == count || nat_le (full_len large) len)
 
-abbrev pub fragment_in : ℕ → Bool → List ℕ → Result Packet PacketFault
-fragment_in handlers large (handler ∷ v0 ∷ v1 ∷ v2 ∷ v3 ∷ index ∷ count ∷ bytes) =
+abbrev pub fragment_read : ℕ → Bool → List ℕ → Result Packet PacketFault
+fragment_read handlers large (handler ∷ v0 ∷ v1 ∷ v2 ∷ v3 ∷ index ∷ count ∷ bytes) =
     if not (is_in_range 1 (full_len large) (length bytes)) then Err BadLength
     else if not (is_fragment handlers handler (u32_of v0 v1 v2 v3) index count large (length bytes)) then Err BadField
     else Ok (Fragment (record { 0 = handler }) (u32_of v0 v1 v2 v3) index count large (record { items = bytes }))
-fragment_in handlers large _ = Err BadLength
+fragment_read handlers large _ = Err BadLength
 
 -- by the kind, and by what stands behind the machine's number
 abbrev pub body_in : ℕ → ℕ → List ℕ → Result Packet PacketFault
 body_in handlers kind body =
     if kind == 1 then vector_in handlers body
-    else if kind == 2 then status_in handlers body
-    else if kind == 3 then fragment_in handlers false body
+    else if kind == 2 then status_read handlers body
+    else if kind == 3 then fragment_read handlers false body
     else if kind == 4 then app_in body
-    else if kind == 5 then fragment_in handlers true body
+    else if kind == 5 then fragment_read handlers true body
     else Err BadKind
 
 -- the packet that the bytes are to the machine, or the first fault

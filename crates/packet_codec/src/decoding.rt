@@ -3,7 +3,7 @@
 ghost use Rattle.std.specs.Prelude.{◌≡◌, ◌≤◌, length, IfOk, is_err, Ok};
 ghost use Rattle.packet_codec.specs.declared.packet.Packet.{Packet};
 ghost use Rattle.packet_codec.specs.Bytes.{packet_bytes};
-ghost use Rattle.packet_codec.specs.Reading.{packet_in, is_noise, body_in, vector_in, status_in, fragment_in, app_in, is_status, is_fragment, versions_in, values_in};
+ghost use Rattle.packet_codec.specs.Reading.{packet_in, is_noise, body_in, vector_in, status_read, fragment_read, app_in, is_status, is_fragment, versions_in, values_in};
 ghost use Rattle.packet_codec.specs.Packet.{full_len, IsRight, HasRanges};
 
 use crate::packet::Packet;
@@ -99,7 +99,7 @@ fn read_versions(bytes: &[u8]) -> ArrayVec<u32, 8>
 }
 
 fn read_status(handlers: usize, body: &[u8]) -> Result<Packet, PacketFault>
-    ensures { result ≡ status_in handlers body.now }
+    ensures { result ≡ status_read handlers body.now }
 {
     let [handler, v0, v1, v2, v3, m0, m1, m2, m3] = body else {
         return Err(PacketFault::BadLength);
@@ -123,7 +123,7 @@ fn is_status(handlers: usize, handler: u8, version: u32, missing: u32) -> bool
 }
 
 fn read_fragment(handlers: usize, large: bool, body: &[u8]) -> Result<Packet, PacketFault>
-    ensures { result ≡ fragment_in handlers large body.now }
+    ensures { result ≡ fragment_read handlers large body.now }
 {
     let [handler, v0, v1, v2, v3, index, count, bytes @ ..] = body else {
         return Err(PacketFault::BadLength);

@@ -4,7 +4,7 @@ ghost use Rattle.std.specs.Prelude.{◌≡◌, ◌+◌, ◌*◌, ◌^◌, ◌<�
 ghost use Rattle.std.specs.Int.{w16};
 ghost use Rattle.capsule_codec.specs.Image.{IsBytes};
 ghost use Rattle.packet_codec.specs.Packet.{IsRight, HasRanges};
-ghost use Rattle.packet_codec.specs.Bytes.{packet_bytes, kind_of, body_of, version_bytes, value_bytes};
+ghost use Rattle.packet_codec.specs.Bytes.{packet_bytes, first_byte_of, body_of, version_bytes, value_bytes};
 ghost use Rattle.packet_codec.specs.Reading.{packet_in};
 
 use crate::packet::Packet;
@@ -29,7 +29,7 @@ pub fn encode(desc: &Description, packet: &Packet) -> PacketBytes
 
 // A packet's first byte.
 fn kind(packet: &Packet) -> u8
-    ensures { result ≡ kind_of packet.now }
+    ensures { result ≡ first_byte_of packet.now }
 {
     match packet {
         Packet::Vector { .. } => 1,

@@ -10,7 +10,7 @@ use Rattle.script_reader.specs.Words.{Taken}
 use Rattle.script_reader.specs.Steps.{IsRightSteps}
 use Rattle.script_reader.specs.NodeScript.{Said, Progress, a_line, with_said, when_said, after_line, nothing_yet, node_script_in}
 use Rattle.script_reader.specs.declared.node.Said.{Said as Line}
-use Rattle.script_reader.specs.NodeReader.{said_of, files_after, IsRightSaid, Keeps}
+use Rattle.script_reader.specs.NodeReader.{said_of, files_after, IsRightSaid, KeepsProgress}
 use Rattle.script_reader.proofs.LineLemmas.{IsAt, goes_on}
 use Rattle.script_reader.proofs.StepLemmas.{keeps_more, keeps_nothing, length-with_file, few_files}
 
@@ -18,14 +18,14 @@ use Rattle.script_reader.proofs.StepLemmas.{keeps_more, keeps_nothing, length-wi
 pub record IsLineEnd (d : Description) (n : ℕ) (old new : Progress) (words : List (List ℕ)) (r : Result (Unit {0}) ScriptFault) : Type 0 where
   pub value : Follows (after_line d old words) n r new
   pub files : OnOk r (length new.script.files ≤ n)
-  pub keeps : OnOk r (Keeps d new)
+  pub keeps : OnOk r (KeepsProgress d new)
 
-pub line_added : (d : Description) (n : ℕ) (old new : Progress) (words rest : List (List ℕ)) (said : Said) (r : Result (Unit {0}) ScriptFault) → length old.script.files < n → Keeps d old
+pub line_added : (d : Description) (n : ℕ) (old new : Progress) (words rest : List (List ℕ)) (said : Said) (r : Result (Unit {0}) ScriptFault) → length old.script.files < n → KeepsProgress d old
     → is_skipped words ≡ false → a_line d old.newest (length old.script.files) words ≡ Ok (record { value = said; rest = rest }) → IsRightSaid d old.newest (length old.script.files) said
     → OnOk r (new ≡ with_said old said) → IfErr r (λ fault. fault ≡ NoMemory) → IsLineEnd d n old new words r
 unfolding after_line
 line_added d n old new words rest said (Ok u) few k skip read right adds refused =
-    let P : Progress → Type 0 = λ p. Keeps d p in
+    let P : Progress → Type 0 = λ p. KeepsProgress d p in
     let len : length new.script.files ≡ files_after (length old.script.files) said.file = ap (λ (p : Progress). length p.script.files) adds ∙ length-with_file old.script.files said.file in
     record {
       value = rw skip (ap (when_said old) read ∙ ap (λ p. Ok p) (sym adds));
@@ -46,7 +46,7 @@ same_start p steps files newest =
 pub record IsAtLine (d : Description) (bytes : List ℕ) (number : ℕ) (p : Progress) (rest : List ℕ) : Type 0 where
   pub at : IsAt (after_line d) (λ number p. Ok p.script) (node_script_in d bytes) number p rest
   pub files : length p.script.files < number
-  pub keeps : Keeps d p
+  pub keeps : KeepsProgress d p
 
 pub at_start : (d : Description) (bytes : List ℕ) (p : Progress) → p.script.steps ≡ [] → p.script.files ≡ [] → p.newest ≡ replicate 8 0 → length bytes ≤ 1048576 → IsAtLine d bytes 1 p bytes
 unfolding node_script_in
@@ -56,14 +56,14 @@ at_start d bytes p steps files newest small =
     subst P (sym (same_start p steps files newest)) begun
 
 pub at_next : (d : Description) (bytes : List ℕ) (n : ℕ) (p after : Progress) (line rest new : List ℕ) → IsAtLine d bytes n p rest → lines rest ≡ line ∷ lines new → length new < length rest
-    → Follows (after_line d p (words_of line)) n (Ok tt) after → length after.script.files ≤ n → Keeps d after → IsAtLine d bytes (n + 1) after new
+    → Follows (after_line d p (words_of line)) n (Ok tt) after → length after.script.files ≤ n → KeepsProgress d after → IsAtLine d bytes (n + 1) after new
 at_next d bytes n p after line rest new at next shorter ended few keeps = record {
   at = goes_on (after_line d) (λ number p. Ok p.script) (node_script_in d bytes) n p after line rest new at.at next shorter ended;
   files = omega arith;
   keeps = keeps;
 }
 
-pub right_at : (d : Description) (p : Progress) → Keeps d p → IsRightSteps d p.script
+pub right_at : (d : Description) (p : Progress) → KeepsProgress d p → IsRightSteps d p.script
 right_at d p keeps = record { each = keeps.each; rising = keeps.rising }
 
 -- ---- what a line says, where the newest versions and the number of files play no part

@@ -13,7 +13,7 @@ use Rattle.script_reader.specs.declared.steps.Step.{Step}
 use Rattle.script_reader.specs.declared.steps.Step.TheVariants as step
 use Rattle.script_reader.specs.Steps.{IsRightStep, Rises}
 use Rattle.script_reader.specs.NodeScript.{Said, Progress, with_file, newest_after, with_said, nothing_yet}
-use Rattle.script_reader.specs.NodeReader.{files_after, IsNewer, IsRightSaid, IsNoted, Keeps}
+use Rattle.script_reader.specs.NodeReader.{files_after, IsNewer, IsRightSaid, IsNoted, KeepsProgress}
 
 -- more files
 right_on : (d : Description) (m n : ℕ) → m ≤ n → (s : Step) → IsRightStep d m s → IsRightStep d n s
@@ -102,7 +102,7 @@ pub few_files : (n : ℕ) (file : Option (List ℕ)) → files_after n file ≤ 
 few_files n None = omega arith
 few_files n (Some file) = omega arith
 
-pub keeps_more : (d : Description) (p : Progress) (said : Said) → Keeps d p → IsRightSaid d p.newest (length p.script.files) said → Keeps d (with_said p said)
+pub keeps_more : (d : Description) (p : Progress) (said : Said) → KeepsProgress d p → IsRightSaid d p.newest (length p.script.files) said → KeepsProgress d (with_said p said)
 keeps_more d p said k r =
     let n : ℕ = length p.script.files in
     let after : ℕ = length (with_file p.script.files said.file) in
@@ -118,5 +118,5 @@ keeps_more d p said k r =
       noted = All-push (IsNoted (newest_after p.newest said.step)) p.script.steps said.step (λ i x h. now.noted (get_or p.script.steps i x) (k.noted i x h)) now.own;
     }
 
-pub keeps_nothing : (d : Description) → Keeps d nothing_yet
+pub keeps_nothing : (d : Description) → KeepsProgress d nothing_yet
 keeps_nothing d = record { each = λ i x h. absurd (omega arith); rising = λ i j x h k. absurd (omega arith); places = refl; noted = λ i x h. absurd (omega arith) }

@@ -46,7 +46,7 @@ IsNoted newest step.Show = Unit {0}
 IsNoted newest step.Reset = Unit {0}
 
 -- what is right of every progress
-pub record Keeps (d : Description) (p : Progress) : Type 0 where
+pub record KeepsProgress (d : Description) (p : Progress) : Type 0 where
   pub each : All (IsRightStep d (length p.script.files)) p.script.steps
   pub rising : AllPairs Rises p.script.steps
   pub places : length p.newest ≡ 8

@@ -3,6 +3,7 @@
 
 pub mod fault;
 pub mod lines;
+pub mod newest;
 pub mod node;
 pub mod steps;
 pub mod words;
@@ -10,6 +11,7 @@ pub mod world;
 
 pub use fault::{Cause, ScriptFault};
 pub use lines::Lines;
+pub use newest::{newest_of, note_newest};
 pub use node::node_script;
 pub use steps::{Step, Steps};
 pub use words::Words;

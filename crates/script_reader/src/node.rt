@@ -1,19 +1,19 @@
 //! The reader of node scripts.
 
-ghost use Rattle.std.specs.Prelude.{◌≡◌, ◌<◌, ◌≤◌, ◌^◌, ℕ, List, length, slice_index, slice_set, IfOk, IfErr, OnOk};
+ghost use Rattle.std.specs.Prelude.{◌≡◌, ◌<◌, ◌≤◌, ◌^◌, ℕ, List, length, IfOk, IfErr, OnOk};
 ghost use Rattle.script_reader.specs.Lines.{words_of};
 ghost use Rattle.script_reader.specs.Words.{Reads};
 ghost use Rattle.script_reader.specs.Steps.{IsRightSteps};
 ghost use Rattle.script_reader.specs.NodeScript.{an_install, a_load, a_post, a_step, an_answer, behind, a_line, with_said, newest_after, after_line, node_script_in};
 ghost use Rattle.script_reader.specs.Script.{Answers, Follows};
-ghost use Rattle.script_reader.specs.NodeReader.{progress_of, said_of, IsRightSaid, Keeps};
+ghost use Rattle.script_reader.specs.NodeReader.{progress_of, said_of, IsRightSaid, KeepsProgress};
 ghost use Rattle.vm_desc.specs.declared.description.Description.{Description};
 
 use crate::fault::{Cause, ScriptFault};
 use crate::lines::Lines;
+use crate::newest::{newest_of, note_newest};
 use crate::steps::{Step, Steps};
 use crate::words::Words;
-use mate_num::HandlerId;
 use std::alloc::Global;
 use vm_desc::Description;
 
@@ -60,10 +60,10 @@ impl Reader {
     fn line(&mut self, desc: &Description, number: u32, line: &[u8]) -> Result<(), ScriptFault>
         requires count { length self.old.steps.files < number }
         requires small { number < 2 ^ 32 }
-        requires keeps { Keeps desc.now (progress_of self.old) }
+        requires keeps { KeepsProgress desc.now (progress_of self.old) }
         ensures value { Follows (after_line desc.now (progress_of self.old) (words_of line.now)) number result (progress_of self.new) }
         ensures files { OnOk result (length self.new.steps.files ≤ number) }
-        ensures keeps { OnOk result (Keeps desc.now (progress_of self.new)) }
+        ensures keeps { OnOk result (KeepsProgress desc.now (progress_of self.new)) }
     {
         let mut words = Words::of(line);
         if words.is_skipped() {
@@ -107,15 +107,7 @@ fn note_version(newest: &mut [u32; 8], step: &Step)
         ..
     } = step
     {
-        put(newest, handler.0 as usize, *version);
-    }
-}
-
-fn put(newest: &mut [u32; 8], place: usize, version: u32)
-    ensures { newest.new ≡ slice_set newest.old place version }
-{
-    if place < newest.len() {
-        newest[place] = version;
+        note_newest(newest, *handler, *version);
     }
 }
 
@@ -204,16 +196,6 @@ fn install_in<'a>(
         step,
         file: Some(file),
     })
-}
-
-// The newest version of a handler.
-fn newest_of(newest: &[u32; 8], handler: HandlerId) -> u32
-    ensures { result ≡ slice_index newest.now handler.0 }
-{
-    match newest.get(handler.0 as usize) {
-        Some(version) => *version,
-        None => 0,
-    }
 }
 
 #[tactic(auto, unfolding(crate::specs::NodeScript::a_load))]

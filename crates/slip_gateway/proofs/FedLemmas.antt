@@ -10,8 +10,8 @@ use Rattle.std.proofs.lemmas.List.{append-nil, take_more, take_all}
 use Rattle.std.proofs.lemmas.List.{length-append}
 use Rattle.arrayvec.specs.ArrayVec.{ArrayVec}
 use Rattle.mate_num.specs.declared.bounds.TheConstants.{IMAGE_MAX}
-use Rattle.slip_gateway.specs.Stream.{is_end, with_byte, unescaped, whole, framed, frame_of, rest_behind, rest, frames_behind, frames}
-use Rattle.slip_gateway.specs.Fed.{fresh, is_nil, is_fresh_in, is_fresh, added, replaced, pushed_in, pushed, given, frame_left, unescaped_in, framed_behind, IsBehind, HasFed}
+use Rattle.slip_gateway.specs.Stream.{is_end_byte, with_byte, unescaped, whole_frame, framed, frame_of, rest_behind, rest, frames_behind, frames}
+use Rattle.slip_gateway.specs.Fed.{fresh_slip, is_nil, is_fresh_in, is_fresh, added, replaced, pushed_in, pushed, frame_given, frame_left, unescaped_in, framed_behind, IsBehind, HasFed}
 use Rattle.slip_gateway.proofs.StreamLemmas.{rest_behind-append, frames_behind-append, rest-append, frames-append}
 use Rattle.slip_gateway.specs.declared.frames.Frame.{Frame}
 use Rattle.slip_gateway.specs.declared.frames.Frame.TheVariants as frame
@@ -28,20 +28,20 @@ of image long escapes = record { image = image; too_long = long; escapes = escap
 abbrev behind : Slip → List ℕ → Frame
 behind s more = framed_behind s.too_long s.image.items (unescaped_in s.escapes more)
 
-whole-long : (bs : List ℕ) → IMAGE_MAX < length bs → whole bs ≡ frame.TooLong
+whole-long : (bs : List ℕ) → IMAGE_MAX < length bs → whole_frame bs ≡ frame.TooLong
 whole-long bs h = ap (λ (t : Bool). if t then frame.Whole (record { items = bs }) else frame.TooLong) (lt-leb (length bs) IMAGE_MAX h)
 
-whole-short : (bs : List ℕ) → length bs ≤ IMAGE_MAX → whole bs ≡ frame.Whole (record { items = bs })
+whole-short : (bs : List ℕ) → length bs ≤ IMAGE_MAX → whole_frame bs ≡ frame.Whole (record { items = bs })
 whole-short bs h = ap (λ (t : Bool). if t then frame.Whole (record { items = bs }) else frame.TooLong) (le-leb (length bs) IMAGE_MAX h)
 
-full_image : (image more : List ℕ) (b : ℕ) → length image ≡ IMAGE_MAX → whole (image ++ b ∷ more) ≡ frame.TooLong
+full_image : (image more : List ℕ) (b : ℕ) → length image ≡ IMAGE_MAX → whole_frame (image ++ b ∷ more) ≡ frame.TooLong
 full_image image more b e = whole-long (image ++ b ∷ more) (let h = length-append image (b ∷ more) in omega arith)
 
 -- an added byte stands before what follows
 framed_added : (image : List ℕ) (long : Bool) (b : ℕ) (o : Option (List ℕ)) → framed_behind long (image ++ b ∷ []) o ≡ framed_behind long image (with_byte b o)
 framed_added image long b None = refl
 framed_added image true b (Some more) = refl
-framed_added image false b (Some more) = ap whole (append_assoc image (b ∷ []) more)
+framed_added image false b (Some more) = ap whole_frame (append_assoc image (b ∷ []) more)
 
 framed_full : (image : List ℕ) (long : Bool) (b : ℕ) (o : Option (List ℕ)) → length image ≡ IMAGE_MAX → framed_behind true image o ≡ framed_behind long image (with_byte b o)
 framed_full image long b None e = refl
@@ -116,7 +116,7 @@ IsBehind-pushed s begun b h =
       starts = begun_pushed s.image s.too_long s.escapes b ∙ sym (is_nil-push begun b);
     }
 
-pub IsBehind-fresh : IsBehind fresh []
+pub IsBehind-fresh : IsBehind fresh_slip []
 IsBehind-fresh = record { gives = λ more. framed_fresh (unescaped false more); starts = refl } where
   framed_fresh : (o : Option (List ℕ)) → framed_behind false [] o ≡ framed o
   framed_fresh None = refl
@@ -125,10 +125,10 @@ IsBehind-fresh = record { gives = λ more. framed_fresh (unescaped false more); 
 -- ---- the end of a frame
 
 -- what the reader gives is what it would give with nothing behind
-given-behind : (image : ArrayVec ℕ) (long : Bool) (escapes : Escapes) → length image.items ≤ IMAGE_MAX → given escapes long image.items ≡ behind (of image long escapes) []
+given-behind : (image : ArrayVec ℕ) (long : Bool) (escapes : Escapes) → length image.items ≤ IMAGE_MAX → frame_given escapes long image.items ≡ behind (of image long escapes) []
 given-behind image true Whole h = refl
 given-behind image false Whole h =
-    sym (ap whole (append-nil image.items) ∙ whole-short image.items h)
+    sym (ap whole_frame (append-nil image.items) ∙ whole-short image.items h)
 given-behind image long Open h = refl
 given-behind image long Broken h = refl
 
@@ -142,7 +142,7 @@ frame_of-nil (b ∷ bs) e = absurd (cc)
 
 pub frame_left-behind : (s : Slip) (begun : List ℕ) → length s.image.items ≤ IMAGE_MAX → IsBehind s begun → option_to_list (frame_left s) ≡ frame_of begun
 frame_left-behind s begun fits h = by (is_fresh s) refl where
-  by : (t : Bool) → is_fresh s ≡ t → option_to_list (if t then None else Some (given s.escapes s.too_long s.image.items)) ≡ frame_of begun
+  by : (t : Bool) → is_fresh s ≡ t → option_to_list (if t then None else Some (frame_given s.escapes s.too_long s.image.items)) ≡ frame_of begun
   by true e = sym (frame_of-nil begun (sym h.starts ∙ e))
   by false e =
       ap (λ (f : Frame). f ∷ []) (given-behind s.image s.too_long s.escapes fits ∙ h.gives [] ∙ ap (λ (bs : List ℕ). framed (unescaped false bs)) (append-nil begun))
@@ -159,7 +159,7 @@ reads_inner s new begun b items ne is h =
     subst P (sym (ne_eqb b END ne)) (subst Q (sym is) (IsBehind-pushed s begun b h), sym (append-nil items))
 
 -- an END
-pub reads_end : (s new : Slip) (begun : List ℕ) (b : ℕ) (o : Option Frame) (items more : List Frame) → b ≡ END → new ≡ fresh → o ≡ frame_left s
+pub reads_end : (s new : Slip) (begun : List ℕ) (b : ℕ) (o : Option Frame) (items more : List Frame) → b ≡ END → new ≡ fresh_slip → o ≡ frame_left s
     → length s.image.items ≤ IMAGE_MAX → more ≡ items ++ option_to_list o → IsBehind s begun
     → IsBehind new (rest_behind begun (b ∷ [])) × (more ≡ items ++ frames_behind begun (b ∷ []))
 reads_end s new begun b o items more e is left fits pushed h =
@@ -204,10 +204,10 @@ pub has_read_all : (old new : Slip) (before after : List Frame) (piece : List �
 has_read_all old new before after piece i past h = let P : List ℕ → Type 0 = λ p. HasRead old new before after p in subst P (take_all i piece past) h
 
 -- the frames that the rest closes, at most: those of the next byte, and those of the rest behind it
-pub ends_next : (piece : List ℕ) (i : ℕ) → i < length piece → count_by is_end (drop i piece) ≡ count_by is_end (get_or piece i 0 ∷ []) + count_by is_end (drop (i + 1) piece)
+pub ends_next : (piece : List ℕ) (i : ℕ) → i < length piece → count_by is_end_byte (drop i piece) ≡ count_by is_end_byte (get_or piece i 0 ∷ []) + count_by is_end_byte (drop (i + 1) piece)
 ends_next piece i within =
-    rw add-one (ap (λ (p : List ℕ). count_by is_end p) (drop-cons piece i 0 within)
-    ∙ sum_by-append (λ b. cond (is_end b) 1 0) (get_or piece i 0 ∷ []) (drop (suc i) piece))
+    rw add-one (ap (λ (p : List ℕ). count_by is_end_byte p) (drop-cons piece i 0 within)
+    ∙ sum_by-append (λ b. cond (is_end_byte b) 1 0) (get_or piece i 0 ∷ []) (drop (suc i) piece))
 
 -- ---- what was fed
 

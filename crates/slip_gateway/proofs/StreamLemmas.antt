@@ -4,21 +4,21 @@ use Rattle.std.specs.Prelude.{if◌then◌else◌}
 use Rattle.std.specs.List.{flat_map}
 use Rattle.std.proofs.lemmas.Grind.{flat_map-append}
 use Rattle.slip_gateway.specs.declared.frames.Frame.{Frame}
-use Rattle.slip_gateway.specs.Stream.{is_end, closed, rest_behind, frame_of, frames_behind, frames, rest}
+use Rattle.slip_gateway.specs.Stream.{is_end_byte, closed_pieces, rest_behind, frame_of, frames_behind, frames, rest}
 
-closed-append : (begun xs ys : List ℕ) → closed begun (xs ++ ys) ≡ closed begun xs ++ closed (rest_behind begun xs) ys
+closed-append : (begun xs ys : List ℕ) → closed_pieces begun (xs ++ ys) ≡ closed_pieces begun xs ++ closed_pieces (rest_behind begun xs) ys
 closed-append begun [] ys = refl
-closed-append begun (x ∷ xs) ys = by (is_end x) (closed-append [] xs ys) (closed-append (begun ++ x ∷ []) xs ys) where
-  by : (t : Bool) → closed [] (xs ++ ys) ≡ closed [] xs ++ closed (rest_behind [] xs) ys
-      → closed (begun ++ x ∷ []) (xs ++ ys) ≡ closed (begun ++ x ∷ []) xs ++ closed (rest_behind (begun ++ x ∷ []) xs) ys
-      → (if t then begun ∷ closed [] (xs ++ ys) else closed (begun ++ x ∷ []) (xs ++ ys))
-      ≡ (if t then begun ∷ closed [] xs else closed (begun ++ x ∷ []) xs) ++ closed (if t then rest_behind [] xs else rest_behind (begun ++ x ∷ []) xs) ys
+closed-append begun (x ∷ xs) ys = by (is_end_byte x) (closed-append [] xs ys) (closed-append (begun ++ x ∷ []) xs ys) where
+  by : (t : Bool) → closed_pieces [] (xs ++ ys) ≡ closed_pieces [] xs ++ closed_pieces (rest_behind [] xs) ys
+      → closed_pieces (begun ++ x ∷ []) (xs ++ ys) ≡ closed_pieces (begun ++ x ∷ []) xs ++ closed_pieces (rest_behind (begun ++ x ∷ []) xs) ys
+      → (if t then begun ∷ closed_pieces [] (xs ++ ys) else closed_pieces (begun ++ x ∷ []) (xs ++ ys))
+      ≡ (if t then begun ∷ closed_pieces [] xs else closed_pieces (begun ++ x ∷ []) xs) ++ closed_pieces (if t then rest_behind [] xs else rest_behind (begun ++ x ∷ []) xs) ys
   by true anew on = ap (λ (ps : List (List ℕ)). begun ∷ ps) anew
   by false anew on = on
 
 pub rest_behind-append : (begun xs ys : List ℕ) → rest_behind begun (xs ++ ys) ≡ rest_behind (rest_behind begun xs) ys
 rest_behind-append begun [] ys = refl
-rest_behind-append begun (x ∷ xs) ys = by (is_end x) (rest_behind-append [] xs ys) (rest_behind-append (begun ++ x ∷ []) xs ys) where
+rest_behind-append begun (x ∷ xs) ys = by (is_end_byte x) (rest_behind-append [] xs ys) (rest_behind-append (begun ++ x ∷ []) xs ys) where
   by : (t : Bool) → rest_behind [] (xs ++ ys) ≡ rest_behind (rest_behind [] xs) ys
       → rest_behind (begun ++ x ∷ []) (xs ++ ys) ≡ rest_behind (rest_behind (begun ++ x ∷ []) xs) ys
       → (if t then rest_behind [] (xs ++ ys) else rest_behind (begun ++ x ∷ []) (xs ++ ys))
@@ -29,7 +29,7 @@ rest_behind-append begun (x ∷ xs) ys = by (is_end x) (rest_behind-append [] xs
 pub frames_behind-append : (begun xs ys : List ℕ) → frames_behind begun (xs ++ ys) ≡ frames_behind begun xs ++ frames_behind (rest_behind begun xs) ys
 frames_behind-append begun xs ys =
     ap (λ (ps : List (List ℕ)). flat_map frame_of ps) (closed-append begun xs ys)
-    ∙ flat_map-append frame_of (closed begun xs) (closed (rest_behind begun xs) ys)
+    ∙ flat_map-append frame_of (closed_pieces begun xs) (closed_pieces (rest_behind begun xs) ys)
 
 pub frames-append : (first second : List ℕ) → frames (first ++ second) ≡ frames first ++ frames_behind (rest first) second
 frames-append first second = frames_behind-append [] first second

@@ -1,7 +1,7 @@
 -- What the reader keeps of the bytes that it was given.
 use Rattle.std.specs.Prelude.{◌≡◌, ℕ, Bool, true, false, ◌==◌, nat_le, if◌then◌else◌, List, [], ◌∷◌, ◌++◌, length, Option, Some, None}
 use Rattle.mate_num.specs.declared.bounds.TheConstants.{IMAGE_MAX}
-use Rattle.slip_gateway.specs.Stream.{unescaped, whole, framed, rest}
+use Rattle.slip_gateway.specs.Stream.{unescaped, whole_frame, framed, rest}
 use Rattle.slip_gateway.specs.declared.frames.Frame.{Frame}
 use Rattle.slip_gateway.specs.declared.frames.Frame.TheVariants as frame
 use Rattle.slip_gateway.specs.declared.slip.Slip.{Slip}
@@ -10,8 +10,8 @@ use Rattle.slip_gateway.specs.declared.slip.Escapes.TheVariants.{Whole, Open, Br
 use Rattle.slip_gateway.specs.declared.slip.TheConstants.{END, ESC, ESC_END, ESC_ESC}
 
 -- no byte of a frame was read
-abbrev pub fresh : Slip
-fresh = record { image = record { items = [] }; too_long = false; escapes = Whole }
+abbrev pub fresh_slip : Slip
+fresh_slip = record { image = record { items = [] }; too_long = false; escapes = Whole }
 
 abbrev pub is_nil : List ℕ → Bool
 is_nil [] = true
@@ -45,14 +45,14 @@ abbrev pub pushed : Slip → ℕ → Slip
 pushed s b = pushed_in s.escapes s b
 
 -- what the frame gives that ends here
-abbrev pub given : Escapes → Bool → List ℕ → Frame
-given Whole true image = frame.TooLong
-given Whole false image = frame.Whole (record { items = image })
-given Open long image = frame.BadEscape
-given Broken long image = frame.BadEscape
+abbrev pub frame_given : Escapes → Bool → List ℕ → Frame
+frame_given Whole true image = frame.TooLong
+frame_given Whole false image = frame.Whole (record { items = image })
+frame_given Open long image = frame.BadEscape
+frame_given Broken long image = frame.BadEscape
 
 abbrev pub frame_left : Slip → Option Frame
-frame_left s = if is_fresh s then None else Some (given s.escapes s.too_long s.image.items)
+frame_left s = if is_fresh s then None else Some (frame_given s.escapes s.too_long s.image.items)
 
 -- the bytes that follow, with their escapes replaced
 abbrev pub unescaped_in : Escapes → List ℕ → Option (List ℕ)
@@ -64,7 +64,7 @@ unescaped_in Broken more = None
 abbrev pub framed_behind : Bool → List ℕ → Option (List ℕ) → Frame
 framed_behind long image None = frame.BadEscape
 framed_behind true image (Some more) = frame.TooLong
-framed_behind false image (Some more) = whole (image ++ more)
+framed_behind false image (Some more) = whole_frame (image ++ more)
 
 -- the reader is behind these bytes of a frame: whatever follows, it gives what they and that give
 pub record IsBehind (s : Slip) (begun : List ℕ) : Type 0 where

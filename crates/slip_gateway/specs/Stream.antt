@@ -7,18 +7,18 @@ use Rattle.slip_gateway.specs.declared.slip.TheConstants.{END, ESC, ESC_END, ESC
 use Rattle.slip_gateway.specs.declared.frames.Frame.{Frame}
 use Rattle.slip_gateway.specs.declared.frames.Frame.TheVariants.{Whole, TooLong, BadEscape}
 
-abbrev pub is_end : ℕ → Bool
-is_end b = b == END
+abbrev pub is_end_byte : ℕ → Bool
+is_end_byte b = b == END
 
 -- the pieces that bytes close, each at its END, where some bytes of the first piece stand before them
-abbrev pub closed : List ℕ → List ℕ → List (List ℕ)
-closed begun [] = []
-closed begun (b ∷ bs) = if is_end b then begun ∷ closed [] bs else closed (begun ++ b ∷ []) bs
+abbrev pub closed_pieces : List ℕ → List ℕ → List (List ℕ)
+closed_pieces begun [] = []
+closed_pieces begun (b ∷ bs) = if is_end_byte b then begun ∷ closed_pieces [] bs else closed_pieces (begun ++ b ∷ []) bs
 
 -- the bytes of the piece that is open behind them
 abbrev pub rest_behind : List ℕ → List ℕ → List ℕ
 rest_behind begun [] = begun
-rest_behind begun (b ∷ bs) = if is_end b then rest_behind [] bs else rest_behind (begun ++ b ∷ []) bs
+rest_behind begun (b ∷ bs) = if is_end_byte b then rest_behind [] bs else rest_behind (begun ++ b ∷ []) bs
 
 -- the first byte, where there is one, before those of a frame
 abbrev pub with_byte : ℕ → Option (List ℕ) → Option (List ℕ)
@@ -34,12 +34,12 @@ unescaped true (b ∷ bs) =
     if b == ESC_ESC then with_byte ESC (unescaped false bs) else None
 
 -- a frame of these bytes
-abbrev pub whole : List ℕ → Frame
-whole bs = if nat_le (length bs) IMAGE_MAX then Whole (record { items = bs }) else TooLong
+abbrev pub whole_frame : List ℕ → Frame
+whole_frame bs = if nat_le (length bs) IMAGE_MAX then Whole (record { items = bs }) else TooLong
 
 abbrev pub framed : Option (List ℕ) → Frame
 framed None = BadEscape
-framed (Some bs) = whole bs
+framed (Some bs) = whole_frame bs
 
 -- what a piece gives: an empty one gives nothing
 abbrev pub frame_of : List ℕ → List Frame
@@ -48,7 +48,7 @@ frame_of (b ∷ bs) = framed (unescaped false (b ∷ bs)) ∷ []
 
 -- the frames that bytes close, where some bytes of the first one stand before them
 abbrev pub frames_behind : List ℕ → List ℕ → List Frame
-frames_behind begun bytes = flat_map frame_of (closed begun bytes)
+frames_behind begun bytes = flat_map frame_of (closed_pieces begun bytes)
 
 -- the frames of a stream, and what stands behind its last END
 abbrev pub frames : List ℕ → List Frame

@@ -1,8 +1,9 @@
 //! The reader of a stream: it is given the bytes in pieces, and keeps what the pieces so far leave open.
 
 ghost use Rattle.std.specs.Prelude.{◌≡◌, ◌≢◌, ◌+◌, ◌≤◌, List, ℕ, [], ◌∷◌, ◌++◌, OnOk, OnErr, IsTrue, ◌↔◌, count_by, vec_len, vec_capacity, length};
-ghost use Rattle.slip_gateway.specs.Fed.{fresh, is_fresh, added, replaced, pushed, frame_left, IsBehind, HasFed};
-ghost use Rattle.slip_gateway.specs.Stream.{is_end, rest_behind, rest, frames_behind, frames};
+ghost use Rattle.mate_num.specs.declared.bounds.TheConstants.{IMAGE_MAX};
+ghost use Rattle.slip_gateway.specs.Fed.{fresh_slip, is_fresh, added, replaced, pushed, frame_left, IsBehind, HasFed};
+ghost use Rattle.slip_gateway.specs.Stream.{is_end_byte, rest_behind, rest, frames_behind, frames};
 
 use crate::frames::{Frame, Frames};
 use mate_num::{Image, NoMemory};
@@ -50,7 +51,7 @@ pub fn frames_compose()
 
 // How many frames a piece closes at most.
 fn ends_in(piece: &[u8]) -> usize
-    ensures { result ≡ count_by is_end piece.now }
+    ensures { result ≡ count_by is_end_byte piece.now }
 {
     piece.iter().filter(|byte| **byte == END).count()
 }
@@ -59,7 +60,7 @@ impl Slip {
     /// A reader that was given nothing.
     pub fn new() -> Slip
         ensures fed { HasFed result [] }
-        ensures fresh { result ≡ fresh }
+        ensures fresh { result ≡ fresh_slip }
     {
         Slip {
             image: Image::new(),
@@ -100,7 +101,7 @@ impl Slip {
 
     // Reads bytes; there is room for the frames that they close.
     fn read(&mut self, piece: &[u8], into: &mut Vec<Frame>)
-        requires { vec_len into.old + count_by is_end piece.now ≤ vec_capacity into.old }
+        requires { vec_len into.old + count_by is_end_byte piece.now ≤ vec_capacity into.old }
         ensures { (begun : List ℕ) → IsBehind self.old begun →
             IsBehind self.new (rest_behind begun piece.now) × (into.new.items ≡ into.old.items ++ frames_behind begun piece.now) }
     {
@@ -110,10 +111,10 @@ impl Slip {
     }
 
     fn read_byte(&mut self, byte: u8, into: &mut Vec<Frame>)
-        requires { vec_len into.old + count_by is_end (byte ∷ []) ≤ vec_capacity into.old }
+        requires { vec_len into.old + count_by is_end_byte (byte ∷ []) ≤ vec_capacity into.old }
         ensures reads { (begun : List ℕ) → IsBehind self.old begun →
             IsBehind self.new (rest_behind begun (byte ∷ [])) × (into.new.items ≡ into.old.items ++ frames_behind begun (byte ∷ [])) }
-        ensures len { vec_len into.new ≤ vec_len into.old + count_by is_end (byte ∷ []) }
+        ensures len { vec_len into.new ≤ vec_len into.old + count_by is_end_byte (byte ∷ []) }
         ensures capacity { vec_capacity into.new ≡ vec_capacity into.old }
     {
         if byte != END {
@@ -128,8 +129,8 @@ impl Slip {
     // Ends the frame, and gives it where it has bytes.
     fn close(&mut self) -> Option<Frame>
         ensures frame { result ≡ frame_left self.old }
-        ensures after { self.new ≡ fresh }
-        ensures fits { length self.old.image.items ≤ 1056 }
+        ensures after { self.new ≡ fresh_slip }
+        ensures fits { length self.old.image.items ≤ IMAGE_MAX }
     {
         let begun = mem::replace(self, Slip::new());
         let _fits = begun.image.is_full();

@@ -12,7 +12,7 @@ use Rattle.ts_translation.proofs.UsesLemmas.{UsesAsItsScript-script_code}
 use Rattle.ts_compiler.specs.Compiled.{AreAccepted}
 use Rattle.code_verifier.specs.Verified.{VerifiedCode, Verifies, marks_of}
 use Rattle.code_verifier.specs.declared.fault.VerifyFault.{VerifyFault}
-use Rattle.lock_inference.specs.Locks.{AreLocksOf, held}
+use Rattle.lock_inference.specs.Locks.{AreLocksOf, held_uses}
 
 pub taken : (shape : Shape) (tree : Block) (bytes : ArrayVec ℕ) (fault : VerifyFault) → AreAccepted shape tree bytes → Verifies shape bytes.items (Err fault) → ⊥
 taken shape tree bytes fault are refused = let e = are.1 in cc
@@ -32,5 +32,5 @@ code shape tree bytes v are is =
     subst (λ (bs : List ℕ). bytes_verification shape bs ≡ Ok (v.code, marks_of v)) is.bytes_are a in
     first_same v.code (code_of tree) (marks_of v) are.0 (bytes_verification shape bytes.items) b are.1
 
-pub locks : (shape : Shape) (tree : Block) (set : LockSet) → AreLocksOf shape (code_of tree) set → IsSameUses (held set) (uses_of shape tree)
-locks shape tree set are = subst (λ (u : Uses). IsSameUses (held set) u) (UsesAsItsScript-script_code shape tree) are
+pub locks : (shape : Shape) (tree : Block) (set : LockSet) → AreLocksOf shape (code_of tree) set → IsSameUses (held_uses set) (uses_of shape tree)
+locks shape tree set are = subst (λ (u : Uses). IsSameUses (held_uses set) u) (UsesAsItsScript-script_code shape tree) are

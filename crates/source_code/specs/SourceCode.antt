@@ -7,7 +7,7 @@ use Rattle.mate_code.specs.Run.{code_run}
 use Rattle.ts_syntax.specs.Statement.{Block}
 use Rattle.ts_syntax.specs.Checked.{shape_of, tree_of}
 use Rattle.ts_meaning.specs.Meaning.{run_of}
-use Rattle.ts_translation.specs.Laws.{RunsAsItsScript, UsesAsItsScript, as_played}
+use Rattle.ts_translation.specs.Laws.{RunsAsItsScript, UsesAsItsScript}
 use Rattle.ts_translation.specs.Translation.{code_of}
 use Rattle.ts_compiler.specs.Compiled.{IsCompiled, Compiles, AreAccepted}
 use Rattle.ts_compiler.specs.declared.fault.CompileFault.{CompileFault}
@@ -26,7 +26,7 @@ compiled_tree false tree = tree
 abbrev pub RunsAsAccepted : Shape → Bool → Block → Type 0
 RunsAsAccepted shape fold tree =
     (store : Store) (msg : ArrayVec ℤ) (answers : List ℤ) (turns : ℕ) →
-    as_played (code_run shape (code_of (compiled_tree fold tree)) store msg answers turns) ≡ run_of tree store msg answers turns
+    code_run shape (code_of (compiled_tree fold tree)) store msg answers turns ≡ run_of tree store msg answers turns
 
 -- Code of an accepted tree: the bytes of the compiled tree's code. The verifier takes them, and they run as the compiled tree
 -- and as the accepted one; they use what the compiled tree uses, which is nothing more than the accepted one does.

@@ -11,7 +11,7 @@ ghost use Rattle.ts_translation.specs.Translation.{code_of};
 ghost use Rattle.ts_compiler.specs.Compiled.{AreAccepted};
 ghost use Rattle.code_verifier.specs.Verified.{VerifiedCode, Verifies};
 ghost use Rattle.code_verifier.specs.declared.fault.VerifyFault.{VerifyFault as VerifyFaultValue};
-ghost use Rattle.lock_inference.specs.Locks.{AreLocksOf, held};
+ghost use Rattle.lock_inference.specs.Locks.{AreLocksOf, held_uses};
 
 /// The verifier takes whatever the compiler gives for a tree, and finds the tree's code in it.
 pub fn compiled_code_is_verified()
@@ -21,5 +21,5 @@ pub fn compiled_code_is_verified()
 
 /// The locks of a tree's code hold as read exactly what the tree reads, and as written exactly what it writes.
 pub fn locks_of_compiled_code()
-    ensures { (shape : Shape) (tree : Block) (set : LockSetValue) → AreLocksOf shape (code_of tree) set → IsSameUses (held set) (uses_of shape tree) }
+    ensures { (shape : Shape) (tree : Block) (set : LockSetValue) → AreLocksOf shape (code_of tree) set → IsSameUses (held_uses set) (uses_of shape tree) }
 {}

@@ -5,13 +5,13 @@ use Rattle.mate_code.specs.declared.instr.Instr.{Instr}
 use Rattle.mate_code.specs.Instr.{size_of}
 use Rattle.ts_syntax.specs.Expression.{Expression, Arguments, arguments, argument}
 use Rattle.ts_syntax.specs.Statement.{Statement, block}
-use Rattle.ts_translation.specs.Translation.{bytes_of, expr_code, args_code, expr_size, expr_need, args_need, stmt_size, stmt_need, block_size, block_need}
+use Rattle.ts_translation.specs.Translation.{size_of_instrs, expr_code, args_code, expr_size, expr_need, args_need, stmt_size, stmt_need, block_size, block_need}
 use Rattle.ts_translation.proofs.PlaceLemmas.{bytes_of-append}
 use Rattle.ts_compiler.specs.Parts.{capped}
 
 -- all arguments take what those so far do, and what the rest does above them
 pub record ArgsMeasured (size need below count : ℕ) (all rest : List Expression) : Type 0 where
-  pub size_is : capped (bytes_of (args_code (arguments all))) ≡ capped (size + bytes_of (args_code (arguments rest)))
+  pub size_is : capped (size_of_instrs (args_code (arguments all))) ≡ capped (size + size_of_instrs (args_code (arguments rest)))
   pub need_is : capped (args_need 0 (arguments all)) ≡ capped (max need (args_need count (arguments rest)))
   pub size_fits : size ≤ 1000000000
   pub need_fits : need ≤ 1000000000
@@ -35,7 +35,7 @@ args_next {size} {need} {below} {count} {all} e es size' need' below' count' m s
     let same : args_need (suc count) (arguments es) ≡ args_need count' (arguments es) = ap (λ (k : ℕ). args_need k (arguments es)) next in
     record { size_is = omega arith; need_is = omega arith; size_fits = omega arith; need_fits = omega arith; below_is = omega arith }
 
-pub args_size : {size need below count : ℕ} {all : List Expression} → ArgsMeasured size need below count all [] → size ≡ capped (bytes_of (args_code (arguments all)))
+pub args_size : {size need below count : ℕ} {all : List Expression} → ArgsMeasured size need below count all [] → size ≡ capped (size_of_instrs (args_code (arguments all)))
 args_size m = let s = m.size_is in let f = m.size_fits in omega arith
 
 pub args_needs : {size need below count : ℕ} {all : List Expression} → ArgsMeasured size need below count all [] → need ≡ capped (args_need 0 (arguments all))
@@ -67,11 +67,11 @@ pub block_needs : {size need : ℕ} {all : List Statement} → BlockMeasured siz
 block_needs m = let n = m.need_is in let g = m.need_fits in omega arith
 
 -- the bytes of code with an instruction behind it
-pub capped-push : (is : List Instr) (i : Instr) (size : ℕ) → size ≡ capped (capped (bytes_of is) + size_of i) → size ≡ capped (bytes_of (is ++ i ∷ []))
+pub capped-push : (is : List Instr) (i : Instr) (size : ℕ) → size ≡ capped (capped (size_of_instrs is) + size_of i) → size ≡ capped (size_of_instrs (is ++ i ∷ []))
 capped-push is i size e = let h = bytes_of-append is (i ∷ []) in omega arith
 
-pub capped-two : (is js : List Instr) (i : Instr) (size : ℕ) → size ≡ capped (capped (capped (bytes_of is) + capped (bytes_of js)) + size_of i)
-    → size ≡ capped (bytes_of (is ++ (js ++ i ∷ [])))
+pub capped-two : (is js : List Instr) (i : Instr) (size : ℕ) → size ≡ capped (capped (capped (size_of_instrs is) + capped (size_of_instrs js)) + size_of i)
+    → size ≡ capped (size_of_instrs (is ++ (js ++ i ∷ [])))
 capped-two is js i size e = let h = bytes_of-append is (js ++ i ∷ []) in let k = bytes_of-append js (i ∷ []) in omega arith
 
 -- the sums, step by step

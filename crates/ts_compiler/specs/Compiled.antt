@@ -1,7 +1,7 @@
 -- What the compiler gives for a script.
 use Rattle.std.specs.Prelude.{◌≡◌, ℕ, ◌<◌, ◌≤◌, Result, Ok, Err}
 use Rattle.arrayvec.specs.ArrayVec.{ArrayVec}
-use Rattle.mate_num.specs.declared.bounds.TheConstants.{CODE_MAX}
+use Rattle.mate_num.specs.declared.bounds.TheConstants.{CODE_MAX, STACK_MAX}
 use Rattle.mate_num.specs.declared.shape.Shape.{Shape}
 use Rattle.mate_code.specs.BytesVerification.{bytes_verification}
 use Rattle.mate_code.specs.Code.{code_bytes}
@@ -15,26 +15,26 @@ use Rattle.ts_compiler.specs.declared.fault.CompileFault.TheVariants.{StackDepth
 
 -- the script has code: it needs a stack of at most 16 values, its code has room, and these are the code's bytes
 pub record IsCompiled (shape : Shape) (tree : Block) (bytes : ArrayVec ℕ) : Type 0 where
-  pub need : script_need tree ≤ 16
+  pub need : script_need tree ≤ STACK_MAX
   pub size : script_size tree ≤ CODE_MAX
   pub code : bytes.items ≡ code_bytes (table_of shape) (script_code tree)
 
 -- it needs a deeper stack
-pub record IsTooDeep (tree : Block) (need : ℕ) : Type 0 where
+pub record NeedsDeeperStack (tree : Block) (need : ℕ) : Type 0 where
   pub over : 16 < script_need tree
   pub need_is : need ≡ capped (script_need tree)
 
 -- it doesn't, but its code is too long
-pub record IsTooLong (tree : Block) (size : ℕ) : Type 0 where
-  pub fits : script_need tree ≤ 16
+pub record HasLongCode (tree : Block) (size : ℕ) : Type 0 where
+  pub fits : script_need tree ≤ STACK_MAX
   pub over : CODE_MAX < script_size tree
   pub size_is : size ≡ capped (script_size tree)
 
 -- which of them the result tells; each is told exactly where it holds, since no two hold at once
 abbrev pub Compiles : Shape → Block → Result (ArrayVec ℕ) CompileFault → Type 0
 Compiles shape tree (Ok code) = IsCompiled shape tree code
-Compiles shape tree (Err (StackDepth need)) = IsTooDeep tree need
-Compiles shape tree (Err (TooLong size)) = IsTooLong tree size
+Compiles shape tree (Err (StackDepth need)) = NeedsDeeperStack tree need
+Compiles shape tree (Err (TooLong size)) = HasLongCode tree size
 
 -- the bytes are verified, and spell the code of the script
 abbrev pub AreAccepted : Shape → Block → ArrayVec ℕ → Type 0

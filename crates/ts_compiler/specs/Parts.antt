@@ -6,7 +6,7 @@ use Rattle.mate_code.specs.declared.instr.Instr.TheVariants.{Jz, Jmp}
 use Rattle.ts_syntax.specs.Expression.{Expression}
 use Rattle.ts_syntax.specs.Statement.{Block}
 use Rattle.ts_syntax.specs.declared.checked_stmt.CVar.{CVar}
-use Rattle.ts_translation.specs.Translation.{bytes_of, get_code, set_code, within_code, expr_code, expr_size, block_code, block_size}
+use Rattle.ts_translation.specs.Translation.{size_of_instrs, get_code, set_code, within_code, expr_code, expr_size, block_code, block_size}
 
 -- a number that stops at 1,000,000,000
 abbrev pub capped : ℕ → ℕ
@@ -14,12 +14,12 @@ capped n = min n 1000000000
 
 -- more instructions have room behind those that were written
 pub record HasRoom (written more : List Instr) : Type 0 where
-  pub fits : bytes_of written + bytes_of more ≤ CODE_MAX
+  pub fits : size_of_instrs written + size_of_instrs more ≤ CODE_MAX
 
 -- more instructions were written
-pub record Writes (old more new : List Instr) : Type 0 where
+pub record WritesInstrs (old more new : List Instr) : Type 0 where
   pub code : new ≡ old ++ more
-  pub size : bytes_of new ≡ bytes_of old + bytes_of more
+  pub size : size_of_instrs new ≡ size_of_instrs old + size_of_instrs more
 
 -- at a place, a test, and a part that runs where it is true: else it goes on so many bytes behind the part
 abbrev pub guarded_code : ℕ → Expression → Block → ℕ → List Instr

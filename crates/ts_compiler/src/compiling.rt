@@ -12,14 +12,11 @@ use crate::emitter::Emitter;
 use crate::extent::script_extent;
 use crate::fault::CompileFault;
 use mate_code::{Table, encode};
-use mate_num::{CODE_MAX, Code};
+use mate_num::{CODE_MAX, Code, STACK_MAX};
 use ts_syntax::Checked;
 use ts_translation::{
     code_is_encodable, code_is_verified, code_runs_as_its_script, code_uses_as_its_script,
 };
-
-/// The stack of a machine has room for so many values.
-const STACK_MAX: u32 = 16;
 
 /// The code of a checked script, for the machine whose table it is. `StackDepth` comes exactly where the script
 /// needs a stack of more than 16 values, and `TooLong` exactly where it doesn't but its code takes more than
@@ -43,7 +40,7 @@ pub fn compile(table: &Table, script: &Checked) -> Result<Code, CompileFault>
     code_runs_as_its_script();
     code_uses_as_its_script();
     let extent = script_extent(script.body());
-    if extent.need > STACK_MAX {
+    if extent.need > STACK_MAX as u32 {
         return Err(CompileFault::StackDepth { need: extent.need });
     }
     if extent.size > CODE_MAX as u32 {

@@ -6,14 +6,14 @@ ghost use Rattle.mate_code.specs.declared.instr.Instr.TheVariants.{Add, BSet, BT
 ghost use Rattle.ts_syntax.specs.Expression.{arguments};
 ghost use Rattle.ts_syntax.specs.Statement.{If, For, While};
 ghost use Rattle.ts_syntax.specs.TreeOf.{expr_tree, args_trees, stmt_tree, block_tree};
-ghost use Rattle.ts_translation.specs.Translation.{bytes_of, get_code, set_code, expr_code, args_code, stmt_code, block_code, for_test, script_code, script_size};
-ghost use Rattle.ts_compiler.specs.Parts.{HasRoom, Writes, guarded_code, head_code, other_code};
+ghost use Rattle.ts_translation.specs.Translation.{size_of_instrs, get_code, set_code, expr_code, args_code, stmt_code, block_code, for_test, script_code, script_size};
+ghost use Rattle.ts_compiler.specs.Parts.{HasRoom, WritesInstrs, guarded_code, head_code, other_code};
 
 use crate::extent::small_block_size;
 use crate::words::{get_instr, number_instr, number_size, operator_instr, set_instr, within_instr};
 use arrayvec::ArrayVec;
 use mate_code::Instr;
-use mate_num::{BufId, FunId};
+use mate_num::{BufId, CODE_MAX, FunId};
 use std::marker::Model;
 use ts_syntax::{CArgs, CBlock, CExpr, CForHead, CStmt, CVar};
 
@@ -23,7 +23,7 @@ const JUMP: u16 = 3;
 /// The instructions so far, which take at most `CODE_MAX` bytes. Contracts see their list.
 #[derive(Drop)]
 pub(crate) struct Emitter {
-    instrs: ArrayVec<Instr, 1040>,
+    instrs: ArrayVec<Instr, CODE_MAX>,
     // The place of the next instruction.
     next: u16,
 }
@@ -32,13 +32,13 @@ impl Model for Emitter {
     ghost use Rattle.std.specs.Prelude.{◌≡◌, ◌≤◌, List};
     ghost use Rattle.mate_num.specs.declared.bounds.TheConstants.{CODE_MAX};
     ghost use Rattle.mate_code.specs.declared.instr.Instr.{Instr};
-    ghost use Rattle.ts_translation.specs.Translation.{bytes_of};
+    ghost use Rattle.ts_translation.specs.Translation.{size_of_instrs};
 
     ghost Value = { List Instr };
 
     ghost view = { λ e. e.instrs.items };
 
-    ghost invariant = { λ e. (bytes_of e.instrs.items ≡ e.next) × (e.next ≤ CODE_MAX) };
+    ghost invariant = { λ e. (size_of_instrs e.instrs.items ≡ e.next) × (e.next ≤ CODE_MAX) };
 }
 
 impl Emitter {
@@ -72,7 +72,7 @@ impl Emitter {
 
     // The place of the next instruction.
     fn next(&self) -> u16
-        ensures place { result ≡ bytes_of self.now }
+        ensures place { result ≡ size_of_instrs self.now }
         ensures fits { result ≤ CODE_MAX }
     {
         self.next
@@ -82,7 +82,7 @@ impl Emitter {
     #[tactic(auto, using(crate::proofs::PartLemmas::parts))]
     fn push(&mut self, instr: Instr)
         requires { HasRoom self.old (instr ∷ []) }
-        ensures { Writes self.old (instr ∷ []) self.new }
+        ensures { WritesInstrs self.old (instr ∷ []) self.new }
     {
         self.instrs.push(instr);
         self.next += instr.size() as u16;
@@ -92,7 +92,7 @@ impl Emitter {
     #[cycle(expr)]
     fn expr(&mut self, expr: &CExpr)
         requires { HasRoom self.old (expr_code (expr_tree expr.now)) }
-        ensures { Writes self.old (expr_code (expr_tree expr.now)) self.new }
+        ensures { WritesInstrs self.old (expr_code (expr_tree expr.now)) self.new }
     {
         match expr {
             CExpr::Num(value) => self.push(number_instr(*value)),
@@ -118,7 +118,7 @@ impl Emitter {
     #[cycle(expr)]
     fn expr_then(&mut self, expr: &CExpr, instr: Instr)
         requires { HasRoom self.old (expr_code (expr_tree expr.now) ++ instr ∷ []) }
-        ensures { Writes self.old (expr_code (expr_tree expr.now) ++ instr ∷ []) self.new }
+        ensures { WritesInstrs self.old (expr_code (expr_tree expr.now) ++ instr ∷ []) self.new }
     {
         self.expr(expr);
         self.push(instr);
@@ -128,7 +128,7 @@ impl Emitter {
     #[cycle(expr)]
     fn call(&mut self, fun: FunId, args: &CArgs)
         requires { HasRoom self.old (args_code (arguments (args_trees args.now)) ++ Fun fun ∷ []) }
-        ensures { Writes self.old (args_code (arguments (args_trees args.now)) ++ Fun fun ∷ []) self.new }
+        ensures { WritesInstrs self.old (args_code (arguments (args_trees args.now)) ++ Fun fun ∷ []) self.new }
     {
         self.args(args);
         self.push(Instr::Fun(fun));
@@ -137,7 +137,7 @@ impl Emitter {
     #[cycle(expr)]
     fn args(&mut self, args: &CArgs)
         requires { HasRoom self.old (args_code (arguments (args_trees args.now))) }
-        ensures { Writes self.old (args_code (arguments (args_trees args.now))) self.new }
+        ensures { WritesInstrs self.old (args_code (arguments (args_trees args.now))) self.new }
     {
         for arg in args.items.as_slice() {
             self.expr(arg);
@@ -146,8 +146,8 @@ impl Emitter {
 
     #[cycle(stmt)]
     fn stmt(&mut self, stmt: &CStmt)
-        requires { HasRoom self.old (stmt_code (bytes_of self.old) (stmt_tree stmt.now)) }
-        ensures { Writes self.old (stmt_code (bytes_of self.old) (stmt_tree stmt.now)) self.new }
+        requires { HasRoom self.old (stmt_code (size_of_instrs self.old) (stmt_tree stmt.now)) }
+        ensures { WritesInstrs self.old (stmt_code (size_of_instrs self.old) (stmt_tree stmt.now)) self.new }
     {
         match stmt {
             CStmt::Set(variable, value) => self.expr_then(value, set_instr(*variable)),
@@ -172,7 +172,7 @@ impl Emitter {
     // Two instructions.
     fn both(&mut self, first: Instr, second: Instr)
         requires { HasRoom self.old (first ∷ second ∷ []) }
-        ensures { Writes self.old (first ∷ second ∷ []) self.new }
+        ensures { WritesInstrs self.old (first ∷ second ∷ []) self.new }
     {
         self.push(first);
         self.push(second);
@@ -182,7 +182,7 @@ impl Emitter {
         requires { let index = expr_code (expr_tree index.now) in
             HasRoom self.old (index ++ (expr_code (expr_tree value.now) ++ BSet buffer ∷ [])) }
         ensures { let index = expr_code (expr_tree index.now) in
-            Writes self.old (index ++ (expr_code (expr_tree value.now) ++ BSet buffer ∷ [])) self.new }
+            WritesInstrs self.old (index ++ (expr_code (expr_tree value.now) ++ BSet buffer ∷ [])) self.new }
     {
         self.expr(index);
         self.expr_then(value, Instr::BSet(buffer));
@@ -190,7 +190,7 @@ impl Emitter {
 
     fn take(&mut self, variable: CVar, buffer: BufId)
         requires { HasRoom self.old (BTake buffer ∷ set_code variable ∷ []) }
-        ensures { Writes self.old (BTake buffer ∷ set_code variable ∷ []) self.new }
+        ensures { WritesInstrs self.old (BTake buffer ∷ set_code variable ∷ []) self.new }
     {
         let set = set_instr(variable);
         self.both(Instr::BTake(buffer), set);
@@ -201,7 +201,7 @@ impl Emitter {
         requires { let call = args_code (arguments (args_trees args.now)) ++ Fun fun ∷ [] in
             HasRoom self.old (call ++ Drop ∷ []) }
         ensures { let call = args_code (arguments (args_trees args.now)) ++ Fun fun ∷ [] in
-            Writes self.old (call ++ Drop ∷ []) self.new }
+            WritesInstrs self.old (call ++ Drop ∷ []) self.new }
     {
         self.call(fun, args);
         self.push(Instr::Drop);
@@ -211,10 +211,10 @@ impl Emitter {
     #[cycle(stmt)]
     fn guarded(&mut self, body: &CBlock, test: &CExpr, behind: u16)
         requires room { let test = expr_tree test.now in
-            HasRoom self.old (guarded_code (bytes_of self.old) test (block_tree body.now) behind) }
+            HasRoom self.old (guarded_code (size_of_instrs self.old) test (block_tree body.now) behind) }
         requires near { behind ≤ 3 }
         ensures { let test = expr_tree test.now in
-            Writes self.old (guarded_code (bytes_of self.old) test (block_tree body.now) behind) self.new }
+            WritesInstrs self.old (guarded_code (size_of_instrs self.old) test (block_tree body.now) behind) self.new }
     {
         self.expr(test);
         let end = self.next() + JUMP + small_block_size(body) + behind;
@@ -225,8 +225,8 @@ impl Emitter {
     // A part that is passed by.
     #[cycle(stmt)]
     fn otherwise(&mut self, other: &CBlock)
-        requires { HasRoom self.old (other_code (bytes_of self.old) (block_tree other.now)) }
-        ensures { Writes self.old (other_code (bytes_of self.old) (block_tree other.now)) self.new }
+        requires { HasRoom self.old (other_code (size_of_instrs self.old) (block_tree other.now)) }
+        ensures { WritesInstrs self.old (other_code (size_of_instrs self.old) (block_tree other.now)) self.new }
     {
         let end = self.next() + JUMP + small_block_size(other);
         self.push(Instr::Jmp(end));
@@ -236,9 +236,9 @@ impl Emitter {
     #[cycle(stmt)]
     fn if_then(&mut self, body: &CBlock, test: &CExpr)
         requires { let made = If (expr_tree test.now) (block_tree body.now) in
-            HasRoom self.old (stmt_code (bytes_of self.old) made) }
+            HasRoom self.old (stmt_code (size_of_instrs self.old) made) }
         ensures { let made = If (expr_tree test.now) (block_tree body.now) in
-            Writes self.old (stmt_code (bytes_of self.old) made) self.new }
+            WritesInstrs self.old (stmt_code (size_of_instrs self.old) made) self.new }
     {
         self.guarded(body, test, 0);
     }
@@ -246,9 +246,9 @@ impl Emitter {
     #[cycle(stmt)]
     fn while_loop(&mut self, body: &CBlock, test: &CExpr)
         requires { let made = While (expr_tree test.now) (block_tree body.now) in
-            HasRoom self.old (stmt_code (bytes_of self.old) made) }
+            HasRoom self.old (stmt_code (size_of_instrs self.old) made) }
         ensures { let made = While (expr_tree test.now) (block_tree body.now) in
-            Writes self.old (stmt_code (bytes_of self.old) made) self.new }
+            WritesInstrs self.old (stmt_code (size_of_instrs self.old) made) self.new }
     {
         let begin = self.next();
         self.guarded(body, test, JUMP);
@@ -260,11 +260,11 @@ impl Emitter {
         requires { let from = expr_tree head.now.from in
             let to = expr_tree head.now.to in
             let made = For head.now.var from to head.now.step (block_tree body.now) in
-            HasRoom self.old (stmt_code (bytes_of self.old) made) }
+            HasRoom self.old (stmt_code (size_of_instrs self.old) made) }
         ensures { let from = expr_tree head.now.from in
             let to = expr_tree head.now.to in
             let made = For head.now.var from to head.now.step (block_tree body.now) in
-            Writes self.old (stmt_code (bytes_of self.old) made) self.new }
+            WritesInstrs self.old (stmt_code (size_of_instrs self.old) made) self.new }
     {
         let test = self.for_head(head);
         let step = number_instr(head.step);
@@ -281,8 +281,8 @@ impl Emitter {
         requires { let from = expr_tree head.now.from in
             HasRoom self.old (head_code head.now.var from (expr_tree head.now.to) head.now.step) }
         ensures code { let from = expr_tree head.now.from in
-            Writes self.old (head_code head.now.var from (expr_tree head.now.to) head.now.step) self.new }
-        ensures test { result ≡ for_test (bytes_of self.old) (expr_tree head.now.from) }
+            WritesInstrs self.old (head_code head.now.var from (expr_tree head.now.to) head.now.step) self.new }
+        ensures test { result ≡ for_test (size_of_instrs self.old) (expr_tree head.now.from) }
     {
         let set = set_instr(head.var);
         let get = get_instr(head.var);
@@ -297,7 +297,7 @@ impl Emitter {
     // The variable of a `for` takes its step.
     fn step(&mut self, variable: CVar, step: Instr)
         requires { HasRoom self.old (get_code variable ∷ step ∷ Add ∷ set_code variable ∷ []) }
-        ensures { Writes self.old (get_code variable ∷ step ∷ Add ∷ set_code variable ∷ []) self.new }
+        ensures { WritesInstrs self.old (get_code variable ∷ step ∷ Add ∷ set_code variable ∷ []) self.new }
     {
         let get = get_instr(variable);
         let set = set_instr(variable);
@@ -308,8 +308,8 @@ impl Emitter {
     // Writes the code of a block.
     #[cycle(stmt)]
     fn block(&mut self, block: &CBlock)
-        requires { HasRoom self.old (block_code (bytes_of self.old) (block_tree block.now)) }
-        ensures { Writes self.old (block_code (bytes_of self.old) (block_tree block.now)) self.new }
+        requires { HasRoom self.old (block_code (size_of_instrs self.old) (block_tree block.now)) }
+        ensures { WritesInstrs self.old (block_code (size_of_instrs self.old) (block_tree block.now)) self.new }
     {
         for stmt in block.items.as_slice() {
             self.stmt(stmt);

@@ -5,7 +5,7 @@ ghost use Rattle.mate_num.specs.declared.bounds.TheConstants.{CODE_MAX};
 ghost use Rattle.mate_code.specs.Instr.{size_of};
 ghost use Rattle.ts_syntax.specs.Expression.{arguments};
 ghost use Rattle.ts_syntax.specs.TreeOf.{expr_tree, args_trees, stmt_tree, block_tree};
-ghost use Rattle.ts_translation.specs.Translation.{bytes_of, args_code, args_need, expr_size, expr_need, stmt_size, stmt_need, block_size, block_need, script_size, script_need, number_code};
+ghost use Rattle.ts_translation.specs.Translation.{size_of_instrs, args_code, args_need, expr_size, expr_need, stmt_size, stmt_need, block_size, block_need, script_size, script_need, number_code};
 ghost use Rattle.ts_compiler.specs.Parts.{capped};
 
 use crate::words::number_size;
@@ -117,7 +117,7 @@ pub(crate) fn expr_extent(expr: &CExpr) -> Extent
 #[cycle(expr)]
 fn call_extent(args: &CArgs) -> Extent
     ensures size { let given = arguments (args_trees args.now) in
-        result.size ≡ capped (bytes_of (args_code given) + 1) }
+        result.size ≡ capped (size_of_instrs (args_code given) + 1) }
     ensures need { let given = arguments (args_trees args.now) in
         result.need ≡ capped (max 1 (args_need 0 given)) }
 {
@@ -128,7 +128,7 @@ fn call_extent(args: &CArgs) -> Extent
 #[cycle(expr)]
 fn args_extent(args: &CArgs) -> Extent
     ensures size { let given = arguments (args_trees args.now) in
-        result.size ≡ capped (bytes_of (args_code given)) }
+        result.size ≡ capped (size_of_instrs (args_code given)) }
     ensures need { let given = arguments (args_trees args.now) in
         result.need ≡ capped (args_need 0 given) }
 {

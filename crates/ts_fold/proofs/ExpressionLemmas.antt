@@ -18,12 +18,13 @@ use Rattle.mate_code.specs.Instr.{size_of}
 use Rattle.ts_syntax.specs.Expression.{Expression, Arguments, no_arguments, argument, Num, Shared, Private, Item, Size, MsgItem, MsgSize, Call, SendBuf, Neg, Not, Two}
 use Rattle.ts_syntax.specs.Right.{is_buffer, is_call, argument_count, is_right_expr, are_right}
 use Rattle.ts_syntax.specs.declared.bin_op.BinOp.{BinOp}
-use Rattle.ts_meaning.specs.State.{State, Outcome, Done, Over, then_do, given, first_ten, asked}
-use Rattle.ts_meaning.specs.Meaning.{applied, test, value_of, values_of}
-use Rattle.ts_meaning.specs.Uses.{is_buffer as is_buffer_used, is_device_of, expr_reads, args_read, expr_writes, args_write}
-use Rattle.ts_translation.specs.Translation.{bytes_of, number_code, operator_code, expr_code, args_code, expr_need, args_need, expr_size}
+use Rattle.ts_meaning.specs.State.{ScriptState, Evaluation, Done, Over, then_do, value_or_fault, first_ten, next_answer}
+use Rattle.ts_meaning.specs.Meaning.{applied, value_of, values_of}
+use Rattle.mate_num.specs.Operators.{truth_value}
+use Rattle.ts_meaning.specs.Uses.{is_this_buffer as is_buffer_used, calls_device, expr_reads, args_read, expr_writes, args_write}
+use Rattle.ts_translation.specs.Translation.{size_of_instrs, number_code, operator_code, expr_code, args_code, expr_need, args_need, expr_size}
 use Rattle.ts_translation.proofs.PlaceLemmas.{bytes_of-append, bytes_of-then, size_of-operator_code}
-use Rattle.ts_fold.specs.Folded.{number_of, negated, inverted, operated, value_or, negation, inverse, operation, folded_expr, folded_args}
+use Rattle.ts_fold.specs.Folded.{literal_of, negated, inverted, operated, value_or, negation, inverse, operation, folded_expr, folded_args}
 
 -- ---- tests
 
@@ -41,7 +42,7 @@ and_within a b c d first second all = both c d (first (and_parts a b all).0) (se
 -- ---- what folding keeps of an expression
 
 pub record Keeps (old new : Expression) : Type 0 where
-  pub value : (s : State) → value_of new s ≡ value_of old s
+  pub value : (s : ScriptState) → value_of new s ≡ value_of old s
   pub reads : (r : Resource) → expr_reads old r ≡ false → expr_reads new r ≡ false
   pub writes : (shape : Shape) (r : Resource) → expr_writes shape old r ≡ false → expr_writes shape new r ≡ false
   pub right : (shape : Shape) (calls : Bool) → is_right_expr shape calls old ≡ true → is_right_expr shape calls new ≡ true
@@ -49,13 +50,13 @@ pub record Keeps (old new : Expression) : Type 0 where
   pub size : expr_size new ≤ expr_size old
 
 pub record KeepsArgs (old new : Arguments) : Type 0 where
-  pub values : (s : State) → values_of new s ≡ values_of old s
+  pub values : (s : ScriptState) → values_of new s ≡ values_of old s
   pub reads : (r : Resource) → args_read old r ≡ false → args_read new r ≡ false
   pub writes : (shape : Shape) (r : Resource) → args_write shape old r ≡ false → args_write shape new r ≡ false
   pub right : (shape : Shape) (calls : Bool) → are_right shape calls old ≡ true → are_right shape calls new ≡ true
   pub count : argument_count new ≡ argument_count old
   pub need : (below : ℕ) → args_need below new ≤ args_need below old
-  pub size : bytes_of (args_code new) ≤ bytes_of (args_code old)
+  pub size : size_of_instrs (args_code new) ≤ size_of_instrs (args_code old)
 
 keeps_same : (e : Expression) → Keeps e e
 keeps_same e =
@@ -82,13 +83,13 @@ keeps_along a b c f g =
 -- ---- parts in their places
 
 -- an instruction behind an expression
-size_push : (e : Expression) (i : Instr) → bytes_of (expr_code e ++ i ∷ []) ≡ expr_size e + size_of i
+size_push : (e : Expression) (i : Instr) → size_of_instrs (expr_code e ++ i ∷ []) ≡ expr_size e + size_of i
 size_push e i = let h = bytes_of-then e (i ∷ []) in omega arith
 
 keeps_item : (p : BufId) (e f : Expression) → Keeps e f → Keeps (Item p e) (Item p f)
 keeps_item p e f k =
     record {
-      value = λ s. ap (λ (o : Outcome ℤ). then_do o (λ i s. given (item_of (buffer_at s.store p.0) i) s)) (k.value s);
+      value = λ s. ap (λ (o : Evaluation ℤ). then_do o (λ i s. value_or_fault (item_of (buffer_at s.store p.0) i) s)) (k.value s);
       reads = λ r h. or_within (is_buffer_used p r) (expr_reads e r) (is_buffer_used p r) (expr_reads f r) (λ g. g) (k.reads r) h;
       writes = k.writes;
       right = λ shape calls h.
@@ -100,7 +101,7 @@ keeps_item p e f k =
 keeps_msg_item : (e f : Expression) → Keeps e f → Keeps (MsgItem e) (MsgItem f)
 keeps_msg_item e f k =
     record {
-      value = λ s. ap (λ (o : Outcome ℤ). then_do o (λ i s. given (item_of s.msg i) s)) (k.value s);
+      value = λ s. ap (λ (o : Evaluation ℤ). then_do o (λ i s. value_or_fault (item_of s.msg i) s)) (k.value s);
       reads = k.reads;
       writes = k.writes;
       right = k.right;
@@ -111,7 +112,7 @@ keeps_msg_item e f k =
 keeps_neg : (e f : Expression) → Keeps e f → Keeps (Neg e) (Neg f)
 keeps_neg e f k =
     record {
-      value = λ s. ap (λ (o : Outcome ℤ). then_do o (λ a s. Done (wrap (neg_ℤ a)) s)) (k.value s);
+      value = λ s. ap (λ (o : Evaluation ℤ). then_do o (λ a s. Done (wrap (neg_ℤ a)) s)) (k.value s);
       reads = k.reads;
       writes = k.writes;
       right = k.right;
@@ -122,7 +123,7 @@ keeps_neg e f k =
 keeps_not : (e f : Expression) → Keeps e f → Keeps (Not e) (Not f)
 keeps_not e f k =
     record {
-      value = λ s. ap (λ (o : Outcome ℤ). then_do o (λ a s. given (test (not (is_truth a))) s)) (k.value s);
+      value = λ s. ap (λ (o : Evaluation ℤ). then_do o (λ a s. value_or_fault (truth_value (not (is_truth a))) s)) (k.value s);
       reads = k.reads;
       writes = k.writes;
       right = k.right;
@@ -130,12 +131,12 @@ keeps_not e f k =
       size = let a = size_push e instr.Not in let b = size_push f instr.Not in let c = k.size in omega arith;
     }
 
-then_each : {A B : Type 0} (o : Outcome A) (f g : A → State → Outcome B) → ((a : A) (s : State) → f a s ≡ g a s) → then_do o f ≡ then_do o g
+then_each : {A B : Type 0} (o : Evaluation A) (f g : A → ScriptState → Evaluation B) → ((a : A) (s : ScriptState) → f a s ≡ g a s) → then_do o f ≡ then_do o g
 then_each (Done a s) f g h = h a s
 then_each (Over end s) f g h = refl
 
 -- two parts, one after the other, each by another that does the same
-pub then_same : {A B : Type 0} (o p : Outcome A) (f g : A → State → Outcome B) → o ≡ p → ((a : A) (s : State) → f a s ≡ g a s) → then_do o f ≡ then_do p g
+pub then_same : {A B : Type 0} (o p : Evaluation A) (f g : A → ScriptState → Evaluation B) → o ≡ p → ((a : A) (s : ScriptState) → f a s ≡ g a s) → then_do o f ≡ then_do p g
 then_same o p f g e h = ap (λ q. then_do q f) e ∙ then_each p f g h
 
 size_two : (op : BinOp) (l r : Expression) → expr_size (Two op l r) ≡ expr_size l + expr_size r + 1
@@ -149,9 +150,9 @@ keeps_two : (op : BinOp) (l m r n : Expression) → Keeps l m → Keeps r n → 
 keeps_two op l m r n k q =
     record {
       value = λ s.
-          then_same (value_of m s) (value_of l s) (λ a s. then_do (value_of n s) (λ b s. given (applied op a b) s))
-          (λ a s. then_do (value_of r s) (λ b s. given (applied op a b) s)) (k.value s)
-          (λ a s. ap (λ (o : Outcome ℤ). then_do o (λ b s. given (applied op a b) s)) (q.value s));
+          then_same (value_of m s) (value_of l s) (λ a s. then_do (value_of n s) (λ b s. value_or_fault (applied op a b) s))
+          (λ a s. then_do (value_of r s) (λ b s. value_or_fault (applied op a b) s)) (k.value s)
+          (λ a s. ap (λ (o : Evaluation ℤ). then_do o (λ b s. value_or_fault (applied op a b) s)) (q.value s));
       reads = λ z h. or_within (expr_reads l z) (expr_reads r z) (expr_reads m z) (expr_reads n z) (k.reads z) (q.reads z) h;
       writes = λ shape z h.
           or_within (expr_writes shape l z) (expr_writes shape r z) (expr_writes shape m z) (expr_writes shape n z) (k.writes shape z) (q.writes shape z) h;
@@ -165,10 +166,10 @@ keeps_two op l m r n k q =
 pub keeps_call : (f : FunId) (es fs : Arguments) → KeepsArgs es fs → Keeps (Call f es) (Call f fs)
 keeps_call f es fs k =
     record {
-      value = λ s. ap (λ (o : Outcome (List ℤ)). then_do o (λ values s. asked f (first_ten values) s)) (k.values s);
+      value = λ s. ap (λ (o : Evaluation (List ℤ)). then_do o (λ values s. next_answer f (first_ten values) s)) (k.values s);
       reads = k.reads;
       writes = λ shape r h.
-          or_within (is_device_of shape f r) (args_write shape es r) (is_device_of shape f r) (args_write shape fs r) (λ g. g) (k.writes shape r) h;
+          or_within (calls_device shape f r) (args_write shape es r) (calls_device shape f r) (args_write shape fs r) (λ g. g) (k.writes shape r) h;
       right = λ shape calls h.
           and_within (calls && is_call shape f (argument_count es)) (are_right shape calls es) (calls && is_call shape f (argument_count fs)) (are_right shape calls fs)
           (λ g. ap (λ n. calls && is_call shape f n) k.count ∙ g) (k.right shape calls) h;
@@ -182,7 +183,7 @@ keeps_argument e f es fs k q =
       values = λ s.
           then_same (value_of f s) (value_of e s) (λ a s. then_do (values_of fs s) (λ values s. Done (a ∷ values) s))
           (λ a s. then_do (values_of es s) (λ values s. Done (a ∷ values) s)) (k.value s)
-          (λ a s. ap (λ (o : Outcome (List ℤ)). then_do o (λ values s. Done (a ∷ values) s)) (q.values s));
+          (λ a s. ap (λ (o : Evaluation (List ℤ)). then_do o (λ values s. Done (a ∷ values) s)) (q.values s));
       reads = λ r h. or_within (expr_reads e r) (args_read es r) (expr_reads f r) (args_read fs r) (k.reads r) (q.reads r) h;
       writes = λ shape r h. or_within (expr_writes shape e r) (args_write shape es r) (expr_writes shape f r) (args_write shape fs r) (k.writes shape r) (q.writes shape r) h;
       right = λ shape calls h.
@@ -201,7 +202,7 @@ number_size (pos n) = by (nat_lt n 256) where
   by false = (omega arith, omega arith)
 number_size (negsuc n) = (omega arith, omega arith)
 
-keeps_number : (e : Expression) (n : ℤ) → ((s : State) → value_of e s ≡ Done n s) → 1 ≤ expr_need e → 3 ≤ expr_size e → Keeps e (Num n)
+keeps_number : (e : Expression) (n : ℤ) → ((s : ScriptState) → value_of e s ≡ Done n s) → 1 ≤ expr_need e → 3 ≤ expr_size e → Keeps e (Num n)
 keeps_number e n value need size =
     record {
       value = λ s. sym (value s);
@@ -230,7 +231,7 @@ keeps_inverse e = keeps_same (Not e)
 keeps_result : (op : BinOp) (a b : ℤ) (result : Result ℤ FaultKind) → applied op a b ≡ result
     → Keeps (Two op (Num a) (Num b)) (value_or (result_ok result) (Two op (Num a) (Num b)))
 keeps_result op a b (Ok n) e =
-    keeps_number (Two op (Num a) (Num b)) n (λ s. ap (λ r. given r s) e) (omega arith)
+    keeps_number (Two op (Num a) (Num b)) n (λ s. ap (λ r. value_or_fault r s) e) (omega arith)
     (let c = number_bytes a in let d = number_bytes b in let f = size_two op (Num a) (Num b) in omega arith)
 keeps_result op a b (Err kind) e = keeps_same (Two op (Num a) (Num b))
 

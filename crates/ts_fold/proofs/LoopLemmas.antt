@@ -8,7 +8,7 @@ use Rattle.ts_syntax.specs.TreeOf.{expr_tree, stmt_tree}
 use Rattle.ts_syntax.specs.declared.checked_expr.CExpr.{CExpr}
 use Rattle.ts_syntax.specs.declared.checked_stmt.CStmt.{CStmt}
 use Rattle.ts_syntax.proofs.ListLemmas.{drop_item}
-use Rattle.ts_fold.specs.Folded.{decision, left_of, if_else_left, folded_expr, folded_args, folded_stmt, folded_stmts}
+use Rattle.ts_fold.specs.Folded.{decision, branch_left, if_else_left, folded_expr, folded_args, folded_stmt, folded_stmts}
 
 -- arguments behind others
 abbrev pub args_behind : List Expression → Arguments → Arguments
@@ -60,7 +60,7 @@ pub if_else_stays : (e f : Expression) (a b : Block) (c d done more : List State
     → decision f ≡ None → more ≡ done ++ IfElse f (block c) (block d) ∷ [] → more ≡ done ++ folded_stmt (IfElse e a b)
 if_else_stays e f a b c d done more is_e is_a is_b open_test pushed =
     pushed ∙ ap (λ (xs : List Statement). done ++ xs)
-    (sym (ap (λ (o : Option Bool). left_of o c d (IfElse f (block c) (block d))) open_test)
+    (sym (ap (λ (o : Option Bool). branch_left o c d (IfElse f (block c) (block d))) open_test)
     ∙ ap (λ (f : Expression). if_else_left f c d) is_e
     ∙ ap (λ (xs : List Statement). if_else_left (folded_expr e) xs d) is_a
     ∙ ap (λ (xs : List Statement). if_else_left (folded_expr e) (folded_stmts a) xs) is_b)

@@ -14,19 +14,19 @@ use Rattle.ts_syntax.specs.Expression.{Expression, Arguments, Num, Shared, Priva
 use Rattle.ts_syntax.specs.Right.{is_shape, is_buffer, is_variable, is_call, argument_count, is_step, is_right_expr, are_right, is_head, is_right_stmt, is_right_block, is_right}
 use Rattle.ts_syntax.specs.Statement.{Statement, Block, no_statements, statement, block, Set, SetItem, Append, Take, Clear, Do, DoSend, If, IfElse, For, While}
 use Rattle.ts_syntax.specs.declared.checked_stmt.CVar.{CVar}
-use Rattle.ts_meaning.specs.State.{State, Outcome, Done, Over, then_do, with_variable, changed, dropped, loop_does, choose, round_if, begun}
+use Rattle.ts_meaning.specs.State.{ScriptState, Evaluation, Done, Over, then_do, with_variable, buffer_changed, dropped, loop_does, choose, round_if, begun_state}
 use Rattle.ts_meaning.specs.Meaning.{value_of, while_round, for_round, run_stmt, run_block, played}
-use Rattle.ts_meaning.specs.Uses.{is_variable as is_variable_used, is_buffer as is_buffer_used, is_device_of, expr_reads, args_read, expr_writes, args_write, stmt_reads, block_reads, stmt_writes, block_writes}
+use Rattle.ts_meaning.specs.Uses.{is_this_variable as is_variable_used, is_this_buffer as is_buffer_used, calls_device, expr_reads, args_read, expr_writes, args_write, stmt_reads, block_reads, stmt_writes, block_writes}
 use Rattle.ts_meaning.proofs.LoopLemmas.{loop_ends, while_wins_none}
 use Rattle.ts_translation.specs.Translation.{number_code, expr_need, expr_size, stmt_need, block_need, stmt_size, block_size, script_need, script_size}
-use Rattle.ts_fold.specs.Folded.{decision, left_of, if_left, if_else_left, while_left, folded_expr, folded_args, folded_stmt, folded_stmts, folded}
+use Rattle.ts_fold.specs.Folded.{decision, branch_left, if_left, if_else_left, while_left, folded_expr, folded_args, folded_stmt, folded_stmts, folded}
 use Rattle.ts_fold.specs.Laws.{RunsAs, UsesNoMore, TakesNoMore}
 use Rattle.ts_fold.proofs.ExpressionLemmas.{or_within, and_within, then_same, Keeps, KeepsArgs, keeps_call, keeps_expr, keeps_args}
 
 -- ---- what folding keeps of a statement in its place, of one that becomes statements, and of a block
 
 record KeepsOne (old new : Statement) : Type 0 where
-  run : (s : State) → run_stmt new s ≡ run_stmt old s
+  run : (s : ScriptState) → run_stmt new s ≡ run_stmt old s
   reads : (r : Resource) → stmt_reads old r ≡ false → stmt_reads new r ≡ false
   writes : (shape : Shape) (r : Resource) → stmt_writes shape old r ≡ false → stmt_writes shape new r ≡ false
   right : (shape : Shape) → is_right_stmt shape old ≡ true → is_right_stmt shape new ≡ true
@@ -34,7 +34,7 @@ record KeepsOne (old new : Statement) : Type 0 where
   size : stmt_size new ≤ stmt_size old
 
 record KeepsStmt (old : Statement) (new : List Statement) : Type 0 where
-  run : (s : State) → run_block (block new) s ≡ run_stmt old s
+  run : (s : ScriptState) → run_block (block new) s ≡ run_stmt old s
   reads : (r : Resource) → stmt_reads old r ≡ false → block_reads (block new) r ≡ false
   writes : (shape : Shape) (r : Resource) → stmt_writes shape old r ≡ false → block_writes shape (block new) r ≡ false
   right : (shape : Shape) → is_right_stmt shape old ≡ true → is_right_block shape (block new) ≡ true
@@ -42,7 +42,7 @@ record KeepsStmt (old : Statement) (new : List Statement) : Type 0 where
   size : block_size (block new) ≤ stmt_size old
 
 pub record KeepsBlock (old : Block) (new : List Statement) : Type 0 where
-  pub run : (s : State) → run_block (block new) s ≡ run_block old s
+  pub run : (s : ScriptState) → run_block (block new) s ≡ run_block old s
   pub reads : (r : Resource) → block_reads old r ≡ false → block_reads (block new) r ≡ false
   pub writes : (shape : Shape) (r : Resource) → block_writes shape old r ≡ false → block_writes shape (block new) r ≡ false
   pub right : (shape : Shape) → is_right_block shape old ≡ true → is_right_block shape (block new) ≡ true
@@ -61,7 +61,7 @@ same x =
     }
 
 -- nothing follows
-then_nothing : (o : Outcome ⊤) → then_do o (λ _ s. Done (tt {0}) s) ≡ o
+then_nothing : (o : Evaluation ⊤) → then_do o (λ _ s. Done (tt {0}) s) ≡ o
 then_nothing (Done a s) = refl
 then_nothing (Over end s) = refl
 
@@ -89,17 +89,17 @@ along x y new k q =
 
 -- ---- statements with their parts folded
 
-same_function : {A : Type 0} (f g : State → Outcome A) → ((s : State) → f s ≡ g s) → f ≡ g
+same_function : {A : Type 0} (f g : ScriptState → Evaluation A) → ((s : ScriptState) → f s ≡ g s) → f ≡ g
 same_function f g h = λ i. λ s. h s i
 
-choose_same : (b : Bool) (f g p q : State → Outcome ⊤) (s : State) → f s ≡ g s → p s ≡ q s → choose b f p s ≡ choose b g q s
+choose_same : (b : Bool) (f g p q : ScriptState → Evaluation ⊤) (s : ScriptState) → f s ≡ g s → p s ≡ q s → choose b f p s ≡ choose b g q s
 choose_same true f g p q s first second = first
 choose_same false f g p q s first second = second
 
 keeps_set : (x : CVar) (e f : Expression) → Keeps e f → KeepsOne (Set x e) (Set x f)
 keeps_set x e f k =
     record {
-      run = λ s. ap (λ (o : Outcome ℤ). then_do o (λ a s. Done (tt {0}) (with_variable x a s))) (k.value s);
+      run = λ s. ap (λ (o : Evaluation ℤ). then_do o (λ a s. Done (tt {0}) (with_variable x a s))) (k.value s);
       reads = k.reads;
       writes = λ shape r h.
           or_within (is_variable_used x r) (expr_writes shape e r) (is_variable_used x r) (expr_writes shape f r) (λ g. g) (k.writes shape r) h;
@@ -114,9 +114,9 @@ keeps_set_item p i j e f k q =
     record {
       run = λ s.
           then_same (value_of j s) (value_of i s)
-          (λ i s. then_do (value_of f s) (λ a s. changed p (item_set (buffer_at s.store p.0) i a) s))
-          (λ i s. then_do (value_of e s) (λ a s. changed p (item_set (buffer_at s.store p.0) i a) s)) (k.value s)
-          (λ i s. ap (λ (o : Outcome ℤ). then_do o (λ a s. changed p (item_set (buffer_at s.store p.0) i a) s)) (q.value s));
+          (λ i s. then_do (value_of f s) (λ a s. buffer_changed p (item_set (buffer_at s.store p.0) i a) s))
+          (λ i s. then_do (value_of e s) (λ a s. buffer_changed p (item_set (buffer_at s.store p.0) i a) s)) (k.value s)
+          (λ i s. ap (λ (o : Evaluation ℤ). then_do o (λ a s. buffer_changed p (item_set (buffer_at s.store p.0) i a) s)) (q.value s));
       reads = λ r h. or_within (expr_reads i r) (expr_reads e r) (expr_reads j r) (expr_reads f r) (k.reads r) (q.reads r) h;
       writes = λ shape r h.
           or_within (is_buffer_used p r || expr_writes shape i r) (expr_writes shape e r) (is_buffer_used p r || expr_writes shape j r) (expr_writes shape f r)
@@ -133,7 +133,7 @@ keeps_set_item p i j e f k q =
 keeps_append : (p : BufId) (e f : Expression) → Keeps e f → KeepsOne (Append p e) (Append p f)
 keeps_append p e f k =
     record {
-      run = λ s. ap (λ (o : Outcome ℤ). then_do o (λ a s. changed p (appended (buffer_at s.store p.0) a) s)) (k.value s);
+      run = λ s. ap (λ (o : Evaluation ℤ). then_do o (λ a s. buffer_changed p (appended (buffer_at s.store p.0) a) s)) (k.value s);
       reads = k.reads;
       writes = λ shape r h. or_within (is_buffer_used p r) (expr_writes shape e r) (is_buffer_used p r) (expr_writes shape f r) (λ g. g) (k.writes shape r) h;
       right = λ shape h. and_within (is_buffer shape p) (is_right_expr shape true e) (is_buffer shape p) (is_right_expr shape true f) (λ g. g) (k.right shape true) h;
@@ -144,7 +144,7 @@ keeps_append p e f k =
 keeps_do : (f : FunId) (es fs : Arguments) → KeepsArgs es fs → KeepsOne (Do f es) (Do f fs)
 keeps_do f es fs k =
     record {
-      run = λ s. ap (λ (o : Outcome ℤ). then_do o dropped) ((keeps_call f es fs k).value s);
+      run = λ s. ap (λ (o : Evaluation ℤ). then_do o dropped) ((keeps_call f es fs k).value s);
       reads = k.reads;
       writes = (keeps_call f es fs k).writes;
       right = λ shape h.
@@ -195,8 +195,8 @@ keeps_while : (e f : Expression) (a : Block) (c : List Statement) → Keeps e f 
 keeps_while e f a c k q =
     record {
       run = λ s.
-          ap (λ (value : State → Outcome ℤ). loop_does (while_round value (run_block (block c))) s) (same_function (value_of f) (value_of e) k.value)
-          ∙ ap (λ (body : State → Outcome ⊤). loop_does (while_round (value_of e) body) s) (same_function (run_block (block c)) (run_block a) q.run);
+          ap (λ (value : ScriptState → Evaluation ℤ). loop_does (while_round value (run_block (block c))) s) (same_function (value_of f) (value_of e) k.value)
+          ∙ ap (λ (body : ScriptState → Evaluation ⊤). loop_does (while_round (value_of e) body) s) (same_function (run_block (block c)) (run_block a) q.run);
       reads = λ r h. or_within (expr_reads e r) (block_reads a r) (expr_reads f r) (block_reads (block c) r) (k.reads r) (q.reads r) h;
       writes = λ shape r h. or_within (expr_writes shape e r) (block_writes shape a r) (expr_writes shape f r) (block_writes shape (block c) r) (k.writes shape r) (q.writes shape r) h;
       right = λ shape h. and_within (is_right_expr shape true e) (is_right_block shape a) (is_right_expr shape true f) (is_right_block shape (block c)) (k.right shape true) (q.right shape) h;
@@ -205,11 +205,11 @@ keeps_while e f a c k q =
     }
 
 -- the rounds of a `for` with its parts folded
-rounds_same : (x : CVar) (to limit : Expression) (step : ℤ) (a : Block) (c : List Statement) (s : State) → Keeps to limit → KeepsBlock a c
+rounds_same : (x : CVar) (to limit : Expression) (step : ℤ) (a : Block) (c : List Statement) (s : ScriptState) → Keeps to limit → KeepsBlock a c
     → loop_does (for_round x (value_of limit) step (run_block (block c))) s ≡ loop_does (for_round x (value_of to) step (run_block a)) s
 rounds_same x to limit step a c s k q =
-    ap (λ (value : State → Outcome ℤ). loop_does (for_round x value step (run_block (block c))) s) (same_function (value_of limit) (value_of to) k.value)
-    ∙ ap (λ (body : State → Outcome ⊤). loop_does (for_round x (value_of to) step body) s) (same_function (run_block (block c)) (run_block a) q.run)
+    ap (λ (value : ScriptState → Evaluation ℤ). loop_does (for_round x value step (run_block (block c))) s) (same_function (value_of limit) (value_of to) k.value)
+    ∙ ap (λ (body : ScriptState → Evaluation ⊤). loop_does (for_round x (value_of to) step body) s) (same_function (run_block (block c)) (run_block a) q.run)
 
 head_right : (shape : Shape) (x : CVar) (from first to limit : Expression) (step : ℤ) → Keeps from first → Keeps to limit
     → is_head shape x from to step ≡ true → is_head shape x first limit step ≡ true
@@ -250,7 +250,7 @@ keeps_for x from first to limit step a c k q o =
 
 -- ---- statements whose test is decided
 
-decided_if : (n : ℤ) (a : List Statement) (b : Bool) → is_truth n ≡ b → KeepsStmt (If (Num n) (block a)) (left_of (Some b) a [] (If (Num n) (block a)))
+decided_if : (n : ℤ) (a : List Statement) (b : Bool) → is_truth n ≡ b → KeepsStmt (If (Num n) (block a)) (branch_left (Some b) a [] (If (Num n) (block a)))
 decided_if n a true e =
     record {
       run = λ s. sym (ap (λ (b : Bool). choose b (run_block (block a)) (Done (tt {0})) s) e);
@@ -275,7 +275,7 @@ keeps_if_left (Num n) a = decided_if n a (is_truth n) refl
 keeps_if_left e a = alone (If e (block a)) (If e (block a)) (same (If e (block a)))
 
 decided_if_else : (n : ℤ) (a b : List Statement) (t : Bool) → is_truth n ≡ t
-    → KeepsStmt (IfElse (Num n) (block a) (block b)) (left_of (Some t) a b (IfElse (Num n) (block a) (block b)))
+    → KeepsStmt (IfElse (Num n) (block a) (block b)) (branch_left (Some t) a b (IfElse (Num n) (block a) (block b)))
 decided_if_else n a b true e =
     record {
       run = λ s. sym (ap (λ (t : Bool). choose t (run_block (block a)) (run_block (block b)) s) e);
@@ -300,7 +300,7 @@ keeps_if_else_left (Num n) a b = decided_if_else n a b (is_truth n) refl
 keeps_if_else_left e a b = alone (IfElse e (block a) (block b)) (IfElse e (block a) (block b)) (same (IfElse e (block a) (block b)))
 
 decided_while : (n : ℤ) (a : List Statement) (b : Bool) → is_truth n ≡ b
-    → KeepsStmt (While (Num n) (block a)) (left_of (Some b) (While (Num n) (block a) ∷ []) [] (While (Num n) (block a)))
+    → KeepsStmt (While (Num n) (block a)) (branch_left (Some b) (While (Num n) (block a) ∷ []) [] (While (Num n) (block a)))
 decided_while n a true e = alone (While (Num n) (block a)) (While (Num n) (block a)) (same (While (Num n) (block a)))
 decided_while n a false e =
     record {
@@ -320,11 +320,11 @@ keeps_while_left e a = alone (While e (block a)) (While e (block a)) (same (Whil
 
 -- ---- statements behind others
 
-then_twice : (o : Outcome ⊤) (f g : ⊤ → State → Outcome ⊤) → then_do (then_do o f) g ≡ then_do o (λ a s. then_do (f a s) g)
+then_twice : (o : Evaluation ⊤) (f g : ⊤ → ScriptState → Evaluation ⊤) → then_do (then_do o f) g ≡ then_do o (λ a s. then_do (f a s) g)
 then_twice (Done a s) f g = refl
 then_twice (Over end s) f g = refl
 
-run-append : (xs ys : List Statement) (s : State) → run_block (block (xs ++ ys)) s ≡ then_do (run_block (block xs) s) (λ _ s. run_block (block ys) s)
+run-append : (xs ys : List Statement) (s : ScriptState) → run_block (block (xs ++ ys)) s ≡ then_do (run_block (block xs) s) (λ _ s. run_block (block ys) s)
 run-append [] ys s = refl
 run-append (x ∷ xs) ys s =
     then_same (run_stmt x s) (run_stmt x s) (λ _ s. run_block (block (xs ++ ys)) s) (λ _ s. then_do (run_block (block xs) s) (λ _ s. run_block (block ys) s)) refl
@@ -418,7 +418,7 @@ within true new h t = refl
 within false new h t = let f : new ≡ false = h refl in absurd (cc)
 
 pub RunsAs-folded : (tree : Block) → RunsAs tree (folded tree)
-RunsAs-folded tree store msg answers turns = ap played ((keeps_stmts tree).run (begun store msg answers turns))
+RunsAs-folded tree store msg answers turns = ap played ((keeps_stmts tree).run (begun_state store msg answers turns))
 
 pub UsesNoMore-folded : (shape : Shape) (tree : Block) → UsesNoMore shape tree (folded tree)
 UsesNoMore-folded shape tree =

@@ -1,34 +1,35 @@
 -- What folding makes of a script: an operation on numbers becomes its value, and a test that is a number is decided.
-use Rattle.std.specs.Prelude.{ℤ, neg_ℤ, Bool, true, false, not, List, [], ◌∷◌, ◌++◌, Option, Some, None}
-use Rattle.std.specs.Option.{option_map}
+use Rattle.std.specs.Prelude.{ℤ, Bool, true, false, List, [], ◌∷◌, ◌++◌, Option, Some, None}
+use Rattle.std.specs.Option.{option_map, option_and_then}
 use Rattle.std.specs.Result.{result_ok}
-use Rattle.mate_num.specs.Number.{wrap, is_truth, truth}
+use Rattle.mate_num.specs.Number.{is_truth}
+use Rattle.mate_num.specs.Operators.{negative_of, not_of}
 use Rattle.ts_syntax.specs.Expression.{Expression, Arguments, no_arguments, argument, Num, Shared, Private, Item, Size, MsgItem, MsgSize, Call, SendBuf, Neg, Not, Two}
 use Rattle.ts_syntax.specs.Statement.{Statement, Block, no_statements, statement, block, Set, SetItem, Append, Take, Clear, Do, DoSend, If, IfElse, For, While}
 use Rattle.ts_syntax.specs.declared.bin_op.BinOp.{BinOp}
 use Rattle.ts_meaning.specs.Meaning.{applied}
 
 -- the number that an expression is
-abbrev pub number_of : Expression → Option ℤ
-number_of (Num n) = Some n
-number_of (Shared v) = None
-number_of (Private i) = None
-number_of (Item p e) = None
-number_of (Size p) = None
-number_of (MsgItem e) = None
-number_of MsgSize = None
-number_of (Call f args) = None
-number_of (SendBuf f p) = None
-number_of (Neg e) = None
-number_of (Not e) = None
-number_of (Two op l r) = None
+abbrev pub literal_of : Expression → Option ℤ
+literal_of (Num n) = Some n
+literal_of (Shared v) = None
+literal_of (Private i) = None
+literal_of (Item p e) = None
+literal_of (Size p) = None
+literal_of (MsgItem e) = None
+literal_of MsgSize = None
+literal_of (Call f args) = None
+literal_of (SendBuf f p) = None
+literal_of (Neg e) = None
+literal_of (Not e) = None
+literal_of (Two op l r) = None
 
 -- the values of the operations on numbers, as the meaning gives them; `/` and `%` by 0 give a fault, and no value
 abbrev pub negated : Option ℤ → Option ℤ
-negated o = option_map (λ a. wrap (neg_ℤ a)) o
+negated o = option_and_then (λ a. result_ok (negative_of a)) o
 
 abbrev pub inverted : Option ℤ → Option ℤ
-inverted o = option_map (λ a. (truth (not (is_truth a))).0) o
+inverted o = option_and_then (λ a. result_ok (not_of a)) o
 
 abbrev pub operated : BinOp → Option ℤ → Option ℤ → Option ℤ
 operated op None r = None
@@ -41,13 +42,13 @@ value_or None e = e
 value_or (Some n) e = Num n
 
 abbrev pub negation : Expression → Expression
-negation e = value_or (negated (number_of e)) (Neg e)
+negation e = value_or (negated (literal_of e)) (Neg e)
 
 abbrev pub inverse : Expression → Expression
-inverse e = value_or (inverted (number_of e)) (Not e)
+inverse e = value_or (inverted (literal_of e)) (Not e)
 
 abbrev pub operation : BinOp → Expression → Expression → Expression
-operation op l r = value_or (operated op (number_of l) (number_of r)) (Two op l r)
+operation op l r = value_or (operated op (literal_of l) (literal_of r)) (Two op l r)
 
 -- an expression and arguments, folded from the leaves; an item, a size and a call are no operations
 abbrev mutual
@@ -71,23 +72,23 @@ abbrev mutual
 
 -- whether a test holds, where it is a number
 abbrev pub decision : Expression → Option Bool
-decision e = option_map is_truth (number_of e)
+decision e = option_map is_truth (literal_of e)
 
 -- what is left of a statement: the one part or the other, where its test is decided, and else the statement
-abbrev pub left_of : Option Bool → List Statement → List Statement → Statement → List Statement
-left_of None a b x = x ∷ []
-left_of (Some true) a b x = a
-left_of (Some false) a b x = b
+abbrev pub branch_left : Option Bool → List Statement → List Statement → Statement → List Statement
+branch_left None a b x = x ∷ []
+branch_left (Some true) a b x = a
+branch_left (Some false) a b x = b
 
 -- an `if` without and with its `else`, and a `while`, of folded parts
 abbrev pub if_left : Expression → List Statement → List Statement
-if_left e a = left_of (decision e) a [] (If e (block a))
+if_left e a = branch_left (decision e) a [] (If e (block a))
 
 abbrev pub if_else_left : Expression → List Statement → List Statement → List Statement
-if_else_left e a b = left_of (decision e) a b (IfElse e (block a) (block b))
+if_else_left e a b = branch_left (decision e) a b (IfElse e (block a) (block b))
 
 abbrev pub while_left : Expression → List Statement → List Statement
-while_left e a = left_of (decision e) (While e (block a) ∷ []) [] (While e (block a))
+while_left e a = branch_left (decision e) (While e (block a) ∷ []) [] (While e (block a))
 
 -- the statements that a statement, and a block, becomes
 abbrev mutual

@@ -3,11 +3,11 @@
 ghost use Rattle.std.specs.Prelude.{◌≡◌, IfOk};
 ghost use Rattle.ts_syntax.specs.Expression.{arguments};
 ghost use Rattle.ts_syntax.specs.TreeOf.{expr_tree, args_trees};
-ghost use Rattle.ts_fold.specs.Folded.{number_of, negated, inverted, operated, negation, inverse, operation, folded_expr, folded_args};
+ghost use Rattle.ts_fold.specs.Folded.{literal_of, negated, inverted, operated, negation, inverse, operation, folded_expr, folded_args};
 
-use crate::operators::apply;
 use mate_num::{NoMemory, Num16};
 use std::alloc::Global;
+use ts_meaning::apply;
 use ts_syntax::{BinOp, CArgs, CExpr};
 
 /// An expression, folded.
@@ -55,7 +55,7 @@ pub(crate) fn arguments(alloc: Global, args: &CArgs) -> Result<CArgs, NoMemory>
 
 /// The number that an expression is.
 pub(crate) fn number(expr: &CExpr) -> Option<i16>
-    ensures { result ≡ number_of (expr_tree expr.now) }
+    ensures { result ≡ literal_of (expr_tree expr.now) }
 {
     match expr {
         CExpr::Num(number) => Some(*number),

@@ -3,7 +3,6 @@
 
 pub mod expressions;
 pub mod folding;
-mod operators;
 pub mod statements;
 
 pub use folding::fold;

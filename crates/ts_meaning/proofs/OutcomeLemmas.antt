@@ -4,22 +4,22 @@ use Rattle.std.proofs.lemmas.List.{take_all}
 use Rattle.mate_num.specs.Store.{payload}
 use Rattle.ts_syntax.specs.Expression.{Arguments, no_arguments, argument}
 use Rattle.ts_syntax.specs.Right.{argument_count}
-use Rattle.ts_meaning.specs.State.{State, Outcome, Done, Over, then_do, first_ten}
+use Rattle.ts_meaning.specs.State.{ScriptState, Evaluation, Done, Over, then_do, first_ten}
 use Rattle.ts_meaning.specs.Meaning.{value_of, values_of}
 
 -- the first part is done with a value, and then the second one
-pub record DoneInTurn {A B : Type 0} (o : Outcome A) (next : A → State → Outcome B) (b : B) (after : State) : Type 0 where
+pub record DoneInTurn {A B : Type 0} (o : Evaluation A) (next : A → ScriptState → Evaluation B) (b : B) (after : ScriptState) : Type 0 where
   pub value : A
-  pub middle : State
+  pub middle : ScriptState
   pub first : o ≡ Done value middle
   pub second : next value middle ≡ Done b after
 
-pub then_do-done : {A B : Type 0} (o : Outcome A) (next : A → State → Outcome B) (b : B) (after : State) → then_do o next ≡ Done b after → DoneInTurn o next b after
+pub then_do-done : {A B : Type 0} (o : Evaluation A) (next : A → ScriptState → Evaluation B) (b : B) (after : ScriptState) → then_do o next ≡ Done b after → DoneInTurn o next b after
 then_do-done (Done a s) next b after e = record { value = a; middle = s; first = refl; second = e }
 then_do-done (Over end s) next b after e = absurd (cc)
 
 -- there are as many values as arguments
-pub values_of-length : (es : Arguments) (s after : State) (values : List ℤ) → values_of es s ≡ Done values after → length values ≡ argument_count es
+pub values_of-length : (es : Arguments) (s after : ScriptState) (values : List ℤ) → values_of es s ≡ Done values after → length values ≡ argument_count es
 values_of-length no_arguments s after values e = let none : values ≡ [] = cc in ap length none
 values_of-length (argument x es) s after values e =
     let one : DoneInTurn (value_of x s) (λ a s. then_do (values_of es s) (λ vs s. Done (a ∷ vs) s)) values after =

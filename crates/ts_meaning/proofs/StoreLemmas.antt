@@ -18,13 +18,13 @@ use Rattle.ts_syntax.specs.Expression.{Expression, Arguments, no_arguments, argu
 use Rattle.ts_syntax.specs.Statement.{Statement, Block, no_statements, statement, Set, SetItem, Append, Take, Clear, Do, DoSend, If, IfElse, For, While}
 use Rattle.ts_syntax.specs.declared.checked_stmt.CVar.{CVar}
 use Rattle.ts_syntax.specs.declared.checked_stmt.CVar.TheVariants as variable
-use Rattle.ts_meaning.specs.State.{State, Outcome, Done, Over, then_do, given, variable_at, with_variable, with_buffer, changed, moved, first_ten, asked, answered, dropped, with_turns, after_round, rounds, loop_does, choose, round_if, begun}
+use Rattle.ts_meaning.specs.State.{ScriptState, Evaluation, Done, Over, then_do, value_or_fault, variable_at, with_variable, with_buffer, buffer_changed, moved, first_ten, next_answer, call_answered, dropped, with_turns, after_round, rounds, loop_does, choose, round_if, begun_state}
 use Rattle.ts_meaning.specs.Meaning.{value_of, values_of, applied, while_round, for_round, stepped, body_and_step, is_within, run_stmt, run_block, run_of, played}
-use Rattle.ts_meaning.specs.Uses.{IsSameOutside, is_buffer, is_variable, expr_writes, stmt_writes, block_writes}
-use Rattle.ts_meaning.specs.declared.run.Played.{Played}
+use Rattle.ts_meaning.specs.Uses.{IsSameOutside, is_this_buffer, is_this_variable, expr_writes, stmt_writes, block_writes}
+use Rattle.mate_num.specs.declared.outcome.Outcome.{Outcome}
 
 -- the store that a part of a run leaves
-abbrev pub store_after : {A : Type 0} → Outcome A → Store
+abbrev pub store_after : {A : Type 0} → Evaluation A → Store
 store_after (Done a s) = s.store
 store_after (Over end s) = s.store
 
@@ -47,12 +47,12 @@ in_turn : (w : Resource → Bool) (a b c : Store) → IsSameOutside w a b → Is
 in_turn w a b c x y = record { shared = λ v h. y.shared v h ∙ x.shared v h; buffers = λ p h. y.buffers p h ∙ x.buffers p h }
 
 module _ (w : Resource → Bool) where
-  then_do-keeps : {A B : Type 0} (o : Outcome A) (next : A → State → Outcome B) (st : Store) → IsSameOutside w st (store_after o)
-      → ((a : A) (s : State) → IsSameOutside w s.store (store_after (next a s))) → IsSameOutside w st (store_after (then_do o next))
+  then_do-keeps : {A B : Type 0} (o : Evaluation A) (next : A → ScriptState → Evaluation B) (st : Store) → IsSameOutside w st (store_after o)
+      → ((a : A) (s : ScriptState) → IsSameOutside w s.store (store_after (next a s))) → IsSameOutside w st (store_after (then_do o next))
   then_do-keeps (Done a s) next st first keeps = in_turn w st s.store (store_after (next a s)) first (keeps a s)
   then_do-keeps (Over end s) next st first keeps = first
 
-  with_variable-keeps : (x : CVar) (v : ℤ) (s : State) → Covers w (is_variable x) → IsSameOutside w s.store (with_variable x v s).store
+  with_variable-keeps : (x : CVar) (v : ℤ) (s : ScriptState) → Covers w (is_this_variable x) → IsSameOutside w s.store (with_variable x v s).store
   with_variable-keeps (variable.Shared x) v s c =
       record {
         shared = λ u h. get_or-set_other s.store.shared.items x.0 u.0 v (pos 0) (λ e. eqb-false x.0 u.0 (c.outside _ h) (sym e));
@@ -60,7 +60,7 @@ module _ (w : Resource → Bool) where
       }
   with_variable-keeps (variable.Private i) v s c = unchanged w s.store
 
-  with_buffer-keeps : (p : BufId) (values : List ℤ) (s : State) → Covers w (is_buffer p) → IsSameOutside w s.store (with_buffer p values s).store
+  with_buffer-keeps : (p : BufId) (values : List ℤ) (s : ScriptState) → Covers w (is_this_buffer p) → IsSameOutside w s.store (with_buffer p values s).store
   with_buffer-keeps p values s c =
       record {
         shared = λ u h. refl;
@@ -68,64 +68,64 @@ module _ (w : Resource → Bool) where
             (get_or-set_other s.store.buffers.items p.0 q.0 (payload values) (payload []) (λ e. eqb-false p.0 q.0 (c.outside _ h) (sym e)));
       }
 
-  given-keeps : {A : Type 0} (r : Result A FaultKind) (s : State) → IsSameOutside w s.store (store_after (given r s))
+  given-keeps : {A : Type 0} (r : Result A FaultKind) (s : ScriptState) → IsSameOutside w s.store (store_after (value_or_fault r s))
   given-keeps (Ok a) s = unchanged w s.store
   given-keeps (Err kind) s = unchanged w s.store
 
-  changed-keeps : (p : BufId) (r : Result (List ℤ) FaultKind) (s : State) → Covers w (is_buffer p) → IsSameOutside w s.store (store_after (changed p r s))
+  changed-keeps : (p : BufId) (r : Result (List ℤ) FaultKind) (s : ScriptState) → Covers w (is_this_buffer p) → IsSameOutside w s.store (store_after (buffer_changed p r s))
   changed-keeps p (Ok values) s c = with_buffer-keeps p values s c
   changed-keeps p (Err kind) s c = unchanged w s.store
 
-  moved-keeps : (x : CVar) (p : BufId) (r : Result ℤ FaultKind) (s : State) → Covers w (is_variable x) → Covers w (is_buffer p)
+  moved-keeps : (x : CVar) (p : BufId) (r : Result ℤ FaultKind) (s : ScriptState) → Covers w (is_this_variable x) → Covers w (is_this_buffer p)
       → IsSameOutside w s.store (store_after (moved x p r s))
   moved-keeps x p (Ok a) s cx cp =
-      let t : State = with_buffer p (without_last (buffer_at s.store p.0)) s in
+      let t : ScriptState = with_buffer p (without_last (buffer_at s.store p.0)) s in
       in_turn w s.store t.store (with_variable x a t).store (with_buffer-keeps p (without_last (buffer_at s.store p.0)) s cp) (with_variable-keeps x a t cx)
   moved-keeps x p (Err kind) s cx cp = unchanged w s.store
 
-  answered-keeps : (f : FunId) (args : ArrayVec ℤ) (left : List ℤ) (s : State) → IsSameOutside w s.store (store_after (answered f args left s))
+  answered-keeps : (f : FunId) (args : ArrayVec ℤ) (left : List ℤ) (s : ScriptState) → IsSameOutside w s.store (store_after (call_answered f args left s))
   answered-keeps f args [] s = unchanged w s.store
   answered-keeps f args (a ∷ left) s = unchanged w s.store
 
   mutual
-    value_of-keeps : (e : Expression) (s : State) → IsSameOutside w s.store (store_after (value_of e s))
+    value_of-keeps : (e : Expression) (s : ScriptState) → IsSameOutside w s.store (store_after (value_of e s))
     value_of-keeps (Num n) s = unchanged w s.store
     value_of-keeps (Shared v) s = unchanged w s.store
     value_of-keeps (Private i) s = unchanged w s.store
     value_of-keeps (Item p e) s =
-        then_do-keeps (value_of e s) (λ i s. given (item_of (buffer_at s.store p.0) i) s) s.store (value_of-keeps e s)
+        then_do-keeps (value_of e s) (λ i s. value_or_fault (item_of (buffer_at s.store p.0) i) s) s.store (value_of-keeps e s)
         (λ i t. given-keeps (item_of (buffer_at t.store p.0) i) t)
     value_of-keeps (Size p) s = unchanged w s.store
     value_of-keeps (MsgItem e) s =
-        then_do-keeps (value_of e s) (λ i s. given (item_of s.msg i) s) s.store (value_of-keeps e s) (λ i t. given-keeps (item_of t.msg i) t)
+        then_do-keeps (value_of e s) (λ i s. value_or_fault (item_of s.msg i) s) s.store (value_of-keeps e s) (λ i t. given-keeps (item_of t.msg i) t)
     value_of-keeps MsgSize s = unchanged w s.store
     value_of-keeps (Call f args) s =
-        then_do-keeps (values_of args s) (λ values s. asked f (first_ten values) s) s.store (values_of-keeps args s)
+        then_do-keeps (values_of args s) (λ values s. next_answer f (first_ten values) s) s.store (values_of-keeps args s)
         (λ values t. answered-keeps f (first_ten values) t.left t)
     value_of-keeps (SendBuf f p) s = answered-keeps f (payload (buffer_at s.store p.0)) s.left s
     value_of-keeps (Neg e) s = then_do-keeps (value_of e s) _ s.store (value_of-keeps e s) (λ a t. unchanged w t.store)
     value_of-keeps (Not e) s = then_do-keeps (value_of e s) _ s.store (value_of-keeps e s) (λ a t. unchanged w t.store)
     value_of-keeps (Two op l r) s =
-        then_do-keeps (value_of l s) (λ a s. then_do (value_of r s) (λ b s. given (applied op a b) s)) s.store (value_of-keeps l s)
-        (λ a t. then_do-keeps (value_of r t) (λ b s. given (applied op a b) s) t.store (value_of-keeps r t) (λ b u. given-keeps (applied op a b) u))
+        then_do-keeps (value_of l s) (λ a s. then_do (value_of r s) (λ b s. value_or_fault (applied op a b) s)) s.store (value_of-keeps l s)
+        (λ a t. then_do-keeps (value_of r t) (λ b s. value_or_fault (applied op a b) s) t.store (value_of-keeps r t) (λ b u. given-keeps (applied op a b) u))
 
-    values_of-keeps : (es : Arguments) (s : State) → IsSameOutside w s.store (store_after (values_of es s))
+    values_of-keeps : (es : Arguments) (s : ScriptState) → IsSameOutside w s.store (store_after (values_of es s))
     values_of-keeps no_arguments s = unchanged w s.store
     values_of-keeps (argument e es) s =
         then_do-keeps (value_of e s) (λ a s. then_do (values_of es s) (λ values s. Done (a ∷ values) s)) s.store (value_of-keeps e s)
         (λ a t. then_do-keeps (values_of es t) (λ values s. Done (a ∷ values) s) t.store (values_of-keeps es t) (λ values u. unchanged w u.store))
 
-  with_turns-keeps : (k : ℕ) (next : State → Outcome ⊤) (s : State) → ((t : State) → IsSameOutside w t.store (store_after (next t)))
+  with_turns-keeps : (k : ℕ) (next : ScriptState → Evaluation ⊤) (s : ScriptState) → ((t : ScriptState) → IsSameOutside w t.store (store_after (next t)))
       → IsSameOutside w s.store (store_after (with_turns k next s))
   with_turns-keeps zero next s keeps = unchanged w s.store
   with_turns-keeps (suc k) next s keeps = keeps (record s { turns = k })
 
-  after_round-keeps : (next : State → Outcome ⊤) → ((t : State) → IsSameOutside w t.store (store_after (next t))) → (again : Bool) (s : State)
+  after_round-keeps : (next : ScriptState → Evaluation ⊤) → ((t : ScriptState) → IsSameOutside w t.store (store_after (next t))) → (again : Bool) (s : ScriptState)
       → IsSameOutside w s.store (store_after (after_round next again s))
   after_round-keeps next keeps true s = with_turns-keeps s.turns next s keeps
   after_round-keeps next keeps false s = unchanged w s.store
 
-  rounds-keeps : (n : ℕ) (round : State → Outcome Bool) → ((t : State) → IsSameOutside w t.store (store_after (round t))) → (s : State)
+  rounds-keeps : (n : ℕ) (round : ScriptState → Evaluation Bool) → ((t : ScriptState) → IsSameOutside w t.store (store_after (round t))) → (s : ScriptState)
       → IsSameOutside w s.store (store_after (rounds n round s))
   rounds-keeps zero round keeps s =
       then_do-keeps (round s) (after_round (λ s. Over (Fault Overrun) s)) s.store (keeps s)
@@ -133,48 +133,48 @@ module _ (w : Resource → Bool) where
   rounds-keeps (suc n) round keeps s =
       then_do-keeps (round s) (after_round (rounds n round)) s.store (keeps s) (after_round-keeps (rounds n round) (rounds-keeps n round keeps))
 
-  choose-keeps : (b : Bool) (x y : State → Outcome ⊤) → ((t : State) → IsSameOutside w t.store (store_after (x t)))
-      → ((t : State) → IsSameOutside w t.store (store_after (y t))) → (s : State) → IsSameOutside w s.store (store_after (choose b x y s))
+  choose-keeps : (b : Bool) (x y : ScriptState → Evaluation ⊤) → ((t : ScriptState) → IsSameOutside w t.store (store_after (x t)))
+      → ((t : ScriptState) → IsSameOutside w t.store (store_after (y t))) → (s : ScriptState) → IsSameOutside w s.store (store_after (choose b x y s))
   choose-keeps true x y fx fy s = fx s
   choose-keeps false x y fx fy s = fy s
 
-  round_if-keeps : (b : Bool) (body : State → Outcome ⊤) → ((t : State) → IsSameOutside w t.store (store_after (body t))) → (s : State)
+  round_if-keeps : (b : Bool) (body : ScriptState → Evaluation ⊤) → ((t : ScriptState) → IsSameOutside w t.store (store_after (body t))) → (s : ScriptState)
       → IsSameOutside w s.store (store_after (round_if b body s))
   round_if-keeps true body keeps s = then_do-keeps (body s) (λ _ s. Done true s) s.store (keeps s) (λ _ t. unchanged w t.store)
   round_if-keeps false body keeps s = unchanged w s.store
 
-  while_round-keeps : (e : Expression) (body : State → Outcome ⊤) → ((t : State) → IsSameOutside w t.store (store_after (body t))) → (s : State)
+  while_round-keeps : (e : Expression) (body : ScriptState → Evaluation ⊤) → ((t : ScriptState) → IsSameOutside w t.store (store_after (body t))) → (s : ScriptState)
       → IsSameOutside w s.store (store_after (while_round (value_of e) body s))
   while_round-keeps e body keeps s =
       then_do-keeps (value_of e s) (λ a s. round_if (is_truth a) body s) s.store (value_of-keeps e s) (λ a t. round_if-keeps (is_truth a) body keeps t)
 
-  body_and_step-keeps : (x : CVar) (step : ℤ) (body : State → Outcome ⊤) → Covers w (is_variable x)
-      → ((t : State) → IsSameOutside w t.store (store_after (body t))) → (s : State) → IsSameOutside w s.store (store_after (body_and_step x step body s))
+  body_and_step-keeps : (x : CVar) (step : ℤ) (body : ScriptState → Evaluation ⊤) → Covers w (is_this_variable x)
+      → ((t : ScriptState) → IsSameOutside w t.store (store_after (body t))) → (s : ScriptState) → IsSameOutside w s.store (store_after (body_and_step x step body s))
   body_and_step-keeps x step body c keeps s =
       then_do-keeps (body s) (λ _ s. Done (tt {0}) (stepped x step s)) s.store (keeps s) (λ _ t. with_variable-keeps x _ t c)
 
-  for_round-keeps : (x : CVar) (to : Expression) (step : ℤ) (body : State → Outcome ⊤) → Covers w (is_variable x)
-      → ((t : State) → IsSameOutside w t.store (store_after (body t))) → (s : State) → IsSameOutside w s.store (store_after (for_round x (value_of to) step body s))
+  for_round-keeps : (x : CVar) (to : Expression) (step : ℤ) (body : ScriptState → Evaluation ⊤) → Covers w (is_this_variable x)
+      → ((t : ScriptState) → IsSameOutside w t.store (store_after (body t))) → (s : ScriptState) → IsSameOutside w s.store (store_after (for_round x (value_of to) step body s))
   for_round-keeps x to step body c keeps s =
       then_do-keeps (value_of to s) (λ bound t. round_if (is_within step (variable_at x s) bound) (body_and_step x step body) t) s.store (value_of-keeps to s)
       (λ bound t. round_if-keeps (is_within step (variable_at x s) bound) (body_and_step x step body) (body_and_step-keeps x step body c keeps) t)
 
   module _ (shape : Shape) where
     mutual
-      run_stmt-keeps : (x : Statement) → Covers w (stmt_writes shape x) → (s : State) → IsSameOutside w s.store (store_after (run_stmt x s))
+      run_stmt-keeps : (x : Statement) → Covers w (stmt_writes shape x) → (s : ScriptState) → IsSameOutside w s.store (store_after (run_stmt x s))
       run_stmt-keeps (Set x e) c s =
           then_do-keeps (value_of e s) (λ a s. Done tt (with_variable x a s)) s.store (value_of-keeps e s)
-          (λ a t. with_variable-keeps x a t (record { outside = λ r h. or_left (is_variable x r) (expr_writes shape e r) (c.outside r h) }))
+          (λ a t. with_variable-keeps x a t (record { outside = λ r h. or_left (is_this_variable x r) (expr_writes shape e r) (c.outside r h) }))
       run_stmt-keeps (SetItem p index e) c s =
-          then_do-keeps (value_of index s) (λ i s. then_do (value_of e s) (λ a s. changed p (item_set (buffer_at s.store p.0) i a) s)) s.store (value_of-keeps index s)
-          (λ i t. then_do-keeps (value_of e t) (λ a s. changed p (item_set (buffer_at s.store p.0) i a) s) t.store (value_of-keeps e t)
-          (λ a u. changed-keeps p (item_set (buffer_at u.store p.0) i a) u (record { outside = λ r h. or_left (is_buffer p r) (expr_writes shape index r) (or_left (is_buffer p r || expr_writes shape index r) (expr_writes shape e r) (c.outside r h)) })))
+          then_do-keeps (value_of index s) (λ i s. then_do (value_of e s) (λ a s. buffer_changed p (item_set (buffer_at s.store p.0) i a) s)) s.store (value_of-keeps index s)
+          (λ i t. then_do-keeps (value_of e t) (λ a s. buffer_changed p (item_set (buffer_at s.store p.0) i a) s) t.store (value_of-keeps e t)
+          (λ a u. changed-keeps p (item_set (buffer_at u.store p.0) i a) u (record { outside = λ r h. or_left (is_this_buffer p r) (expr_writes shape index r) (or_left (is_this_buffer p r || expr_writes shape index r) (expr_writes shape e r) (c.outside r h)) })))
       run_stmt-keeps (Append p e) c s =
-          then_do-keeps (value_of e s) (λ a s. changed p (appended (buffer_at s.store p.0) a) s) s.store (value_of-keeps e s)
-          (λ a t. changed-keeps p (appended (buffer_at t.store p.0) a) t (record { outside = λ r h. or_left (is_buffer p r) (expr_writes shape e r) (c.outside r h) }))
+          then_do-keeps (value_of e s) (λ a s. buffer_changed p (appended (buffer_at s.store p.0) a) s) s.store (value_of-keeps e s)
+          (λ a t. changed-keeps p (appended (buffer_at t.store p.0) a) t (record { outside = λ r h. or_left (is_this_buffer p r) (expr_writes shape e r) (c.outside r h) }))
       run_stmt-keeps (Take x p) c s =
-          moved-keeps x p (last_of (buffer_at s.store p.0)) s (record { outside = λ r h. or_left (is_variable x r) (is_buffer p r) (c.outside r h) })
-          (record { outside = λ r h. or_right (is_variable x r) (is_buffer p r) (c.outside r h) })
+          moved-keeps x p (last_of (buffer_at s.store p.0)) s (record { outside = λ r h. or_left (is_this_variable x r) (is_this_buffer p r) (c.outside r h) })
+          (record { outside = λ r h. or_right (is_this_variable x r) (is_this_buffer p r) (c.outside r h) })
       run_stmt-keeps (Clear p) c s = with_buffer-keeps p [] s (record { outside = λ r h. c.outside r h })
       run_stmt-keeps (Do f args) c s =
           then_do-keeps (value_of (Call f args) s) dropped s.store (value_of-keeps (Call f args) s) (λ a t. unchanged w t.store)
@@ -193,12 +193,12 @@ module _ (w : Resource → Bool) where
           }))
           (run_block-keeps b (record { outside = λ r h. or_right (expr_writes shape e r || block_writes shape a r) (block_writes shape b r) (c.outside r h) })) t)
       run_stmt-keeps (For x from to step a) c s =
-          let of_head : (r : Resource) → w r ≡ false → (is_variable x r || expr_writes shape from r || expr_writes shape to r) ≡ false =
-          λ r h. or_left (is_variable x r || expr_writes shape from r || expr_writes shape to r) (block_writes shape a r) (c.outside r h) in
-          let of_variable : Covers w (is_variable x) =
-          record { outside = λ r h. or_left (is_variable x r) (expr_writes shape from r) (or_left (is_variable x r || expr_writes shape from r) (expr_writes shape to r) (of_head r h)) } in
+          let of_head : (r : Resource) → w r ≡ false → (is_this_variable x r || expr_writes shape from r || expr_writes shape to r) ≡ false =
+          λ r h. or_left (is_this_variable x r || expr_writes shape from r || expr_writes shape to r) (block_writes shape a r) (c.outside r h) in
+          let of_variable : Covers w (is_this_variable x) =
+          record { outside = λ r h. or_left (is_this_variable x r) (expr_writes shape from r) (or_left (is_this_variable x r || expr_writes shape from r) (expr_writes shape to r) (of_head r h)) } in
           let of_body : Covers w (block_writes shape a) =
-          record { outside = λ r h. or_right (is_variable x r || expr_writes shape from r || expr_writes shape to r) (block_writes shape a r) (c.outside r h) } in
+          record { outside = λ r h. or_right (is_this_variable x r || expr_writes shape from r || expr_writes shape to r) (block_writes shape a r) (c.outside r h) } in
           then_do-keeps (value_of from s) (λ v s. loop_does (for_round x (value_of to) step (run_block a)) (with_variable x v s)) s.store (value_of-keeps from s)
           (λ v t. in_turn w t.store (with_variable x v t).store _ (with_variable-keeps x v t of_variable)
           (rounds-keeps (with_variable x v t).turns (for_round x (value_of to) step (run_block a))
@@ -207,22 +207,22 @@ module _ (w : Resource → Bool) where
           rounds-keeps s.turns (while_round (value_of e) (run_block a))
           (while_round-keeps e (run_block a) (run_block-keeps a (record { outside = λ r h. or_right (expr_writes shape e r) (block_writes shape a r) (c.outside r h) }))) s
 
-      run_block-keeps : (b : Block) → Covers w (block_writes shape b) → (s : State) → IsSameOutside w s.store (store_after (run_block b s))
+      run_block-keeps : (b : Block) → Covers w (block_writes shape b) → (s : ScriptState) → IsSameOutside w s.store (store_after (run_block b s))
       run_block-keeps no_statements c s = unchanged w s.store
       run_block-keeps (statement x b) c s =
           then_do-keeps (run_stmt x s) (λ _ s. run_block b s) s.store
           (run_stmt-keeps x (record { outside = λ r h. or_left (stmt_writes shape x r) (block_writes shape b r) (c.outside r h) }) s)
           (λ _ t. run_block-keeps b (record { outside = λ r h. or_right (stmt_writes shape x r) (block_writes shape b r) (c.outside r h) }) t)
 
-played-store : (o : Outcome ⊤) → (played o).store ≡ store_after o
+played-store : (o : Evaluation ⊤) → (played o).store ≡ store_after o
 played-store (Done a s) = refl
 played-store (Over end s) = refl
 
 -- what a run leaves is the same outside what its script writes
-pub outside_writes : (shape : Shape) (tree : Block) (store : Store) (msg : ArrayVec ℤ) (answers : List ℤ) (turns : ℕ) (p : Played) → p ≡ run_of tree store msg answers turns
+pub outside_writes : (shape : Shape) (tree : Block) (store : Store) (msg : ArrayVec ℤ) (answers : List ℤ) (turns : ℕ) (p : Outcome) → p ≡ run_of tree store msg answers turns
     → IsSameOutside (block_writes shape tree) store p.store
 outside_writes shape tree store msg answers turns p e =
-    let o : Outcome ⊤ = run_block tree (begun store msg answers turns) in
-    let f : store_after o ≡ p.store = sym (played-store o) ∙ sym (ap (λ (q : Played). q.store) e) in
+    let o : Evaluation ⊤ = run_block tree (begun_state store msg answers turns) in
+    let f : store_after o ≡ p.store = sym (played-store o) ∙ sym (ap (λ (q : Outcome). q.store) e) in
     let P : Store → Type 0 = λ st. IsSameOutside (block_writes shape tree) store st in
-    subst P f (run_block-keeps (block_writes shape tree) shape tree (record { outside = λ r h. h }) (begun store msg answers turns))
+    subst P f (run_block-keeps (block_writes shape tree) shape tree (record { outside = λ r h. h }) (begun_state store msg answers turns))

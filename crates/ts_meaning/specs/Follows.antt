@@ -1,12 +1,12 @@
 -- How the evaluator's results stand for outcomes.
 use Rattle.std.specs.Prelude.{◌≡◌, Result, Ok, Err, ⊤}
-use Rattle.ts_meaning.specs.State.{State, Outcome, Done, Over}
+use Rattle.ts_meaning.specs.State.{ScriptState, Evaluation, Done, Over}
 use Rattle.ts_meaning.specs.declared.evaluator.Evaluator.{Evaluator}
 use Rattle.ts_meaning.specs.declared.evaluator.Stop.{Stop}
 use Rattle.ts_meaning.specs.declared.evaluator.Stop.TheVariants.{Ended, OutOfMemory}
 
 -- what the evaluator holds
-abbrev pub state_of : Evaluator → State
+abbrev pub state_of : Evaluator → ScriptState
 state_of e =
     record {
       store = e.store;
@@ -18,11 +18,11 @@ state_of e =
     }
 
 -- the result tells the outcome; want of memory tells nothing
-abbrev pub Tells : {A : Type 0} → Result A Stop → State → Outcome A → Type 0
-Tells (Ok a) s outcome = outcome ≡ Done a s
-Tells (Err (Ended end)) s outcome = outcome ≡ Over end s
-Tells (Err OutOfMemory) s outcome = ⊤
+abbrev pub TellsEvaluation : {A : Type 0} → Result A Stop → ScriptState → Evaluation A → Type 0
+TellsEvaluation (Ok a) s outcome = outcome ≡ Done a s
+TellsEvaluation (Err (Ended end)) s outcome = outcome ≡ Over end s
+TellsEvaluation (Err OutOfMemory) s outcome = ⊤
 
 -- from one evaluator to the next, the result tells what the part of the run does
-abbrev pub Follows : {A : Type 0} → (State → Outcome A) → Evaluator → Result A Stop → Evaluator → Type 0
-Follows part old result new = Tells result (state_of new) (part (state_of old))
+abbrev pub FollowsMeaning : {A : Type 0} → (ScriptState → Evaluation A) → Evaluator → Result A Stop → Evaluator → Type 0
+FollowsMeaning part old result new = TellsEvaluation result (state_of new) (part (state_of old))

@@ -1,66 +1,44 @@
 -- What a script reads and writes, whatever way it takes through its tree.
-use Rattle.std.specs.Prelude.{◌≡◌, Bool, false, ◌||◌, ◌==◌, Option, None, Some, slice_get}
+use Rattle.std.specs.Prelude.{◌≡◌, Bool, false, ◌||◌}
 use Rattle.mate_num.specs.Store.{value_at, buffer_at}
-use Rattle.mate_num.specs.Uses.{Uses}
+use Rattle.mate_num.specs.Uses.{Uses, is_same_resource, is_device_of, function_shape}
 use Rattle.mate_num.specs.declared.id.VarId.{VarId}
 use Rattle.mate_num.specs.declared.id.BufId.{BufId}
 use Rattle.mate_num.specs.declared.id.FunId.{FunId}
-use Rattle.mate_num.specs.declared.id.DeviceId.{DeviceId}
 use Rattle.mate_num.specs.declared.resource.Resource.{Resource}
 use Rattle.mate_num.specs.declared.resource.Resource.TheVariants as resource
 use Rattle.mate_num.specs.declared.shape.Shape.{Shape}
 use Rattle.mate_num.specs.declared.store.Store.{Store}
-use Rattle.mate_num.specs.declared.shape.FunShape.{FunShape}
 use Rattle.ts_syntax.specs.Expression.{Expression, Arguments, no_arguments, argument, Num, Shared, Private, Item, Size, MsgItem, MsgSize, Call, SendBuf, Neg, Not, Two}
 use Rattle.ts_syntax.specs.Statement.{Statement, Block, no_statements, statement, Set, SetItem, Append, Take, Clear, Do, DoSend, If, IfElse, For, While}
 use Rattle.ts_syntax.specs.declared.checked_stmt.CVar.{CVar}
 use Rattle.ts_syntax.specs.declared.checked_stmt.CVar.TheVariants as variable
 
--- r is this shared variable, this buffer, or this device
-abbrev pub is_shared : VarId → Resource → Bool
-is_shared v (resource.Shared w) = v.0 == w.0
-is_shared v (resource.Buffer p) = false
-is_shared v (resource.Device d) = false
-
-abbrev pub is_buffer : BufId → Resource → Bool
-is_buffer p (resource.Shared v) = false
-is_buffer p (resource.Buffer q) = p.0 == q.0
-is_buffer p (resource.Device d) = false
-
-abbrev pub is_device : DeviceId → Resource → Bool
-is_device d (resource.Shared v) = false
-is_device d (resource.Buffer p) = false
-is_device d (resource.Device e) = d.0 == e.0
+-- r is the buffer
+abbrev pub is_this_buffer : BufId → Resource → Bool
+is_this_buffer p r = is_same_resource (resource.Buffer p) r
 
 -- r is the variable; a private one is no resource
-abbrev pub is_variable : CVar → Resource → Bool
-is_variable (variable.Shared v) r = is_shared v r
-is_variable (variable.Private i) r = false
+abbrev pub is_this_variable : CVar → Resource → Bool
+is_this_variable (variable.Shared v) r = is_same_resource (resource.Shared v) r
+is_this_variable (variable.Private i) r = false
 
 -- r is the device of the function
-abbrev pub is_device_in : Option DeviceId → Resource → Bool
-is_device_in None r = false
-is_device_in (Some d) r = is_device d r
-
-abbrev pub is_device_of_shape : Option FunShape → Resource → Bool
-is_device_of_shape None r = false
-is_device_of_shape (Some f) r = is_device_in f.device r
-
-abbrev pub is_device_of : Shape → FunId → Resource → Bool
-is_device_of shape f r = is_device_of_shape (slice_get shape.functions.items f.0) r
+abbrev pub calls_device : Shape → FunId → Resource → Bool
+calls_device shape f r = is_device_of (function_shape shape f) r
 
 -- an expression reads r: its variables, the buffers whose values or sizes it takes, and those that it sends
 abbrev mutual
   pub expr_reads : Expression → Resource → Bool
   expr_reads (Num n) r = false
-  expr_reads (Shared v) r = is_shared v r
+  expr_reads (Shared v) r = is_same_resource (resource.Shared v) r
   expr_reads (Private i) r = false
-  expr_reads (Item p e) r = is_buffer p r || expr_reads e r
-  expr_reads (Size p) r = is_buffer p r
+  expr_reads (Item p e) r = is_this_buffer p r || expr_reads e r
+  expr_reads (Size p) r = is_this_buffer p r
   expr_reads (MsgItem e) r = expr_reads e r
   expr_reads MsgSize r = false
   expr_reads (Call f args) r = args_read args r
-  expr_reads (SendBuf f p) r = is_buffer p r
+  expr_reads (SendBuf f p) r = is_this_buffer p r
   expr_reads (Neg e) r = expr_reads e r
   expr_reads (Not e) r = expr_reads e r
   expr_reads (Two op l e) r = expr_reads l r || expr_reads e r
@@ -79,8 +57,8 @@ abbrev mutual
   expr_writes shape (Size p) r = false
   expr_writes shape (MsgItem e) r = expr_writes shape e r
   expr_writes shape MsgSize r = false
-  expr_writes shape (Call f args) r = is_device_of shape f r || args_write shape args r
-  expr_writes shape (SendBuf f p) r = is_device_of shape f r
+  expr_writes shape (Call f args) r = calls_device shape f r || args_write shape args r
+  expr_writes shape (SendBuf f p) r = calls_device shape f r
   expr_writes shape (Neg e) r = expr_writes shape e r
   expr_writes shape (Not e) r = expr_writes shape e r
   expr_writes shape (Two op l e) r = expr_writes shape l r || expr_writes shape e r
@@ -98,10 +76,10 @@ abbrev mutual
   stmt_reads (Take x p) r = false
   stmt_reads (Clear p) r = false
   stmt_reads (Do f args) r = args_read args r
-  stmt_reads (DoSend f p) r = is_buffer p r
+  stmt_reads (DoSend f p) r = is_this_buffer p r
   stmt_reads (If e a) r = expr_reads e r || block_reads a r
   stmt_reads (IfElse e a b) r = expr_reads e r || block_reads a r || block_reads b r
-  stmt_reads (For x from to step a) r = is_variable x r || expr_reads from r || expr_reads to r || block_reads a r
+  stmt_reads (For x from to step a) r = is_this_variable x r || expr_reads from r || expr_reads to r || block_reads a r
   stmt_reads (While e a) r = expr_reads e r || block_reads a r
 
   pub block_reads : Block → Resource → Bool
@@ -112,17 +90,17 @@ abbrev mutual
 -- functions that it calls
 abbrev mutual
   pub stmt_writes : Shape → Statement → Resource → Bool
-  stmt_writes shape (Set x e) r = is_variable x r || expr_writes shape e r
-  stmt_writes shape (SetItem p i e) r = is_buffer p r || expr_writes shape i r || expr_writes shape e r
-  stmt_writes shape (Append p e) r = is_buffer p r || expr_writes shape e r
-  stmt_writes shape (Take x p) r = is_variable x r || is_buffer p r
-  stmt_writes shape (Clear p) r = is_buffer p r
-  stmt_writes shape (Do f args) r = is_device_of shape f r || args_write shape args r
-  stmt_writes shape (DoSend f p) r = is_device_of shape f r
+  stmt_writes shape (Set x e) r = is_this_variable x r || expr_writes shape e r
+  stmt_writes shape (SetItem p i e) r = is_this_buffer p r || expr_writes shape i r || expr_writes shape e r
+  stmt_writes shape (Append p e) r = is_this_buffer p r || expr_writes shape e r
+  stmt_writes shape (Take x p) r = is_this_variable x r || is_this_buffer p r
+  stmt_writes shape (Clear p) r = is_this_buffer p r
+  stmt_writes shape (Do f args) r = calls_device shape f r || args_write shape args r
+  stmt_writes shape (DoSend f p) r = calls_device shape f r
   stmt_writes shape (If e a) r = expr_writes shape e r || block_writes shape a r
   stmt_writes shape (IfElse e a b) r = expr_writes shape e r || block_writes shape a r || block_writes shape b r
   stmt_writes shape (For x from to step a) r =
-      is_variable x r || expr_writes shape from r || expr_writes shape to r || block_writes shape a r
+      is_this_variable x r || expr_writes shape from r || expr_writes shape to r || block_writes shape a r
   stmt_writes shape (While e a) r = expr_writes shape e r || block_writes shape a r
 
   pub block_writes : Shape → Block → Resource → Bool

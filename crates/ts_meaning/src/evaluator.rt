@@ -1,8 +1,9 @@
 //! What the evaluator holds, and how it reads and changes that.
 
 use crate::operators::{append, set_item, take_last};
-use crate::run::{Calls, Played};
-use mate_num::{BufId, Call, End, FaultKind, FunId, Payload, Store, VarId, copy_of};
+use mate_num::{
+    BufId, Call, Calls, End, FaultKind, FunId, Outcome, PRIVATES, Payload, Store, VarId, copy_of,
+};
 use std::alloc::Global;
 use ts_syntax::CVar;
 
@@ -10,7 +11,7 @@ use ts_syntax::CVar;
 #[derive(Drop)]
 pub(crate) struct Evaluator<'a> {
     store: Store,
-    privates: [i16; 8],
+    privates: [i16; PRIVATES],
     pub(crate) msg: &'a Payload,
     // The answers that no call took yet.
     answers: &'a [i16],
@@ -40,9 +41,9 @@ impl From<FaultKind> for Stop {
 impl<'a> Evaluator<'a> {
     ghost use Rattle.std.specs.Prelude.{◌≡◌, ◌<◌, ◌≤◌, [], length, OnOk, pos};
     ghost use Rattle.mate_num.specs.Store.{value_at, buffer_at, appended, item_set, last_of};
-    ghost use Rattle.ts_meaning.specs.State.{private_at, variable_at, with_variable, with_buffer, changed, moved, asked, begun, go_back, Done};
-    ghost use Rattle.ts_meaning.specs.Meaning.{ended};
-    ghost use Rattle.ts_meaning.specs.Follows.{state_of, Follows};
+    ghost use Rattle.ts_meaning.specs.State.{private_at, variable_at, with_variable, with_buffer, buffer_changed, moved, next_answer, begun_state, go_back, Done};
+    ghost use Rattle.ts_meaning.specs.Meaning.{outcome_at};
+    ghost use Rattle.ts_meaning.specs.Follows.{state_of, FollowsMeaning};
 
     /// The beginning of a run.
     pub(crate) fn new(
@@ -52,11 +53,11 @@ impl<'a> Evaluator<'a> {
         answers: &'a [i16],
         turns: u32,
     ) -> Evaluator<'a>
-        ensures { state_of result ≡ begun store msg.now answers.now turns }
+        ensures { state_of result ≡ begun_state store msg.now answers.now turns }
     {
         Evaluator {
             store,
-            privates: [0; 8],
+            privates: [0; PRIVATES],
             msg,
             answers,
             calls: Calls::new(alloc),
@@ -65,10 +66,10 @@ impl<'a> Evaluator<'a> {
     }
 
     /// What the run gives that ends here.
-    pub(crate) fn played(self, end: End) -> Played
-        ensures { result ≡ ended end (state_of self.entry) }
+    pub(crate) fn outcome(self, end: End) -> Outcome
+        ensures { result ≡ outcome_at end (state_of self.entry) }
     {
-        Played {
+        Outcome {
             end,
             store: self.store,
             calls: self.calls,
@@ -176,7 +177,7 @@ impl<'a> Evaluator<'a> {
 
     pub(crate) fn set_item(&mut self, buffer: BufId, index: i16, value: i16) -> Result<(), Stop>
         ensures follows { let old = buffer_at self.old.store buffer.0 in
-            Follows (changed buffer (item_set old index value)) self.old result self.new }
+            FollowsMeaning (buffer_changed buffer (item_set old index value)) self.old result self.new }
         ensures turns { self.new.turns ≡ self.old.turns }
     {
         let mut values = self.payload(buffer);
@@ -187,7 +188,7 @@ impl<'a> Evaluator<'a> {
 
     pub(crate) fn append(&mut self, buffer: BufId, value: i16) -> Result<(), Stop>
         ensures follows { let old = buffer_at self.old.store buffer.0 in
-            Follows (changed buffer (appended old value)) self.old result self.new }
+            FollowsMeaning (buffer_changed buffer (appended old value)) self.old result self.new }
         ensures turns { self.new.turns ≡ self.old.turns }
     {
         let mut values = self.payload(buffer);
@@ -199,7 +200,7 @@ impl<'a> Evaluator<'a> {
     /// Takes the last value of a buffer into a variable.
     pub(crate) fn take(&mut self, variable: CVar, buffer: BufId) -> Result<(), Stop>
         ensures follows { let old = buffer_at self.old.store buffer.0 in
-            Follows (moved variable buffer (last_of old)) self.old result self.new }
+            FollowsMeaning (moved variable buffer (last_of old)) self.old result self.new }
         ensures turns { self.new.turns ≡ self.old.turns }
     {
         let mut values = self.payload(buffer);
@@ -211,7 +212,7 @@ impl<'a> Evaluator<'a> {
 
     /// Calls a function: takes the next answer, or ends where there is none.
     pub(crate) fn ask(&mut self, fun: FunId, args: Payload) -> Result<i16, Stop>
-        ensures follows { Follows (asked fun args) self.old result self.new }
+        ensures follows { FollowsMeaning (next_answer fun args) self.old result self.new }
         ensures turns { self.new.turns ≡ self.old.turns }
     {
         let Some((answer, left)) = self.answers.split_first() else {
@@ -229,7 +230,7 @@ impl<'a> Evaluator<'a> {
 
     /// Pays for going back.
     pub(crate) fn pay(&mut self) -> Result<(), Stop>
-        ensures follows { Follows (go_back (Done tt)) self.old result self.new }
+        ensures follows { FollowsMeaning (go_back (Done tt)) self.old result self.new }
         ensures turns { OnOk result (self.new.turns < self.old.turns) }
         ensures falls { self.new.turns ≤ self.old.turns }
     {

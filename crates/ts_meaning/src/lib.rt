@@ -7,4 +7,5 @@ pub mod run;
 mod statements;
 mod values;
 
-pub use run::{Calls, Played, play};
+pub use operators::apply;
+pub use run::play;

@@ -2,13 +2,14 @@
 
 ghost use Rattle.std.specs.Prelude.{◌≡◌, MatchResult, OnOk, Ok, Err};
 ghost use Rattle.mate_num.specs.Store.{item_of, item_set, appended, last_of, without_last};
-ghost use Rattle.ts_meaning.specs.Meaning.{applied, or_div_zero as or_div_zero_of};
+ghost use Rattle.ts_meaning.specs.Meaning.{applied};
+ghost use Rattle.mate_num.specs.Operators.{or_div_zero as or_div_zero_of};
 
 use mate_num::{FaultKind, Num16, Payload};
 use ts_syntax::BinOp;
 
-/// What the operator gives.
-pub(crate) fn apply(op: BinOp, left: i16, right: i16) -> Result<i16, FaultKind>
+/// What an operator gives for two numbers: `DivZero` exactly for `/` and `%` with 0 on the right.
+pub fn apply(op: BinOp, left: i16, right: i16) -> Result<i16, FaultKind>
     ensures { result ≡ applied op left right }
 {
     let (a, b) = (Num16(left), Num16(right));

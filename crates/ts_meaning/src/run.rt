@@ -6,23 +6,9 @@ ghost use Rattle.ts_meaning.specs.Meaning.{run_of};
 ghost use Rattle.ts_meaning.specs.Uses.{IsSameOutside, block_writes};
 
 use crate::evaluator::{Evaluator, Stop};
-use mate_num::{Call, End, Items, NoMemory, Payload, Store};
+use mate_num::{End, NoMemory, Outcome, Payload, Store};
 use std::alloc::Global;
 use ts_syntax::Checked;
-
-/// Calls, in the order in which they were answered.
-pub type Calls = Items<Call>;
-
-/// What a run of a script gives.
-#[derive(Drop)]
-pub struct Played {
-    /// How far the run came.
-    pub end: End,
-    /// The store that it left.
-    pub store: Store,
-    /// The calls that were answered.
-    pub calls: Calls,
-}
 
 /// Runs `script` on `store`, with the message `msg`, with `answers` to its calls in their order, and with
 /// `turns` goings back of its loops. `NoMemory` comes only where memory for the list of calls is refused.
@@ -33,18 +19,18 @@ pub fn play(
     msg: &Payload,
     answers: &[i16],
     turns: u32,
-) -> Result<Played, NoMemory>
+) -> Result<Outcome, NoMemory>
     ensures gives { let run = run_of (tree_of script.now) store.now msg.now answers.now turns in
-        IfOk result (λ played. played ≡ run) }
+        IfOk result (λ outcome. outcome ≡ run) }
 
     // What the script doesn't write stays as it was.
     ensures outside { let written = block_writes (shape_of script.now) (tree_of script.now) in
-        IfOk result (λ played. IsSameOutside written store.now played.store) }
+        IfOk result (λ outcome. IsSameOutside written store.now outcome.store) }
 {
     let mut evaluator = Evaluator::new(alloc, store.copy(), msg, answers, turns);
     match evaluator.block(script.body()) {
-        Ok(()) => Ok(evaluator.played(End::Halt)),
-        Err(Stop::Ended(end)) => Ok(evaluator.played(end)),
+        Ok(()) => Ok(evaluator.outcome(End::Halt)),
+        Err(Stop::Ended(end)) => Ok(evaluator.outcome(end)),
         Err(Stop::OutOfMemory) => Err(NoMemory),
     }
 }

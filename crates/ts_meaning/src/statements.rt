@@ -6,7 +6,7 @@ ghost use Rattle.ts_syntax.specs.Statement.{For, While};
 ghost use Rattle.ts_syntax.specs.TreeOf.{expr_tree, stmt_tree, block_tree};
 ghost use Rattle.ts_meaning.specs.State.{loop_does};
 ghost use Rattle.ts_meaning.specs.Meaning.{value_of, run_stmt, run_block, while_round, for_round, is_within};
-ghost use Rattle.ts_meaning.specs.Follows.{Follows};
+ghost use Rattle.ts_meaning.specs.Follows.{FollowsMeaning};
 
 use crate::evaluator::{Evaluator, Stop};
 use mate_num::Num16;
@@ -31,7 +31,7 @@ fn is_within_limit(step: i16, value: i16, limit: i16) -> bool
 impl Evaluator<'_> {
     #[cycle(stmt)]
     fn stmt(&mut self, stmt: &CStmt) -> Result<(), Stop>
-        ensures follows { Follows (run_stmt (stmt_tree stmt.now)) self.old result self.new }
+        ensures follows { FollowsMeaning (run_stmt (stmt_tree stmt.now)) self.old result self.new }
         ensures turns { self.new.turns ≤ self.old.turns }
     {
         match stmt {
@@ -81,7 +81,7 @@ impl Evaluator<'_> {
     /// Runs the statements of a block, one after another.
     #[cycle(stmt)]
     pub(crate) fn block(&mut self, block: &CBlock) -> Result<(), Stop>
-        ensures follows { Follows (run_block (block_tree block.now)) self.old result self.new }
+        ensures follows { FollowsMeaning (run_block (block_tree block.now)) self.old result self.new }
         ensures turns { self.new.turns ≤ self.old.turns }
     {
         for stmt in block.items.as_slice() {
@@ -93,7 +93,7 @@ impl Evaluator<'_> {
     #[cycle(stmt)]
     #[tactic(auto, using(crate::proofs::LoopLemmas::loops))]
     fn while_loop(&mut self, body: &CBlock, test: &CExpr) -> Result<(), Stop>
-        ensures follows { Follows (run_stmt (While (expr_tree test.now) (block_tree body.now))) self.old result self.new }
+        ensures follows { FollowsMeaning (run_stmt (While (expr_tree test.now) (block_tree body.now))) self.old result self.new }
         ensures turns { self.new.turns ≤ self.old.turns }
     {
         while self.while_round(body, test)? {
@@ -106,7 +106,7 @@ impl Evaluator<'_> {
     #[cycle(stmt)]
     fn while_round(&mut self, body: &CBlock, test: &CExpr) -> Result<bool, Stop>
         ensures follows { let value = value_of (expr_tree test.now) in
-            Follows (while_round value (run_block (block_tree body.now))) self.old result self.new }
+            FollowsMeaning (while_round value (run_block (block_tree body.now))) self.old result self.new }
         ensures turns { self.new.turns ≤ self.old.turns }
     {
         let test = self.value(test)?;
@@ -121,7 +121,7 @@ impl Evaluator<'_> {
     fn for_loop(&mut self, head: &CForHead, body: &CBlock) -> Result<(), Stop>
         ensures follows { let from = expr_tree head.now.from in
             let to = expr_tree head.now.to in
-            Follows (run_stmt (For head.now.var from to head.now.step (block_tree body.now))) self.old result self.new }
+            FollowsMeaning (run_stmt (For head.now.var from to head.now.step (block_tree body.now))) self.old result self.new }
         ensures turns { self.new.turns ≤ self.old.turns }
     {
         let from = self.value(&head.from)?;
@@ -134,7 +134,7 @@ impl Evaluator<'_> {
     fn for_rounds(&mut self, head: &CForHead, body: &CBlock) -> Result<(), Stop>
         ensures follows { let limit = value_of (expr_tree head.now.to) in
             let body = run_block (block_tree body.now) in
-            Follows (loop_does (for_round head.now.var limit head.now.step body)) self.old result self.new }
+            FollowsMeaning (loop_does (for_round head.now.var limit head.now.step body)) self.old result self.new }
         ensures turns { self.new.turns ≤ self.old.turns }
     {
         while self.for_round(head, body)? {
@@ -148,7 +148,7 @@ impl Evaluator<'_> {
     fn for_round(&mut self, head: &CForHead, body: &CBlock) -> Result<bool, Stop>
         ensures follows { let limit = value_of (expr_tree head.now.to) in
             let body = run_block (block_tree body.now) in
-            Follows (for_round head.now.var limit head.now.step body) self.old result self.new }
+            FollowsMeaning (for_round head.now.var limit head.now.step body) self.old result self.new }
         ensures turns { self.new.turns ≤ self.old.turns }
     {
         let value = self.variable(head.var);

@@ -5,7 +5,7 @@ ghost use Rattle.ts_syntax.specs.Expression.{arguments, Call};
 ghost use Rattle.ts_syntax.specs.TreeOf.{expr_tree, args_trees};
 ghost use Rattle.ts_meaning.specs.State.{then_do, first_ten, Done};
 ghost use Rattle.ts_meaning.specs.Meaning.{value_of, values_of};
-ghost use Rattle.ts_meaning.specs.Follows.{Follows};
+ghost use Rattle.ts_meaning.specs.Follows.{FollowsMeaning};
 
 use crate::evaluator::{Evaluator, Stop};
 use crate::operators::{apply, item};
@@ -27,7 +27,7 @@ impl Evaluator<'_> {
     /// The value of an expression.
     #[cycle(value)]
     pub(crate) fn value(&mut self, expr: &CExpr) -> Result<i16, Stop>
-        ensures follows { Follows (value_of (expr_tree expr.now)) self.old result self.new }
+        ensures follows { FollowsMeaning (value_of (expr_tree expr.now)) self.old result self.new }
         ensures turns { self.new.turns ≡ self.old.turns }
     {
         match expr {
@@ -65,7 +65,7 @@ impl Evaluator<'_> {
     /// The result of a call.
     #[cycle(value)]
     pub(crate) fn call(&mut self, fun: FunId, args: &CArgs) -> Result<i16, Stop>
-        ensures follows { Follows (value_of (Call fun (arguments (args_trees args.now)))) self.old result self.new }
+        ensures follows { FollowsMeaning (value_of (Call fun (arguments (args_trees args.now)))) self.old result self.new }
         ensures turns { self.new.turns ≡ self.old.turns }
     {
         let values = self.values(args)?;
@@ -77,7 +77,7 @@ impl Evaluator<'_> {
     #[tactic(auto, using(crate::proofs::ArgumentLemmas::gathering))]
     fn values(&mut self, args: &CArgs) -> Result<Payload, Stop>
         ensures follows { let values_in = values_of (arguments (args_trees args.now)) in
-            Follows (λ s. then_do (values_in s) (λ values s. Done (first_ten values) s)) self.old result self.new }
+            FollowsMeaning (λ s. then_do (values_in s) (λ values s. Done (first_ten values) s)) self.old result self.new }
         ensures turns { self.new.turns ≡ self.old.turns }
     {
         let mut values = Payload::new();

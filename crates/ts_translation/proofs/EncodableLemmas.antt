@@ -23,7 +23,7 @@ use Rattle.ts_syntax.specs.declared.bin_op.BinOp.{BinOp}
 use Rattle.ts_syntax.specs.declared.bin_op.BinOp.TheVariants as op
 use Rattle.ts_syntax.specs.declared.checked_stmt.CVar.{CVar}
 use Rattle.ts_syntax.specs.declared.checked_stmt.CVar.TheVariants as variable
-use Rattle.ts_translation.specs.Translation.{bytes_of, number_code, get_code, set_code, operator_code, expr_code, args_code, expr_size, stmt_size, block_size, within_code, while_body, else_begin, for_body, stmt_code, block_code, script_code, script_size}
+use Rattle.ts_translation.specs.Translation.{size_of_instrs, number_code, get_code, set_code, operator_code, expr_code, args_code, expr_size, stmt_size, block_size, within_code, while_body, else_begin, for_body, stmt_code, block_code, script_code, script_size}
 use Rattle.ts_translation.specs.Laws.{IsEncodable}
 use Rattle.ts_translation.proofs.PlaceLemmas.{bytes_of-append, bytes_of-block_code}
 
@@ -202,11 +202,11 @@ module _ (shape : Shape) where
 
 -- ---- bytes
 
-bytes_of-sum_by : (is : List Instr) → sum_by size_of is ≡ bytes_of is
+bytes_of-sum_by : (is : List Instr) → sum_by size_of is ≡ size_of_instrs is
 bytes_of-sum_by [] = refl
 bytes_of-sum_by (i ∷ is) = sum_by-cons size_of i is ∙ ap (λ (n : ℕ). size_of i + n) (bytes_of-sum_by is)
 
-pub bytes_of-script_code : (tree : Block) → bytes_of (script_code tree) ≡ script_size tree
+pub bytes_of-script_code : (tree : Block) → size_of_instrs (script_code tree) ≡ script_size tree
 bytes_of-script_code tree = bytes_of-append (block_code 0 tree) (instr.Halt ∷ []) ∙ ap (λ (n : ℕ). n + 1) (bytes_of-block_code 0 tree)
 
 pub length-script_bytes : (t : Layout) (tree : Block) → length (code_bytes t (script_code tree)) ≡ script_size tree

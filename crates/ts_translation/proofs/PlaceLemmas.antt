@@ -11,11 +11,11 @@ use Rattle.ts_syntax.specs.declared.bin_op.BinOp.{BinOp}
 use Rattle.ts_syntax.specs.declared.bin_op.BinOp.TheVariants as op
 use Rattle.ts_syntax.specs.declared.checked_stmt.CVar.{CVar}
 use Rattle.ts_syntax.specs.declared.checked_stmt.CVar.TheVariants as variable
-use Rattle.ts_translation.specs.Translation.{bytes_of, number_code, get_code, set_code, operator_code, expr_code, args_code, expr_size, stmt_size, block_size, within_code, while_body, while_end, else_begin, else_end, for_test, for_body, for_end, step_code, stmt_code, block_code}
+use Rattle.ts_translation.specs.Translation.{size_of_instrs, number_code, get_code, set_code, operator_code, expr_code, args_code, expr_size, stmt_size, block_size, within_code, while_body, while_end, else_begin, else_end, for_test, for_body, for_end, step_code, stmt_code, block_code}
 
 -- ---- sizes
 
-pub bytes_of-append : (is js : List Instr) → bytes_of (is ++ js) ≡ bytes_of is + bytes_of js
+pub bytes_of-append : (is js : List Instr) → size_of_instrs (is ++ js) ≡ size_of_instrs is + size_of_instrs js
 bytes_of-append [] js = omega arith
 bytes_of-append (i ∷ is) js = let h = bytes_of-append is js in omega arith
 
@@ -47,11 +47,11 @@ size_of-operator_code op.Div = refl
 size_of-operator_code op.Rem = refl
 
 -- an expression, and then instructions
-pub bytes_of-then : (e : Expression) (is : List Instr) → bytes_of (expr_code e ++ is) ≡ expr_size e + bytes_of is
+pub bytes_of-then : (e : Expression) (is : List Instr) → size_of_instrs (expr_code e ++ is) ≡ expr_size e + size_of_instrs is
 bytes_of-then e is = bytes_of-append (expr_code e) is
 
 mutual
-  pub bytes_of-stmt_code : (place : ℕ) (x : Statement) → bytes_of (stmt_code place x) ≡ stmt_size x
+  pub bytes_of-stmt_code : (place : ℕ) (x : Statement) → size_of_instrs (stmt_code place x) ≡ stmt_size x
   bytes_of-stmt_code place (Set x e) =
       let h = bytes_of-then e (set_code x ∷ []) in
       let s = size_of-set_code x in
@@ -102,7 +102,7 @@ mutual
       let l = bytes_of-block_code body a in
       omega arith
 
-  pub bytes_of-block_code : (place : ℕ) (b : Block) → bytes_of (block_code place b) ≡ block_size b
+  pub bytes_of-block_code : (place : ℕ) (b : Block) → size_of_instrs (block_code place b) ≡ block_size b
   bytes_of-block_code place no_statements = refl
   bytes_of-block_code place (statement x b) =
       let next = place + stmt_size x in
@@ -113,8 +113,8 @@ mutual
 
 -- ---- places
 
-pub placed-append : (place : ℕ) (is js : List Instr) → placed place (is ++ js) ≡ placed place is ++ placed (place + bytes_of is) js
+pub placed-append : (place : ℕ) (is js : List Instr) → placed place (is ++ js) ≡ placed place is ++ placed (place + size_of_instrs is) js
 placed-append place [] js = let e : place ≡ place + 0 = omega arith in ap (λ (p : ℕ). placed p js) e
 placed-append place (i ∷ is) js =
-    let e : place + size_of i + bytes_of is ≡ place + (size_of i + bytes_of is) = omega arith in
+    let e : place + size_of i + size_of_instrs is ≡ place + (size_of i + size_of_instrs is) = omega arith in
     ap (λ (code : Code). (place, i) ∷ code) (placed-append (place + size_of i) is js ∙ ap (λ (p : ℕ). placed (place + size_of i) is ++ placed p js) e)

@@ -14,18 +14,22 @@ use Rattle.mate_num.specs.declared.shape.Shape.{Shape}
 use Rattle.mate_num.specs.declared.shape.FunShape.{FunShape}
 use Rattle.mate_code.specs.declared.instr.Instr.{Instr}
 use Rattle.mate_code.specs.declared.instr.Instr.TheVariants as instr
-use Rattle.mate_code.specs.CodeUses.{Use, Calls, use_of, function_of}
-use Rattle.mate_code.specs.Effect.{Effect, Asks, asks, gives, args_in, args_of, or_div_zero}
+use Rattle.mate_code.specs.CodeUses.{use_of}
+use Rattle.mate_code.specs.declared.uses.Use.TheVariants.{Calls}
+use Rattle.mate_code.specs.declared.uses.Use.{Use}
+use Rattle.mate_num.specs.Uses.{function_shape}
+use Rattle.mate_code.specs.Effect.{Effect, Asks, asks, gives, args_in, args_of}
+use Rattle.mate_num.specs.Operators.{or_div_zero, truth_value, or_div_zero as quotient_or_fault}
 use Rattle.mate_code.specs.Instr.{size_of}
 use Rattle.mate_code.specs.Run.{Code, Run, asked as asked_of, executed, run_by}
 use Rattle.ts_syntax.specs.Expression.{Expression, Arguments, no_arguments, argument, Num, Shared, Private, Item, Size, MsgItem, MsgSize, Call, SendBuf, Neg, Not, Two}
 use Rattle.ts_syntax.specs.Right.{takes, is_buffer, is_call, argument_count, is_right_expr, are_right}
 use Rattle.ts_syntax.specs.declared.bin_op.BinOp.{BinOp}
 use Rattle.ts_syntax.specs.declared.bin_op.BinOp.TheVariants as op
-use Rattle.ts_meaning.specs.State.{State, Outcome, Done, then_do, given, answered, asked, first_ten}
-use Rattle.ts_meaning.specs.Meaning.{value_of, values_of, applied, test, or_div_zero as quotient_or_fault}
+use Rattle.ts_meaning.specs.State.{ScriptState, Evaluation, Done, then_do, value_or_fault, call_answered, next_answer, first_ten}
+use Rattle.ts_meaning.specs.Meaning.{value_of, values_of, applied}
 use Rattle.ts_meaning.proofs.OutcomeLemmas.{values_of-length}
-use Rattle.ts_translation.specs.Translation.{bytes_of, number_code, operator_code, expr_code, args_code, expr_size}
+use Rattle.ts_translation.specs.Translation.{size_of_instrs, number_code, operator_code, expr_code, args_code, expr_size}
 use Rattle.ts_translation.proofs.PlaceLemmas.{bytes_of-append}
 use Rattle.ts_translation.proofs.RunPlaces.{StandsAt, stands-front, stands-back}
 use Rattle.ts_translation.proofs.RunReaches.{own_at, run_at, Reaches, arrives, arrives_by, stops, reaches-then, executes, goal_at}
@@ -33,7 +37,7 @@ use Rattle.ts_translation.proofs.RunReaches.{own_at, run_at, Reaches, arrives, a
 -- ---- what single instructions do
 
 -- a number is pushed
-pub number-executed : (shape : Shape) (n : ℤ) (place : ℕ) (stack : List ℤ) (s : State) (count : ℕ) → executed shape (number_code n) (run_at place stack s count) ≡ run_at (place + size_of (number_code n)) (n ∷ stack) s (count + 1)
+pub number-executed : (shape : Shape) (n : ℤ) (place : ℕ) (stack : List ℤ) (s : ScriptState) (count : ℕ) → executed shape (number_code n) (run_at place stack s count) ≡ run_at (place + size_of (number_code n)) (n ∷ stack) s (count + 1)
 number-executed shape (pos n) place stack s count = by (nat_lt n 256) where
   by : (b : Bool) → let i : Instr = if b then instr.PushB n else instr.PushW (pos n) in executed shape i (run_at place stack s count) ≡ run_at (place + size_of i) (pos n ∷ stack) s (count + 1)
   by true = refl
@@ -46,7 +50,7 @@ same_fault None = refl
 same_fault (Some n) = refl
 
 -- what an operator makes of the topmost two values
-pub operator-executed : (shape : Shape) (o : BinOp) (a b : ℤ) (place : ℕ) (stack : List ℤ) (s : State) (count : ℕ)
+pub operator-executed : (shape : Shape) (o : BinOp) (a b : ℤ) (place : ℕ) (stack : List ℤ) (s : ScriptState) (count : ℕ)
     → let r : Run = run_at place (b ∷ a ∷ stack) s count in
     executed shape (operator_code o) r ≡ run_by (gives (applied o a b) (own_at (place + size_of (operator_code o)) stack s)) (use_of (operator_code o)) r
 operator-executed shape op.Or a b place stack s count = refl
@@ -80,7 +84,7 @@ pushed-reverse (a ∷ values) stack =
     ∙ ap (λ (l : List ℤ). l ++ stack) (sym (reverse-append (a ∷ []) values))
 
 -- a call asks with its values, the first one first
-asks-reverse : (f : FunId) (values stack : List ℤ) (next : ℕ) (s : State)
+asks-reverse : (f : FunId) (values stack : List ℤ) (next : ℕ) (s : ScriptState)
     → asks (length (reverse values)) f (own_at next (reverse values ++ stack) s) ≡ Asks (own_at next stack s) f (first_ten values)
 asks-reverse f values stack next s =
     let back : List ℤ = reverse values in
@@ -89,7 +93,7 @@ asks-reverse f values stack next s =
     let taken : reverse (take (length back) (back ++ stack)) ≡ values = ap reverse (take-append_seam back stack) ∙ reverse-reverse values in
     rw (long, left, taken) refl
 
-asks-pushed : (n : ℕ) (f : FunId) (values stack : List ℤ) (next : ℕ) (s : State) → length values ≡ n
+asks-pushed : (n : ℕ) (f : FunId) (values stack : List ℤ) (next : ℕ) (s : ScriptState) → length values ≡ n
     → asks n f (own_at next (pushed values stack) s) ≡ Asks (own_at next stack s) f (first_ten values)
 asks-pushed n f values stack next s e =
     ap (λ (l : List ℤ). asks n f (own_at next l s)) (pushed-reverse values stack)
@@ -102,53 +106,53 @@ takes-args None n is = cc
 takes-args (Some f) n is = sym (eqb-true f.args n (and_parts (not f.send) (f.args == n) is).1)
 
 call-args : (shape : Shape) (f : FunId) (n : ℕ) → IsTrue (is_call shape f n) → n ≡ args_of shape f
-call-args shape f n is = takes-args (function_of shape f) n is
+call-args shape f n is = takes-args (function_shape shape f) n is
 
 module _ {shape : Shape} {code : Code} where
   -- a value comes on the stack, or a fault ends the run
-  gives-Reaches : (res : Result ℤ FaultKind) (u : Use) (place next : ℕ) (stack below : List ℤ) (s : State) (count : ℕ)
-      → Reaches shape code (run_by (gives res (own_at next below s)) u (run_at place stack s count)) (given res s) (λ a t. run_at next (a ∷ below) t)
+  gives-Reaches : (res : Result ℤ FaultKind) (u : Use) (place next : ℕ) (stack below : List ℤ) (s : ScriptState) (count : ℕ)
+      → Reaches shape code (run_by (gives res (own_at next below s)) u (run_at place stack s count)) (value_or_fault res s) (λ a t. run_at next (a ∷ below) t)
   gives-Reaches (Ok x) u place next stack below s count = arrives (count + 1)
   gives-Reaches (Err kind) u place next stack below s count = stops refl refl refl
 
   -- the call has its answer, or the run ends and wants it
-  answered-Reaches : (left : List ℤ) (f : FunId) (args : ArrayVec ℤ) (place next : ℕ) (stack below : List ℤ) (s : State) (count : ℕ)
-      → Reaches shape code (record { own = asked_of (own_at next below s) f args left (run_at place stack s count).own; store = s.store }) (answered f args left s) (λ a t. run_at next (a ∷ below) t)
+  answered-Reaches : (left : List ℤ) (f : FunId) (args : ArrayVec ℤ) (place next : ℕ) (stack below : List ℤ) (s : ScriptState) (count : ℕ)
+      → Reaches shape code (record { own = asked_of (own_at next below s) f args left (run_at place stack s count).own; store = s.store }) (call_answered f args left s) (λ a t. run_at next (a ∷ below) t)
   answered-Reaches [] f args place next stack below s count = stops refl refl refl
   answered-Reaches (a ∷ left) f args place next stack below s count = arrives (count + 1)
 
-  asked-Reaches : (u : Use) (f : FunId) (args : ArrayVec ℤ) (place next : ℕ) (stack below : List ℤ) (s : State) (count : ℕ)
-      → Reaches shape code (run_by (Asks (own_at next below s) f args) u (run_at place stack s count)) (asked f args s) (λ a t. run_at next (a ∷ below) t)
+  asked-Reaches : (u : Use) (f : FunId) (args : ArrayVec ℤ) (place next : ℕ) (stack below : List ℤ) (s : ScriptState) (count : ℕ)
+      → Reaches shape code (run_by (Asks (own_at next below s) f args) u (run_at place stack s count)) (next_answer f args s) (λ a t. run_at next (a ∷ below) t)
   asked-Reaches u f args place next stack below s count = answered-Reaches s.left f args place next stack below s count
 
   -- ---- one piece of code after another
 
   -- code of two pieces does two parts, one after the other
-  pub pieces : {A B : Type 0} (xs ys : List Instr) {place : ℕ} {stack : List ℤ} {s : State} {count : ℕ} {o : Outcome A} {middle : A → List ℤ} {later : B → List ℤ} (next : A → State → Outcome B)
+  pub pieces : {A B : Type 0} (xs ys : List Instr) {place : ℕ} {stack : List ℤ} {s : ScriptState} {count : ℕ} {o : Evaluation A} {middle : A → List ℤ} {later : B → List ℤ} (next : A → ScriptState → Evaluation B)
       → StandsAt code place (xs ++ ys)
-      → Reaches shape code (run_at place stack s count) o (λ a t. run_at (place + bytes_of xs) (middle a) t)
-      → ((a : A) (t : State) (k : ℕ) → o ≡ Done a t → StandsAt code (place + bytes_of xs) ys
-      → Reaches shape code (run_at (place + bytes_of xs) (middle a) t k) (next a t) (λ b u. run_at (place + bytes_of xs + bytes_of ys) (later b) u))
-      → Reaches shape code (run_at place stack s count) (then_do o next) (λ b u. run_at (place + bytes_of (xs ++ ys)) (later b) u)
+      → Reaches shape code (run_at place stack s count) o (λ a t. run_at (place + size_of_instrs xs) (middle a) t)
+      → ((a : A) (t : ScriptState) (k : ℕ) → o ≡ Done a t → StandsAt code (place + size_of_instrs xs) ys
+      → Reaches shape code (run_at (place + size_of_instrs xs) (middle a) t k) (next a t) (λ b u. run_at (place + size_of_instrs xs + size_of_instrs ys) (later b) u))
+      → Reaches shape code (run_at place stack s count) (then_do o next) (λ b u. run_at (place + size_of_instrs (xs ++ ys)) (later b) u)
   pieces xs ys {place} next stands first rest =
-      let behind : StandsAt code (place + bytes_of xs) ys = stands-back code place xs ys stands in
+      let behind : StandsAt code (place + size_of_instrs xs) ys = stands-back code place xs ys stands in
       let size = bytes_of-append xs ys in
-      goal_at (place + bytes_of xs + bytes_of ys) (omega arith) (reaches-then next first (λ a t k is. rest a t k is behind))
+      goal_at (place + size_of_instrs xs + size_of_instrs ys) (omega arith) (reaches-then next first (λ a t k is. rest a t k is behind))
 
   -- a piece of one instruction
-  pub single : {B : Type 0} (i : Instr) {place : ℕ} {stack : List ℤ} {s : State} {count : ℕ} {o : Outcome B} {later : B → List ℤ}
+  pub single : {B : Type 0} (i : Instr) {place : ℕ} {stack : List ℤ} {s : ScriptState} {count : ℕ} {o : Evaluation B} {later : B → List ℤ}
       → StandsAt code place (i ∷ [])
       → Reaches shape code (executed shape i (run_at place stack s count)) o (λ b u. run_at (place + size_of i) (later b) u)
-      → Reaches shape code (run_at place stack s count) o (λ b u. run_at (place + bytes_of (i ∷ [])) (later b) u)
+      → Reaches shape code (run_at place stack s count) o (λ b u. run_at (place + size_of_instrs (i ∷ [])) (later b) u)
   single i {place} stands does = goal_at (place + size_of i) (omega arith) (executes i stands.0 does)
 
   -- a piece, and then one instruction
-  pub piece_and_one : {A B : Type 0} (xs : List Instr) (i : Instr) {place : ℕ} {stack : List ℤ} {s : State} {count : ℕ} {o : Outcome A} {middle : A → List ℤ} {later : B → List ℤ} (next : A → State → Outcome B)
+  pub piece_and_one : {A B : Type 0} (xs : List Instr) (i : Instr) {place : ℕ} {stack : List ℤ} {s : ScriptState} {count : ℕ} {o : Evaluation A} {middle : A → List ℤ} {later : B → List ℤ} (next : A → ScriptState → Evaluation B)
       → StandsAt code place (xs ++ i ∷ [])
-      → Reaches shape code (run_at place stack s count) o (λ a t. run_at (place + bytes_of xs) (middle a) t)
-      → ((a : A) (t : State) (k : ℕ) → o ≡ Done a t
-      → Reaches shape code (executed shape i (run_at (place + bytes_of xs) (middle a) t k)) (next a t) (λ b u. run_at (place + bytes_of xs + size_of i) (later b) u))
-      → Reaches shape code (run_at place stack s count) (then_do o next) (λ b u. run_at (place + bytes_of (xs ++ i ∷ [])) (later b) u)
+      → Reaches shape code (run_at place stack s count) o (λ a t. run_at (place + size_of_instrs xs) (middle a) t)
+      → ((a : A) (t : ScriptState) (k : ℕ) → o ≡ Done a t
+      → Reaches shape code (executed shape i (run_at (place + size_of_instrs xs) (middle a) t k)) (next a t) (λ b u. run_at (place + size_of_instrs xs + size_of i) (later b) u))
+      → Reaches shape code (run_at place stack s count) (then_do o next) (λ b u. run_at (place + size_of_instrs (xs ++ i ∷ [])) (later b) u)
   piece_and_one xs i next stands first rest = pieces xs (i ∷ []) next stands first (λ a t k is at. single i at (rest a t k is))
 
 -- ---- expressions and arguments
@@ -156,12 +160,12 @@ module _ {shape : Shape} {code : Code} where
 -- from this place on a run comes behind the expression's code, with the value on its stack
 abbrev pub ValueReaches : Shape → Code → Expression → ℕ → Type 0
 ValueReaches shape code e place =
-    (stack : List ℤ) (s : State) (count : ℕ) → Reaches shape code (run_at place stack s count) (value_of e s) (λ a t. run_at (place + expr_size e) (a ∷ stack) t)
+    (stack : List ℤ) (s : ScriptState) (count : ℕ) → Reaches shape code (run_at place stack s count) (value_of e s) (λ a t. run_at (place + expr_size e) (a ∷ stack) t)
 
 -- and behind the code of arguments, with their values
 abbrev ValuesReach : Shape → Code → Arguments → ℕ → Type 0
 ValuesReach shape code es place =
-    (stack : List ℤ) (s : State) (count : ℕ) → Reaches shape code (run_at place stack s count) (values_of es s) (λ values t. run_at (place + bytes_of (args_code es)) (pushed values stack) t)
+    (stack : List ℤ) (s : ScriptState) (count : ℕ) → Reaches shape code (run_at place stack s count) (values_of es s) (λ values t. run_at (place + size_of_instrs (args_code es)) (pushed values stack) t)
 
 module _ (shape : Shape) (code : Code) where
   mutual
@@ -171,25 +175,25 @@ module _ (shape : Shape) (code : Code) where
     value_of-Reaches (Shared v) calls right place stands stack s count = single (instr.GetS v) stands (arrives (count + 1))
     value_of-Reaches (Private i) calls right place stands stack s count = single (instr.GetP i) stands (arrives (count + 1))
     value_of-Reaches (Item p e) calls right place stands stack s count =
-        piece_and_one (expr_code e) (instr.BGet p) (λ i s. given (item_of (buffer_at s.store p.0) i) s) stands
+        piece_and_one (expr_code e) (instr.BGet p) (λ i s. value_or_fault (item_of (buffer_at s.store p.0) i) s) stands
         (value_of-Reaches e calls (and_parts (is_buffer shape p) (is_right_expr shape calls e) right).1 place (stands-front code place (expr_code e) (instr.BGet p ∷ []) stands) stack s count)
         (λ i t k is. gives-Reaches (item_of (buffer_at t.store p.0) i) _ _ _ _ stack t k)
     value_of-Reaches (Size p) calls right place stands stack s count = single (instr.BSize p) stands (arrives (count + 1))
     value_of-Reaches (MsgItem e) calls right place stands stack s count =
-        piece_and_one (expr_code e) instr.MsgGet (λ i s. given (item_of s.msg i) s) stands
+        piece_and_one (expr_code e) instr.MsgGet (λ i s. value_or_fault (item_of s.msg i) s) stands
         (value_of-Reaches e calls right place (stands-front code place (expr_code e) (instr.MsgGet ∷ []) stands) stack s count)
         (λ i t k is. gives-Reaches (item_of t.msg i) _ _ _ _ stack t k)
     value_of-Reaches MsgSize calls right place stands stack s count = single instr.MsgSize stands (arrives (count + 1))
     value_of-Reaches (Call f args) calls right place stands stack s count =
         let parts = and_parts (calls && is_call shape f (argument_count args)) (are_right shape calls args) right in
         let called : IsTrue (is_call shape f (argument_count args)) = (and_parts calls (is_call shape f (argument_count args)) parts.0).1 in
-        let here : ℕ = place + bytes_of (args_code args) in
+        let here : ℕ = place + size_of_instrs (args_code args) in
         let next : ℕ = here + size_of (instr.Fun f) in
-        piece_and_one (args_code args) (instr.Fun f) (λ values s. asked f (first_ten values) s) stands
+        piece_and_one (args_code args) (instr.Fun f) (λ values s. next_answer f (first_ten values) s) stands
         (values_of-Reaches args calls parts.1 place (stands-front code place (args_code args) (instr.Fun f ∷ []) stands) stack s count)
         (λ values t k is.
         let all : length values ≡ args_of shape f = values_of-length args s t values is ∙ call-args shape f (argument_count args) called in
-        let Q : Effect → Type 0 = λ e. Reaches shape code (run_by e (Calls f) (run_at here (pushed values stack) t k)) (asked f (first_ten values) t) (λ a u. run_at next (a ∷ stack) u) in
+        let Q : Effect → Type 0 = λ e. Reaches shape code (run_by e (Calls f) (run_at here (pushed values stack) t k)) (next_answer f (first_ten values) t) (λ a u. run_at next (a ∷ stack) u) in
         subst Q (sym (asks-pushed (args_of shape f) f values stack next t all)) (asked-Reaches (Calls f) f (first_ten values) here next (pushed values stack) stack t k))
     value_of-Reaches (SendBuf f p) calls right place stands stack s count =
         single (instr.FunBuf f p) stands (asked-Reaches (use_of (instr.FunBuf f p)) f (payload (buffer_at s.store p.0)) _ _ _ stack s count)
@@ -198,7 +202,7 @@ module _ (shape : Shape) (code : Code) where
         (value_of-Reaches e calls right place (stands-front code place (expr_code e) (instr.Neg ∷ []) stands) stack s count)
         (λ a t k is. arrives (k + 1))
     value_of-Reaches (Not e) calls right place stands stack s count =
-        piece_and_one (expr_code e) instr.Not (λ a s. given (test (not (is_truth a))) s) stands
+        piece_and_one (expr_code e) instr.Not (λ a s. value_or_fault (truth_value (not (is_truth a))) s) stands
         (value_of-Reaches e calls right place (stands-front code place (expr_code e) (instr.Not ∷ []) stands) stack s count)
         (λ a t k is. arrives (k + 1))
     value_of-Reaches (Two o l r) calls right place stands stack s count =
@@ -207,12 +211,12 @@ module _ (shape : Shape) (code : Code) where
         let here : ℕ = place + expr_size l in
         let there : ℕ = here + expr_size r in
         let next : ℕ = there + size_of (operator_code o) in
-        pieces (expr_code l) (expr_code r ++ last) (λ a s. then_do (value_of r s) (λ b s. given (applied o a b) s)) stands
+        pieces (expr_code l) (expr_code r ++ last) (λ a s. then_do (value_of r s) (λ b s. value_or_fault (applied o a b) s)) stands
         (value_of-Reaches l calls parts.0 place (stands-front code place (expr_code l) (expr_code r ++ last) stands) stack s count)
-        (λ a t k is at. piece_and_one (expr_code r) (operator_code o) (λ b s. given (applied o a b) s) at
+        (λ a t k is at. piece_and_one (expr_code r) (operator_code o) (λ b s. value_or_fault (applied o a b) s) at
         (value_of-Reaches r calls parts.1 here (stands-front code here (expr_code r) last at) (a ∷ stack) t k)
         (λ b u n is.
-        let Q : Run → Type 0 = λ x. Reaches shape code x (given (applied o a b) u) (λ c w. run_at next (c ∷ stack) w) in
+        let Q : Run → Type 0 = λ x. Reaches shape code x (value_or_fault (applied o a b) u) (λ c w. run_at next (c ∷ stack) w) in
         subst Q (sym (operator-executed shape o a b there stack u n)) (gives-Reaches (applied o a b) (use_of (operator_code o)) there next (b ∷ a ∷ stack) stack u n)))
 
     -- the code of arguments leaves their values, the last one on top

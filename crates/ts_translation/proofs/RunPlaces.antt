@@ -5,7 +5,7 @@ use Rattle.mate_code.specs.declared.instr.Instr.{Instr}
 use Rattle.mate_code.specs.Code.{placed}
 use Rattle.mate_code.specs.Instr.{size_of}
 use Rattle.mate_code.specs.Run.{Code, fetch}
-use Rattle.ts_translation.specs.Translation.{bytes_of}
+use Rattle.ts_translation.specs.Translation.{size_of_instrs}
 
 -- the instructions stand in the code, one after another, from this place on
 abbrev pub StandsAt : Code → ℕ → List Instr → Type 0
@@ -22,10 +22,10 @@ stands-front code place [] ys stands = tt
 stands-front code place (i ∷ xs) ys stands = (stands.0, stands-front code (place + size_of i) xs ys stands.1)
 
 -- the others stand behind those
-pub stands-back : (code : Code) (place : ℕ) (xs ys : List Instr) → StandsAt code place (xs ++ ys) → StandsAt code (place + bytes_of xs) ys
+pub stands-back : (code : Code) (place : ℕ) (xs ys : List Instr) → StandsAt code place (xs ++ ys) → StandsAt code (place + size_of_instrs xs) ys
 stands-back code place [] ys stands = stands-at code ys place (place + 0) (omega arith) stands
 stands-back code place (i ∷ xs) ys stands =
-    stands-at code ys (place + size_of i + bytes_of xs) (place + bytes_of (i ∷ xs)) (omega arith) (stands-back code (place + size_of i) xs ys stands.1)
+    stands-at code ys (place + size_of i + size_of_instrs xs) (place + size_of_instrs (i ∷ xs)) (omega arith) (stands-back code (place + size_of i) xs ys stands.1)
 
 -- an instruction more in front of the code moves none of them
 stands-behind : (code : Code) (first : ℕ) (x : Instr) (place : ℕ) (is : List Instr) → first < place → StandsAt code place is → StandsAt ((first, x) ∷ code) place is

@@ -10,7 +10,7 @@ use Rattle.mate_num.specs.declared.resource.Resource.TheVariants.{Buffer}
 use Rattle.mate_num.specs.declared.shape.Shape.{Shape}
 use Rattle.mate_code.specs.declared.instr.Instr.{Instr}
 use Rattle.mate_code.specs.declared.instr.Instr.TheVariants as instr
-use Rattle.mate_code.specs.CodeUses.{Nothing, Changes}
+use Rattle.mate_code.specs.declared.uses.Use.TheVariants.{Nothing, Changes}
 use Rattle.mate_code.specs.Effect.{Goes, changes, takes, at_place}
 use Rattle.mate_code.specs.Instr.{size_of}
 use Rattle.mate_code.specs.Run.{Code, Run, executed, run_by}
@@ -19,10 +19,10 @@ use Rattle.ts_syntax.specs.Statement.{Statement, Block, no_statements, statement
 use Rattle.ts_syntax.specs.Right.{is_variable, is_buffer, is_step, is_head, is_right_expr, is_right_stmt, is_right_block}
 use Rattle.ts_syntax.specs.declared.checked_stmt.CVar.{CVar}
 use Rattle.ts_syntax.specs.declared.checked_stmt.CVar.TheVariants as variable
-use Rattle.ts_meaning.specs.State.{State, Outcome, Done, then_do, variable_at, with_variable, with_buffer, changed, moved, dropped, choose, round_if, loop_does}
+use Rattle.ts_meaning.specs.State.{ScriptState, Evaluation, Done, then_do, variable_at, with_variable, with_buffer, buffer_changed, moved, dropped, choose, round_if, loop_does}
 use Rattle.ts_meaning.specs.Meaning.{value_of, is_within, for_round, stepped, body_and_step, run_stmt, run_block}
 use Rattle.ts_meaning.proofs.LoopLemmas.{while_wins_none, for_wins_none}
-use Rattle.ts_translation.specs.Translation.{bytes_of, number_code, get_code, set_code, expr_code, expr_size, stmt_size, block_size, within_code, while_body, while_end, else_begin, else_end, for_test, for_body, for_end, step_code, stmt_code, block_code}
+use Rattle.ts_translation.specs.Translation.{size_of_instrs, number_code, get_code, set_code, expr_code, expr_size, stmt_size, block_size, within_code, while_body, while_end, else_begin, else_end, for_test, for_body, for_end, step_code, stmt_code, block_code}
 use Rattle.ts_translation.proofs.PlaceLemmas.{size_of-get_code, size_of-set_code, size_of-within_code, bytes_of-stmt_code, bytes_of-block_code}
 use Rattle.ts_translation.proofs.RunPlaces.{StandsAt, stands-at, stands-front, stands-back}
 use Rattle.ts_translation.proofs.RunReaches.{own_at, run_at, Goal, Reaches, arrives, arrives_by, stops, reaches-then, reaches-on, executes, executes_to, goal_at}
@@ -32,17 +32,17 @@ use Rattle.ts_translation.proofs.RunLoops.{round_end, loop_does-Reaches}
 -- ---- what single instructions do
 
 -- a variable is pushed; the next place under any name
-get-executed : (shape : Shape) (x : CVar) (place next : ℕ) (stack : List ℤ) (s : State) (count : ℕ) → place + size_of (get_code x) ≡ next → executed shape (get_code x) (run_at place stack s count) ≡ run_at next (variable_at x s ∷ stack) s (count + 1)
+get-executed : (shape : Shape) (x : CVar) (place next : ℕ) (stack : List ℤ) (s : ScriptState) (count : ℕ) → place + size_of (get_code x) ≡ next → executed shape (get_code x) (run_at place stack s count) ≡ run_at next (variable_at x s ∷ stack) s (count + 1)
 get-executed shape (variable.Shared v) place next stack s count e = ap (λ (p : ℕ). run_at p (variable_at (variable.Shared v) s ∷ stack) s (count + 1)) e
 get-executed shape (variable.Private i) place next stack s count e = ap (λ (p : ℕ). run_at p (variable_at (variable.Private i) s ∷ stack) s (count + 1)) e
 
 -- a value goes into a variable
-set-executed : (shape : Shape) (x : CVar) (a : ℤ) (place next : ℕ) (stack : List ℤ) (s : State) (count : ℕ) → place + size_of (set_code x) ≡ next → executed shape (set_code x) (run_at place (a ∷ stack) s count) ≡ run_at next stack (with_variable x a s) (count + 1)
+set-executed : (shape : Shape) (x : CVar) (a : ℤ) (place next : ℕ) (stack : List ℤ) (s : ScriptState) (count : ℕ) → place + size_of (set_code x) ≡ next → executed shape (set_code x) (run_at place (a ∷ stack) s count) ≡ run_at next stack (with_variable x a s) (count + 1)
 set-executed shape (variable.Shared v) a place next stack s count e = ap (λ (p : ℕ). run_at p stack (with_variable (variable.Shared v) a s) (count + 1)) e
 set-executed shape (variable.Private i) a place next stack s count e = ap (λ (p : ℕ). run_at p stack (with_variable (variable.Private i) a s) (count + 1)) e
 
 -- the test of a `for`
-within-executed : (shape : Shape) (step v b : ℤ) (place : ℕ) (stack : List ℤ) (s : State) (count : ℕ) → executed shape (within_code step) (run_at place (b ∷ v ∷ stack) s count) ≡ run_at (place + 1) ((truth (is_within step v b)).0 ∷ stack) s (count + 1)
+within-executed : (shape : Shape) (step v b : ℤ) (place : ℕ) (stack : List ℤ) (s : ScriptState) (count : ℕ) → executed shape (within_code step) (run_at place (b ∷ v ∷ stack) s count) ≡ run_at (place + 1) ((truth (is_within step v b)).0 ∷ stack) s (count + 1)
 within-executed shape (pos step) v b place stack s count = refl
 within-executed shape (negsuc step) v b place stack s count = refl
 
@@ -52,13 +52,13 @@ is_truth-truth false = refl
 
 module _ {shape : Shape} {code : Code} where
   -- a buffer has its new values, or a fault ends the run
-  changes-Reaches : (p : BufId) (res : Result (List ℤ) FaultKind) (place next : ℕ) (stack below : List ℤ) (s : State) (count : ℕ)
-      → Reaches shape code (run_by (changes res (own_at next below s)) (Changes (Buffer p)) (run_at place stack s count)) (changed p res s) (λ _ u. run_at next below u)
+  changes-Reaches : (p : BufId) (res : Result (List ℤ) FaultKind) (place next : ℕ) (stack below : List ℤ) (s : ScriptState) (count : ℕ)
+      → Reaches shape code (run_by (changes res (own_at next below s)) (Changes (Buffer p)) (run_at place stack s count)) (buffer_changed p res s) (λ _ u. run_at next below u)
   changes-Reaches p (Ok values) place next stack below s count = arrives (count + 1)
   changes-Reaches p (Err kind) place next stack below s count = stops refl refl refl
 
   -- a test takes the run to the next place or to the target
-  branch-Reaches : {A : Type 0} (b : Bool) (o : Bool → Outcome A) (place next target : ℕ) (stack below : List ℤ) (s : State) (count : ℕ) {goal : Goal A}
+  branch-Reaches : {A : Type 0} (b : Bool) (o : Bool → Evaluation A) (place next target : ℕ) (stack below : List ℤ) (s : ScriptState) (count : ℕ) {goal : Goal A}
       → Reaches shape code (run_at next below s (count + 1)) (o true) goal
       → Reaches shape code (run_at target below s (count + 1)) (o false) goal
       → Reaches shape code (run_by (Goes (if b then own_at next below s else at_place target (own_at next below s))) Nothing (run_at place stack s count)) (o b) goal
@@ -66,10 +66,10 @@ module _ {shape : Shape} {code : Code} where
   branch-Reaches false o place next target stack below s count holds fails = fails
 
   -- an expression, and a jump where it isn't true
-  tests : {A : Type 0} (e : Expression) (target : ℕ) (rest : List Instr) (o : Bool → State → Outcome A) {goal : Goal A} → IsTrue (is_right_expr shape true e)
-      → (place : ℕ) → StandsAt code place (expr_code e ++ instr.Jz target ∷ rest) → (stack : List ℤ) (s : State) (count : ℕ)
-      → ((t : State) (k : ℕ) → Reaches shape code (run_at (place + expr_size e + 3) stack t k) (o true t) goal)
-      → ((t : State) (k : ℕ) → Reaches shape code (run_at target stack t k) (o false t) goal)
+  tests : {A : Type 0} (e : Expression) (target : ℕ) (rest : List Instr) (o : Bool → ScriptState → Evaluation A) {goal : Goal A} → IsTrue (is_right_expr shape true e)
+      → (place : ℕ) → StandsAt code place (expr_code e ++ instr.Jz target ∷ rest) → (stack : List ℤ) (s : ScriptState) (count : ℕ)
+      → ((t : ScriptState) (k : ℕ) → Reaches shape code (run_at (place + expr_size e + 3) stack t k) (o true t) goal)
+      → ((t : ScriptState) (k : ℕ) → Reaches shape code (run_at target stack t k) (o false t) goal)
       → Reaches shape code (run_at place stack s count) (then_do (value_of e s) (λ v s. o (is_truth v) s)) goal
   tests e target rest o right place stands stack s count holds fails =
       let jump : ℕ = place + expr_size e in
@@ -80,8 +80,8 @@ module _ {shape : Shape} {code : Code} where
       (branch-Reaches (is_truth v) (λ b. o b t) jump (jump + 3) target (v ∷ stack) stack t k (holds t (k + 1)) (fails t (k + 1))))
 
   -- the variable of a `for` takes its step
-  step-Reaches : (x : CVar) (step : ℤ) (place : ℕ) → StandsAt code place (step_code x step) → (stack : List ℤ) (s : State) (count : ℕ)
-      → Reaches shape code (run_at place stack s count) (Done (tt {0}) (stepped x step s)) (λ _ u. run_at (place + bytes_of (step_code x step)) stack u)
+  step-Reaches : (x : CVar) (step : ℤ) (place : ℕ) → StandsAt code place (step_code x step) → (stack : List ℤ) (s : ScriptState) (count : ℕ)
+      → Reaches shape code (run_at place stack s count) (Done (tt {0}) (stepped x step s)) (λ _ u. run_at (place + size_of_instrs (step_code x step)) stack u)
   step-Reaches x step place stands stack s count =
       let number_at : ℕ = place + size_of (get_code x) in
       let add_at : ℕ = number_at + size_of (number_code step) in
@@ -91,24 +91,24 @@ module _ {shape : Shape} {code : Code} where
       (executes instr.Add stands.1.1.0
       (executes (set_code x) stands.1.1.1.0
       (arrives_by (count + 1 + 1 + 1 + 1)
-      (set-executed shape x (wrap (v +ℤ step)) (add_at + 1) (place + bytes_of (step_code x step)) stack s (count + 1 + 1 + 1) (omega arith))))))
+      (set-executed shape x (wrap (v +ℤ step)) (add_at + 1) (place + size_of_instrs (step_code x step)) stack s (count + 1 + 1 + 1) (omega arith))))))
 
   -- an expression, and one instruction that takes its value
-  takes_value : (e : Expression) (i : Instr) (next : ℤ → State → Outcome ⊤) → IsTrue (is_right_expr shape true e) → (place : ℕ) → StandsAt code place (expr_code e ++ i ∷ []) → (stack : List ℤ) (s : State) (count : ℕ)
-      → ((a : ℤ) (t : State) (k : ℕ) → Reaches shape code (executed shape i (run_at (place + expr_size e) (a ∷ stack) t k)) (next a t) (λ _ u. run_at (place + expr_size e + size_of i) stack u))
-      → Reaches shape code (run_at place stack s count) (then_do (value_of e s) next) (λ _ u. run_at (place + bytes_of (expr_code e ++ i ∷ [])) stack u)
+  takes_value : (e : Expression) (i : Instr) (next : ℤ → ScriptState → Evaluation ⊤) → IsTrue (is_right_expr shape true e) → (place : ℕ) → StandsAt code place (expr_code e ++ i ∷ []) → (stack : List ℤ) (s : ScriptState) (count : ℕ)
+      → ((a : ℤ) (t : ScriptState) (k : ℕ) → Reaches shape code (executed shape i (run_at (place + expr_size e) (a ∷ stack) t k)) (next a t) (λ _ u. run_at (place + expr_size e + size_of i) stack u))
+      → Reaches shape code (run_at place stack s count) (then_do (value_of e s) next) (λ _ u. run_at (place + size_of_instrs (expr_code e ++ i ∷ [])) stack u)
   takes_value e i next right place stands stack s count does =
       piece_and_one (expr_code e) i next stands
       (value_of-Reaches shape code e true right place (stands-front code place (expr_code e) (i ∷ []) stands) stack s count)
       (λ a t k is. does a t k)
 
   -- the result of a call is dropped
-  drop-Reaches : (e : Expression) → IsTrue (is_right_expr shape true e) → (place : ℕ) → StandsAt code place (expr_code e ++ instr.Drop ∷ []) → (stack : List ℤ) (s : State) (count : ℕ)
-      → Reaches shape code (run_at place stack s count) (then_do (value_of e s) dropped) (λ _ u. run_at (place + bytes_of (expr_code e ++ instr.Drop ∷ [])) stack u)
+  drop-Reaches : (e : Expression) → IsTrue (is_right_expr shape true e) → (place : ℕ) → StandsAt code place (expr_code e ++ instr.Drop ∷ []) → (stack : List ℤ) (s : ScriptState) (count : ℕ)
+      → Reaches shape code (run_at place stack s count) (then_do (value_of e s) dropped) (λ _ u. run_at (place + size_of_instrs (expr_code e ++ instr.Drop ∷ [])) stack u)
   drop-Reaches e right place stands stack s count = takes_value e instr.Drop dropped right place stands stack s count (λ a t k. arrives (k + 1))
 
   -- the value at the end of a buffer goes into a variable, or a fault ends the run
-  take-Reaches : (x : CVar) (p : BufId) (place : ℕ) → StandsAt code place (instr.BTake p ∷ set_code x ∷ []) → (stack : List ℤ) (s : State) (count : ℕ)
+  take-Reaches : (x : CVar) (p : BufId) (place : ℕ) → StandsAt code place (instr.BTake p ∷ set_code x ∷ []) → (stack : List ℤ) (s : ScriptState) (count : ℕ)
       → Reaches shape code (run_at place stack s count) (moved x p (last_of (buffer_at s.store p.0)) s) (λ _ u. run_at (place + 4) stack u)
   take-Reaches x p place stands stack s count = executes (instr.BTake p) stands.0 (by (last_of (buffer_at s.store p.0))) where
     less : List ℤ
@@ -125,28 +125,28 @@ module _ {shape : Shape} {code : Code} where
 -- from this place on a run comes behind the statement's code
 abbrev StmtReaches : Shape → Code → Statement → ℕ → Type 0
 StmtReaches shape code x place =
-    (stack : List ℤ) (s : State) (count : ℕ) → Reaches shape code (run_at place stack s count) (run_stmt x s) (λ _ u. run_at (place + stmt_size x) stack u)
+    (stack : List ℤ) (s : ScriptState) (count : ℕ) → Reaches shape code (run_at place stack s count) (run_stmt x s) (λ _ u. run_at (place + stmt_size x) stack u)
 
 -- and behind the block's code
 abbrev BlockReaches : Shape → Code → Block → ℕ → Type 0
 BlockReaches shape code b place =
-    (stack : List ℤ) (s : State) (count : ℕ) → Reaches shape code (run_at place stack s count) (run_block b s) (λ _ u. run_at (place + block_size b) stack u)
+    (stack : List ℤ) (s : ScriptState) (count : ℕ) → Reaches shape code (run_at place stack s count) (run_block b s) (λ _ u. run_at (place + block_size b) stack u)
 
 -- what stands behind the code of a statement, and of a block, by its size
 behind_stmt : (code : Code) (place : ℕ) (x : Statement) (rest : List Instr) → StandsAt code place (stmt_code place x ++ rest) → StandsAt code (place + stmt_size x) rest
 behind_stmt code place x rest stands =
-    stands-at code rest (place + bytes_of (stmt_code place x)) (place + stmt_size x) (ap (λ (n : ℕ). place + n) (bytes_of-stmt_code place x)) (stands-back code place (stmt_code place x) rest stands)
+    stands-at code rest (place + size_of_instrs (stmt_code place x)) (place + stmt_size x) (ap (λ (n : ℕ). place + n) (bytes_of-stmt_code place x)) (stands-back code place (stmt_code place x) rest stands)
 
 pub behind_block : (code : Code) (place : ℕ) (b : Block) (rest : List Instr) → StandsAt code place (block_code place b ++ rest) → StandsAt code (place + block_size b) rest
 behind_block code place b rest stands =
-    stands-at code rest (place + bytes_of (block_code place b)) (place + block_size b) (ap (λ (n : ℕ). place + n) (bytes_of-block_code place b)) (stands-back code place (block_code place b) rest stands)
+    stands-at code rest (place + size_of_instrs (block_code place b)) (place + block_size b) (ap (λ (n : ℕ). place + n) (bytes_of-block_code place b)) (stands-back code place (block_code place b) rest stands)
 
 module _ (shape : Shape) (code : Code) where
   -- the loop of a `for`, from its test on
   for-Reaches : (x : CVar) (to : Expression) (step : ℤ) (a : Block) → IsTrue (is_right_expr shape false to) → (start behind : ℕ) → let body : ℕ = start + 2 + expr_size to + 1 + 3 in
       StandsAt code start (get_code x ∷ (expr_code to ++ within_code step ∷ instr.Jz behind ∷ (block_code body a ++ (step_code x step ++ instr.Back start ∷ []))))
       → (StandsAt code body (block_code body a) → BlockReaches shape code a body)
-      → (stack : List ℤ) (s : State) (count : ℕ) → Reaches shape code (run_at start stack s count) (loop_does (for_round x (value_of to) step (run_block a)) s) (λ _ u. run_at behind stack u)
+      → (stack : List ℤ) (s : ScriptState) (count : ℕ) → Reaches shape code (run_at start stack s count) (loop_does (for_round x (value_of to) step (run_block a)) s) (λ _ u. run_at behind stack u)
   for-Reaches x to step a right start behind stands body_does stack = loop_does-Reaches back at_back.0 (for_wins_none x to step a) round where
     limit : ℕ
     limit = start + 2
@@ -161,7 +161,7 @@ module _ (shape : Shape) (code : Code) where
     stepping = body + block_size a
 
     back : ℕ
-    back = stepping + bytes_of (step_code x step)
+    back = stepping + size_of_instrs (step_code x step)
 
     goes_back : List Instr
     goes_back = step_code x step ++ instr.Back start ∷ []
@@ -187,11 +187,11 @@ module _ (shape : Shape) (code : Code) where
     at_back : StandsAt code back (instr.Back start ∷ [])
     at_back = stands-back code stepping (step_code x step) (instr.Back start ∷ []) at_step
 
-    goal : Bool → State → ℕ → Run
+    goal : Bool → ScriptState → ℕ → Run
     goal again u = run_at (round_end back behind again) stack u
 
     -- the body, and then the step
-    holds : (t : State) (k : ℕ) → Reaches shape code (run_at body stack t k) (round_if true (body_and_step x step (run_block a)) t) goal
+    holds : (t : ScriptState) (k : ℕ) → Reaches shape code (run_at body stack t k) (round_if true (body_and_step x step (run_block a)) t) goal
     holds t k =
         reaches-then (λ _ s. Done true s)
         (reaches-then (λ _ s. Done tt (stepped x step s)) (body_does (stands-front code body (block_code body a) goes_back at_jump.1) stack t k)
@@ -199,17 +199,17 @@ module _ (shape : Shape) (code : Code) where
         (λ _ u n is. arrives n)
 
     -- the test of the variable, read before its limit
-    round : (s : State) (count : ℕ) → Reaches shape code (run_at start stack s count) (for_round x (value_of to) step (run_block a) s) goal
+    round : (s : ScriptState) (count : ℕ) → Reaches shape code (run_at start stack s count) (for_round x (value_of to) step (run_block a) s) goal
     round s count =
         let v : ℤ = variable_at x s in
-        let next : ℤ → State → Outcome Bool = λ b after. round_if (is_within step v b) (body_and_step x step (run_block a)) after in
+        let next : ℤ → ScriptState → Evaluation Bool = λ b after. round_if (is_within step v b) (body_and_step x step (run_block a)) after in
         let size = size_of-get_code x in
         executes_to (get_code x) stands.0 (get-executed shape x start limit stack s count (omega arith))
         (reaches-then next (value_of-Reaches shape code to false right limit (stands-front code limit (expr_code to) tested at_limit) (v ∷ stack) s (count + 1))
         (λ b t k is.
         let within : Bool = is_within step v b in
         let number : ℤ = (truth within).0 in
-        let o : Bool → Outcome Bool = λ c. round_if c (body_and_step x step (run_block a)) t in
+        let o : Bool → Evaluation Bool = λ c. round_if c (body_and_step x step (run_block a)) t in
         let branched : Run = run_by (Goes (if is_truth number then own_at body stack t else at_place behind (own_at body stack t))) Nothing (run_at (test + 1) (number ∷ stack) t (k + 1)) in
         let Q : Bool → Type 0 = λ c. Reaches shape code branched (o c) goal in
         executes_to (within_code step) at_test.0 (within-executed shape step v b test stack t k)
@@ -218,9 +218,9 @@ module _ (shape : Shape) (code : Code) where
         (branch-Reaches (is_truth number) o (test + 1) body behind (number ∷ stack) stack t (k + 1) (holds t (k + 1 + 1)) (arrives (k + 1 + 1)))))))
 
   -- the code of a simple statement that comes behind its last instruction comes behind the statement
-  sized : (place : ℕ) (x : Statement) (stack : List ℤ) (s : State) (count : ℕ) → Reaches shape code (run_at place stack s count) (run_stmt x s) (λ _ u. run_at (place + bytes_of (stmt_code place x)) stack u)
+  sized : (place : ℕ) (x : Statement) (stack : List ℤ) (s : ScriptState) (count : ℕ) → Reaches shape code (run_at place stack s count) (run_stmt x s) (λ _ u. run_at (place + size_of_instrs (stmt_code place x)) stack u)
       → Reaches shape code (run_at place stack s count) (run_stmt x s) (λ _ u. run_at (place + stmt_size x) stack u)
-  sized place x stack s count is = goal_at (place + bytes_of (stmt_code place x)) (ap (λ (n : ℕ). place + n) (bytes_of-stmt_code place x)) is
+  sized place x stack s count is = goal_at (place + size_of_instrs (stmt_code place x)) (ap (λ (n : ℕ). place + n) (bytes_of-stmt_code place x)) is
 
   mutual
     -- the code of a statement comes to its end, or is over as the statement is
@@ -235,7 +235,7 @@ module _ (shape : Shape) (code : Code) where
         let right_i : IsTrue (is_right_expr shape true i) = (and_parts (is_buffer shape p) (is_right_expr shape true i) parts.0).1 in
         let last : List Instr = instr.BSet p ∷ [] in
         let here : ℕ = place + expr_size i in
-        let next : ℤ → ℤ → State → Outcome ⊤ = λ n a s. changed p (item_set (buffer_at s.store p.0) n a) s in
+        let next : ℤ → ℤ → ScriptState → Evaluation ⊤ = λ n a s. buffer_changed p (item_set (buffer_at s.store p.0) n a) s in
         sized place (SetItem p i e) stack s count
         (pieces (expr_code i) (expr_code e ++ last) (λ n s. then_do (value_of e s) (next n)) stands
         (value_of-Reaches shape code i true right_i place (stands-front code place (expr_code i) (expr_code e ++ last) stands) stack s count)
@@ -244,7 +244,7 @@ module _ (shape : Shape) (code : Code) where
         (λ a u m is. changes-Reaches p (item_set (buffer_at u.store p.0) n a) _ _ _ stack u m)))
     run_stmt-Reaches (Append p e) right place stands stack s count =
         sized place (Append p e) stack s count
-        (takes_value e (instr.BAdd p) (λ a s. changed p (appended (buffer_at s.store p.0) a) s) (and_parts (is_buffer shape p) (is_right_expr shape true e) right).1 place stands stack s count
+        (takes_value e (instr.BAdd p) (λ a s. buffer_changed p (appended (buffer_at s.store p.0) a) s) (and_parts (is_buffer shape p) (is_right_expr shape true e) right).1 place stands stack s count
         (λ a t k. changes-Reaches p (appended (buffer_at t.store p.0) a) _ _ _ stack t k))
     run_stmt-Reaches (Take x p) right place stands stack s count = take-Reaches x p place stands stack s count
     run_stmt-Reaches (Clear p) right place stands stack s count = executes (instr.BClear p) stands.0 (arrives (count + 1))

@@ -1,22 +1,18 @@
 -- The code of a script reads and writes what the script does.
-use Rattle.std.proofs.Common.{◌≡◌, ℕ, ◌+◌, ℤ, pos, negsuc, List, [], ◌∷◌, ◌++◌, Bool, true, false, Option, None, Some, refl, ap, sym, ◌∙◌}
-use Rattle.std.specs.Prelude.{◌||◌, nat_lt, if◌then◌else◌, slice_get}
+use Rattle.std.proofs.Common.{◌≡◌, ℕ, ◌+◌, ℤ, pos, negsuc, List, [], ◌∷◌, ◌++◌, Bool, true, false, refl, ap, sym, ◌∙◌}
+use Rattle.std.specs.Prelude.{◌||◌, nat_lt, if◌then◌else◌}
 use Rattle.std.specs.List.{list_any}
 use Rattle.std.proofs.Math.Bool.{or_assoc, or_comm, or-false}
 use Rattle.std.proofs.lemmas.List.Folds.{list_any-append}
-use Rattle.mate_num.specs.declared.id.VarId.{VarId}
-use Rattle.mate_num.specs.declared.id.BufId.{BufId}
-use Rattle.mate_num.specs.declared.id.DeviceId.{DeviceId}
-use Rattle.mate_num.specs.declared.id.FunId.{FunId}
 use Rattle.mate_num.specs.declared.resource.Resource.{Resource}
 use Rattle.mate_num.specs.declared.resource.Resource.TheVariants as resource
 use Rattle.mate_num.specs.declared.shape.Shape.{Shape}
-use Rattle.mate_num.specs.declared.shape.FunShape.{FunShape}
 use Rattle.mate_code.specs.declared.instr.Instr.{Instr}
 use Rattle.mate_code.specs.declared.instr.Instr.TheVariants as instr
-use Rattle.mate_code.specs.Cells.{is_same}
 use Rattle.mate_code.specs.Code.{placed}
-use Rattle.mate_code.specs.CodeUses.{Use, Nothing, use_of, reads_in, writes_in, function_of, is_device_of as is_device_of_function, is_device as is_device_there}
+use Rattle.mate_code.specs.CodeUses.{use_of, reads_in, writes_in}
+use Rattle.mate_code.specs.declared.uses.Use.TheVariants.{Nothing}
+use Rattle.mate_code.specs.declared.uses.Use.{Use}
 use Rattle.mate_code.specs.Instr.{size_of}
 use Rattle.ts_syntax.specs.Expression.{Expression, Arguments, no_arguments, argument, Num, Shared, Private, Item, Size, MsgItem, MsgSize, Call, SendBuf, Neg, Not, Two}
 use Rattle.ts_syntax.specs.Statement.{Statement, Block, no_statements, statement, Set, SetItem, Append, Take, Clear, Do, DoSend, If, IfElse, For, While}
@@ -24,7 +20,7 @@ use Rattle.ts_syntax.specs.declared.bin_op.BinOp.{BinOp}
 use Rattle.ts_syntax.specs.declared.bin_op.BinOp.TheVariants as op
 use Rattle.ts_syntax.specs.declared.checked_stmt.CVar.{CVar}
 use Rattle.ts_syntax.specs.declared.checked_stmt.CVar.TheVariants as variable
-use Rattle.ts_meaning.specs.Uses.{is_shared, is_buffer, is_device, is_variable, is_device_in, is_device_of_shape, is_device_of, expr_reads, args_read, expr_writes, args_write, stmt_reads, block_reads, stmt_writes, block_writes}
+use Rattle.ts_meaning.specs.Uses.{is_this_buffer, is_this_variable, expr_reads, args_read, expr_writes, args_write, stmt_reads, block_reads, stmt_writes, block_writes}
 use Rattle.ts_translation.specs.Translation.{number_code, get_code, set_code, operator_code, expr_code, args_code, expr_size, stmt_size, block_size, within_code, while_body, while_end, else_begin, else_end, for_test, for_body, for_end, step_code, stmt_code, block_code, script_code, code_of}
 use Rattle.ts_translation.specs.Laws.{UsesAsItsScript}
 
@@ -66,31 +62,6 @@ tells_push {test} {is} {a} {b} i first last = tells_append first (tells_one i la
 -- one that doesn't pass, behind others
 tells_quiet : {test : Instr → Bool} {is : List Instr} {a : Bool} (i : Instr) → Tells test is a → test i ≡ false → Tells test (is ++ i ∷ []) a
 tells_quiet {test} {is} {a} i first last = tells_same (or-false a) (tells_push i first last)
-
--- ---- resources
-
-same_shared : (v : VarId) (r : Resource) → is_same (resource.Shared v) r ≡ is_shared v r
-same_shared v (resource.Shared w) = refl
-same_shared v (resource.Buffer p) = refl
-same_shared v (resource.Device d) = refl
-
-same_buffer : (p : BufId) (r : Resource) → is_same (resource.Buffer p) r ≡ is_buffer p r
-same_buffer p (resource.Shared v) = refl
-same_buffer p (resource.Buffer q) = refl
-same_buffer p (resource.Device d) = refl
-
-same_device : (d : DeviceId) (r : Resource) → is_same (resource.Device d) r ≡ is_device d r
-same_device d (resource.Shared v) = refl
-same_device d (resource.Buffer p) = refl
-same_device d (resource.Device e) = refl
-
-same_device_there : (o : Option DeviceId) (r : Resource) → is_device_there o r ≡ is_device_in o r
-same_device_there None r = refl
-same_device_there (Some d) r = same_device d r
-
-same_function : (o : Option FunShape) (r : Resource) → is_device_of_function o r ≡ is_device_of_shape o r
-same_function None r = refl
-same_function (Some f) r = same_device_there f.device r
 
 -- ---- instructions that use nothing
 
@@ -153,8 +124,8 @@ module _ (r : Resource) where
   reads_nothing : (i : Instr) → use_of i ≡ Nothing → reads i ≡ false
   reads_nothing i nothing = ap (λ (u : Use). reads_in u r) nothing
 
-  reads_get : (x : CVar) → reads (get_code x) ≡ is_variable x r
-  reads_get (variable.Shared v) = same_shared v r
+  reads_get : (x : CVar) → reads (get_code x) ≡ is_this_variable x r
+  reads_get (variable.Shared v) = refl
   reads_get (variable.Private i) = refl
 
   reads_set : (x : CVar) → reads (set_code x) ≡ false
@@ -164,14 +135,14 @@ module _ (r : Resource) where
   mutual
     expr-reads : (e : Expression) → Tells reads (expr_code e) (expr_reads e r)
     expr-reads (Num n) = tells_one (number_code n) (reads_nothing (number_code n) (number_uses n))
-    expr-reads (Shared v) = tells_one (instr.GetS v) (same_shared v r)
+    expr-reads (Shared v) = tells_one (instr.GetS v) refl
     expr-reads (Private i) = tells_one (instr.GetP i) refl
-    expr-reads (Item p e) = tells_same (or_comm (expr_reads e r) (is_buffer p r)) (tells_push (instr.BGet p) (expr-reads e) (same_buffer p r))
-    expr-reads (Size p) = tells_one (instr.BSize p) (same_buffer p r)
+    expr-reads (Item p e) = tells_same (or_comm (expr_reads e r) (is_this_buffer p r)) (tells_push (instr.BGet p) (expr-reads e) refl)
+    expr-reads (Size p) = tells_one (instr.BSize p) refl
     expr-reads (MsgItem e) = tells_quiet instr.MsgGet (expr-reads e) refl
     expr-reads MsgSize = tells_one instr.MsgSize refl
     expr-reads (Call f args) = tells_quiet (instr.Fun f) (args-read args) refl
-    expr-reads (SendBuf f p) = tells_one (instr.FunBuf f p) (same_buffer p r)
+    expr-reads (SendBuf f p) = tells_one (instr.FunBuf f p) refl
     expr-reads (Neg e) = tells_quiet instr.Neg (expr-reads e) refl
     expr-reads (Not e) = tells_quiet instr.Not (expr-reads e) refl
     expr-reads (Two o a b) =
@@ -182,7 +153,7 @@ module _ (r : Resource) where
     args-read (argument e es) = tells_append (expr-reads e) (args-read es)
 
   -- the step of a `for`, and the going back
-  step_reads : (x : CVar) (step : ℤ) (place : ℕ) → Tells reads (step_code x step ++ instr.Back place ∷ []) (is_variable x r || false)
+  step_reads : (x : CVar) (step : ℤ) (place : ℕ) → Tells reads (step_code x step ++ instr.Back place ∷ []) (is_this_variable x r || false)
   step_reads x step place =
       tells_cons (get_code x) (reads_get x)
       (tells_cons (number_code step) (reads_nothing (number_code step) (number_uses step))
@@ -206,7 +177,7 @@ module _ (r : Resource) where
         (tells_append (block-reads (place + expr_size e + 3) a)
         (tells_cons (instr.Jmp (else_end place e a b)) refl (block-reads (else_begin place e a) b)))))
     stmt-reads place (For x from to step a) =
-        tells_same (for_order (expr_reads from r) (is_variable x r) (expr_reads to r) (block_reads a r))
+        tells_same (for_order (expr_reads from r) (is_this_variable x r) (expr_reads to r) (block_reads a r))
         (tells_append (expr-reads from)
         (tells_cons (set_code x) (reads_set x) (tells_cons (get_code x) (reads_get x)
         (tells_append (expr-reads to)
@@ -238,12 +209,9 @@ module _ (shape : Shape) (r : Resource) where
   writes_get (variable.Shared v) = refl
   writes_get (variable.Private i) = refl
 
-  writes_set : (x : CVar) → writes (set_code x) ≡ is_variable x r
-  writes_set (variable.Shared v) = same_shared v r
+  writes_set : (x : CVar) → writes (set_code x) ≡ is_this_variable x r
+  writes_set (variable.Shared v) = refl
   writes_set (variable.Private i) = refl
-
-  writes_call : (f : FunId) → is_device_of_function (function_of shape f) r ≡ is_device_of shape f r
-  writes_call f = same_function (slice_get shape.functions.items f.0) r
 
   -- what is written last stands first among the writes
   tells_first : {is : List Instr} {a b : Bool} (i : Instr) → Tells writes is a → writes i ≡ b → Tells writes (is ++ i ∷ []) (b || a)
@@ -258,8 +226,8 @@ module _ (shape : Shape) (r : Resource) where
     expr-writes (Size p) = tells_one (instr.BSize p) refl
     expr-writes (MsgItem e) = tells_quiet instr.MsgGet (expr-writes e) refl
     expr-writes MsgSize = tells_one instr.MsgSize refl
-    expr-writes (Call f args) = tells_first (instr.Fun f) (args-write args) (writes_call f)
-    expr-writes (SendBuf f p) = tells_one (instr.FunBuf f p) (writes_call f)
+    expr-writes (Call f args) = tells_first (instr.Fun f) (args-write args) refl
+    expr-writes (SendBuf f p) = tells_one (instr.FunBuf f p) refl
     expr-writes (Neg e) = tells_quiet instr.Neg (expr-writes e) refl
     expr-writes (Not e) = tells_quiet instr.Not (expr-writes e) refl
     expr-writes (Two o a b) =
@@ -269,7 +237,7 @@ module _ (shape : Shape) (r : Resource) where
     args-write no_arguments = tells_none
     args-write (argument e es) = tells_append (expr-writes e) (args-write es)
 
-  step_writes : (x : CVar) (step : ℤ) (place : ℕ) → Tells writes (step_code x step ++ instr.Back place ∷ []) (is_variable x r || false)
+  step_writes : (x : CVar) (step : ℤ) (place : ℕ) → Tells writes (step_code x step ++ instr.Back place ∷ []) (is_this_variable x r || false)
   step_writes x step place =
       tells_cons (get_code x) (writes_get x)
       (tells_cons (number_code step) (writes_nothing (number_code step) (number_uses step))
@@ -283,12 +251,12 @@ module _ (shape : Shape) (r : Resource) where
     stmt-writes : (place : ℕ) (s : Statement) → Tells writes (stmt_code place s) (stmt_writes shape s r)
     stmt-writes place (Set x e) = tells_first (set_code x) (expr-writes e) (writes_set x)
     stmt-writes place (SetItem p i e) =
-        tells_same (item_order (expr_writes shape i r) (expr_writes shape e r) (is_buffer p r))
-        (tells_append (expr-writes i) (tells_push (instr.BSet p) (expr-writes e) (same_buffer p r)))
-    stmt-writes place (Append p e) = tells_first (instr.BAdd p) (expr-writes e) (same_buffer p r)
+        tells_same (item_order (expr_writes shape i r) (expr_writes shape e r) (is_this_buffer p r))
+        (tells_append (expr-writes i) (tells_push (instr.BSet p) (expr-writes e) refl))
+    stmt-writes place (Append p e) = tells_first (instr.BAdd p) (expr-writes e) refl
     stmt-writes place (Take x p) =
-        tells_same (or_comm (is_buffer p r) (is_variable x r)) (tells_cons (instr.BTake p) (same_buffer p r) (tells_one (set_code x) (writes_set x)))
-    stmt-writes place (Clear p) = tells_one (instr.BClear p) (same_buffer p r)
+        tells_same (or_comm (is_this_buffer p r) (is_this_variable x r)) (tells_cons (instr.BTake p) refl (tells_one (set_code x) (writes_set x)))
+    stmt-writes place (Clear p) = tells_one (instr.BClear p) refl
     stmt-writes place (Do f args) = tells_quiet instr.Drop (expr-writes (Call f args)) refl
     stmt-writes place (DoSend f p) = tells_quiet instr.Drop (expr-writes (SendBuf f p)) refl
     stmt-writes place (If e a) =
@@ -300,7 +268,7 @@ module _ (shape : Shape) (r : Resource) where
         (tells_append (block-writes (place + expr_size e + 3) a)
         (tells_cons (instr.Jmp (else_end place e a b)) refl (block-writes (else_begin place e a) b)))))
     stmt-writes place (For x from to step a) =
-        tells_same (written_order (expr_writes shape from r) (is_variable x r) (expr_writes shape to r) (block_writes shape a r))
+        tells_same (written_order (expr_writes shape from r) (is_this_variable x r) (expr_writes shape to r) (block_writes shape a r))
         (tells_append (expr-writes from)
         (tells_cons (set_code x) (writes_set x) (tells_cons (get_code x) (writes_get x)
         (tells_append (expr-writes to)

@@ -9,7 +9,8 @@ use Rattle.mate_num.specs.declared.shape.FunShape.{FunShape}
 use Rattle.mate_code.specs.declared.instr.Instr.{Instr}
 use Rattle.mate_code.specs.declared.instr.Instr.TheVariants as instr
 use Rattle.mate_code.specs.Effect.{args_in}
-use Rattle.mate_code.specs.Flow.{Next, flow_of, pops_of, pushes_of, is_in_range}
+use Rattle.mate_code.specs.Flow.{flow_of, pops_of, pushes_of, is_in_range}
+use Rattle.mate_code.specs.declared.flow.Flow.TheVariants.{Next}
 use Rattle.mate_code.specs.Instr.{size_of}
 use Rattle.mate_code.specs.Run.{Code}
 use Rattle.mate_code.specs.Verification.{Depth, Marks}
@@ -17,7 +18,7 @@ use Rattle.ts_syntax.specs.Expression.{Expression, Arguments, no_arguments, argu
 use Rattle.ts_syntax.specs.Right.{is_buffer, takes, sends, is_call, is_send, is_right_expr, are_right, argument_count}
 use Rattle.ts_syntax.specs.declared.bin_op.BinOp.{BinOp}
 use Rattle.ts_syntax.specs.declared.bin_op.BinOp.TheVariants as op
-use Rattle.ts_translation.specs.Translation.{bytes_of, number_code, operator_code, expr_code, args_code, expr_need, args_need, expr_size}
+use Rattle.ts_translation.specs.Translation.{size_of_instrs, number_code, operator_code, expr_code, args_code, expr_need, args_need, expr_size}
 use Rattle.ts_translation.proofs.PlaceLemmas.{bytes_of-append, size_of-operator_code}
 use Rattle.ts_translation.proofs.VerifiedPass.{Over, AreBlank, over_nothing, over_one, over_then, over_to, over_push, blank_less, blank_later, blank_takes}
 
@@ -109,15 +110,15 @@ module _ (shape : Shape) (code : Code) where
 
   -- one with an instruction behind its part
   unary : {marks : Marks} (place depth : ℕ) {is : List Instr} {i : Instr} → IsPlain shape i 1 1 → depth + 1 ≤ 16
-      → Over shape code marks is place (place + bytes_of is) (suc depth)
-      → AreBlank marks place (place + bytes_of (is ++ i ∷ [])) → Over shape code marks (is ++ i ∷ []) place (place + bytes_of (is ++ i ∷ [])) (suc depth)
+      → Over shape code marks is place (place + size_of_instrs is) (suc depth)
+      → AreBlank marks place (place + size_of_instrs (is ++ i ∷ [])) → Over shape code marks (is ++ i ∷ []) place (place + size_of_instrs (is ++ i ∷ [])) (suc depth)
   unary {marks} place depth {is} {i} plain room o blank =
-      let size : bytes_of (is ++ i ∷ []) ≡ bytes_of is + (size_of i + 0) = bytes_of-append is (i ∷ []) in
+      let size : size_of_instrs (is ++ i ∷ []) ≡ size_of_instrs is + (size_of i + 0) = bytes_of-append is (i ∷ []) in
       over_to (omega arith) (omega arith) (plain_push 1 1 depth plain (omega arith) (over_to refl (omega arith) o) room blank (omega arith))
 
   -- the part before it has less room to be blank
-  blank_part : {marks : Marks} (place : ℕ) (is js : List Instr) → AreBlank marks place (place + bytes_of (is ++ js)) → AreBlank marks place (place + bytes_of is)
-  blank_part place is js blank = let size = bytes_of-append is js in blank_less (place + bytes_of is) (omega arith) blank
+  blank_part : {marks : Marks} (place : ℕ) (is js : List Instr) → AreBlank marks place (place + size_of_instrs (is ++ js)) → AreBlank marks place (place + size_of_instrs is)
+  blank_part place is js blank = let size = bytes_of-append is js in blank_less (place + size_of_instrs is) (omega arith) blank
 
   mutual
     pub over_expr : (calls : Bool) (e : Expression) {marks : Marks} (place depth : ℕ) → is_right_expr shape calls e ≡ true → depth + expr_need e ≤ 16
@@ -144,7 +145,7 @@ module _ (shape : Shape) (code : Code) where
         let h = and_parts (calls && is_call shape f (argument_count args)) (are_right shape calls args) right in
         let k = and_parts calls (is_call shape f (argument_count args)) h.0 in
         let count : ℕ = argument_count args in
-        let size : bytes_of (args_code args ++ instr.Fun f ∷ []) ≡ bytes_of (args_code args) + 1 = bytes_of-append (args_code args) (instr.Fun f ∷ []) in
+        let size : size_of_instrs (args_code args ++ instr.Fun f ∷ []) ≡ size_of_instrs (args_code args) + 1 = bytes_of-append (args_code args) (instr.Fun f ∷ []) in
         let e : depth ≡ depth + 0 = omega arith in
         over_to (omega arith) (omega arith)
         (plain_push count 1 depth (call_is_plain shape f count k.1) (omega arith)
@@ -175,8 +176,8 @@ module _ (shape : Shape) (code : Code) where
         (plain_push 2 1 depth (operator_is_plain shape o) (omega arith) (over_to refl (omega arith) second) (omega arith) blank' (omega arith)))
 
     pub over_args : (calls : Bool) (es : Arguments) {marks : Marks} (place base below : ℕ) → are_right shape calls es ≡ true → base + args_need below es ≤ 16
-        → marks place ≡ Depth (base + below) → AreBlank marks place (place + bytes_of (args_code es))
-        → Over shape code marks (args_code es) place (place + bytes_of (args_code es)) (base + below + argument_count es)
+        → marks place ≡ Depth (base + below) → AreBlank marks place (place + size_of_instrs (args_code es))
+        → Over shape code marks (args_code es) place (place + size_of_instrs (args_code es)) (base + below + argument_count es)
     over_args calls no_arguments place base below right room here blank = over_to (omega arith) (omega arith) (over_nothing here)
     over_args calls (argument e es) {marks} place base below right room here blank =
         let h = and_parts (is_right_expr shape calls e) (are_right shape calls es) right in
@@ -185,5 +186,5 @@ module _ (shape : Shape) (code : Code) where
         let first = over_expr calls e place (base + below) h.0 (omega arith) here (blank_less mid (omega arith) blank) in
         let blank' = blank_later (omega arith) first blank in
         let d : suc (base + below) ≡ base + suc below = omega arith in
-        let second = over_args calls es mid base (suc below) h.1 (omega arith) (first.here ∙ ap Depth d) (blank_less (mid + bytes_of (args_code es)) (omega arith) blank') in
+        let second = over_args calls es mid base (suc below) h.1 (omega arith) (first.here ∙ ap Depth d) (blank_less (mid + size_of_instrs (args_code es)) (omega arith) blank') in
         over_to (omega arith) (omega arith) (over_then (omega arith) (omega arith) first second)

@@ -8,14 +8,14 @@ use Rattle.mate_code.specs.declared.instr.Instr.TheVariants as instr
 use Rattle.mate_code.specs.Code.{placed}
 use Rattle.mate_code.specs.Instr.{size_of}
 use Rattle.mate_code.specs.Run.{Code}
-use Rattle.mate_code.specs.Verification.{Refusal, Mark, Blank, Depth, Marks, first_marks, is_start, pass, halts, if_halts}
+use Rattle.mate_code.specs.Verification.{Refusal, DepthMark, Blank, Depth, Marks, first_marks, is_start, pass, halts, if_halts}
 use Rattle.mate_code.proofs.BytesVerificationLemmas.{placed-AreFrom}
 use Rattle.ts_syntax.specs.Expression.{Expression, Call, SendBuf}
 use Rattle.ts_syntax.specs.Statement.{Statement, Block, no_statements, statement, Set, SetItem, Append, Take, Clear, Do, DoSend, If, IfElse, For, While}
 use Rattle.ts_syntax.specs.Right.{is_shape, is_buffer, is_variable, is_right_expr, is_step, is_head, is_right_stmt, is_right_block, is_right}
 use Rattle.ts_syntax.specs.declared.checked_stmt.CVar.{CVar}
 use Rattle.ts_syntax.specs.declared.checked_stmt.CVar.TheVariants as variable
-use Rattle.ts_translation.specs.Laws.{IsAccepted}
+use Rattle.ts_translation.specs.Laws.{IsVerifiedScript}
 use Rattle.ts_translation.specs.Translation.{number_code, get_code, set_code, expr_code, expr_need, expr_size, stmt_size, block_size, within_code, for_test, step_code, stmt_code, block_code, stmt_need, block_need, script_code, script_need, code_of}
 use Rattle.ts_translation.proofs.PlaceLemmas.{bytes_of-append, size_of-set_code, size_of-get_code, size_of-within_code, bytes_of-stmt_code, bytes_of-block_code}
 use Rattle.ts_translation.proofs.VerifiedPass.{Takes, takes-same, Passes, passes_step, Over, AreBlank, over_nothing, over_one, over_then, over_to, over_push, blank_less, blank_later}
@@ -313,7 +313,7 @@ first_ready end = record { here = refl; blank = λ q lt lt'. blank_there q lt; f
   blank_there q lt = let other : (q == 0) ≡ false = ne_eqb q 0 (λ e. absurd (omega arith)) in rw other refl
 
   free_there : 0 < end → Takes 0 (first_marks end)
-  free_there lt = let P : Mark → Type 0 = λ m. Takes 0 m in subst P (sym (blank_there end lt)) tt
+  free_there lt = let P : DepthMark → Type 0 = λ m. Takes 0 m in subst P (sym (blank_there end lt)) tt
 
 -- the marks of a right script's code
 record PassesAll (shape : Shape) (tree : Block) : Type 0 where
@@ -342,7 +342,7 @@ passes_all shape tree right need =
     } in
     record { marks = o.after; passed = o.moves (instr.Halt ∷ []) ∙ passes_step last [] }
 
-pub IsAccepted-script_code : (shape : Shape) (tree : Block) → IsTrue (is_right shape tree) → script_need tree ≤ 16 → IsAccepted shape tree
+pub IsAccepted-script_code : (shape : Shape) (tree : Block) → IsTrue (is_right shape tree) → script_need tree ≤ 16 → IsVerifiedScript shape tree
 IsAccepted-script_code shape tree right need =
     let p = passes_all shape tree right need in (
       p.marks,

@@ -5,29 +5,31 @@ use Rattle.std.proofs.lemmas.Bool.{ne_eqb, eq-eqb, le-leb}
 use Rattle.mate_num.specs.declared.shape.Shape.{Shape}
 use Rattle.mate_code.specs.declared.instr.Instr.{Instr}
 use Rattle.mate_code.specs.Code.{placed}
-use Rattle.mate_code.specs.Flow.{Flow, Next, flow_of, pops_of, is_in_range}
+use Rattle.mate_code.specs.Flow.{flow_of, pops_of, is_in_range}
+use Rattle.mate_code.specs.declared.flow.Flow.TheVariants.{Next}
+use Rattle.mate_code.specs.declared.flow.Flow.{Flow}
 use Rattle.mate_code.specs.Instr.{size_of}
 use Rattle.mate_code.specs.Run.{Code}
-use Rattle.mate_code.specs.Verification.{Refusal, Mark, Blank, Depth, Clash, Marks, given, depth_in, depth_at, is_clash, mark, depth_after, has_target, has_direction, has_back_depth, demand, refusal_at, marks_after, instr_marks, unless, pass}
+use Rattle.mate_code.specs.Verification.{Refusal, DepthMark, Blank, Depth, Clash, Marks, given, depth_in, depth_at, is_clash, mark, depth_after, has_target, has_direction, has_back_depth, demand, refusal_at, marks_after, instr_marks, unless, pass}
 
 -- ---- marks
 
 -- a place takes the depth: none was given to it, or the same
-abbrev pub Takes : ℕ → Mark → Type 0
+abbrev pub Takes : ℕ → DepthMark → Type 0
 Takes n Blank = ⊤
 Takes n (Depth m) = m ≡ n
 Takes n Clash = ⊥
 
-pub takes-blank : (n : ℕ) {m : Mark} → m ≡ Blank → Takes n m
-takes-blank n {m} blank = let P : Mark → Type 0 = λ m. Takes n m in subst P (sym blank) tt
+pub takes-blank : (n : ℕ) {m : DepthMark} → m ≡ Blank → Takes n m
+takes-blank n {m} blank = let P : DepthMark → Type 0 = λ m. Takes n m in subst P (sym blank) tt
 
-pub takes-depth : (n : ℕ) {m : Mark} → m ≡ Depth n → Takes n m
-takes-depth n {m} is = let P : Mark → Type 0 = λ m. Takes n m in subst P (sym is) refl
+pub takes-depth : (n : ℕ) {m : DepthMark} → m ≡ Depth n → Takes n m
+takes-depth n {m} is = let P : DepthMark → Type 0 = λ m. Takes n m in subst P (sym is) refl
 
-pub takes-same : (n : ℕ) {m k : Mark} → k ≡ m → Takes n m → Takes n k
-takes-same n same takes = let P : Mark → Type 0 = λ m. Takes n m in subst P (sym same) takes
+pub takes-same : (n : ℕ) {m k : DepthMark} → k ≡ m → Takes n m → Takes n k
+takes-same n same takes = let P : DepthMark → Type 0 = λ m. Takes n m in subst P (sym same) takes
 
-pub given-takes : (n : ℕ) (m : Mark) → Takes n m → given m n ≡ Depth n
+pub given-takes : (n : ℕ) (m : DepthMark) → Takes n m → given m n ≡ Depth n
 given-takes n Blank takes = refl
 given-takes n (Depth m) takes = let e : (m == n) ≡ true = eq-eqb m n takes in rw e (ap Depth takes)
 given-takes n Clash takes = absurd takes
@@ -60,7 +62,7 @@ pub passes_step : {shape : Shape} {code : Code} {marks : Marks} {place depth : �
 unfolding pass
 passes_step {shape} {code} {marks} {place} {depth} {i} h rest =
     let at : depth_at marks place ≡ depth = ap depth_in h.here in
-    let clear : not (is_clash (marks place)) ≡ true = ap (λ (m : Mark). not (is_clash m)) h.here in
+    let clear : not (is_clash (marks place)) ≡ true = ap (λ (m : DepthMark). not (is_clash m)) h.here in
     let operands : nat_le (pops_of shape i) (depth_at marks place) ≡ true = ap (λ (n : ℕ). nat_le (pops_of shape i) n) at ∙ le-leb (pops_of shape i) depth h.operands in
     let room : nat_le (depth_after shape i (depth_at marks place)) 16 ≡ true = ap (λ (n : ℕ). nat_le (depth_after shape i n) 16) at ∙ le-leb (depth_after shape i depth) 16 h.room in
     let back : has_back_depth marks (depth_after shape i (depth_at marks place)) (flow_of i) ≡ true = ap (λ (n : ℕ). has_back_depth marks (depth_after shape i n) (flow_of i)) at ∙ h.back in

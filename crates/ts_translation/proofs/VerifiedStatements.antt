@@ -9,7 +9,7 @@ use Rattle.mate_code.specs.Code.{placed}
 use Rattle.mate_code.specs.Instr.{size_of}
 use Rattle.mate_code.specs.Run.{Code, fetch}
 use Rattle.mate_code.specs.Verification.{Blank, Depth, Marks, given, depth_in, depth_at, mark, is_start, pass}
-use Rattle.ts_translation.specs.Translation.{bytes_of}
+use Rattle.ts_translation.specs.Translation.{size_of_instrs}
 use Rattle.ts_translation.proofs.VerifiedPass.{Takes, takes-blank, takes-depth, takes-same, given-takes, mark-here, mark-elsewhere, Passes, passes_step, Over, AreBlank}
 
 -- ---- where instructions start
@@ -27,11 +27,11 @@ starts_later place q i is later = by (place == q) where
   by true = refl
   by false = later
 
-pub stands_here : {code : Code} {place : ℕ} (is : List Instr) → Stands code place is → 0 < bytes_of is → is_start code place ≡ true
+pub stands_here : {code : Code} {place : ℕ} (is : List Instr) → Stands code place is → 0 < size_of_instrs is → is_start code place ≡ true
 stands_here [] s some = absurd (omega arith)
 stands_here {code} {place} (i ∷ is) s some = s.starts place (starts_here place i is)
 
-pub stands_later : {code : Code} {place : ℕ} (is js : List Instr) (mid : ℕ) → place + bytes_of is ≡ mid → Stands code place (is ++ js) → Stands code mid js
+pub stands_later : {code : Code} {place : ℕ} (is js : List Instr) (mid : ℕ) → place + size_of_instrs is ≡ mid → Stands code place (is ++ js) → Stands code mid js
 stands_later {code} {place} [] js mid e s = let P : ℕ → Type 0 = λ k. Stands code k js in let f : place ≡ mid = omega arith in subst P f s
 stands_later {code} {place} (i ∷ is) js mid e s =
     stands_later {place = place + size_of i} is js mid (omega arith) record { starts = λ q later. s.starts q (starts_later place q i (is ++ js) later) }

@@ -5,32 +5,27 @@ use Rattle.mate_num.specs.declared.shape.Shape.{Shape}
 use Rattle.mate_num.specs.declared.store.Store.{Store}
 use Rattle.mate_code.specs.CodeUses.{uses_of as code_uses}
 use Rattle.mate_code.specs.Code.{code_bytes}
-use Rattle.mate_code.specs.Run.{Outcome, code_run}
+use Rattle.mate_code.specs.Run.{code_run}
 use Rattle.mate_code.specs.Table.{AreInTable, table_of}
 use Rattle.mate_code.specs.Verification.{Marks, IsVerified}
 use Rattle.ts_syntax.specs.Statement.{Block}
 use Rattle.ts_meaning.specs.Meaning.{run_of}
 use Rattle.ts_meaning.specs.Uses.{uses_of}
-use Rattle.ts_meaning.specs.declared.run.Played.{Played}
 use Rattle.ts_translation.specs.Translation.{code_of, script_code, script_size}
-
--- what the run of code gives, as what the run of a script gives: the end, the store, and the calls that were answered
-abbrev pub as_played : Outcome → Played
-as_played o = record { end = o.end; store = o.store; calls = o.calls }
 
 -- the code runs as the script does, whatever the store, the message, the answers and the turns are
 abbrev pub RunsAsItsScript : Shape → Block → Type 0
 RunsAsItsScript shape tree =
     (store : Store) (msg : ArrayVec ℤ) (answers : List ℤ) (turns : ℕ) →
-    as_played (code_run shape (code_of tree) store msg answers turns) ≡ run_of tree store msg answers turns
+    code_run shape (code_of tree) store msg answers turns ≡ run_of tree store msg answers turns
 
 -- the code reads and writes what the script does
 abbrev pub UsesAsItsScript : Shape → Block → Type 0
 UsesAsItsScript shape tree = code_uses shape (code_of tree) ≡ uses_of shape tree
 
 -- the code is verified, with some marks
-abbrev pub IsAccepted : Shape → Block → Type 0
-IsAccepted shape tree = (marks : Marks) × IsVerified shape (code_of tree) marks
+abbrev pub IsVerifiedScript : Shape → Block → Type 0
+IsVerifiedScript shape tree = (marks : Marks) × IsVerified shape (code_of tree) marks
 
 -- each instruction is in the machine's table, and the bytes are as many as was said
 pub record IsEncodable (shape : Shape) (tree : Block) : Type 0 where

@@ -13,9 +13,9 @@ use Rattle.ts_syntax.specs.declared.checked_stmt.CVar.{CVar}
 use Rattle.ts_syntax.specs.declared.checked_stmt.CVar.TheVariants as variable
 
 -- how many bytes instructions take
-abbrev pub bytes_of : List Instr → ℕ
-bytes_of [] = 0
-bytes_of (i ∷ is) = size_of i + bytes_of is
+abbrev pub size_of_instrs : List Instr → ℕ
+size_of_instrs [] = 0
+size_of_instrs (i ∷ is) = size_of i + size_of_instrs is
 
 -- a number: in one byte where it goes from 0 to 255, and else in two
 abbrev pub number_code : ℤ → Instr
@@ -88,7 +88,7 @@ abbrev mutual
 
 -- the bytes of an expression
 abbrev pub expr_size : Expression → ℕ
-expr_size e = bytes_of (expr_code e)
+expr_size e = size_of_instrs (expr_code e)
 
 -- the bytes of a statement, and of a block
 abbrev mutual

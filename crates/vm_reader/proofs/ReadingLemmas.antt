@@ -7,12 +7,12 @@ use Rattle.std.specs.Str.{is_utf8}
 use Rattle.toml.specs.Parse.{parse_document}
 use Rattle.vm_desc.specs.Names.{is_name}
 use Rattle.vm_desc.specs.Limits.{Parts, is_valid, is_handler, is_function, is_trickle, is_radio, context_sum, duplicate_of, round_time, longest}
-use Rattle.vm_reader.specs.Text.{description_of, of_document, Reads}
+use Rattle.vm_reader.specs.Text.{description_of, of_document, ReadsDescription}
 use Rattle.vm_desc.specs.declared.fault.DescFault.TheVariants.{NotToml, BadField, OverLimit, Duplicate, SlowImax, NoMemory}
 use Rattle.vm_desc.specs.declared.fault.DescFault.{DescFault}
 use Rattle.vm_desc.specs.declared.description.Description.{Description}
 use Rattle.vm_desc.specs.Whole.{parts_of}
-use Rattle.vm_reader.specs.Fields.{Gives}
+use Rattle.vm_reader.specs.Fields.{GivesField}
 
 -- the rules of a description, each by its name
 pub record Keeps (p : Parts) : Type 0 where
@@ -68,7 +68,7 @@ pub description_of-text : (bytes : List ℕ) → IsUtf8 bytes → description_of
 description_of-text bytes text = rw (is_utf8-from_IsUtf8 bytes text) refl
 
 -- what gives a reading reads it
-pub reads-from : (r : Result Description DescFault) (reading : Result Parts DescFault) → Gives parts_of r reading → Reads r reading
+pub reads-from : (r : Result Description DescFault) (reading : Result Parts DescFault) → GivesField parts_of r reading → ReadsDescription r reading
 reads-from (Ok d) reading e = e
 reads-from (Err NotToml) reading e = e
 reads-from (Err (BadField key)) reading e = e

@@ -18,9 +18,9 @@ abbrev pub ◌>>=◌ : {A B : Type 0} → Result A DescFault → (A → Result B
 (Err e) >>= f = Err e
 
 -- what a function returned, seen by view, is what the reading gives
-abbrev pub Gives : {X Y : Type 0} → (X → Y) → Result X DescFault → Result Y DescFault → Type 0
-Gives view (Ok x) reading = reading ≡ Ok (view x)
-Gives view (Err e) reading = reading ≡ Err e
+abbrev pub GivesField : {X Y : Type 0} → (X → Y) → Result X DescFault → Result Y DescFault → Type 0
+GivesField view (Ok x) reading = reading ≡ Ok (view x)
+GivesField view (Err e) reading = reading ≡ Err e
 
 -- the value, or BadField with the key
 abbrev pub taken : {A : Type 0} → Key → Option A → Result A DescFault

@@ -23,14 +23,14 @@ abbrev pub description_of : List ℕ → Result Parts DescFault
 description_of bytes = if is_utf8 bytes then of_document (parse_document bytes) else Err NotToml
 
 -- what a reader answered is what the bytes give, unless memory was refused
-abbrev pub Reads : Result Description DescFault → Result Parts DescFault → Type 0
-Reads (Ok d) reading = reading ≡ Ok (parts_of d)
-Reads (Err NotToml) reading = reading ≡ Err NotToml
-Reads (Err (BadField key)) reading = reading ≡ Err (BadField key)
-Reads (Err (OverLimit key)) reading = reading ≡ Err (OverLimit key)
-Reads (Err (Duplicate name)) reading = reading ≡ Err (Duplicate name)
-Reads (Err (SlowImax need have)) reading = reading ≡ Err (SlowImax need have)
-Reads (Err NoMemory) reading = ⊤
+abbrev pub ReadsDescription : Result Description DescFault → Result Parts DescFault → Type 0
+ReadsDescription (Ok d) reading = reading ≡ Ok (parts_of d)
+ReadsDescription (Err NotToml) reading = reading ≡ Err NotToml
+ReadsDescription (Err (BadField key)) reading = reading ≡ Err (BadField key)
+ReadsDescription (Err (OverLimit key)) reading = reading ≡ Err (OverLimit key)
+ReadsDescription (Err (Duplicate name)) reading = reading ≡ Err (Duplicate name)
+ReadsDescription (Err (SlowImax need have)) reading = reading ≡ Err (SlowImax need have)
+ReadsDescription (Err NoMemory) reading = ⊤
 
 -- the bytes are a text of the description
 abbrev pub IsDescribed : List ℕ → Description → Type 0

@@ -4,7 +4,7 @@ ghost use Rattle.std.specs.Prelude.{◌≡◌, ◌≤◌, ◌<◌, ◌*◌, ◌^
 ghost use Rattle.std.specs.List.{list_all};
 ghost use Rattle.toml.specs.View.{view, array_view, table_view};
 ghost use Rattle.vm_desc.specs.Limits.{is_kind, is_handler, args_of, is_device, is_function, is_trickle, is_radio};
-ghost use Rattle.vm_reader.specs.Fields.{Gives, field, word_as, each, seen, seen_table, tables, tables_in, are_tables};
+ghost use Rattle.vm_reader.specs.Fields.{GivesField, field, word_as, each, seen, seen_table, tables, tables_in, are_tables};
 ghost use Rattle.vm_reader.specs.Reading.{handler_kind, with_period, handler_at, handlers_at, fun_kind, with_args, place_of, device, function_at, functions_at, trickle_at, radio_at};
 
 use crate::fields::{allowed, at, list_at, name, number, taken, within};
@@ -18,7 +18,7 @@ use vm_desc::{DescFault, FunKind, Function, Handler, HandlerKind, Key, RadioSet,
 /// The handlers in `value`: one to eight.
 #[tactic(auto, unfolding(crate::specs::Reading::handlers_at))]
 pub fn handlers_in(value: Option<&Value>) -> Result<ArrayVec<Handler, 8>, DescFault>
-    ensures value { Gives (λ v. v.items) result (handlers_at (seen value.entry)) }
+    ensures value { GivesField (λ v. v.items) result (handlers_at (seen value.entry)) }
     ensures some { IfOk result (λ v. 1 ≤ length v.items) }
     ensures few { IfOk result (λ v. length v.items ≤ 8) }
     ensures rules { IfOk result (λ v. IsTrue (list_all is_handler v.items)) }
@@ -32,7 +32,7 @@ pub fn handlers_in(value: Option<&Value>) -> Result<ArrayVec<Handler, 8>, DescFa
 fn each_handler(items: &Array) -> Result<ArrayVec<Handler, 8>, DescFault>
     requires few { length items.now.items ≤ 8 }
     requires tables { are_tables (array_view items.now) ≡ true }
-    ensures value { Gives (λ v. v.items) result (each handler_at (tables_in (array_view items.now))) }
+    ensures value { GivesField (λ v. v.items) result (each handler_at (tables_in (array_view items.now))) }
     ensures count { IfOk result (λ v. length v.items ≡ length items.now.items) }
     ensures rules { IfOk result (λ v. IsTrue (list_all is_handler v.items)) }
 {
@@ -52,7 +52,7 @@ pub fn functions_in(
     devices: &ArrayVec<Name, 8>,
     value: Option<&Value>,
 ) -> Result<ArrayVec<Function, 32>, DescFault>
-    ensures value { Gives (λ v. v.items) result (functions_at devices.now.items (seen value.entry)) }
+    ensures value { GivesField (λ v. v.items) result (functions_at devices.now.items (seen value.entry)) }
     ensures few { IfOk result (λ v. length v.items ≤ 32) }
     ensures rules { IfOk result (λ v. IsTrue (list_all (is_function (length devices.now.items)) v.items)) }
 {
@@ -66,7 +66,7 @@ fn each_function(devices: &[Name], items: &Array) -> Result<ArrayVec<Function, 3
     requires devices { length devices.now ≤ 8 }
     requires few { length items.now.items ≤ 32 }
     requires tables { are_tables (array_view items.now) ≡ true }
-    ensures value { Gives (λ v. v.items) result (each (function_at devices.now) (tables_in (array_view items.now))) }
+    ensures value { GivesField (λ v. v.items) result (each (function_at devices.now) (tables_in (array_view items.now))) }
     ensures count { IfOk result (λ v. length v.items ≡ length items.now.items) }
     ensures rules { IfOk result (λ v. IsTrue (list_all (is_function (length devices.now)) v.items)) }
 {
@@ -82,7 +82,7 @@ fn each_function(devices: &[Name], items: &Array) -> Result<ArrayVec<Function, 3
 
 /// The list in `value`, of at most `most` items, all of them tables.
 fn tables<'a>(key: Key, most: usize, value: &'a Value) -> Result<&'a Array, DescFault>
-    ensures value { Gives (λ v. tables_in (array_view v.now)) result (tables key most (view value.now)) }
+    ensures value { GivesField (λ v. tables_in (array_view v.now)) result (tables key most (view value.now)) }
     ensures tables { IfOk result (λ v. are_tables (array_view v.now) ≡ true) }
     ensures few { IfOk result (λ v. length v.now.items ≤ most) }
     ensures count { IfOk result (λ v. length (tables_in (array_view v.now)) ≡ length v.now.items) }

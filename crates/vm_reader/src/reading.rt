@@ -2,11 +2,11 @@
 
 ghost use Rattle.std.specs.Prelude.{◌≡◌, IfOk};
 ghost use Rattle.toml.specs.View.{table_view};
-ghost use Rattle.vm_reader.specs.Fields.{Gives};
+ghost use Rattle.vm_reader.specs.Fields.{GivesField};
 ghost use Rattle.vm_desc.specs.Whole.{parts_of};
 ghost use Rattle.vm_reader.specs.Reading.{opening_at, from_handlers_at, description_at};
 ghost use Rattle.vm_reader.specs.Openings.{opening_of, IsOpening};
-ghost use Rattle.vm_reader.specs.Text.{Reads, description_of};
+ghost use Rattle.vm_reader.specs.Text.{ReadsDescription, description_of};
 
 use crate::fields::{at, names, number, section};
 use crate::known::{Place, members_are_known};
@@ -20,7 +20,7 @@ use vm_desc::{DescFault, Description, Key};
 /// The description in `bytes`, a TOML document. `DescFault` says when each refusal comes; of
 /// several the first in its order is given, and `NoMemory` may come in place of any answer.
 pub fn read(alloc: Global, bytes: &[u8]) -> Result<Description, DescFault>
-    ensures { Reads result (description_of bytes.now) }
+    ensures { ReadsDescription result (description_of bytes.now) }
 {
     let Ok(text) = str::from_utf8(bytes) else {
         return Err(DescFault::NotToml);
@@ -37,14 +37,14 @@ pub fn read(alloc: Global, bytes: &[u8]) -> Result<Description, DescFault>
 }
 
 fn description(document: &Table) -> Result<Description, DescFault>
-    ensures { Gives parts_of result (description_at (table_view document.now)) }
+    ensures { GivesField parts_of result (description_at (table_view document.now)) }
 {
     from_handlers(opening(document)?, document)
 }
 
 #[tactic(auto, unfolding(crate::specs::Reading::opening_at))]
 fn opening(document: &Table) -> Result<Opening, DescFault>
-    ensures value { Gives opening_of result (opening_at (table_view document.now)) }
+    ensures value { GivesField opening_of result (opening_at (table_view document.now)) }
     ensures rules { IfOk result IsOpening }
 {
     let vm_id = number(Key::Vm, 0, u32::MAX, None, at(document, "vm"))?;
@@ -72,7 +72,7 @@ fn opening(document: &Table) -> Result<Opening, DescFault>
 #[tactic(auto, unfolding(crate::specs::Reading::from_handlers_at, crate::specs::Reading::whole))]
 fn from_handlers(opening: Opening, document: &Table) -> Result<Description, DescFault>
     requires { IsOpening opening }
-    ensures { Gives parts_of result (from_handlers_at (opening_of opening) (table_view document.now)) }
+    ensures { GivesField parts_of result (from_handlers_at (opening_of opening) (table_view document.now)) }
 {
     let Opening {
         vm_id,

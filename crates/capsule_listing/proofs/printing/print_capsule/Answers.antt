@@ -1,7 +1,7 @@
 use Rattle.std.proofs.Common.{ap}
 use Rattle.mate_files.proofs.PenLemmas.{◌⟫◌, Prints-by, Puts-finished}
 use Rattle.mate_code.specs.CodeUses as code
-use Rattle.mate_num.specs.Locks.{uses_of}
+use Rattle.mate_num.specs.Locks.{lock_uses}
 use Rattle.vm_desc.specs.Shapes.{shape_of}
 use Rattle.capsule_listing.specs.LockLine.{lock_line}
 use Rattle.capsule_listing.proofs.LockLineLemmas.{uses-same}
@@ -10,5 +10,5 @@ use Rattle.capsule_listing.proofs.printing.print_capsule.Goals as goal
 pub returns : goal.returns
 returns g c =
     let d = c.args.desc.now in
-    let same = uses-same (uses_of c.locks.result) (code.uses_of (shape_of d) c.args.code.now.code) c.locks.ensures in
+    let same = uses-same (lock_uses c.locks.result) (code.uses_of (shape_of d) c.args.code.now.code) c.locks.ensures in
     Puts-finished c.new-pen.ensures c.finish.ensures (c.print_head.ensures ⟫ c.print_instrs.ensures ⟫ Prints-by (ap (lock_line d) same) c.print_lock_line.ensures)

@@ -7,15 +7,15 @@ use Rattle.mate_num.specs.declared.shape.Shape.{Shape}
 use Rattle.mate_num.specs.declared.store.Store.{Store}
 use Rattle.mate_code.specs.Cells.{Agree}
 use Rattle.mate_code.specs.CodeUses.{uses_of}
-use Rattle.mate_code.specs.Run.{Code, Own, begun, bound, after, end_of, next_mark, code_run, marks}
+use Rattle.mate_code.specs.Run.{Code, Own, begun_run, bound, after, end_of, next_mark, code_run, call_marks}
 use Rattle.mate_code.proofs.RunLemmas.{Matches, after-Matches}
 use Rattle.mate_code.proofs.laws.sees_what_it_uses.Goals as goal
 
 module _ (shape : Shape) (code : Code) (s t : Store) (msg : ArrayVec ℤ) (turns : ℕ) (agree : Agree (uses (uses_of shape code)) s t) where
-  matches : (n : ℕ) (answers : List ℤ) → Matches (uses (uses_of shape code)) (after n shape code (begun s msg answers turns)) (after n shape code (begun t msg answers turns))
-  matches n answers = after-Matches n shape code (begun s msg answers turns) (begun t msg answers turns) record { own = refl; stores = agree }
+  matches : (n : ℕ) (answers : List ℤ) → Matches (uses (uses_of shape code)) (after n shape code (begun_run s msg answers turns)) (after n shape code (begun_run t msg answers turns))
+  matches n answers = after-Matches n shape code (begun_run s msg answers turns) (begun_run t msg answers turns) record { own = refl; stores = agree }
 
-  marks_same : (answers : List ℤ) → marks shape code s msg answers turns ≡ marks shape code t msg answers turns
+  marks_same : (answers : List ℤ) → call_marks shape code s msg answers turns ≡ call_marks shape code t msg answers turns
   marks_same answers =
       let calls : (code_run shape code s msg answers turns).calls ≡ (code_run shape code t msg answers turns).calls =
       ap (λ (o : Own). o.calls) (matches (bound code turns) answers).own in

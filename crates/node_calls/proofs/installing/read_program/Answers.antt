@@ -2,7 +2,7 @@
 use Rattle.std.proofs.Common.{List, ℕ, subst}
 use Rattle.std.proofs.lemmas.Result.{err_from_is_err_and}
 use Rattle.vm_desc.specs.Shapes.{shape_of}
-use Rattle.code_verifier.specs.Verified.{IsOf}
+use Rattle.code_verifier.specs.Verified.{IsVerificationOf}
 use Rattle.node_calls.proofs.InstallLemmas.{IsInstallable-from, IsUnverified-from}
 use Rattle.node_calls.proofs.installing.read_program.Goals as goal
 
@@ -19,6 +19,6 @@ returns-in_err-code c =
 
 pub returns : goal.returns
 returns c =
-    let V : List ℕ → Type 0 = λ code. IsOf (shape_of c.args.description.now) code c.in_ok-code.code in
+    let V : List ℕ → Type 0 = λ code. IsVerificationOf (shape_of c.args.description.now) code c.in_ok-code.code in
     IsInstallable-from c.args.description.now c.args.bytes.now c.in_ok-capsule.capsule c.in_ok-code.code c.locks-locks.result c.in-Ok.image c.in_ok-capsule.ensures.value c.in_ok-capsule.ensures.image.0 c.in_ok-capsule.ensures.image.1
     (subst V c.as_slice.ensures.value c.in_ok-code.ensures) c.locks-locks.ensures c.in-Ok.ensures.0

@@ -5,7 +5,7 @@ use Rattle.mate_files.proofs.PenLemmas.{Prints-by, Prints-all, Prints-next, Puts
 use Rattle.mate_code.specs.declared.kind.Kind.TheVariants.{Halt}
 use Rattle.mate_code.specs.Table.{table_of, kinds_of}
 use Rattle.vm_desc.specs.Shapes.{shape_of}
-use Rattle.opcode_gen.specs.TableText.{names_of, row}
+use Rattle.opcode_gen.specs.TableText.{names_of_functions, table_row}
 use Rattle.opcode_gen.proofs.TableTextLemmas.{kind_at-within, row-by, rows-by, IsNamed-kind_at}
 use Rattle.opcode_gen.proofs.generate.print_table.Goals as goal
 
@@ -30,7 +30,7 @@ loop-index-preserved g c =
     let entry : n < length (enumerate_from 0 (kinds_of t)) = subst (λ (m : ℕ). n < m) (sym (length-enumerate_from 0 (kinds_of t))) within in
     let known = sym c.in-Some.is ∙ c.kind.ensures ∙ kind_at-within t n Halt within in
     let printed = Prints-by (row-by c.as_slice.result.now names (kinds_of t) n c.in-Some.kind Halt c.as_slice.ensures.value within known) c.print_row.ensures in
-    Prints-next (row names) (enumerate_from 0 (kinds_of t)) n (0, Halt) entry c.loop-index.invariant printed
+    Prints-next (table_row names) (enumerate_from 0 (kinds_of t)) n (0, Halt) entry c.loop-index.invariant printed
 
 pub returns : goal.returns
 returns g c =
@@ -39,6 +39,6 @@ returns g c =
     let names = c.function_names-names.result.items in
     let end : length (kinds_of t) ≤ n = subst (λ (m : ℕ). m ≤ n) c.len-index-end.ensures.value c.loop-index-test.false in
     let entry : length (enumerate_from 0 (kinds_of t)) ≤ n = subst (λ (m : ℕ). m ≤ n) (sym (length-enumerate_from 0 (kinds_of t))) end in
-    let all = Prints-all (row names) (enumerate_from 0 (kinds_of t)) n entry c.loop-index.invariant in
+    let all = Prints-all (table_row names) (enumerate_from 0 (kinds_of t)) n entry c.loop-index.invariant in
     Puts-finished c.new-pen.ensures c.finish.ensures
-    (Prints-by (rows-by names (names_of c.args.desc.now) t (table_of (shape_of c.args.desc.now)) c.function_names-names.ensures c.table-table.ensures) all)
+    (Prints-by (rows-by names (names_of_functions c.args.desc.now) t (table_of (shape_of c.args.desc.now)) c.function_names-names.ensures c.table-table.ensures) all)

@@ -5,7 +5,7 @@ use Rattle.mate_code.specs.Instr.{size_of}
 use Rattle.ts_syntax.specs.Expression.{Expression, arguments, Item, MsgItem, Call, Neg, Not, Two}
 use Rattle.ts_syntax.specs.TreeOf.{expr_tree, args_trees}
 use Rattle.ts_syntax.specs.declared.checked_expr.CExpr.{CExpr, the_lemmas}
-use Rattle.ts_translation.specs.Translation.{bytes_of, expr_code, args_code, args_need, expr_size, operator_code}
+use Rattle.ts_translation.specs.Translation.{size_of_instrs, expr_code, args_code, args_need, expr_size, operator_code}
 use Rattle.ts_translation.proofs.PlaceLemmas.{size_of-operator_code}
 use Rattle.ts_compiler.specs.Parts.{capped}
 use Rattle.ts_compiler.proofs.ExtentLemmas.{ArgsMeasured, args_next, args_size, args_needs, capped-push, capped-two, two_sizes}
@@ -60,12 +60,12 @@ expr_extent-returns-in-Two-clause-size t c =
     let seen : expr_tree c.args.expr.now ≡ Two o l r = search (rules, the_lemmas) in
     let P : Expression → Type 0 = λ e. c.with-in-Two.result.size ≡ capped (expr_size e) in
     let one = size_of-operator_code o in
-    let left : c.expr_extent-in-Two-2.result.size ≡ capped (bytes_of (expr_code l)) = c.expr_extent-in-Two-2.ensures.size in
-    let right : c.above-right.result.size ≡ capped (bytes_of (expr_code r)) = c.above-right.ensures.size ∙ c.expr_extent-in-Two.ensures.size in
+    let left : c.expr_extent-in-Two-2.result.size ≡ capped (size_of_instrs (expr_code l)) = c.expr_extent-in-Two-2.ensures.size in
+    let right : c.above-right.result.size ≡ capped (size_of_instrs (expr_code r)) = c.above-right.ensures.size ∙ c.expr_extent-in-Two.ensures.size in
     let both : c.then.result.size ≡ capped (c.expr_extent-in-Two-2.result.size + c.above-right.result.size) = c.then.ensures.size in
     let all : c.with-in-Two.result.size ≡ capped (c.then.result.size + 1) = c.with-in-Two.ensures.size in
     subst P (sym seen) (capped-two (expr_code l) (expr_code r) (operator_code o) c.with-in-Two.result.size
-    (two_sizes c.with-in-Two.result.size c.then.result.size c.expr_extent-in-Two-2.result.size c.above-right.result.size (bytes_of (expr_code l)) (bytes_of (expr_code r)) (size_of (operator_code o)) left right both all one))
+    (two_sizes c.with-in-Two.result.size c.then.result.size c.expr_extent-in-Two-2.result.size c.above-right.result.size (size_of_instrs (expr_code l)) (size_of_instrs (expr_code r)) (size_of (operator_code o)) left right both all one))
 
 pub args_extent-loop-arg-preserved : goal.args_extent-loop-arg-preserved
 args_extent-loop-arg-preserved t c =
@@ -84,7 +84,7 @@ args_extent-returns-clause-size t c =
     let seen : args_trees c.args.args.now ≡ map expr_tree c.args.args.now.items.items = search (rules, the_lemmas) in
     let all : args_trees c.args.args.now ≡ map expr_tree es = seen ∙ ap (map expr_tree) (sym c.as_slice-arg-items.ensures.value) in
     let F : List Expression → Type 0 = λ xs. ArgsMeasured c.loop-arg.extent.size c.loop-arg.extent.need c.loop-arg.below c.loop-arg.arg-index (map expr_tree es) xs in
-    let P : List Expression → Type 0 = λ xs. c.loop-arg.extent.size ≡ capped (bytes_of (args_code (arguments xs))) in
+    let P : List Expression → Type 0 = λ xs. c.loop-arg.extent.size ≡ capped (size_of_instrs (args_code (arguments xs))) in
     subst P (sym all) (args_size (subst F (rest_none expr_tree es c.loop-arg.arg-index c.loop-arg-test.false) c.loop-arg.invariant))
 
 pub args_extent-returns-clause-need : goal.args_extent-returns-clause-need

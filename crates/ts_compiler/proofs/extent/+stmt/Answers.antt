@@ -4,7 +4,7 @@ use Rattle.ts_syntax.specs.Expression.{arguments}
 use Rattle.ts_syntax.specs.Statement.{Statement, Do}
 use Rattle.ts_syntax.specs.TreeOf.{args_trees, stmt_tree}
 use Rattle.ts_syntax.specs.declared.checked_stmt.CStmt.{the_lemmas}
-use Rattle.ts_translation.specs.Translation.{bytes_of, args_code, stmt_size}
+use Rattle.ts_translation.specs.Translation.{size_of_instrs, args_code, stmt_size}
 use Rattle.ts_compiler.specs.Parts.{capped}
 use Rattle.ts_compiler.proofs.PartLemmas.{bytes_of-push}
 use Rattle.ts_compiler.proofs.extent.+stmt.Goals as goal

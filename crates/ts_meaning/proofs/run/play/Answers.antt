@@ -6,9 +6,9 @@ use Rattle.ts_meaning.proofs.run.play.Goals as goal
 pub returns-in-Ok-clause-outside : goal.returns-in-Ok-clause-outside
 returns-in-Ok-clause-outside c =
     outside_writes (shape_of c.args.script.now) (tree_of c.args.script.now) c.args.store.now c.args.msg.now c.args.answers.now c.args.turns
-    c.played.result (search rules)
+    c.outcome.result (search rules)
 
 pub returns-in-Err-Ended-clause-outside : goal.returns-in-Err-Ended-clause-outside
 returns-in-Err-Ended-clause-outside c =
     outside_writes (shape_of c.args.script.now) (tree_of c.args.script.now) c.args.store.now c.args.msg.now c.args.answers.now c.args.turns
-    c.played-in-Err-Ended.result (search rules)
+    c.outcome-in-Err-Ended.result (search rules)

@@ -1,6 +1,6 @@
 use Rattle.std.proofs.Common.{◌≡◌, ℕ, ◌+◌, drop, get_or, [], ◌∷◌, arith}
 use Rattle.std.specs.Prelude.{count_by}
-use Rattle.slip_gateway.specs.Stream.{is_end}
+use Rattle.slip_gateway.specs.Stream.{is_end_byte}
 use Rattle.slip_gateway.proofs.FedLemmas.{HasRead, has_read_none, has_read_next, has_read_all, ends_next}
 use Rattle.slip_gateway.proofs.slip.Slip.read.Goals as goal
 

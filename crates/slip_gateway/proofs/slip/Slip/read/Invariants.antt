@@ -1,6 +1,6 @@
 use Rattle.std.proofs.Common.{◌≤◌, ◌+◌, drop, take}
 use Rattle.std.specs.Prelude.{count_by, vec_len, vec_capacity}
-use Rattle.slip_gateway.specs.Stream.{is_end}
+use Rattle.slip_gateway.specs.Stream.{is_end_byte}
 use Rattle.slip_gateway.proofs.FedLemmas.{HasRead}
 use Rattle.slip_gateway.proofs.slip.Slip.read.Given as goal
 
@@ -8,4 +8,4 @@ use Rattle.slip_gateway.proofs.slip.Slip.read.Given as goal
 abbrev pub invariant-loop-byte : goal.invariant-loop-byte
 invariant-loop-byte l =
     HasRead l.initial.self l.self l.initial.into.items l.into.items (take l.byte-index l.piece)
-    × (vec_len l.into + count_by is_end (drop l.byte-index l.piece) ≤ vec_capacity l.into)
+    × (vec_len l.into + count_by is_end_byte (drop l.byte-index l.piece) ≤ vec_capacity l.into)

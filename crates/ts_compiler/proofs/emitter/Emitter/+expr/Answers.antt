@@ -5,7 +5,7 @@ use Rattle.ts_syntax.specs.Expression.{Expression, arguments, Two}
 use Rattle.ts_syntax.specs.TreeOf.{expr_tree, args_trees}
 use Rattle.ts_syntax.specs.declared.checked_expr.CExpr.{CExpr, the_lemmas}
 use Rattle.ts_translation.specs.Translation.{expr_code, args_code, operator_code}
-use Rattle.ts_compiler.specs.Parts.{HasRoom, Writes}
+use Rattle.ts_compiler.specs.Parts.{HasRoom, WritesInstrs}
 use Rattle.ts_compiler.proofs.PartLemmas.{◌⟫◌, room_first, room_second, ArgsFrom, args_room, args_step, args_end, rest_more, rest_none}
 use Rattle.ts_compiler.proofs.emitter.Emitter.+expr.Goals as goal
 
@@ -49,8 +49,8 @@ expr-returns-in-Two t c =
     let l : Expression = expr_tree c.deref-in-Two.result.now in
     let r : Expression = expr_tree c.deref-in-Two-2.result.now in
     let seen : expr_tree c.args.expr.now ≡ Two c.in-Two.op l r = search (rules, the_lemmas) in
-    let W : Expression → Type 0 = λ e. Writes c.args.self.now (expr_code e) c.expr_then-in-Two.new.self in
-    let I : Instr → Type 0 = λ i. Writes c.args.self.now (expr_code l ++ (expr_code r ++ i ∷ [])) c.expr_then-in-Two.new.self in
+    let W : Expression → Type 0 = λ e. WritesInstrs c.args.self.now (expr_code e) c.expr_then-in-Two.new.self in
+    let I : Instr → Type 0 = λ i. WritesInstrs c.args.self.now (expr_code l ++ (expr_code r ++ i ∷ [])) c.expr_then-in-Two.new.self in
     subst W (sym seen) (subst I c.operator_instr-instr.ensures (c.expr.ensures ⟫ c.expr_then-in-Two.ensures))
 
 pub args-expr-requires : goal.args-expr-requires
@@ -78,5 +78,5 @@ args-returns t c =
     let seen : args_trees c.args.args.now ≡ map expr_tree c.args.args.now.items.items = search (rules, the_lemmas) in
     let all : args_trees c.args.args.now ≡ map expr_tree es = seen ∙ ap (map expr_tree) (sym c.as_slice-arg-items.ensures.value) in
     let F : List Expression → Type 0 = λ xs. ArgsFrom c.args.self.now c.loop-arg.self (map expr_tree es) xs in
-    let W : List Expression → Type 0 = λ xs. Writes c.args.self.now (args_code (arguments xs)) c.loop-arg.self in
+    let W : List Expression → Type 0 = λ xs. WritesInstrs c.args.self.now (args_code (arguments xs)) c.loop-arg.self in
     subst W (sym all) (args_end (subst F (rest_none expr_tree es c.loop-arg.arg-index c.loop-arg-test.false) c.loop-arg.invariant))

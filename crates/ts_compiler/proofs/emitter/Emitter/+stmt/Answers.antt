@@ -7,8 +7,8 @@ use Rattle.ts_syntax.specs.Expression.{Expression}
 use Rattle.ts_syntax.specs.Statement.{Statement, Block, block, IfElse}
 use Rattle.ts_syntax.specs.TreeOf.{expr_tree, stmt_tree, block_tree, block_trees}
 use Rattle.ts_syntax.specs.declared.checked_stmt.CStmt.{CStmt, the_lemmas}
-use Rattle.ts_translation.specs.Translation.{bytes_of, number_code, stmt_code, block_code}
-use Rattle.ts_compiler.specs.Parts.{HasRoom, Writes}
+use Rattle.ts_translation.specs.Translation.{size_of_instrs, number_code, stmt_code, block_code}
+use Rattle.ts_compiler.specs.Parts.{HasRoom, WritesInstrs}
 use Rattle.ts_compiler.proofs.PartLemmas.{◌⟫◌, BlockFrom, block_room, block_step, block_end, rest_more, rest_none, guarded_small, guarded_test, guarded_jump, guarded_body, guarded_writes, other_small, other_jump, other_body, other_writes, else_room_first, else_room_second, else_writes, while_room_first, while_room_second, while_writes, for_head_room, for_small, for_jump, for_body_room, for_step, for_back, for_writes}
 use Rattle.ts_compiler.proofs.emitter.Emitter.+stmt.Goals as goal
 
@@ -94,7 +94,7 @@ block-stmt-requires t c =
     let seen : block_trees c.args.block.now ≡ map stmt_tree c.args.block.now.items.items = search (rules, the_lemmas) in
     let all : block_trees c.args.block.now ≡ map stmt_tree xs = seen ∙ ap (map stmt_tree) (sym c.as_slice-stmt-items.ensures.value) in
     let F : List Statement → Type 0 = λ ys. BlockFrom c.args.self.now c.loop-stmt.self (map stmt_tree xs) ys in
-    let R : List Statement → Type 0 = λ ys. HasRoom c.args.self.now (block_code (bytes_of c.args.self.now) (block ys)) in (
+    let R : List Statement → Type 0 = λ ys. HasRoom c.args.self.now (block_code (size_of_instrs c.args.self.now) (block ys)) in (
       search (rules, the_lemmas),
       block_room (stmt_tree c.stmt-item.result) (map stmt_tree (drop (c.loop-stmt.stmt-index + 1) xs))
           (subst F (rest_more stmt_tree xs c.loop-stmt.stmt-index c.stmt-item.result c.stmt-item.is c.loop-stmt-test.true) c.loop-stmt.invariant) (subst R all c.requires),
@@ -113,7 +113,7 @@ block-returns t c =
     let seen : block_trees c.args.block.now ≡ map stmt_tree c.args.block.now.items.items = search (rules, the_lemmas) in
     let all : block_trees c.args.block.now ≡ map stmt_tree xs = seen ∙ ap (map stmt_tree) (sym c.as_slice-stmt-items.ensures.value) in
     let F : List Statement → Type 0 = λ ys. BlockFrom c.args.self.now c.loop-stmt.self (map stmt_tree xs) ys in
-    let W : List Statement → Type 0 = λ ys. Writes c.args.self.now (block_code (bytes_of c.args.self.now) (block ys)) c.loop-stmt.self in
+    let W : List Statement → Type 0 = λ ys. WritesInstrs c.args.self.now (block_code (size_of_instrs c.args.self.now) (block ys)) c.loop-stmt.self in
     subst W (sym all) (block_end (subst F (rest_none stmt_tree xs c.loop-stmt.stmt-index c.loop-stmt-test.false) c.loop-stmt.invariant))
 
 -- ---- an `if` with an `else`
@@ -123,7 +123,7 @@ stmt-guarded-requires t c =
     let e : Expression = expr_tree c.in-If.test in
     let a : Block = block_tree c.in-If.body in
     let b : Block = block_tree c.in-Some.other in
-    let R : Statement → Type 0 = λ x. HasRoom c.args.self.now (stmt_code (bytes_of c.args.self.now) x) in
+    let R : Statement → Type 0 = λ x. HasRoom c.args.self.now (stmt_code (size_of_instrs c.args.self.now) x) in
     let seen : stmt_tree c.args.stmt.now ≡ IfElse e a b = search (rules, the_lemmas) in
     (search (rules, the_lemmas), (else_room_first e a b (subst R seen c.requires), omega arith))
 
@@ -132,7 +132,7 @@ stmt-otherwise-requires t c =
     let e : Expression = expr_tree c.in-If.test in
     let a : Block = block_tree c.in-If.body in
     let b : Block = block_tree c.in-Some.other in
-    let R : Statement → Type 0 = λ x. HasRoom c.args.self.now (stmt_code (bytes_of c.args.self.now) x) in
+    let R : Statement → Type 0 = λ x. HasRoom c.args.self.now (stmt_code (size_of_instrs c.args.self.now) x) in
     let seen : stmt_tree c.args.stmt.now ≡ IfElse e a b = search (rules, the_lemmas) in
     (search (rules, the_lemmas), else_room_second e a b c.guarded.ensures (subst R seen c.requires))
 
@@ -141,6 +141,6 @@ stmt-returns-in-Some t c =
     let e : Expression = expr_tree c.in-If.test in
     let a : Block = block_tree c.in-If.body in
     let b : Block = block_tree c.in-Some.other in
-    let W : Statement → Type 0 = λ x. Writes c.args.self.now (stmt_code (bytes_of c.args.self.now) x) c.otherwise.new.self in
+    let W : Statement → Type 0 = λ x. WritesInstrs c.args.self.now (stmt_code (size_of_instrs c.args.self.now) x) c.otherwise.new.self in
     let seen : stmt_tree c.args.stmt.now ≡ IfElse e a b = search (rules, the_lemmas) in
     subst W (sym seen) (else_writes e a b c.guarded.ensures c.otherwise.ensures)

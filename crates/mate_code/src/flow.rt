@@ -1,0 +1,94 @@
+//! Where an instruction goes on, what it takes from the stack and puts on it, and whether what it names is there.
+
+ghost use Rattle.std.specs.Prelude.{◌≡◌};
+ghost use Rattle.mate_code.specs.Effect.{args_of};
+ghost use Rattle.mate_code.specs.Flow.{flow_of, pops_of, pushes_of, is_in_range};
+ghost use Rattle.mate_code.specs.Verification.{is_end};
+
+use crate::instr::Instr;
+use crate::row::{Access, Pops, Way};
+use mate_num::{FunId, PRIVATES, Shape};
+
+/// Where a run goes on after an instruction.
+#[derive(Clone, Copy)]
+pub enum Flow {
+    /// At the next place.
+    Next,
+    /// Nowhere.
+    Ends,
+    /// At the next place or the target.
+    Branches(u16),
+    /// At the target.
+    Jumps(u16),
+    /// At the target, for a turn.
+    Returns(u16),
+}
+
+impl Flow {
+    pub fn is_end(self) -> bool
+        ensures { result ≡ is_end self }
+    {
+        match self {
+            Flow::Ends => true,
+            Flow::Next | Flow::Branches(_) | Flow::Jumps(_) | Flow::Returns(_) => false,
+        }
+    }
+}
+
+impl Instr {
+    /// Where a run goes on after the instruction.
+    pub fn flow(self) -> Flow
+        ensures { result ≡ flow_of self }
+    {
+        let target = self.operand();
+        match self.kind().row().way {
+            Way::Next => Flow::Next,
+            Way::Ends => Flow::Ends,
+            Way::Branches => Flow::Branches(target),
+            Way::Jumps => Flow::Jumps(target),
+            Way::Returns => Flow::Returns(target),
+        }
+    }
+
+    /// How many values the instruction takes from the stack.
+    pub fn pops(self, shape: &Shape) -> u8
+        ensures { result ≡ pops_of shape.now self }
+    {
+        match self.kind().row().pops {
+            Pops::Values(number) => number,
+            Pops::Args(fun) => args(shape, fun),
+        }
+    }
+
+    /// How many values the instruction puts on the stack; a function's answer is one.
+    pub fn pushes(self) -> u8
+        ensures { result ≡ pushes_of self }
+    {
+        self.kind().row().pushes
+    }
+
+    /// Whether the variable, private variable or buffer that the instruction names is there.
+    pub fn is_in_range(self, shape: &Shape) -> bool
+        ensures { result ≡ is_in_range shape.now self }
+    {
+        let number = self.operand();
+        match self.kind().row().access {
+            Access::Nothing | Access::Calls(_) => true,
+            Access::Private => usize::from(number) < PRIVATES,
+            Access::GetsVariable | Access::SetsVariable => number < u16::from(shape.shared),
+            Access::GetsBuffer | Access::SetsBuffer | Access::Sends(_) => {
+                number < u16::from(shape.buffers)
+            }
+        }
+    }
+}
+
+/// How many values the instruction of a function takes from the stack.
+pub fn args(shape: &Shape, fun: FunId) -> u8
+    ensures { result ≡ args_of shape.now fun }
+{
+    match shape.functions.get(usize::from(fun.0)) {
+        Some(function) => function.args,
+        None => 0,
+    }
+}

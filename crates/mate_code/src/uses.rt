@@ -1,0 +1,41 @@
+//! What an instruction has to do with what handlers share.
+
+ghost use Rattle.std.specs.Prelude.{◌≡◌};
+ghost use Rattle.mate_code.specs.CodeUses.{use_of};
+
+use crate::instr::Instr;
+use crate::row::Access;
+use mate_num::{BufId, FunId, Resource, VarId};
+
+/// What an instruction has to do with what handlers share.
+#[derive(Clone, Copy)]
+pub enum Use {
+    /// Nothing.
+    Nothing,
+    /// It gets from a variable or a buffer.
+    Gets(Resource),
+    /// It changes a variable or a buffer.
+    Changes(Resource),
+    /// It calls a function.
+    Calls(FunId),
+    /// It sends a buffer by a function.
+    Sends(FunId, BufId),
+}
+
+impl Instr {
+    /// What the instruction has to do with what handlers share.
+    pub fn uses(self) -> Use
+        ensures { result ≡ use_of self }
+    {
+        let number = self.operand();
+        match self.kind().row().access {
+            Access::Nothing | Access::Private => Use::Nothing,
+            Access::GetsVariable => Use::Gets(Resource::Shared(VarId(number as u8))),
+            Access::SetsVariable => Use::Changes(Resource::Shared(VarId(number as u8))),
+            Access::GetsBuffer => Use::Gets(Resource::Buffer(BufId(number as u8))),
+            Access::SetsBuffer => Use::Changes(Resource::Buffer(BufId(number as u8))),
+            Access::Calls(fun) => Use::Calls(fun),
+            Access::Sends(fun) => Use::Sends(fun, BufId(number as u8)),
+        }
+    }
+}

@@ -1,0 +1,25 @@
+//! The newest version of each handler so far, of which there are at most 8.
+
+ghost use Rattle.std.specs.Prelude.{◌≡◌, slice_index, slice_set};
+
+use mate_num::HandlerId;
+
+/// The newest version of a handler, and 0 where it has none.
+pub fn newest_of(newest: &[u32; 8], handler: HandlerId) -> u32
+    ensures { result ≡ slice_index newest.now handler.0 }
+{
+    match newest.get(usize::from(handler.0)) {
+        Some(version) => *version,
+        None => 0,
+    }
+}
+
+/// Notes a version as the newest of a handler.
+pub fn note_newest(newest: &mut [u32; 8], handler: HandlerId, version: u32)
+    ensures { newest.new ≡ slice_set newest.old handler.0 version }
+{
+    let place = usize::from(handler.0);
+    if place < newest.len() {
+        newest[place] = version;
+    }
+}
