@@ -7,16 +7,16 @@ ghost use Rattle.ts_syntax.specs.Checked.{tree_of};
 ghost use Rattle.ts_syntax.specs.Statement.{no_statements};
 ghost use Rattle.language_callers.specs.Scripts.{two_calls, without_end, false_and_call};
 
-use mate_num::{BufId, FunId, NoMemory, Payload, Store};
+use mate_num::{BufId, FunId, NoMemory, Outcome, Payload, Store};
 use std::alloc::Global;
-use ts_meaning::{Played, play};
+use ts_meaning::play;
 use ts_syntax::{CVar, Checked};
 
 pub fn no_statement_changes_the_store(
     alloc: Global,
     script: &Checked,
     store: &Store,
-) -> Result<Played, NoMemory>
+) -> Result<Outcome, NoMemory>
     requires { tree_of script.now ≡ no_statements }
     ensures end { IfOk result (λ played. played.end ≡ Halt) }
     ensures store { IfOk result (λ played. played.store ≡ store.now) }
@@ -29,7 +29,7 @@ pub fn each_call_takes_its_own_answer(
     script: &Checked,
     store: &Store,
     fun: FunId,
-) -> Result<Played, NoMemory>
+) -> Result<Outcome, NoMemory>
     requires { tree_of script.now ≡ two_calls fun }
     ensures end { IfOk result (λ played. played.end ≡ Halt) }
     ensures calls { IfOk result (λ played. played.calls ≡
@@ -43,7 +43,7 @@ pub fn a_call_wants_an_answer(
     script: &Checked,
     store: &Store,
     fun: FunId,
-) -> Result<Played, NoMemory>
+) -> Result<Outcome, NoMemory>
     requires { tree_of script.now ≡ two_calls fun }
     ensures { IfOk result (λ played. played.end ≡ Wants fun (record { items = [] })) }
 {
@@ -56,7 +56,7 @@ pub fn and_goes_on_at_false(
     store: &Store,
     variable: CVar,
     fun: FunId,
-) -> Result<Played, NoMemory>
+) -> Result<Outcome, NoMemory>
     requires { tree_of script.now ≡ false_and_call variable fun }
     ensures { IfOk result (λ played. played.end ≡ Wants fun (record { items = [] })) }
 {
@@ -68,7 +68,7 @@ pub fn going_back_takes_a_turn(
     script: &Checked,
     store: &Store,
     buffer: BufId,
-) -> Result<Played, NoMemory>
+) -> Result<Outcome, NoMemory>
     requires { tree_of script.now ≡ without_end buffer }
     ensures { IfOk result (λ played. played.end ≡ Fault Overrun) }
 {

@@ -1,6 +1,6 @@
 //! Texts that exclude wrong bodies of `tokens`, `check` and `compile`.
 
-ghost use Rattle.std.specs.Prelude.{◌≡◌, [], ◌∷◌, IfOk};
+ghost use Rattle.std.specs.Prelude.{◌≡◌, [], ◌∷◌, IfOk, codes};
 ghost use Rattle.mate_code.specs.Table.{table_of};
 ghost use Rattle.ts_syntax.specs.Checked.{shape_of, tree_of};
 ghost use Rattle.ts_syntax.specs.Cut.{token};
@@ -14,8 +14,8 @@ use mate_num::Code;
 use std::alloc::Global;
 use ts_checker::{CheckFault, check};
 use ts_compiler::{CompileFault, compile};
-use ts_lexer::{TokenFault, tokens};
-use ts_syntax::{Checked, Script, Tokens, Word};
+use ts_lexer::{TokenFault, tokens, tokens_in};
+use ts_syntax::{Checked, Dialect, Script, Tokens, Word};
 use vm_desc::Description;
 
 #[tactic(auto, unfolding(ts_syntax::specs::Cut::cut_from))]
@@ -37,6 +37,20 @@ pub fn a_keyword_is_no_name(alloc: Global) -> Result<Tokens, TokenFault>
     ensures { IfOk result (λ tokens. tokens ≡ token kind.If 1 3 ∷ []) }
 {
     tokens(alloc, b"\rif")
+}
+
+#[tactic(auto, unfolding(ts_syntax::specs::Cut::cut_from, ts_syntax::specs::Cut::word_kind))]
+pub fn do_is_a_name_in_plain_text(alloc: Global) -> Result<Tokens, TokenFault>
+    ensures { IfOk result (λ tokens. tokens ≡ token (kind.Name (codes "do")) 0 2 ∷ []) }
+{
+    tokens(alloc, b"do")
+}
+
+#[tactic(auto, unfolding(ts_syntax::specs::Cut::cut_from, ts_syntax::specs::Cut::word_kind))]
+pub fn do_is_a_keyword_with_procedures(alloc: Global) -> Result<Tokens, TokenFault>
+    ensures { IfOk result (λ tokens. tokens ≡ token kind.Do 0 2 ∷ []) }
+{
+    tokens_in(alloc, Dialect::Procedures, b"do")
 }
 
 #[tactic(auto, unfolding(ts_syntax::specs::Cut::cut_from))]

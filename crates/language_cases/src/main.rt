@@ -3,6 +3,7 @@
 
 mod codes;
 mod machines;
+mod procedures;
 mod runs;
 mod scripts;
 mod shapes;
@@ -35,10 +36,12 @@ enum Question {
     Run,
     Code,
     Folded,
+    /// Whether a source is a script with procedures.
+    Procedures,
 }
 
 /// The files of cases, in the order in which they are printed.
-const TABLES: [(&str, Question); 18] = [
+const TABLES: [(&str, Question); 19] = [
     ("machines", Question::Machine),
     ("bad-machines", Question::Machine),
     ("machine-parts", Question::Parts),
@@ -57,6 +60,7 @@ const TABLES: [(&str, Question); 18] = [
     ("codes", Question::Code),
     ("bad-codes", Question::Code),
     ("folded", Question::Folded),
+    ("procedures", Question::Procedures),
 ];
 
 fn main(rt: HostRuntime) -> io::Result<()> {
@@ -99,5 +103,6 @@ fn answer(
         Question::Run => runs::answer(alloc, station, case),
         Question::Code => codes::answer(alloc, station, case),
         Question::Folded => codes::folded(alloc, station, case),
+        Question::Procedures => procedures::answer(alloc, case),
     }
 }

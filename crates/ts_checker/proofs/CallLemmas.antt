@@ -16,7 +16,7 @@ use Rattle.ts_syntax.specs.declared.word.Word.{Word}
 use Rattle.ts_checker.specs.declared.fault.CheckFault.{CheckFault}
 use Rattle.ts_checker.specs.declared.fault.CheckFault.TheVariants.{Arity}
 use Rattle.ts_checker.specs.Refusal.{◌>>=◌}
-use Rattle.ts_checker.specs.Names.{Names, function}
+use Rattle.ts_checker.specs.Names.{ScriptNames, function}
 use Rattle.ts_checker.specs.Checks.{calls, sent, tree_count, checked_call}
 
 -- a literal of at most 65535, read as a 16-bit number
@@ -29,13 +29,13 @@ tree_count-trees_of [] = refl
 tree_count-trees_of (e ∷ es) = ap suc (tree_count-trees_of es)
 
 -- a call that isn't of one argument sends no buffer
-pub sent_other : (n : Names) (place : ℕ) (es : List Expr) → (length es ≡ 1 → ⊥) → Err (Arity place) ≡ sent n place (trees_of es)
+pub sent_other : (n : ScriptNames) (place : ℕ) (es : List Expr) → (length es ≡ 1 → ⊥) → Err (Arity place) ≡ sent n place (trees_of es)
 sent_other n place [] other = refl
 sent_other n place (e ∷ []) other = absurd (other refl)
 sent_other n place (e ∷ (d ∷ es)) other = refl
 
 -- the arguments of a function that sends no buffer are counted, and then checked
-pub call_counted : (n : Names) (allowed : Bool) (w : Word) (es : List Expr) (args : Result Arguments CheckFault) (f : FunId × FunKind)
+pub call_counted : (n : ScriptNames) (allowed : Bool) (w : Word) (es : List Expr) (args : Result Arguments CheckFault) (f : FunId × FunKind)
     → function n w ≡ Ok f → allowed ≡ true → is_send f.1 ≡ false → length es ≡ args_of f.1
     → checked_call n allowed w (trees_of es) args ≡ (args >>= (λ checked. Ok (calls f.0 checked)))
 call_counted n allowed w es args f found here plain same =
@@ -43,7 +43,7 @@ call_counted n allowed w es args f found here plain same =
     (let e : tree_count (trees_of es) ≡ args_of f.1 = tree_count-trees_of es ∙ same in grind (arith, nat_tests)) in
     rw (found, here, plain, counted) refl
 
-pub call_miscounted : (n : Names) (allowed : Bool) (w : Word) (es : List Expr) (args : Result Arguments CheckFault) (f : FunId × FunKind)
+pub call_miscounted : (n : ScriptNames) (allowed : Bool) (w : Word) (es : List Expr) (args : Result Arguments CheckFault) (f : FunId × FunKind)
     → function n w ≡ Ok f → allowed ≡ true → is_send f.1 ≡ false → (length es ≡ args_of f.1 → ⊥)
     → checked_call n allowed w (trees_of es) args ≡ Err (Arity w.place)
 call_miscounted n allowed w es args f found here plain other =

@@ -11,7 +11,7 @@ use Rattle.ts_syntax.specs.declared.script.Decl.{Decl}
 use Rattle.ts_syntax.proofs.ListLemmas.{drop_item}
 use Rattle.ts_checker.specs.declared.fault.CheckFault.{CheckFault}
 use Rattle.ts_checker.specs.Refusal.{◌>>=◌}
-use Rattle.ts_checker.specs.Names.{Names, declare, declare_all}
+use Rattle.ts_checker.specs.Names.{ScriptNames, declare, declare_all}
 use Rattle.ts_checker.specs.Checks.{checked_expr, checked_args, checked_stmt, checked_block}
 
 -- arguments behind others
@@ -37,7 +37,7 @@ with_args-push done e (Ok more) = ap Ok (args_behind-push done e more)
 with_args-push done e (Err fault) = refl
 
 -- one more argument is checked
-pub args_next : (n : Names) (calls : Bool) (args : List Expr) (i : ℕ) (arg : Expr) (done more : List Expression) (e : Expression)
+pub args_next : (n : ScriptNames) (calls : Bool) (args : List Expr) (i : ℕ) (arg : Expr) (done more : List Expression) (e : Expression)
     → i < length args → arg ≡ get_or args i arg → checked_expr n calls (tree_of arg) ≡ Ok e → more ≡ done ++ e ∷ []
     → with_args done (checked_args n calls (trees_of (drop i args))) ≡ with_args more (checked_args n calls (trees_of (drop (i + 1) args)))
 args_next n calls args i arg done more e within item checked pushed =
@@ -47,7 +47,7 @@ args_next n calls args i arg done more e within item checked pushed =
     ∙ ap (λ es. with_args es (checked_args n calls (trees_of (drop (i + 1) args)))) (sym pushed)
 
 -- an argument is refused
-pub args_refused : (n : Names) (calls : Bool) (args : List Expr) (i : ℕ) (arg : Expr) (done : List Expression) (fault : CheckFault)
+pub args_refused : (n : ScriptNames) (calls : Bool) (args : List Expr) (i : ℕ) (arg : Expr) (done : List Expression) (fault : CheckFault)
     → i < length args → arg ≡ get_or args i arg → checked_expr n calls (tree_of arg) ≡ Err fault
     → with_args done (checked_args n calls (trees_of (drop i args))) ≡ Err fault
 args_refused n calls args i arg done fault within item refused =
@@ -55,7 +55,7 @@ args_refused n calls args i arg done fault within item refused =
     ∙ ap (λ r. with_args done (r >>= (λ a. checked_args n calls (trees_of (drop (i + 1) args)) >>= (λ rest. Ok (argument a rest))))) refused
 
 -- all arguments are checked
-pub args_end : (n : Names) (calls : Bool) (args : List Expr) (i : ℕ) (done : List Expression) → length args ≤ i
+pub args_end : (n : ScriptNames) (calls : Bool) (args : List Expr) (i : ℕ) (done : List Expression) → length args ≤ i
     → with_args done (checked_args n calls (trees_of (drop i args))) ≡ Ok (arguments done)
 args_end n calls args i done past =
     ap (λ es. with_args done (checked_args n calls (trees_of es))) (drop_all i args past) ∙ ap Ok (args_behind-none done)
@@ -82,7 +82,7 @@ with_stmts-push done s (Ok more) = ap Ok (stmts_behind-push done s more)
 with_stmts-push done s (Err fault) = refl
 
 -- one more statement is checked
-pub stmts_next : (n : Names) (stmts : List Stmt) (i : ℕ) (stmt : Stmt) (done more : List Statement) (s : Statement)
+pub stmts_next : (n : ScriptNames) (stmts : List Stmt) (i : ℕ) (stmt : Stmt) (done more : List Statement) (s : Statement)
     → i < length stmts → stmt ≡ get_or stmts i stmt → checked_stmt n (act_of stmt) ≡ Ok s → more ≡ done ++ s ∷ []
     → with_stmts done (checked_block n (acts_of (drop i stmts))) ≡ with_stmts more (checked_block n (acts_of (drop (i + 1) stmts)))
 stmts_next n stmts i stmt done more s within item checked pushed =
@@ -92,7 +92,7 @@ stmts_next n stmts i stmt done more s within item checked pushed =
     ∙ ap (λ ss. with_stmts ss (checked_block n (acts_of (drop (i + 1) stmts)))) (sym pushed)
 
 -- a statement is refused
-pub stmts_refused : (n : Names) (stmts : List Stmt) (i : ℕ) (stmt : Stmt) (done : List Statement) (fault : CheckFault)
+pub stmts_refused : (n : ScriptNames) (stmts : List Stmt) (i : ℕ) (stmt : Stmt) (done : List Statement) (fault : CheckFault)
     → i < length stmts → stmt ≡ get_or stmts i stmt → checked_stmt n (act_of stmt) ≡ Err fault
     → with_stmts done (checked_block n (acts_of (drop i stmts))) ≡ Err fault
 stmts_refused n stmts i stmt done fault within item refused =
@@ -100,13 +100,13 @@ stmts_refused n stmts i stmt done fault within item refused =
     ∙ ap (λ r. with_stmts done (r >>= (λ a. checked_block n (acts_of (drop (i + 1) stmts)) >>= (λ rest. Ok (statement a rest))))) refused
 
 -- all statements are checked
-pub stmts_end : (n : Names) (stmts : List Stmt) (i : ℕ) (done : List Statement) → length stmts ≤ i
+pub stmts_end : (n : ScriptNames) (stmts : List Stmt) (i : ℕ) (done : List Statement) → length stmts ≤ i
     → with_stmts done (checked_block n (acts_of (drop i stmts))) ≡ Ok (block done)
 stmts_end n stmts i done past =
     ap (λ ss. with_stmts done (checked_block n (acts_of ss))) (drop_all i stmts past) ∙ ap Ok (stmts_behind-none done)
 
 -- a declaration is refused
-pub decls_refused : (n : Names) (ds : List Decl) (i : ℕ) (d : Decl) (fault : CheckFault) → i < length ds → d ≡ get_or ds i d → declare n d ≡ Err fault
+pub decls_refused : (n : ScriptNames) (ds : List Decl) (i : ℕ) (d : Decl) (fault : CheckFault) → i < length ds → d ≡ get_or ds i d → declare n d ≡ Err fault
     → declare_all n (drop i ds) ≡ Err fault
 decls_refused n ds i d fault within item refused =
     ap (declare_all n) (drop_item ds i d within item) ∙ ap (λ r. r >>= (λ m. declare_all m (drop (i + 1) ds))) refused

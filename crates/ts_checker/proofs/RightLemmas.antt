@@ -35,9 +35,9 @@ use Rattle.ts_checker.specs.declared.scope.Symbol.TheVariants.{Variable, Buffer}
 use Rattle.ts_checker.specs.declared.scope.Entry.{Entry}
 use Rattle.ts_checker.specs.declared.fault.CheckFault.{CheckFault}
 use Rattle.ts_checker.specs.declared.fault.CheckFault.TheVariants.{Undeclared, NotInVm, Twice, Kind, Arity, TooManyPrivates}
-use Rattle.ts_checker.specs.Refusal.{◌>>=◌, demand}
-use Rattle.ts_checker.specs.Names.{Names, names_before, symbol_of, private_count, listed, made, with_name, declare, declare_all, found, as_variable, as_buffer, variable as variable_at, buffer as buffer_at, function_from, function}
-use Rattle.ts_checker.specs.Checks.{read, Called, sends, calls, as_expression, as_statement, sent, sent_name, name_alone, tree_count, called, checked_call, checked_expr, checked_args, signed, checked_step, Head, checked_head, closed, checked_stmt, checked_block, checked_source}
+use Rattle.ts_checker.specs.Refusal.{◌>>=◌, unless_refused}
+use Rattle.ts_checker.specs.Names.{ScriptNames, names_before, symbol_of, private_count, listed, made, with_name, declare, declare_all, found_symbol, as_variable, as_buffer, variable as variable_at, buffer as buffer_at, function_from, function}
+use Rattle.ts_checker.specs.Checks.{variable_expression, Called, sends, calls, as_expression, as_statement, sent, sent_name, name_alone, tree_count, called_function, checked_call, checked_expr, checked_args, step_number, checked_step, CheckedHead, checked_head, closes_for, checked_stmt, checked_block, checked_source}
 use Rattle.ts_checker.proofs.CheckLemmas.{bind_keeps, demand_holds, ok_or_found}
 
 -- what a name stands for is in the shape's range
@@ -46,7 +46,7 @@ is_right_symbol s (Variable x) = is_variable s x
 is_right_symbol s (Buffer p) = is_buffer s p
 
 -- all declared names are
-pub record AreRight (s : Shape) (n : Names) : Type 0 where
+pub record AreRight (s : Shape) (n : ScriptNames) : Type 0 where
   pub shape : s ≡ shape_of n.machine
   pub each : list_all (λ (x : Entry). is_right_symbol s x.symbol) n.declared ≡ true
 
@@ -61,31 +61,31 @@ listed-below names name = placed (position (bytes_eq name) names) refl where
   placed None e = tt
   placed (Some i) e = (position-Some (bytes_eq name) names i [] e).0
 
-made-right : (s : Shape) (n : Names) (kind : DeclKind) (name : List ℕ) → AreRight s n → IfOk (made n kind name) (λ y. is_right_symbol s y ≡ true)
+made-right : (s : Shape) (n : ScriptNames) (kind : DeclKind) (name : List ℕ) → AreRight s n → IfOk (made n kind name) (λ y. is_right_symbol s y ≡ true)
 made-right s n of.Shared name right =
     bind_keeps (λ i. i < length n.machine.shared.items) (λ y. is_right_symbol s y ≡ true) (listed n.machine.shared.items name) _
     (listed-below n.machine.shared.items name) (λ i below. rw right.shape (lt-ltb i (length n.machine.shared.items) below))
 made-right s n of.Private name right =
     bind_keeps (λ _. nat_lt (private_count n.declared) 8 ≡ true) (λ y. is_right_symbol s y ≡ true)
-    (demand (nat_lt (private_count n.declared) 8) TooManyPrivates) _ (demand_holds _ _) (λ _ few. few)
+    (unless_refused (nat_lt (private_count n.declared) 8) TooManyPrivates) _ (demand_holds _ _) (λ _ few. few)
 made-right s n of.Buffer name right =
     bind_keeps (λ i. i < length n.machine.buffers.items) (λ y. is_right_symbol s y ≡ true) (listed n.machine.buffers.items name) _
     (listed-below n.machine.buffers.items name) (λ i below. rw right.shape (lt-ltb i (length n.machine.buffers.items) below))
 
-with_name-right : (s : Shape) (n : Names) (name : List ℕ) (y : Symbol) → AreRight s n → is_right_symbol s y ≡ true → AreRight s (with_name n name y)
+with_name-right : (s : Shape) (n : ScriptNames) (name : List ℕ) (y : Symbol) → AreRight s n → is_right_symbol s y ≡ true → AreRight s (with_name n name y)
 with_name-right s n name y right fits = record {
   shape = right.shape;
   each = list_all-append (λ (x : Entry). is_right_symbol s x.symbol) n.declared _ ∙ rw (right.each, fits) refl;
 }
 
-declare-right : (s : Shape) (n : Names) (d : Decl) → AreRight s n → IfOk (declare n d) (AreRight s)
+declare-right : (s : Shape) (n : ScriptNames) (d : Decl) → AreRight s n → IfOk (declare n d) (AreRight s)
 declare-right s n d right =
-    bind_keeps (λ _. ⊤) (AreRight s) (demand (is_none (symbol_of n.declared d.word.name)) (Twice d.word.name))
+    bind_keeps (λ _. ⊤) (AreRight s) (unless_refused (is_none (symbol_of n.declared d.word.name)) (Twice d.word.name))
     (λ _. made n d.kind d.word.name >>= (λ y. Ok (with_name n d.word.name y))) (anything _) (λ _ _.
     bind_keeps (λ y. is_right_symbol s y ≡ true) (AreRight s) (made n d.kind d.word.name) (λ y. Ok (with_name n d.word.name y))
     (made-right s n d.kind d.word.name right) (λ y fits. with_name-right s n d.word.name y right fits))
 
-declare_all-right : (s : Shape) (n : Names) (ds : List Decl) → AreRight s n → IfOk (declare_all n ds) (AreRight s)
+declare_all-right : (s : Shape) (n : ScriptNames) (ds : List Decl) → AreRight s n → IfOk (declare_all n ds) (AreRight s)
 declare_all-right s n [] right = right
 declare_all-right s n (d ∷ ds) right =
     bind_keeps (AreRight s) (AreRight s) (declare n d) _ (declare-right s n d right) (λ m fits. declare_all-right s m ds fits)
@@ -102,22 +102,22 @@ symbol_of-right s (x ∷ xs) name all =
       chosen true here there = here
       chosen false here there = there
 
-found-right : (s : Shape) (n : Names) (w : Word) → AreRight s n → IfOk (found n w) (λ y. is_right_symbol s y ≡ true)
+found-right : (s : Shape) (n : ScriptNames) (w : Word) → AreRight s n → IfOk (found_symbol n w) (λ y. is_right_symbol s y ≡ true)
 found-right s n w right = told (symbol_of n.declared w.name) (symbol_of-right s n.declared w.name right.each) where
   told : (o : Option Symbol) → IfSome o (λ y. is_right_symbol s y ≡ true) → IfOk (ok_or o (Undeclared w.name w.place)) (λ y. is_right_symbol s y ≡ true)
   told None h = tt
   told (Some y) h = h
 
-variable-right : (s : Shape) (n : Names) (w : Word) → AreRight s n → IfOk (variable_at n w) (λ x. is_variable s x ≡ true)
+variable-right : (s : Shape) (n : ScriptNames) (w : Word) → AreRight s n → IfOk (variable_at n w) (λ x. is_variable s x ≡ true)
 variable-right s n w right =
-    bind_keeps (λ y. is_right_symbol s y ≡ true) (λ x. is_variable s x ≡ true) (found n w) (as_variable w.place) (found-right s n w right) told where
+    bind_keeps (λ y. is_right_symbol s y ≡ true) (λ x. is_variable s x ≡ true) (found_symbol n w) (as_variable w.place) (found-right s n w right) told where
       told : (y : Symbol) → is_right_symbol s y ≡ true → IfOk (as_variable w.place y) (λ x. is_variable s x ≡ true)
       told (Variable x) h = h
       told (Buffer p) h = tt
 
-buffer-right : (s : Shape) (n : Names) (w : Word) → AreRight s n → IfOk (buffer_at n w) (λ p. is_buffer s p ≡ true)
+buffer-right : (s : Shape) (n : ScriptNames) (w : Word) → AreRight s n → IfOk (buffer_at n w) (λ p. is_buffer s p ≡ true)
 buffer-right s n w right =
-    bind_keeps (λ y. is_right_symbol s y ≡ true) (λ p. is_buffer s p ≡ true) (found n w) (as_buffer w.place) (found-right s n w right) told where
+    bind_keeps (λ y. is_right_symbol s y ≡ true) (λ p. is_buffer s p ≡ true) (found_symbol n w) (as_buffer w.place) (found-right s n w right) told where
       told : (y : Symbol) → is_right_symbol s y ≡ true → IfOk (as_buffer w.place y) (λ p. is_buffer s p ≡ true)
       told (Variable x) h = tt
       told (Buffer p) h = h
@@ -153,7 +153,7 @@ record IsCalled (s : Shape) (f : FunId × FunKind) : Type 0 where
   pub args : shape.args ≡ args_of f.1
   pub send : shape.send ≡ is_send f.1
 
-function-right : (s : Shape) (n : Names) (w : Word) → AreRight s n → IfOk (function n w) (IsCalled s)
+function-right : (s : Shape) (n : ScriptNames) (w : Word) → AreRight s n → IfOk (function n w) (IsCalled s)
 function-right s n w right = told (function_from 0 n.machine.functions.items w.name) (function_from-found 0 n.machine.functions.items w.name) where
   told : (o : Option (FunId × FunKind)) → IfSome o (IsFound 0 (map fun_shape n.machine.functions.items)) → IfOk (ok_or o (NotInVm w.name)) (IsCalled s)
   told None h = tt
@@ -164,11 +164,11 @@ function-right s n w right = told (function_from 0 n.machine.functions.items w.n
 both : (a b : Bool) → a ≡ true → b ≡ true → (a && b) ≡ true
 both a b ha hb = rw (ha, hb) refl
 
-sent_name-right : (s : Shape) (n : Names) (place : ℕ) (o : Option Word) → AreRight s n → IfOk (sent_name n place o) (λ p. is_buffer s p ≡ true)
+sent_name-right : (s : Shape) (n : ScriptNames) (place : ℕ) (o : Option Word) → AreRight s n → IfOk (sent_name n place o) (λ p. is_buffer s p ≡ true)
 sent_name-right s n place None right = tt
 sent_name-right s n place (Some w) right = buffer-right s n w right
 
-sent-right : (s : Shape) (n : Names) (place : ℕ) (es : Trees) → AreRight s n → IfOk (sent n place es) (λ p. is_buffer s p ≡ true)
+sent-right : (s : Shape) (n : ScriptNames) (place : ℕ) (es : Trees) → AreRight s n → IfOk (sent n place es) (λ p. is_buffer s p ≡ true)
 sent-right s n place no_trees right = tt
 sent-right s n place (tree_then e no_trees) right = sent_name-right s n place (name_alone e) right
 sent-right s n place (tree_then e (tree_then d es)) right = tt
@@ -190,17 +190,17 @@ is_call-right s f count h plain same =
 is_send-right : (s : Shape) (f : FunId × FunKind) (p : BufId) → IsCalled s f → is_send f.1 ≡ true → is_buffer s p ≡ true → is_send_for s f.0 p ≡ true
 is_send-right s f p h sending buffer = rw (h.at, h.send, sending, buffer) refl
 
-called-right : (s : Shape) (n : Names) (place : ℕ) (f : FunId × FunKind) (allowed : Bool) (es : Trees) (args : Result Arguments CheckFault)
-    → AreRight s n → IsCalled s f → allowed ≡ true → IfOk args (AreArguments s allowed es) → IfOk (called n place f es args) (IsRightCall s allowed)
+called-right : (s : Shape) (n : ScriptNames) (place : ℕ) (f : FunId × FunKind) (allowed : Bool) (es : Trees) (args : Result Arguments CheckFault)
+    → AreRight s n → IsCalled s f → allowed ≡ true → IfOk args (AreArguments s allowed es) → IfOk (called_function n place f es args) (IsRightCall s allowed)
 called-right s n place f allowed es args right its here checked = chosen (is_send f.1) refl where
   sending : is_send f.1 ≡ true → IfOk (sent n place es >>= (λ p. Ok (sends f.0 p))) (IsRightCall s allowed)
   sending so =
       bind_keeps (λ p. is_buffer s p ≡ true) (IsRightCall s allowed) (sent n place es) (λ p. Ok (sends f.0 p)) (sent-right s n place es right)
       (λ p buffer. both allowed (is_send_for s f.0 p) here (is_send-right s f p its so buffer))
 
-  calling : is_send f.1 ≡ false → IfOk (demand (tree_count es == args_of f.1) (Arity place) >>= (λ _. args >>= (λ checked. Ok (calls f.0 checked)))) (IsRightCall s allowed)
+  calling : is_send f.1 ≡ false → IfOk (unless_refused (tree_count es == args_of f.1) (Arity place) >>= (λ _. args >>= (λ checked. Ok (calls f.0 checked)))) (IsRightCall s allowed)
   calling plain =
-      bind_keeps (λ _. (tree_count es == args_of f.1) ≡ true) (IsRightCall s allowed) (demand (tree_count es == args_of f.1) (Arity place))
+      bind_keeps (λ _. (tree_count es == args_of f.1) ≡ true) (IsRightCall s allowed) (unless_refused (tree_count es == args_of f.1) (Arity place))
       (λ _. args >>= (λ checked. Ok (calls f.0 checked))) (demand_holds (tree_count es == args_of f.1) (Arity place)) (λ _ counted.
       bind_keeps (AreArguments s allowed es) (IsRightCall s allowed) args (λ checked. Ok (calls f.0 checked)) checked (λ given h.
       let same : argument_count given ≡ args_of f.1 = (let e : argument_count given ≡ tree_count es = h.count in grind (arith, nat_tests)) in
@@ -208,26 +208,26 @@ called-right s n place f allowed es args right its here checked = chosen (is_sen
       (both allowed (is_call s f.0 (argument_count given)) here (is_call-right s f (argument_count given) its plain same)) h.right))
 
   chosen : (b : Bool) → is_send f.1 ≡ b → IfOk (if b then sent n place es >>= (λ p. Ok (sends f.0 p))
-      else demand (tree_count es == args_of f.1) (Arity place) >>= (λ _. args >>= (λ checked. Ok (calls f.0 checked)))) (IsRightCall s allowed)
+      else unless_refused (tree_count es == args_of f.1) (Arity place) >>= (λ _. args >>= (λ checked. Ok (calls f.0 checked)))) (IsRightCall s allowed)
   chosen true e = sending e
   chosen false e = calling e
 
-call-right : (s : Shape) (n : Names) (allowed : Bool) (w : Word) (es : Trees) (args : Result Arguments CheckFault)
+call-right : (s : Shape) (n : ScriptNames) (allowed : Bool) (w : Word) (es : Trees) (args : Result Arguments CheckFault)
     → AreRight s n → IfOk args (AreArguments s allowed es) → IfOk (checked_call n allowed w es args) (IsRightCall s allowed)
 call-right s n allowed w es args right checked =
-    bind_keeps (IsCalled s) (IsRightCall s allowed) (function n w) _ (function-right s n w right) (λ f found.
-    bind_keeps (λ _. allowed ≡ true) (IsRightCall s allowed) (demand allowed (Kind w.place)) _ (demand_holds allowed _) (λ _ here.
-    called-right s n w.place f allowed es args right found here checked))
+    bind_keeps (IsCalled s) (IsRightCall s allowed) (function n w) _ (function-right s n w right) (λ f found_symbol.
+    bind_keeps (λ _. allowed ≡ true) (IsRightCall s allowed) (unless_refused allowed (Kind w.place)) _ (demand_holds allowed _) (λ _ here.
+    called-right s n w.place f allowed es args right found_symbol here checked))
 
 abbrev IsRightExpr : Shape → Bool → Expression → Type 0
 IsRightExpr s allowed e = is_right_expr s allowed e ≡ true
 
-read-right : (s : Shape) (allowed : Bool) (x : CVar) → is_variable s x ≡ true → is_right_expr s allowed (read x) ≡ true
+read-right : (s : Shape) (allowed : Bool) (x : CVar) → is_variable s x ≡ true → is_right_expr s allowed (variable_expression x) ≡ true
 read-right s allowed (var.Shared v) h = h
 read-right s allowed (var.Private i) h = h
 
 mutual
-  expr-right : (s : Shape) (n : Names) (allowed : Bool) (e : Tree) → AreRight s n → IfOk (checked_expr n allowed e) (IsRightExpr s allowed)
+  expr-right : (s : Shape) (n : ScriptNames) (allowed : Bool) (e : Tree) → AreRight s n → IfOk (checked_expr n allowed e) (IsRightExpr s allowed)
   expr-right s n allowed (given.number literal) right = refl
   expr-right s n allowed (given.variable w) right =
       bind_keeps (λ x. is_variable s x ≡ true) (IsRightExpr s allowed) (variable_at n w) _ (variable-right s n w right) (λ x h. read-right s allowed x h)
@@ -253,7 +253,7 @@ mutual
       both (is_right_expr s allowed a) (is_right_expr s allowed b) ha hb))
   expr-right s n allowed (given.paren e) right = expr-right s n allowed e right
 
-  args-right : (s : Shape) (n : Names) (allowed : Bool) (es : Trees) → AreRight s n → IfOk (checked_args n allowed es) (AreArguments s allowed es)
+  args-right : (s : Shape) (n : ScriptNames) (allowed : Bool) (es : Trees) → AreRight s n → IfOk (checked_args n allowed es) (AreArguments s allowed es)
   args-right s n allowed no_trees right = record { count = refl; right = refl }
   args-right s n allowed (tree_then e es) right =
       bind_keeps (IsRightExpr s allowed) (AreArguments s allowed (tree_then e es)) (checked_expr n allowed e) _ (expr-right s n allowed e right) (λ a ha.
@@ -261,7 +261,7 @@ mutual
       record { count = ap suc h.count; right = both (is_right_expr s allowed a) (are_right s allowed more) ha h.right }))
 
 -- a literal from 1 to 32767 is a step, with its sign
-signed-right : (minus : Bool) (size : ℕ) → (nat_lt 0 size && nat_le size 32767) ≡ true → is_step (signed minus size) ≡ true
+signed-right : (minus : Bool) (size : ℕ) → (nat_lt 0 size && nat_le size 32767) ≡ true → is_step (step_number minus size) ≡ true
 signed-right minus zero h = cc
 signed-right true (suc k) h = let (a, b) = and_parts (nat_lt 0 (suc k)) (nat_le (suc k) 32767) h in grind (arith, nat_tests)
 signed-right false (suc k) h = let (a, b) = and_parts (nat_lt 0 (suc k)) (nat_le (suc k) 32767) h in grind (arith, nat_tests)
@@ -269,13 +269,13 @@ signed-right false (suc k) h = let (a, b) = and_parts (nat_lt 0 (suc k)) (nat_le
 step-right : (step : Option Step) → IfOk (checked_step step) (λ z. is_step z ≡ true)
 step-right None = refl
 step-right (Some t) =
-    bind_keeps (λ _. (nat_lt 0 t.size && nat_le t.size 32767) ≡ true) (λ z. is_step z ≡ true) (demand (nat_lt 0 t.size && nat_le t.size 32767) (Kind t.place))
-    (λ _. Ok (signed t.minus t.size)) (demand_holds (nat_lt 0 t.size && nat_le t.size 32767) (Kind t.place)) (λ _ h. signed-right t.minus t.size h)
+    bind_keeps (λ _. (nat_lt 0 t.size && nat_le t.size 32767) ≡ true) (λ z. is_step z ≡ true) (unless_refused (nat_lt 0 t.size && nat_le t.size 32767) (Kind t.place))
+    (λ _. Ok (step_number t.minus t.size)) (demand_holds (nat_lt 0 t.size && nat_le t.size 32767) (Kind t.place)) (λ _ h. signed-right t.minus t.size h)
 
-abbrev IsRightHead : Shape → Head → Type 0
+abbrev IsRightHead : Shape → CheckedHead → Type 0
 IsRightHead s h = is_head s h.var h.from h.to h.step ≡ true
 
-head-right : (s : Shape) (n : Names) (w : Word) (from to : Tree) (step : Option Step) → AreRight s n → IfOk (checked_head n w from to step) (IsRightHead s)
+head-right : (s : Shape) (n : ScriptNames) (w : Word) (from to : Tree) (step : Option Step) → AreRight s n → IfOk (checked_head n w from to step) (IsRightHead s)
 head-right s n w from to step right =
     bind_keeps (λ x. is_variable s x ≡ true) (IsRightHead s) (variable_at n w) _ (variable-right s n w right) (λ x hx.
     bind_keeps (IsRightExpr s true) (IsRightHead s) (checked_expr n true from) _ (expr-right s n true from right) (λ a ha.
@@ -295,7 +295,7 @@ as_statement-right s (sends f p) h = h
 as_statement-right s (calls f es) h = h
 
 mutual
-  stmt-right : (s : Shape) (n : Names) (x : Act) → AreRight s n → IfOk (checked_stmt n x) (IsRightStmt s)
+  stmt-right : (s : Shape) (n : ScriptNames) (x : Act) → AreRight s n → IfOk (checked_stmt n x) (IsRightStmt s)
   stmt-right s n (given.set w e) right =
       bind_keeps (λ x. is_variable s x ≡ true) (IsRightStmt s) (variable_at n w) _ (variable-right s n w right) (λ x hx.
       bind_keeps (IsRightExpr s true) (IsRightStmt s) (checked_expr n true e) _ (expr-right s n true e right) (λ a ha. rw (hx, ha) refl))
@@ -324,13 +324,14 @@ mutual
   stmt-right s n (given.for_next w from to step a next) right =
       bind_keeps (IsRightHead s) (IsRightStmt s) (checked_head n w from to step) _ (head-right s n w from to step right) (λ h hh.
       bind_keeps (IsRightBlock s) (IsRightStmt s) (checked_block n a) _ (block-right s n a right) (λ body hb.
-      bind_keeps (λ _. ⊤) (IsRightStmt s) (closed n w next) _ (anything (closed n w next)) (λ _ _.
+      bind_keeps (λ _. ⊤) (IsRightStmt s) (closes_for n w next) _ (anything (closes_for n w next)) (λ _ _.
       both (is_head s h.var h.from h.to h.step) (is_right_block s body) hh hb)))
   stmt-right s n (given.while_do e a) right =
       bind_keeps (IsRightExpr s true) (IsRightStmt s) (checked_expr n true e) _ (expr-right s n true e right) (λ test ht.
       bind_keeps (IsRightBlock s) (IsRightStmt s) (checked_block n a) _ (block-right s n a right) (λ body hb. rw (ht, hb) refl))
+  stmt-right s n (given.run_procedure w es) right = tt
 
-  block-right : (s : Shape) (n : Names) (xs : Acts) → AreRight s n → IfOk (checked_block n xs) (IsRightBlock s)
+  block-right : (s : Shape) (n : ScriptNames) (xs : Acts) → AreRight s n → IfOk (checked_block n xs) (IsRightBlock s)
   block-right s n no_acts right = refl
   block-right s n (act_then x xs) right =
       bind_keeps (IsRightStmt s) (IsRightBlock s) (checked_stmt n x) _ (stmt-right s n x right) (λ y hy.

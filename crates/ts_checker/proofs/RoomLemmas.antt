@@ -23,8 +23,8 @@ use Rattle.ts_checker.specs.declared.scope.Symbol.TheVariants.{Variable, Buffer}
 use Rattle.ts_checker.specs.declared.scope.Entry.{Entry}
 use Rattle.ts_checker.specs.declared.fault.CheckFault.{CheckFault}
 use Rattle.ts_checker.specs.declared.fault.CheckFault.TheVariants.{NotInVm, TooManyPrivates}
-use Rattle.ts_checker.specs.Refusal.{demand}
-use Rattle.ts_checker.specs.Names.{Names, is_private, private_count, symbol_of, listed, made}
+use Rattle.ts_checker.specs.Refusal.{unless_refused}
+use Rattle.ts_checker.specs.Names.{ScriptNames, is_private_symbol, private_count, symbol_of, listed, made}
 use Rattle.ts_checker.specs.Room.{is_listed, IsFit}
 use Rattle.ts_checker.proofs.CheckLemmas.{bind_keeps, demand_holds}
 
@@ -36,7 +36,7 @@ names_in xs = map (λ (x : Entry). x.name) xs
 
 -- the names before, and this one where it is private
 abbrev and_private : Symbol → List ℕ → List (List ℕ) → List (List ℕ)
-and_private s name names = cond (is_private s) (name ∷ names) names
+and_private s name names = cond (is_private_symbol s) (name ∷ names) names
 
 abbrev private_names : List Entry → List (List ℕ)
 private_names [] = []
@@ -45,7 +45,7 @@ private_names (x ∷ xs) = and_private x.symbol x.name (private_names xs)
 length-private_names : (xs : List Entry) → length (private_names xs) ≡ private_count xs
 length-private_names [] = refl
 length-private_names (x ∷ xs) =
-    counted (is_private x.symbol) ∙ ap (λ k. cond (is_private x.symbol) 1 0 + k) (length-private_names xs) ∙ sym (sum_by-cons (λ (x : Entry). cond (is_private x.symbol) 1 0) x xs) where
+    counted (is_private_symbol x.symbol) ∙ ap (λ k. cond (is_private_symbol x.symbol) 1 0 + k) (length-private_names xs) ∙ sym (sum_by-cons (λ (x : Entry). cond (is_private_symbol x.symbol) 1 0) x xs) where
       counted : (b : Bool) → length (cond b (x.name ∷ private_names xs) (private_names xs)) ≡ cond b 1 0 + length (private_names xs)
       counted true = omega arith
       counted false = omega arith
@@ -70,7 +70,7 @@ more_has false name q names h = h
 later_among : (d : Description) (s : Symbol) (name q : List ℕ) (names : List (List ℕ)) → IsAmong d names q → IsAmong d (and_private s name names) q
 later_among d s name q names (inl h) = inl h
 later_among d s name q names (inr (inl h)) = inr (inl h)
-later_among d s name q names (inr (inr h)) = inr (inr (more_has (is_private s) name q names h))
+later_among d s name q names (inr (inr h)) = inr (inr (more_has (is_private_symbol s) name q names h))
 
 or_cases : (a b : Bool) → (a || b) ≡ true → (a ≡ true) ⊎ (b ≡ true)
 or_cases true b h = inl refl
@@ -135,35 +135,35 @@ listed-stands names name = told (position (bytes_eq name) names) refl where
       list_any_at (bytes_eq name) names i [] at.0 at.1
 
 -- what a declaration makes of its name: the machine's, or one more private variable
-record IsMade (n : Names) (name : List ℕ) (s : Symbol) : Type 0 where
+record IsMade (n : ScriptNames) (name : List ℕ) (s : Symbol) : Type 0 where
   pub listed : is_listed n.machine s name ≡ true
-  pub private : is_private s ≡ true → private_count n.declared < 8
+  pub private : is_private_symbol s ≡ true → private_count n.declared < 8
 
-made-fit : (n : Names) (kind : DeclKind) (name : List ℕ) → IfOk (made n kind name) (IsMade n name)
+made-fit : (n : ScriptNames) (kind : DeclKind) (name : List ℕ) → IfOk (made n kind name) (IsMade n name)
 made-fit n of.Shared name =
     bind_keeps (λ _. has n.machine.shared.items name ≡ true) (IsMade n name) (listed n.machine.shared.items name) _
     (listed-stands n.machine.shared.items name) (λ i there. record { listed = there; private = λ e. cc })
 made-fit n of.Private name =
-    bind_keeps (λ _. nat_lt (private_count n.declared) 8 ≡ true) (IsMade n name) (demand (nat_lt (private_count n.declared) 8) TooManyPrivates) _
+    bind_keeps (λ _. nat_lt (private_count n.declared) 8 ≡ true) (IsMade n name) (unless_refused (nat_lt (private_count n.declared) 8) TooManyPrivates) _
     (demand_holds _ _) (λ _ few. record { listed = refl; private = λ e. grind (arith, nat_tests) })
 made-fit n of.Buffer name =
     bind_keeps (λ _. has n.machine.buffers.items name ≡ true) (IsMade n name) (listed n.machine.buffers.items name) _
     (listed-stands n.machine.buffers.items name) (λ i there. record { listed = there; private = λ e. cc })
 
 -- the names so far and a new one fit
-fit_more : (n : Names) (name : List ℕ) (s : Symbol) → IsFit n.machine n.declared → is_none (symbol_of n.declared name) ≡ true → IsMade n name s
+fit_more : (n : ScriptNames) (name : List ℕ) (s : Symbol) → IsFit n.machine n.declared → is_none (symbol_of n.declared name) ≡ true → IsMade n name s
     → IsFit n.machine (n.declared ++ record { name = name; symbol = s } ∷ [])
 fit_more n name s fit none made =
     let entry : Entry = record { name = name; symbol = s } in
     let names : names_in (n.declared ++ entry ∷ []) ≡ names_in n.declared ++ name ∷ [] = map-append (λ (x : Entry). x.name) n.declared (entry ∷ []) in
     let apart : IsDistinct bytes_eq (names_in n.declared ++ name ∷ []) =
     IsDistinct-push nat_list_eq_equiv (names_in n.declared) name fit.distinct (absent n.declared name none) in
-    let count : private_count (n.declared ++ entry ∷ []) ≡ private_count n.declared + cond (is_private s) 1 0 =
-    sum_by_push (λ (x : Entry). cond (is_private x.symbol) 1 0) n.declared entry in
+    let count : private_count (n.declared ++ entry ∷ []) ≡ private_count n.declared + cond (is_private_symbol s) 1 0 =
+    sum_by_push (λ (x : Entry). cond (is_private_symbol x.symbol) 1 0) n.declared entry in
     record {
       distinct = (let P : List (List ℕ) → Type 0 = λ names. IsDistinct bytes_eq names in subst P (sym names) apart);
       listed = list_all-append (λ (x : Entry). is_listed n.machine x.symbol x.name) n.declared (entry ∷ []) ∙ rw (fit.listed, made.listed) refl;
-      privates = rw count (few (is_private s) made.private fit.privates);
+      privates = rw count (few (is_private_symbol s) made.private fit.privates);
     } where
       few : (b : Bool) → (b ≡ true → private_count n.declared < 8) → private_count n.declared ≤ 8 → private_count n.declared + cond b 1 0 ≤ 8
       few true h most = (let less : private_count n.declared < 8 = h refl in omega arith)
@@ -178,7 +178,7 @@ pub fit_none : (d : Description) (xs : List Entry) → xs ≡ [] → IsFit d xs
 fit_none d xs e = let P : List Entry → Type 0 = IsFit d in subst P (sym e) (fit_empty d)
 
 -- a name that is new and was made something of, as it is copied into the list
-pub fit_made : (n : Names) (kind : DeclKind) (name copy : List ℕ) (s : Symbol) (xs : List Entry) → IsFit n.machine n.declared
+pub fit_made : (n : ScriptNames) (kind : DeclKind) (name copy : List ℕ) (s : Symbol) (xs : List Entry) → IsFit n.machine n.declared
     → is_none (symbol_of n.declared name) ≡ true → made n kind name ≡ Ok s → copy ≡ name → xs ≡ n.declared ++ record { name = copy; symbol = s } ∷ [] → IsFit n.machine xs
 fit_made n kind name copy s xs fit none made_so same pushed =
     let P : Result Symbol CheckFault → Type 0 = λ r. IfOk r (IsMade n name) in
@@ -187,7 +187,7 @@ fit_made n kind name copy s xs fit none made_so same pushed =
     subst Q (sym all) (fit_more n name s fit none (subst P made_so (made-fit n kind name)))
 
 -- there is room for it
-pub room_made : (n : Names) (kind : DeclKind) (name : List ℕ) (s : Symbol) → IsFit n.machine n.declared → is_none (symbol_of n.declared name) ≡ true
+pub room_made : (n : ScriptNames) (kind : DeclKind) (name : List ℕ) (s : Symbol) → IsFit n.machine n.declared → is_none (symbol_of n.declared name) ≡ true
     → made n kind name ≡ Ok s → length n.declared < 32
 room_made n kind name s fit none made_so =
     let entry : Entry = record { name = name; symbol = s } in

@@ -18,11 +18,11 @@ pub record IsAccepted (machine : Description) (bytes : List ℕ) (tree : Block) 
   pub checks : checked_source machine source ≡ Ok tree
 
 -- why a text is refused: by its bytes, by its grammar, with a place, or by the checks of its script
-pub data Refusal : Type 0 where
-  by_bytes : CutFault → Refusal
-  unexpected : ℕ → Refusal
-  too_deep : ℕ → Refusal
-  by_check : CheckFault → Refusal
+pub data TextRefusal : Type 0 where
+  by_bytes : CutFault → TextRefusal
+  unexpected : ℕ → TextRefusal
+  too_deep : ℕ → TextRefusal
+  by_check : CheckFault → TextRefusal
 
 -- the tokens are cut from the bytes, and the grammar stops at a place
 pub record IsMisspelled (bytes : List ℕ) (place : ℕ) : Type 0 where
@@ -44,7 +44,7 @@ pub record IsUnchecked (machine : Description) (bytes : List ℕ) (fault : Check
   pub checks : checked_source machine source ≡ Err fault
 
 -- the first refusal of a text: its bytes come before its grammar, and its grammar before its checks
-abbrev pub IsRefusedBy : Description → List ℕ → Refusal → Type 0
+abbrev pub IsRefusedBy : Description → List ℕ → TextRefusal → Type 0
 IsRefusedBy machine bytes (by_bytes fault) = cut bytes ≡ Err fault
 IsRefusedBy machine bytes (unexpected place) = IsMisspelled bytes place
 IsRefusedBy machine bytes (too_deep place) = IsSpelledTooDeep bytes place

@@ -16,14 +16,14 @@ use Rattle.ts_syntax.specs.Tree.{Tree, Trees, no_trees, tree_then, Act, Acts, no
 use Rattle.ts_syntax.specs.Expression.{Expression, Arguments, no_arguments, argument, Num, Shared, Private, Item, Size, MsgItem, MsgSize, Call, SendBuf, Neg, Not, Two}
 use Rattle.ts_syntax.specs.Statement.{Statement, Block, no_statements, statement, Set, SetItem, Append, Take, Clear, Do, DoSend, If, IfElse, For, While}
 use Rattle.ts_checker.specs.declared.fault.CheckFault.{CheckFault}
-use Rattle.ts_checker.specs.declared.fault.CheckFault.TheVariants.{Kind, Arity}
-use Rattle.ts_checker.specs.Refusal.{◌>>=◌, demand}
-use Rattle.ts_checker.specs.Names.{Names, names_before, declare_all, found, variable as variable_at, buffer as buffer_at, function}
+use Rattle.ts_checker.specs.declared.fault.CheckFault.TheVariants.{Undeclared, Kind, Arity}
+use Rattle.ts_checker.specs.Refusal.{◌>>=◌, unless_refused}
+use Rattle.ts_checker.specs.Names.{ScriptNames, names_before, declare_all, found_symbol, variable as variable_at, buffer as buffer_at, function}
 
 -- a variable as an expression
-abbrev pub read : CVar → Expression
-read (var.Shared v) = Shared v
-read (var.Private i) = Private i
+abbrev pub variable_expression : CVar → Expression
+variable_expression (var.Shared v) = Shared v
+variable_expression (var.Private i) = Private i
 
 -- a call whose checks passed: of a function that sends a buffer, or of another one
 pub data Called : Type 0 where
@@ -53,12 +53,12 @@ name_alone (given.two o l r) = None
 name_alone (given.paren e) = None
 
 -- the buffer of that name
-abbrev pub sent_name : Names → ℕ → Option Word → Result BufId CheckFault
+abbrev pub sent_name : ScriptNames → ℕ → Option Word → Result BufId CheckFault
 sent_name n place None = Err (Kind place)
 sent_name n place (Some w) = buffer_at n w
 
 -- the buffer that a call sends, of a function whose name stands at the place: its one argument, a name alone
-abbrev pub sent : Names → ℕ → Trees → Result BufId CheckFault
+abbrev pub sent : ScriptNames → ℕ → Trees → Result BufId CheckFault
 sent n place no_trees = Err (Arity place)
 sent n place (tree_then e no_trees) = sent_name n place (name_alone e)
 sent n place (tree_then e (tree_then d es)) = Err (Arity place)
@@ -68,23 +68,23 @@ tree_count no_trees = zero
 tree_count (tree_then e es) = suc (tree_count es)
 
 -- a call of a function that was found, with what the checks of its arguments give
-abbrev pub called : Names → ℕ → FunId × FunKind → Trees → Result Arguments CheckFault → Result Called CheckFault
-called n place f es args =
+abbrev pub called_function : ScriptNames → ℕ → FunId × FunKind → Trees → Result Arguments CheckFault → Result Called CheckFault
+called_function n place f es args =
     if is_send f.1 then sent n place es >>= (λ p. Ok (sends f.0 p))
-    else demand (tree_count es == args_of f.1) (Arity place) >>= (λ _. args >>= (λ checked. Ok (calls f.0 checked)))
+    else unless_refused (tree_count es == args_of f.1) (Arity place) >>= (λ _. args >>= (λ checked. Ok (calls f.0 checked)))
 
 -- a call, where calls are allowed or not
-abbrev pub checked_call : Names → Bool → Word → Trees → Result Arguments CheckFault → Result Called CheckFault
+abbrev pub checked_call : ScriptNames → Bool → Word → Trees → Result Arguments CheckFault → Result Called CheckFault
 checked_call n allowed w es args = do
   f ← function n w
-  here ← demand allowed (Kind w.place)
-  called n w.place f es args
+  here ← unless_refused allowed (Kind w.place)
+  called_function n w.place f es args
 
 -- an expression, and the arguments of a call
 abbrev mutual
-  pub checked_expr : Names → Bool → Tree → Result Expression CheckFault
+  pub checked_expr : ScriptNames → Bool → Tree → Result Expression CheckFault
   checked_expr n allowed (given.number literal) = Ok (Num (wrap (pos literal)))
-  checked_expr n allowed (given.variable w) = variable_at n w >>= (λ x. Ok (read x))
+  checked_expr n allowed (given.variable w) = variable_at n w >>= (λ x. Ok (variable_expression x))
   checked_expr n allowed (given.item w e) = buffer_at n w >>= (λ p. checked_expr n allowed e >>= (λ i. Ok (Item p i)))
   checked_expr n allowed (given.size w) = buffer_at n w >>= (λ p. Ok (Size p))
   checked_expr n allowed (given.message_item e) = checked_expr n allowed e >>= (λ i. Ok (MsgItem i))
@@ -96,28 +96,28 @@ abbrev mutual
       checked_expr n allowed l >>= (λ a. checked_expr n allowed r >>= (λ b. Ok (Two o a b)))
   checked_expr n allowed (given.paren e) = checked_expr n allowed e
 
-  pub checked_args : Names → Bool → Trees → Result Arguments CheckFault
+  pub checked_args : ScriptNames → Bool → Trees → Result Arguments CheckFault
   checked_args n allowed no_trees = Ok no_arguments
   checked_args n allowed (tree_then e es) =
       checked_expr n allowed e >>= (λ a. checked_args n allowed es >>= (λ more. Ok (argument a more)))
 
 -- the step of a `for`: 1 where none is written, else from -32767 to 32767, and not 0
-abbrev pub signed : Bool → ℕ → ℤ
-signed true size = neg_ℤ (pos size)
-signed false size = pos size
+abbrev pub step_number : Bool → ℕ → ℤ
+step_number true size = neg_ℤ (pos size)
+step_number false size = pos size
 
 abbrev pub checked_step : Option Step → Result ℤ CheckFault
 checked_step None = Ok (pos 1)
-checked_step (Some s) = demand (nat_lt 0 s.size && nat_le s.size 32767) (Kind s.place) >>= (λ _. Ok (signed s.minus s.size))
+checked_step (Some s) = unless_refused (nat_lt 0 s.size && nat_le s.size 32767) (Kind s.place) >>= (λ _. Ok (step_number s.minus s.size))
 
 -- the head of a `for`: no call stands in its limit
-pub record Head : Type 0 where
+pub record CheckedHead : Type 0 where
   pub var : CVar
   pub from : Expression
   pub to : Expression
   pub step : ℤ
 
-abbrev pub checked_head : Names → Word → Tree → Tree → Option Step → Result Head CheckFault
+abbrev pub checked_head : ScriptNames → Word → Tree → Tree → Option Step → Result CheckedHead CheckFault
 checked_head n w from to step = do
   x ← variable_at n w
   first ← checked_expr n true from
@@ -126,12 +126,12 @@ checked_head n w from to step = do
   Ok (record { var = x; from = first; to = limit; step = size })
 
 -- the name after `next` is that of its `for`
-abbrev pub closed : Names → Word → Word → Result ⊤ CheckFault
-closed n w next = found n next >>= (λ _. demand (bytes_eq next.name w.name) (Kind next.place))
+abbrev pub closes_for : ScriptNames → Word → Word → Result ⊤ CheckFault
+closes_for n w next = found_symbol n next >>= (λ _. unless_refused (bytes_eq next.name w.name) (Kind next.place))
 
--- a statement, and the statements of a block
+-- a statement, and the statements of a block; no machine has the procedure of a `do`
 abbrev mutual
-  pub checked_stmt : Names → Act → Result Statement CheckFault
+  pub checked_stmt : ScriptNames → Act → Result Statement CheckFault
   checked_stmt n (given.set w e) = variable_at n w >>= (λ x. checked_expr n true e >>= (λ a. Ok (Set x a)))
   checked_stmt n (given.set_item w i e) =
       buffer_at n w >>= (λ p. checked_expr n true i >>= (λ a. checked_expr n true e >>= (λ b. Ok (SetItem p a b))))
@@ -143,10 +143,11 @@ abbrev mutual
   checked_stmt n (given.if_else e a b) =
       checked_expr n true e >>= (λ test. checked_block n a >>= (λ body. checked_block n b >>= (λ other. Ok (IfElse test body other))))
   checked_stmt n (given.for_next w from to step a next) =
-      checked_head n w from to step >>= (λ h. checked_block n a >>= (λ body. closed n w next >>= (λ _. Ok (For h.var h.from h.to h.step body))))
+      checked_head n w from to step >>= (λ h. checked_block n a >>= (λ body. closes_for n w next >>= (λ _. Ok (For h.var h.from h.to h.step body))))
   checked_stmt n (given.while_do e a) = checked_expr n true e >>= (λ test. checked_block n a >>= (λ body. Ok (While test body)))
+  checked_stmt n (given.run_procedure w es) = Err (Undeclared w.name w.place)
 
-  pub checked_block : Names → Acts → Result Block CheckFault
+  pub checked_block : ScriptNames → Acts → Result Block CheckFault
   checked_block n no_acts = Ok no_statements
   checked_block n (act_then x xs) = checked_stmt n x >>= (λ s. checked_block n xs >>= (λ ss. Ok (statement s ss)))
 

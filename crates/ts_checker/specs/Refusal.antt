@@ -10,21 +10,21 @@ abbrev pub ◌>>=◌ : {A B : Type 0} → Result A CheckFault → (A → Result 
 (Err e) >>= next = Err e
 
 -- the refusal, where a test doesn't hold
-abbrev pub demand : Bool → CheckFault → Result ⊤ CheckFault
-demand true e = Ok tt
-demand false e = Err e
+abbrev pub unless_refused : Bool → CheckFault → Result ⊤ CheckFault
+unless_refused true e = Ok tt
+unless_refused false e = Err e
 
 -- the check refuses with this fault; want of memory tells nothing of it
-abbrev pub Refuses : {B : Type 0} → CheckFault → Result B CheckFault → Type 0
-Refuses (Undeclared name place) check = check ≡ Err (Undeclared name place)
-Refuses (NotInVm name) check = check ≡ Err (NotInVm name)
-Refuses (Twice name) check = check ≡ Err (Twice name)
-Refuses (Kind place) check = check ≡ Err (Kind place)
-Refuses (Arity place) check = check ≡ Err (Arity place)
-Refuses TooManyPrivates check = check ≡ Err TooManyPrivates
-Refuses NoMemory check = ⊤
+abbrev pub RefusesScript : {B : Type 0} → CheckFault → Result B CheckFault → Type 0
+RefusesScript (Undeclared name place) check = check ≡ Err (Undeclared name place)
+RefusesScript (NotInVm name) check = check ≡ Err (NotInVm name)
+RefusesScript (Twice name) check = check ≡ Err (Twice name)
+RefusesScript (Kind place) check = check ≡ Err (Kind place)
+RefusesScript (Arity place) check = check ≡ Err (Arity place)
+RefusesScript TooManyPrivates check = check ≡ Err TooManyPrivates
+RefusesScript NoMemory check = ⊤
 
 -- an answer of the program, seen by view, is what the check gives
-abbrev pub Gives : {A B : Type 0} → (A → B) → Result A CheckFault → Result B CheckFault → Type 0
-Gives view (Ok x) check = check ≡ Ok (view x)
-Gives view (Err e) check = Refuses e check
+abbrev pub GivesChecked : {A B : Type 0} → (A → B) → Result A CheckFault → Result B CheckFault → Type 0
+GivesChecked view (Ok x) check = check ≡ Ok (view x)
+GivesChecked view (Err e) check = RefusesScript e check

@@ -6,11 +6,11 @@ use Rattle.ts_syntax.specs.declared.checked_stmt.CForHead.{CForHead}
 use Rattle.ts_checker.specs.declared.scope.Scope.{Scope}
 use Rattle.ts_checker.specs.declared.called.Called as of
 use Rattle.ts_checker.specs.declared.called.Called.TheVariants as variant
-use Rattle.ts_checker.specs.Names.{Names}
-use Rattle.ts_checker.specs.Checks.{Called, sends, calls, Head}
+use Rattle.ts_checker.specs.Names.{ScriptNames}
+use Rattle.ts_checker.specs.Checks.{Called, sends, calls, CheckedHead}
 
-abbrev pub names_of : Scope → Names
-names_of s = record { machine = s.desc.now; declared = s.names.items }
+abbrev pub scope_names : Scope → ScriptNames
+scope_names s = record { machine = s.desc.now; declared = s.names.items }
 
 abbrev pub arguments_of : CArgs → Arguments
 arguments_of args = arguments (args_trees args)
@@ -19,5 +19,5 @@ abbrev pub call_of : of.Called → Called
 call_of (variant.Sends f p) = sends f p
 call_of (variant.Calls f es) = calls f (arguments_of es)
 
-abbrev pub head_of : CForHead → Head
-head_of h = record { var = h.var; from = expr_tree h.from; to = expr_tree h.to; step = h.step }
+abbrev pub checked_head_of : CForHead → CheckedHead
+checked_head_of h = record { var = h.var; from = expr_tree h.from; to = expr_tree h.to; step = h.step }

@@ -4,7 +4,7 @@ ghost use Rattle.std.specs.Prelude.{◌≡◌, IfOk};
 ghost use Rattle.vm_desc.specs.Shapes.{shape_of as shape_of_machine};
 ghost use Rattle.ts_syntax.specs.Checked.{shape_of, tree_of};
 ghost use Rattle.ts_syntax.specs.Seen.{source_of};
-ghost use Rattle.ts_checker.specs.Refusal.{Gives};
+ghost use Rattle.ts_checker.specs.Refusal.{GivesChecked};
 ghost use Rattle.ts_checker.specs.Checks.{checked_source};
 
 use crate::fault::CheckFault;
@@ -18,7 +18,7 @@ use vm_desc::{Description, shape};
 /// first refusal: declarations from left to right, then the statements word by word. `NoMemory` may come in
 /// place of either.
 pub fn check(alloc: Global, desc: &Description, script: &Script) -> Result<Checked, CheckFault>
-    ensures tree { Gives tree_of result (checked_source desc.now (source_of script.now)) }
+    ensures tree { GivesChecked tree_of result (checked_source desc.now (source_of script.now)) }
     ensures shape { IfOk result (λ checked. shape_of checked ≡ shape_of_machine desc.now) }
 {
     let scope = Scope::of(desc, script.decls.as_slice())?;

@@ -6,9 +6,9 @@ ghost use Rattle.vm_desc.specs.Limits.{args_of};
 ghost use Rattle.vm_desc.specs.Shapes.{is_send};
 ghost use Rattle.ts_syntax.specs.Seen.{tree_of, trees_of};
 ghost use Rattle.ts_syntax.specs.TreeOf.{expr_tree};
-ghost use Rattle.ts_checker.specs.Refusal.{Gives};
-ghost use Rattle.ts_checker.specs.Checks.{read, name_alone, sent, checked_call, checked_expr, checked_args};
-ghost use Rattle.ts_checker.specs.Seen.{names_of, arguments_of, call_of};
+ghost use Rattle.ts_checker.specs.Refusal.{GivesChecked};
+ghost use Rattle.ts_checker.specs.Checks.{variable_expression, name_alone, sent, checked_call, checked_expr, checked_args};
+ghost use Rattle.ts_checker.specs.Seen.{scope_names, arguments_of, call_of};
 
 use crate::called::Called;
 use crate::fault::CheckFault;
@@ -26,7 +26,7 @@ pub(crate) fn expression(
     calls: bool,
     expr: &Expr,
 ) -> Result<CExpr, CheckFault>
-    ensures { Gives expr_tree result (checked_expr (names_of scope.now) calls (tree_of expr.now)) }
+    ensures { GivesChecked expr_tree result (checked_expr (scope_names scope.now) calls (tree_of expr.now)) }
 {
     match expr {
         Expr::Num(literal) => Ok(CExpr::Num(number_of(*literal))),
@@ -69,9 +69,9 @@ pub(crate) fn call(
     word: &Word,
     args: &Args,
 ) -> Result<Called, CheckFault>
-    ensures { let names = names_of scope.now in
+    ensures { let names = scope_names scope.now in
         let trees = trees_of args.now in
-        Gives call_of result (checked_call names calls word.now trees (checked_args names calls trees)) }
+        GivesChecked call_of result (checked_call names calls word.now trees (checked_args names calls trees)) }
 {
     let (fun, kind) = scope.function(word)?;
     let place = word.place;
@@ -90,7 +90,7 @@ pub(crate) fn call(
 // The arguments of a call, from left to right.
 #[cycle(expression)]
 fn arguments(alloc: Global, scope: &Scope, calls: bool, args: &[Expr]) -> Result<CArgs, CheckFault>
-    ensures { Gives arguments_of result (checked_args (names_of scope.now) calls (trees_of args.now)) }
+    ensures { GivesChecked arguments_of result (checked_args (scope_names scope.now) calls (trees_of args.now)) }
 {
     let mut checked = CArgs::new(alloc);
     for arg in args {
@@ -108,7 +108,7 @@ fn number_of(literal: u16) -> i16
 
 // A variable as an expression.
 fn read(variable: CVar) -> CExpr
-    ensures { expr_tree result ≡ read variable }
+    ensures { expr_tree result ≡ variable_expression variable }
 {
     match variable {
         CVar::Shared(variable) => CExpr::Shared(variable),
@@ -139,7 +139,7 @@ fn arg_count(kind: FunKind) -> u8
 
 // The buffer that a call sends, of a function whose name stands at `place`: its one argument, a name alone.
 fn sent(scope: &Scope, place: u32, args: &[Expr]) -> Result<BufId, CheckFault>
-    ensures { result ≡ sent (names_of scope.now) place (trees_of args.now) }
+    ensures { result ≡ sent (scope_names scope.now) place (trees_of args.now) }
 {
     let [arg] = args else {
         return Err(CheckFault::Arity { place });

@@ -10,7 +10,8 @@ use std::fmt;
 /// first byte in the source.
 #[derive(PartialEq, Eq, Debug, Drop)]
 pub enum CheckFault {
-    /// The name at `place`, of a variable or a buffer, isn't declared.
+    /// The name at `place`, of a variable or a buffer, isn't declared; or it stands behind `do`, and a machine has no
+    /// procedures.
     Undeclared { name: Name, place: u32 },
     /// The machine has no shared variable, no buffer or no function of this name.
     NotInVm { name: Name },

@@ -5,7 +5,7 @@ mod called;
 pub mod checking;
 mod exprs;
 pub mod fault;
-mod scope;
+pub mod scope;
 mod stmts;
 
 pub use checking::check;

@@ -11,17 +11,17 @@ use vm_desc::{Description, FunKind, Function};
 
 /// What a declared name stands for.
 #[derive(Clone, Copy, PartialEq, Eq, Debug)]
-pub(crate) enum Symbol {
+pub enum Symbol {
     Variable(CVar),
     Buffer(BufId),
 }
 
 impl Symbol {
     ghost use Rattle.std.specs.Prelude.{◌≡◌};
-    ghost use Rattle.ts_checker.specs.Names.{is_private};
+    ghost use Rattle.ts_checker.specs.Names.{is_private_symbol};
 
     fn is_private(self) -> bool
-        ensures { result ≡ is_private self }
+        ensures { result ≡ is_private_symbol self }
     {
         match self {
             Symbol::Variable(CVar::Shared(_)) => false,
@@ -38,11 +38,11 @@ impl Default for Symbol {
     }
 }
 
-/// A declared name.
+/// A declared name, and what it stands for.
 #[derive(Default, Drop)]
-pub(crate) struct Entry {
-    pub(crate) name: Name,
-    pub(crate) symbol: Symbol,
+pub struct Entry {
+    pub name: Name,
+    pub symbol: Symbol,
 }
 
 /// The names of a script: its machine's, and those that it declared.
@@ -95,15 +95,15 @@ fn function_among(functions: &[Function], name: &Name) -> Option<(FunId, FunKind
 
 impl<'a> Scope<'a> {
     ghost use Rattle.std.specs.Prelude.{OnOk};
-    ghost use Rattle.ts_checker.specs.Refusal.{Gives};
+    ghost use Rattle.ts_checker.specs.Refusal.{GivesChecked};
     ghost use Rattle.ts_checker.specs.Room.{IsFit};
-    ghost use Rattle.ts_checker.specs.Names.{names_before, private_count, made, declare, declare_all, found, variable, buffer, function};
-    ghost use Rattle.ts_checker.specs.Checks.{closed};
-    ghost use Rattle.ts_checker.specs.Seen.{names_of};
+    ghost use Rattle.ts_checker.specs.Names.{names_before, private_count, made, declare, declare_all, found_symbol, variable, buffer, function};
+    ghost use Rattle.ts_checker.specs.Checks.{closes_for};
+    ghost use Rattle.ts_checker.specs.Seen.{scope_names};
 
     /// The names that the declarations make known, from left to right.
     pub(crate) fn of(desc: &'a Description, decls: &[Decl]) -> Result<Scope<'a>, CheckFault>
-        ensures { Gives names_of result (declare_all (names_before desc.now) decls.now) }
+        ensures { GivesChecked scope_names result (declare_all (names_before desc.now) decls.now) }
     {
         let mut scope = Scope {
             desc,
@@ -118,7 +118,7 @@ impl<'a> Scope<'a> {
     // Makes a declared name known.
     fn declare(&mut self, decl: &Decl) -> Result<(), CheckFault>
         requires { IsFit self.old.desc.now self.old.names.items }
-        ensures value { Gives (λ _. names_of self.new) result (declare (names_of self.old) decl.now) }
+        ensures value { GivesChecked (λ _. scope_names self.new) result (declare (scope_names self.old) decl.now) }
         ensures fit { OnOk result (IsFit self.new.desc.now self.new.names.items) }
     {
         let name = &decl.word.name;
@@ -133,7 +133,7 @@ impl<'a> Scope<'a> {
 
     // What a declaration makes of its name.
     fn made(&self, kind: DeclKind, name: &Name) -> Result<Symbol, CheckFault>
-        ensures { result ≡ made (names_of self.now) kind name.now }
+        ensures { result ≡ made (scope_names self.now) kind name.now }
     {
         match kind {
             DeclKind::Shared => {
@@ -173,7 +173,7 @@ impl<'a> Scope<'a> {
 
     // What a name stands for that has to be declared.
     fn found(&self, word: &Word) -> Result<Symbol, CheckFault>
-        ensures { result ≡ found (names_of self.now) word.now }
+        ensures { result ≡ found_symbol (scope_names self.now) word.now }
     {
         match self.symbol(&word.name) {
             Some(symbol) => Ok(symbol),
@@ -186,7 +186,7 @@ impl<'a> Scope<'a> {
 
     /// The variable of a name.
     pub(crate) fn variable(&self, word: &Word) -> Result<CVar, CheckFault>
-        ensures { result ≡ variable (names_of self.now) word.now }
+        ensures { result ≡ variable (scope_names self.now) word.now }
     {
         match self.found(word)? {
             Symbol::Variable(variable) => Ok(variable),
@@ -196,7 +196,7 @@ impl<'a> Scope<'a> {
 
     /// The buffer of a name.
     pub(crate) fn buffer(&self, word: &Word) -> Result<BufId, CheckFault>
-        ensures { result ≡ buffer (names_of self.now) word.now }
+        ensures { result ≡ buffer (scope_names self.now) word.now }
     {
         match self.found(word)? {
             Symbol::Variable(_) => Err(CheckFault::Kind { place: word.place }),
@@ -206,7 +206,7 @@ impl<'a> Scope<'a> {
 
     /// The function of a name.
     pub(crate) fn function(&self, word: &Word) -> Result<(FunId, FunKind), CheckFault>
-        ensures { result ≡ function (names_of self.now) word.now }
+        ensures { result ≡ function (scope_names self.now) word.now }
     {
         match function_among(self.desc.functions.as_slice(), &word.name) {
             Some(function) => Ok(function),
@@ -218,7 +218,7 @@ impl<'a> Scope<'a> {
 
     /// Whether the name after `next` is that of its `for`.
     pub(crate) fn closes(&self, variable: &Word, next: &Word) -> Result<(), CheckFault>
-        ensures { result ≡ closed (names_of self.now) variable.now next.now }
+        ensures { result ≡ closes_for (scope_names self.now) variable.now next.now }
     {
         self.found(next)?;
         if next.name == variable.name {

@@ -3,20 +3,20 @@
 ghost use Rattle.std.specs.Prelude.{◌≡◌};
 ghost use Rattle.ts_syntax.specs.Seen.{tree_of, act_of, acts_of};
 ghost use Rattle.ts_syntax.specs.TreeOf.{stmt_tree, block_tree};
-ghost use Rattle.ts_checker.specs.Refusal.{Gives};
+ghost use Rattle.ts_checker.specs.Refusal.{GivesChecked};
 ghost use Rattle.ts_checker.specs.Checks.{checked_step, checked_head, checked_stmt, checked_block};
-ghost use Rattle.ts_checker.specs.Seen.{names_of, head_of};
+ghost use Rattle.ts_checker.specs.Seen.{scope_names, checked_head_of};
 
 use crate::exprs::{call, expression};
 use crate::fault::CheckFault;
 use crate::scope::Scope;
 use std::alloc::Global;
-use ts_syntax::{Block, CBlock, CForHead, CStmt, ForHead, Step, Stmt};
+use ts_syntax::{Block, CBlock, CForHead, CStmt, ForHead, Step, Stmt, Word};
 
 /// Checks the statements of a block.
 #[cycle(block)]
 pub(crate) fn block(alloc: Global, scope: &Scope, stmts: &Block) -> Result<CBlock, CheckFault>
-    ensures { Gives block_tree result (checked_block (names_of scope.now) (acts_of stmts.now)) }
+    ensures { GivesChecked block_tree result (checked_block (scope_names scope.now) (acts_of stmts.now)) }
 {
     let mut checked = CBlock::new(alloc);
     for stmt in stmts.as_slice() {
@@ -27,7 +27,7 @@ pub(crate) fn block(alloc: Global, scope: &Scope, stmts: &Block) -> Result<CBloc
 
 #[cycle(block)]
 fn statement(alloc: Global, scope: &Scope, stmt: &Stmt) -> Result<CStmt, CheckFault>
-    ensures { Gives stmt_tree result (checked_stmt (names_of scope.now) (act_of stmt.now)) }
+    ensures { GivesChecked stmt_tree result (checked_stmt (scope_names scope.now) (act_of stmt.now)) }
 {
     match stmt {
         Stmt::Set(word, value) => {
@@ -69,12 +69,23 @@ fn statement(alloc: Global, scope: &Scope, stmt: &Stmt) -> Result<CStmt, CheckFa
             let test = expression(alloc, scope, true, test)?;
             Ok(CStmt::While(test, block(alloc, scope, body)?))
         }
+        Stmt::Run(word, _) => Err(no_procedure(word)),
+    }
+}
+
+// A machine has no procedures.
+fn no_procedure(word: &Word) -> CheckFault
+    ensures { result ≡ CheckFault.Undeclared word.now.name word.now.place }
+{
+    CheckFault::Undeclared {
+        name: word.name.copy(),
+        place: word.place,
     }
 }
 
 fn for_head(alloc: Global, scope: &Scope, head: &ForHead) -> Result<CForHead, CheckFault>
     ensures { let from = tree_of head.now.from in
-        Gives head_of result (checked_head (names_of scope.now) head.now.var from (tree_of head.now.to) head.now.step) }
+        GivesChecked checked_head_of result (checked_head (scope_names scope.now) head.now.var from (tree_of head.now.to) head.now.step) }
 {
     let var = scope.variable(&head.var)?;
     let from = expression(alloc, scope, true, &head.from)?;

@@ -4,14 +4,14 @@ use Rattle.ts_syntax.specs.declared.word.Word.{Word}
 use Rattle.ts_syntax.specs.declared.token.Token.{Token}
 use Rattle.ts_syntax.specs.declared.token.TokenKind.{TokenKind}
 use Rattle.ts_syntax.specs.declared.token.TokenKind.TheVariants as kind
-use Rattle.ts_syntax.specs.Tree.{Tree, variable, call, call_alone, negative, Trees, tree_then}
+use Rattle.ts_syntax.specs.Tree.{Tree, variable, call, call_alone, run_procedure, negative, Trees, tree_then}
 use Rattle.ts_syntax.specs.declared.expr.Expr.{Expr}
 use Rattle.ts_syntax.specs.Seen.{tree_of, trees_of}
 use Rattle.std.specs.Result.{IsErrAnd}
 use Rattle.ts_machine.specs.declared.halt.Halt.{Halt}
 use Rattle.ts_machine.specs.Code.{code_of}
-use Rattle.ts_machine.specs.Machine.{Operand, in_negative, first_product, in_product, Inverse, in_inverse, in_and, Conjunction, in_args, in_call, want, want_inverse, named, opened, have_inverse, have_and, have, closed, with_tree, inverse_due, expr_due, give, step, finish}
-use Rattle.ts_machine.specs.Parsing.{reads, Reads, Starts, Lacks, Caller, of_operand, of_stmt, called_open, called_with, called}
+use Rattle.ts_machine.specs.Machine.{Operand, in_negative, first_product, in_product, Inverse, in_inverse, in_and, Conjunction, in_args, in_call, in_do, want, want_inverse, named, opened, have_inverse, have_and, have, closed, with_tree, inverse_due, expr_due, give, step, finish}
+use Rattle.ts_machine.specs.Parsing.{reads, Reads, Starts, Lacks, Caller, of_operand, of_stmt, of_do, called_open, called_with, called}
 use Rattle.ts_machine.proofs.Turns.{given_step, given_size}
 use Rattle.ts_machine.proofs.Parts.{halts, ends_as}
 use Rattle.ts_machine.proofs.Reading.{sign_read, alike_at, alike_end}
@@ -63,10 +63,12 @@ variable_read w k (t ∷ ts) h b = alike_at t ts (named w k) (give k (variable w
 pub comma_read : (c : Caller) (es : Trees) (e : Tree) {ts rest : List Token} → Starts kind.Comma ts rest → reads ts (have e (called_with c es)) ≡ reads rest (expr_due (called_with c (with_tree es e)))
 comma_read (of_operand w k) es e s = sign_read kind.Comma s tt (have e (in_args w es k)) (expr_due (in_args w (with_tree es e) k)) (λ p. refl)
 comma_read (of_stmt w a f) es e s = sign_read kind.Comma s tt (have e (in_call w es a f)) (expr_due (in_call w (with_tree es e) a f)) (λ p. refl)
+comma_read (of_do w a f) es e s = sign_read kind.Comma s tt (have e (in_do w es a f)) (expr_due (in_do w (with_tree es e) a f)) (λ p. refl)
 
 pub arguments_closed : (c : Caller) (es : Trees) (e : Tree) {ts rest : List Token} → Starts kind.Close ts rest → reads ts (have e (called_with c es)) ≡ reads rest (called c (with_tree es e))
 arguments_closed (of_operand w k) es e s = sign_read kind.Close s tt (have e (in_args w es k)) (give k (call w (with_tree es e))) (λ p. refl)
 arguments_closed (of_stmt w a f) es e s = sign_read kind.Close s tt (have e (in_call w es a f)) (closed (call_alone w (with_tree es e)) a f) (λ p. refl)
+arguments_closed (of_do w a f) es e s = sign_read kind.Close s tt (have e (in_do w es a f)) (closed (run_procedure w (with_tree es e)) a f) (λ p. refl)
 
 -- one more argument, where the program pushed it
 trees_pushed : (es : List Expr) (e : Expr) → trees_of (es ++ e ∷ []) ≡ with_tree (trees_of es) (tree_of e)

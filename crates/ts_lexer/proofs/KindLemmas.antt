@@ -26,6 +26,8 @@ pub record IsNameText (w : List ℕ) : Type 0 where
 abbrev pub IsKind : TokenKind → Type 0
 IsKind (kind.Name w) = IsNameText w
 IsKind (kind.Num n) = n ≤ 65535
+IsKind kind.Proc = ⊥
+IsKind kind.Do = ⊥
 IsKind _ = Unit {0}
 
 abbrev pub AreKinds : List TokenKind → Type 0
@@ -56,6 +58,8 @@ IsResult (Err f) = Unit {0}
 abbrev IsPlain : TokenKind → Type 0
 IsPlain (kind.Name w) = ⊥
 IsPlain (kind.Num n) = ⊥
+IsPlain kind.Proc = ⊥
+IsPlain kind.Do = ⊥
 IsPlain _ = Unit {0}
 
 abbrev ArePlain : List TokenKind → Type 0
@@ -65,6 +69,8 @@ ArePlain (k ∷ ks) = IsPlain k × ArePlain ks
 plain-IsKind : (k : TokenKind) → IsPlain k → IsKind k
 plain-IsKind (kind.Name w) p = absurd p
 plain-IsKind (kind.Num n) p = absurd p
+plain-IsKind kind.Proc p = absurd p
+plain-IsKind kind.Do p = absurd p
 plain-IsKind _ p = tt
 
 among_cases : (ks : List TokenKind) → ArePlain ks → (w : List ℕ) → IsPlain (keyword_among ks w) ⊎ (keyword_among ks w ≡ kind.Name w)

@@ -3,10 +3,11 @@ use Rattle.std.proofs.Common.{◌≡◌, ℕ, suc, ◌+◌, ◌-◌, ◌≤◌, 
 use Rattle.std.proofs.lemmas.List.{take-append-drop, length-take-le}
 use Rattle.ts_syntax.specs.declared.word.Word.{Word}
 use Rattle.ts_syntax.specs.declared.stmt.Step.{Step}
+use Rattle.ts_syntax.specs.declared.dialect.Dialect.TheVariants as dialect
 use Rattle.ts_syntax.specs.declared.script.Decl.{Decl}
 use Rattle.ts_syntax.specs.declared.script.DeclKind.{DeclKind}
 use Rattle.ts_syntax.specs.declared.token.TokenKind.TheVariants as kind
-use Rattle.ts_syntax.specs.Tree.{Tree, number, variable, item, size, message_item, message_size, call, negative, inverse, two, paren, Trees, no_trees, tree_then, Act, set, set_item, append, take_last, clear, call_alone, if_then, if_else, for_next, while_do, Acts, no_acts, act_then, Source}
+use Rattle.ts_syntax.specs.Tree.{Tree, number, variable, item, size, message_item, message_size, call, negative, inverse, two, paren, Trees, no_trees, tree_then, Act, set, set_item, append, take_last, clear, call_alone, if_then, if_else, for_next, while_do, run_procedure, Acts, no_acts, act_then, Source}
 use Rattle.ts_syntax.specs.Spelling.{name, sign, spelled, args_spelled, more_spelled, step_spelled, act_spelled, acts_spelled, decl_start, decls_gap, decls_spelled, source_spelled, places, args_places, step_places, act_places, acts_places, decls_places, source_places}
 use Rattle.ts_syntax.specs.Derived.{Level, level, rank, Holds, left_of, right_of, at_sign, at_not, IsPart, Derived, ArgsDerived, ActDerived, ActsDerived, NamesFollow, DeclsDerived, IsDerived}
 use Rattle.ts_lexer.specs.Bare.{bare_word, bare_tree, bare_trees, bare_step, bare_act, bare_acts, bare_decl, bare}
@@ -68,6 +69,7 @@ abbrev mutual
       for_next (word_at w ps) (tree_at f (take (length (places f)) qs)) (tree_at t (take (length (places t)) rs)) (step_at s (take (length (step_places s)) ss))
       (acts_at a (take (length (acts_places a)) us)) (word_at v (drop (length (acts_places a)) us))
   act_at (while_do e a) ps = while_do (tree_at e (take (length (places e)) ps)) (acts_at a (drop (length (places e)) ps))
+  act_at (run_procedure w es) ps = run_procedure (word_at w ps) (trees_at es (rest_of ps))
 
   acts_at : Acts → List ℕ → Acts
   acts_at no_acts ps = no_acts
@@ -131,6 +133,7 @@ mutual
       ap2 (λ x y. for_next (bare_word w) x y s' a' (bare_word v)) (tree_at-bare f (take (length (places f)) qs)) (tree_at-bare t (take (length (places t)) rs))
       ∙ ap2 (λ x y. for_next (bare_word w) (bare_tree f) (bare_tree t) x y (bare_word v)) (step_at-bare s (take (length (step_places s)) ss)) (acts_at-bare a (take (length (acts_places a)) us))
   act_at-bare (while_do e a) ps = ap2 (λ x y. while_do x y) (tree_at-bare e (take (length (places e)) ps)) (acts_at-bare a (drop (length (places e)) ps))
+  act_at-bare (run_procedure w es) ps = ap (run_procedure (bare_word w)) (trees_at-bare es (rest_of ps))
 
   acts_at-bare : (a : Acts) (ps : List ℕ) → bare_acts (acts_at a ps) ≡ bare_acts a
   acts_at-bare no_acts ps = refl
@@ -191,6 +194,7 @@ mutual
       ap2 (λ x y. kind.For ∷ name w ∷ kind.Eq ∷ x ++ (kind.To ∷ y ++ (step_spelled (bare_step s) ++ (acts_spelled (bare_acts a) ++ kind.Next ∷ name v ∷ [])))) (bare-spelled f) (bare-spelled t)
       ∙ ap2 (λ x y. kind.For ∷ name w ∷ kind.Eq ∷ spelled f ++ (kind.To ∷ spelled t ++ (x ++ (y ++ kind.Next ∷ name v ∷ [])))) (bare-step s) (bare-acts a)
   bare-act (while_do e a) = ap2 (λ x y. kind.While ∷ x ++ (y ++ kind.End ∷ kind.While ∷ [])) (bare-spelled e) (bare-acts a)
+  bare-act (run_procedure w es) = ap (λ z. kind.Do ∷ name w ∷ kind.Open ∷ z ++ kind.Close ∷ kind.Semi ∷ []) (bare-args es)
 
   bare-acts : (a : Acts) → acts_spelled (bare_acts a) ≡ acts_spelled a
   bare-acts no_acts = refl
@@ -250,7 +254,7 @@ mutual
   trees_at-Derived (tree_then e es) ps d = (tree_at-Derived e (take (length (places e)) ps) d.0, trees_at-Derived es (drop (length (places e)) ps) d.1)
 
 mutual
-  act_at-Derived : (a : Act) (ps : List ℕ) → ActDerived a → ActDerived (act_at a ps)
+  act_at-Derived : (a : Act) (ps : List ℕ) → ActDerived dialect.Plain a → ActDerived dialect.Plain (act_at a ps)
   act_at-Derived (set w e) ps d = tree_at-Derived e (rest_of ps) d
   act_at-Derived (set_item w i e) ps d = (tree_at-Derived i (take (length (places i)) (rest_of ps)) d.0, tree_at-Derived e (drop (length (places i)) (rest_of ps)) d.1)
   act_at-Derived (append w e) ps d = tree_at-Derived e (rest_of ps) d
@@ -268,8 +272,9 @@ mutual
       let us = drop (length (step_places s)) ss in
       (tree_at-Derived f (take (length (places f)) qs) d.0, tree_at-Derived t (take (length (places t)) rs) d.1, acts_at-Derived a (take (length (acts_places a)) us) d.2)
   act_at-Derived (while_do e a) ps d = (tree_at-Derived e (take (length (places e)) ps) d.0, acts_at-Derived a (drop (length (places e)) ps) d.1)
+  act_at-Derived (run_procedure w es) ps d = absurd d
 
-  acts_at-Derived : (a : Acts) (ps : List ℕ) → ActsDerived a → ActsDerived (acts_at a ps)
+  acts_at-Derived : (a : Acts) (ps : List ℕ) → ActsDerived dialect.Plain a → ActsDerived dialect.Plain (acts_at a ps)
   acts_at-Derived no_acts ps d = tt
   acts_at-Derived (act_then a more) ps d = (act_at-Derived a (take (length (act_places a)) ps) d.0, acts_at-Derived more (drop (length (act_places a)) ps) d.1)
 
@@ -368,6 +373,7 @@ mutual
       behind_from rs = places (tree_at t (take (length (places t)) rs)) ++ behind_to (drop (length (places t)) rs)
   act_at-places (while_do e a) ps h =
       both_there (places e) (acts_places a) ps (λ qs. places (tree_at e qs)) (λ qs. acts_places (acts_at a qs)) (λ qs g. tree_at-places e qs g) (λ qs g. acts_at-places a qs g) h
+  act_at-places (run_procedure w es) ps h = then_there (length (args_places es)) ps (λ qs. args_places (trees_at es qs)) (λ qs g. trees_at-places es qs g) h
 
   acts_at-places : (a : Acts) (ps : List ℕ) → length ps ≡ length (acts_places a) → acts_places (acts_at a ps) ≡ ps
   acts_at-places no_acts ps h = none_there ps h

@@ -154,6 +154,8 @@ token_again kind.Not h i rest s = keyword_again kind.Not i rest refl refl refl r
 token_again kind.Size h i rest s = keyword_again kind.Size i rest refl refl refl refl s
 token_again kind.Clear h i rest s = keyword_again kind.Clear i rest refl refl refl refl s
 token_again kind.Msg h i rest s = keyword_again kind.Msg i rest refl refl refl refl s
+token_again kind.Proc h i rest s = absurd h
+token_again kind.Do h i rest s = absurd h
 
 -- all tokens
 

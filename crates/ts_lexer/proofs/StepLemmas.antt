@@ -1,5 +1,5 @@
 -- What the steps of a scanner leave to be cut.
-use Rattle.std.proofs.Common.{◌≡◌, ℕ, ◌+◌, ◌<◌, ◌≤◌, Bool, true, false, ◌==◌, nat_lt, cond, if◌then◌else◌, List, [], ◌∷◌, ◌++◌, length, take, drop, slice_get, Some, None, Result, Ok, Err, MatchResult, refl, sym, ◌∙◌, ap, subst, one-add, append-nil, arith, length-drop}
+use Rattle.std.proofs.Common.{◌≡◌, ℕ, ◌+◌, ◌<◌, ◌≤◌, Bool, true, false, ◌==◌, nat_lt, cond, if◌then◌else◌, List, [], ◌∷◌, ◌++◌, length, map, take, drop, slice_get, Some, None, Result, Ok, Err, MatchResult, refl, sym, ◌∙◌, ap, subst, one-add, append-nil, arith, length-drop}
 use Rattle.std.specs.List.{prefix_len}
 use Rattle.std.proofs.lemmas.Bool.{false≢true, or_left, eqb-true, ltb-true, ltb-false}
 use Rattle.std.proofs.lemmas.List.{take-append-drop}
@@ -7,7 +7,10 @@ use Rattle.std.proofs.lemmas.List.Sums.{prefix_len-le-length}
 use Rattle.std.proofs.lemmas.List.Folds.{length-prefix_len}
 use Rattle.ts_syntax.specs.declared.token.TokenKind.{TokenKind}
 use Rattle.ts_syntax.specs.declared.token.TokenKind.TheVariants as kind
-use Rattle.ts_syntax.specs.Cut.{is_blank, is_digit, begins_name, in_name, word_kind, token, CutFault, bad_byte, big_literal, between, with_front, cut_from}
+use Rattle.ts_syntax.specs.declared.dialect.Dialect.{Dialect}
+use Rattle.ts_syntax.specs.declared.dialect.Dialect.TheVariants as dialect
+use Rattle.ts_syntax.specs.declared.token.Token.{Token}
+use Rattle.ts_syntax.specs.Cut.{is_blank, is_digit, begins_name, in_name, word_kind, token, CutFault, bad_byte, big_literal, between, with_front, cut_from, token_in, all_in, cut_in}
 use Rattle.ts_lexer.specs.declared.fault.TokenFault.{TokenFault}
 use Rattle.ts_lexer.specs.declared.fault.TokenFault.TheVariants.{BadByte, BigLiteral, NoMemory}
 use Rattle.ts_lexer.specs.declared.scanner.Scanner.{Scanner}
@@ -120,30 +123,46 @@ shorter_by old new len t some fits = omega (arith, ap length t.rest, length-drop
 
 -- a fault of the rest is one of the whole
 pub fault_due : (s : Scanner) (f : CutFault) → cut_from s.place between s.rest.now ≡ Err f → due s ≡ Err f
-fault_due s f e = ap (with_front s.tokens) e
+fault_due s f e = ap (λ r. with_front s.tokens (all_in s.dialect r)) e
+
+-- tokens in a dialect, before others
+front_in : (d : Dialect) (t : Token) (r : Result (List Token) CutFault) → all_in d (with_front (t ∷ []) r) ≡ with_front (token_in d t ∷ []) (all_in d r)
+front_in d t (Ok us) = refl
+front_in d t (Err f) = refl
 
 passes_over : (old new : Scanner) (len : ℕ) → Takes old new len → 0 < len → len ≤ length old.rest.now
     → cut_from old.place between old.rest.now ≡ cut_from (old.place + len) between (drop len old.rest.now) → Moves old new
 passes_over old new len t some fits e = record {
-  same = ap (λ ts. with_front ts (cut_from new.place between new.rest.now)) t.tokens
-      ∙ ap (λ j. with_front old.tokens (cut_from j between new.rest.now)) t.place
-      ∙ ap (λ bs. with_front old.tokens (cut_from (old.place + len) between bs)) t.rest
-      ∙ ap (with_front old.tokens) (sym e);
+  same = ap (λ ts. with_front ts (all_in new.dialect (cut_from new.place between new.rest.now))) t.tokens
+      ∙ ap (λ d. with_front old.tokens (all_in d (cut_from new.place between new.rest.now))) t.dialect
+      ∙ ap (λ j. with_front old.tokens (all_in old.dialect (cut_from j between new.rest.now))) t.place
+      ∙ ap (λ bs. with_front old.tokens (all_in old.dialect (cut_from (old.place + len) between bs))) t.rest
+      ∙ ap (λ r. with_front old.tokens (all_in old.dialect r)) (sym e);
   shorter = shorter_by old new len t some fits;
 }
 
 token_moves : (old mid new : Scanner) (len : ℕ) (k : TokenKind) → Takes old mid len → 0 < len → len ≤ length old.rest.now
     → cut_from old.place between old.rest.now ≡ with_front (token k old.place (old.place + len) ∷ []) (cut_from (old.place + len) between (drop len old.rest.now))
     → Appends mid new (token k old.place mid.place) → Moves old new
-token_moves old mid new len k t some fits e a = record {
-  same = ap (λ ts. with_front ts (cut_from new.place between new.rest.now)) (a.tokens ∙ ap (λ ts. ts ++ token k old.place mid.place ∷ []) t.tokens)
-      ∙ ap (λ j. with_front (old.tokens ++ token k old.place mid.place ∷ []) (cut_from j between new.rest.now)) (a.place ∙ t.place)
-      ∙ ap (λ bs. with_front (old.tokens ++ token k old.place mid.place ∷ []) (cut_from (old.place + len) between bs)) (a.rest ∙ t.rest)
-      ∙ ap (λ j. with_front (old.tokens ++ token k old.place j ∷ []) (cut_from (old.place + len) between (drop len old.rest.now))) t.place
-      ∙ sym (with_front-append old.tokens (token k old.place (old.place + len) ∷ []) (cut_from (old.place + len) between (drop len old.rest.now)))
-      ∙ ap (with_front old.tokens) (sym e);
-  shorter = let s : length mid.rest.now < length old.rest.now = shorter_by old mid len t some fits in omega (arith, ap length a.rest);
-}
+token_moves old mid new len k t some fits e a =
+    let d : Dialect = old.dialect in
+    let rest : Result (List Token) CutFault = cut_from (old.place + len) between (drop len old.rest.now) in
+    let here : Token = token k old.place (old.place + len) in
+    let same_dialect : new.dialect ≡ d = a.dialect ∙ t.dialect in
+    let appended : new.tokens ≡ old.tokens ++ token_in d here ∷ [] =
+    a.tokens ∙ ap (λ ts. ts ++ token_in mid.dialect (token k old.place mid.place) ∷ []) t.tokens
+    ∙ ap (λ l. old.tokens ++ token_in l (token k old.place mid.place) ∷ []) t.dialect
+    ∙ ap (λ j. old.tokens ++ token_in d (token k old.place j) ∷ []) t.place in
+    record {
+      same = ap (λ ts. with_front ts (all_in new.dialect (cut_from new.place between new.rest.now))) appended
+          ∙ ap (λ l. with_front (old.tokens ++ token_in d here ∷ []) (all_in l (cut_from new.place between new.rest.now))) same_dialect
+          ∙ ap (λ j. with_front (old.tokens ++ token_in d here ∷ []) (all_in d (cut_from j between new.rest.now))) (a.place ∙ t.place)
+          ∙ ap (λ bs. with_front (old.tokens ++ token_in d here ∷ []) (all_in d (cut_from (old.place + len) between bs))) (a.rest ∙ t.rest)
+          ∙ sym (with_front-append old.tokens (token_in d here ∷ []) (all_in d rest))
+          ∙ ap (with_front old.tokens) (sym (front_in d here rest))
+          ∙ ap (λ r. with_front old.tokens (all_in d r)) (sym e);
+      shorter = let s : length mid.rest.now < length old.rest.now = shorter_by old mid len t some fits in omega (arith, ap length a.rest);
+    }
 
 -- a token that was taken and then appended, or not for want of memory
 pub token_steps : (old mid new : Scanner) (len : ℕ) (k : TokenKind) → Takes old mid len → 0 < len → len ≤ length old.rest.now
@@ -232,10 +251,23 @@ front_passes p bs xs n e is = subst (Passes p) (sym (is ∙ ap (λ m. take m bs)
 -- nothing is left
 pub all_due : (s : Scanner) → None ≡ slice_get s.rest.now 0 → due s ≡ Ok s.tokens
 all_due s e =
-    ap (λ bs. with_front s.tokens (cut_from s.place between bs)) (none_left s.rest.now e)
-    ∙ ap (with_front s.tokens) (cut_from-nil s.place between)
+    ap (λ bs. with_front s.tokens (all_in s.dialect (cut_from s.place between bs))) (none_left s.rest.now e)
+    ∙ ap (λ r. with_front s.tokens (all_in s.dialect r)) (cut_from-nil s.place between)
     ∙ ap (λ ts. Ok ts) (append-nil s.tokens)
   where
     none_left : (bs : List ℕ) → None ≡ slice_get bs 0 → bs ≡ []
     none_left [] e = refl
     none_left (b ∷ bs) e = cc
+
+-- a whole text, and its tokens in each dialect
+plain_tokens : (ts : List Token) → map (token_in dialect.Plain) ts ≡ ts
+plain_tokens [] = refl
+plain_tokens (t ∷ ts) = ap (λ z. t ∷ z) (plain_tokens ts)
+
+plain_all : (r : Result (List Token) CutFault) → all_in dialect.Plain r ≡ r
+plain_all (Ok ts) = ap (λ z. Ok z) (plain_tokens ts)
+plain_all (Err f) = refl
+
+pub cut_in-all : (d : Dialect) (bytes : List ℕ) → all_in d (cut_from 0 between bytes) ≡ cut_in d bytes
+cut_in-all dialect.Plain bytes = plain_all (cut_from 0 between bytes)
+cut_in-all dialect.Procedures bytes = refl

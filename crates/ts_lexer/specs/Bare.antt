@@ -3,7 +3,7 @@ use Rattle.std.specs.Prelude.{map, Option, Some, None}
 use Rattle.ts_syntax.specs.declared.word.Word.{Word}
 use Rattle.ts_syntax.specs.declared.stmt.Step.{Step}
 use Rattle.ts_syntax.specs.declared.script.Decl.{Decl}
-use Rattle.ts_syntax.specs.Tree.{Tree, number, variable, item, size, message_item, message_size, call, negative, inverse, two, paren, Trees, no_trees, tree_then, Act, set, set_item, append, take_last, clear, call_alone, if_then, if_else, for_next, while_do, Acts, no_acts, act_then, Source}
+use Rattle.ts_syntax.specs.Tree.{Tree, number, variable, item, size, message_item, message_size, call, negative, inverse, two, paren, Trees, no_trees, tree_then, Act, set, set_item, append, take_last, clear, call_alone, if_then, if_else, for_next, while_do, run_procedure, Acts, no_acts, act_then, Source}
 
 -- a word at place 0
 abbrev pub bare_word : Word → Word
@@ -45,6 +45,7 @@ abbrev mutual
   bare_act (if_else e a b) = if_else (bare_tree e) (bare_acts a) (bare_acts b)
   bare_act (for_next w f t s a v) = for_next (bare_word w) (bare_tree f) (bare_tree t) (bare_step s) (bare_acts a) (bare_word v)
   bare_act (while_do e a) = while_do (bare_tree e) (bare_acts a)
+  bare_act (run_procedure w es) = run_procedure (bare_word w) (bare_trees es)
 
   pub bare_acts : Acts → Acts
   bare_acts no_acts = no_acts

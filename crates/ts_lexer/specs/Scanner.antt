@@ -1,26 +1,28 @@
 -- What a scanner has still to answer, and what its steps leave of it.
 use Rattle.std.specs.Prelude.{◌≡◌, ◌<◌, ◌+◌, ℕ, List, [], ◌∷◌, ◌++◌, length, drop, Result, Ok, Err, ⊤}
 use Rattle.ts_syntax.specs.declared.token.Token.{Token}
-use Rattle.ts_syntax.specs.Cut.{CutFault, bad_byte, big_literal, between, with_front, cut_from}
+use Rattle.ts_syntax.specs.Cut.{CutFault, bad_byte, big_literal, between, with_front, cut_from, token_in, all_in}
 use Rattle.ts_lexer.specs.declared.fault.TokenFault.{TokenFault}
 use Rattle.ts_lexer.specs.declared.fault.TokenFault.TheVariants.{BadByte, BigLiteral, NoMemory}
 use Rattle.ts_lexer.specs.declared.scanner.Scanner.{Scanner}
 
 -- the tokens of the whole text, or its first fault: those that were read, and those of the rest
 abbrev pub due : Scanner → Result (List Token) CutFault
-due s = with_front s.tokens (cut_from s.place between s.rest.now)
+due s = with_front s.tokens (all_in s.dialect (cut_from s.place between s.rest.now))
 
 -- so many bytes were taken off the rest
 pub record Takes (old new : Scanner) (len : ℕ) : Type 0 where
   pub rest : new.rest.now ≡ drop len old.rest.now
   pub place : new.place ≡ old.place + len
   pub tokens : new.tokens ≡ old.tokens
+  pub dialect : new.dialect ≡ old.dialect
 
--- the token was appended
+-- the token was appended, as it is in the scanner's dialect
 pub record Appends (old new : Scanner) (token : Token) : Type 0 where
   pub rest : new.rest.now ≡ old.rest.now
   pub place : new.place ≡ old.place
-  pub tokens : new.tokens ≡ old.tokens ++ token ∷ []
+  pub tokens : new.tokens ≡ old.tokens ++ token_in old.dialect token ∷ []
+  pub dialect : new.dialect ≡ old.dialect
 
 -- the whole is the same, and less of it is left
 pub record Moves (old new : Scanner) : Type 0 where

@@ -8,4 +8,4 @@ pub mod spans;
 
 pub use fault::TokenFault;
 pub use law::print_law;
-pub use scanner::tokens;
+pub use scanner::{tokens, tokens_in};

@@ -1,23 +1,33 @@
 //! How a text is cut into tokens, from the left in one pass.
 
 ghost use Rattle.std.specs.Prelude.{◌≡◌, ◌≤◌, ◌+◌, length};
-ghost use Rattle.ts_lexer.specs.Answers.{Cuts};
+ghost use Rattle.ts_lexer.specs.Answers.{Cuts, CutsIn};
 
 use crate::fault::TokenFault;
 use crate::spans::{
-    begins_with_letter, digits_len, is_blank, is_digit, is_letter, line_len, literal_value,
-    name_len, sign, word,
+    begins_with_letter, digits_len, is_blank, is_digit, is_letter, kind_in, line_len,
+    literal_value, name_len, sign, word,
 };
 use mate_num::{Items, Name};
 use std::alloc::Global;
-use ts_syntax::{Token, TokenKind, Tokens};
+use ts_syntax::{Dialect, Token, TokenKind, Tokens};
 
 /// The tokens of a text, or its first fault. The text has at most 1,048,576 bytes.
 pub fn tokens(alloc: Global, bytes: &[u8]) -> Result<Tokens, TokenFault>
     requires { length bytes.now ≤ 1048576 }
     ensures { Cuts bytes.now result }
 {
+    tokens_in(alloc, Dialect::Plain, bytes)
+}
+
+/// The tokens of a text in a dialect, or its first fault. Where a script may have procedures, `proc` and `do` are
+/// keywords; all else is as in plain TinyScript. The text has at most 1,048,576 bytes.
+pub fn tokens_in(alloc: Global, dialect: Dialect, bytes: &[u8]) -> Result<Tokens, TokenFault>
+    requires { length bytes.now ≤ 1048576 }
+    ensures { CutsIn dialect bytes.now result }
+{
     let mut scanner = Scanner {
+        dialect,
         rest: bytes,
         place: 0,
         tokens: Items::new(alloc),
@@ -31,6 +41,7 @@ pub fn tokens(alloc: Global, bytes: &[u8]) -> Result<Tokens, TokenFault>
 /// What is left of a text, and the tokens before it.
 #[derive(Drop)]
 struct Scanner<'a> {
+    dialect: Dialect,
     rest: &'a [u8],
     /// The place of the rest, in bytes from the start of the text.
     place: u32,
@@ -146,6 +157,7 @@ impl<'a> Scanner<'a> {
         ensures { MatchResult result (λ _. Appends self.old self.new (token kind from self.old.place)) (λ e. e ≡ TokenFault.NoMemory) }
     {
         let to = self.place;
+        let kind = kind_in(self.dialect, kind);
         self.tokens.push(Token { kind, from, to })?;
         Ok(())
     }

@@ -2,11 +2,11 @@
 
 ghost use Rattle.std.specs.Prelude.{◌≡◌, ◌≤◌, ◌==◌, not, length, nat_lt, if◌then◌else◌, Some, None};
 ghost use Rattle.std.specs.List.{prefix_len};
-ghost use Rattle.ts_syntax.specs.Cut.{is_blank, begins_name, in_name, is_digit, sign_of, word_kind};
+ghost use Rattle.ts_syntax.specs.Cut.{is_blank, begins_name, in_name, is_digit, sign_of, word_kind, kind_in, procedure_kind};
 ghost use Rattle.ts_lexer.specs.Spans.{begins, Passes, value_of, sign_at};
 
 use mate_num::Name;
-use ts_syntax::TokenKind;
+use ts_syntax::{Dialect, TokenKind};
 
 /// Space, tab, CR and LF.
 pub fn is_blank(byte: u8) -> bool
@@ -110,6 +110,35 @@ fn name(text: &str) -> TokenKind
         unreachable!()
     };
     TokenKind::Name(name)
+}
+
+/// What a kind of token is in a dialect: where a script may have procedures, the names `proc` and `do` are keywords.
+pub fn kind_in(dialect: Dialect, kind: TokenKind) -> TokenKind
+    ensures { result ≡ kind_in dialect kind }
+{
+    match dialect {
+        Dialect::Plain => kind,
+        Dialect::Procedures => procedure_kind(kind),
+    }
+}
+
+fn procedure_kind(kind: TokenKind) -> TokenKind
+    ensures { result ≡ procedure_kind kind }
+{
+    match kind {
+        TokenKind::Name(name) => named(name),
+        kind => kind,
+    }
+}
+
+fn named(name: Name) -> TokenKind
+    ensures { result ≡ procedure_kind (TokenKind.Name name) }
+{
+    match name.as_str() {
+        "proc" => TokenKind::Proc,
+        "do" => TokenKind::Do,
+        _ => TokenKind::Name(name),
+    }
 }
 
 /// The sign that bytes begin with, and its length: the longest that fits.

@@ -1,18 +1,19 @@
 -- Each state can be finished: some tokens lead from it to a whole script.
 use Rattle.std.proofs.Common.{◌≡◌, ℕ, true, false, List, [], ◌∷◌, ◌++◌, Some, None, Ok, refl, ◌∙◌}
 use Rattle.ts_syntax.specs.declared.word.Word.{Word}
+use Rattle.ts_syntax.specs.declared.script.Decl.{Decl}
 use Rattle.ts_syntax.specs.declared.token.TokenKind.{TokenKind}
 use Rattle.ts_syntax.specs.declared.token.TokenKind.TheVariants as kind
-use Rattle.ts_syntax.specs.Tree.{Tree, number, variable, item, message_item, message_size, call, negative, inverse, two, paren, no_trees, set, set_item, append, take_last, clear, call_alone, if_then, if_else, for_next, while_do, Acts, no_acts, Source}
+use Rattle.ts_syntax.specs.Tree.{Tree, number, variable, item, message_item, message_size, call, negative, inverse, two, paren, no_trees, set, set_item, append, take_last, clear, call_alone, if_then, if_else, for_next, while_do, run_procedure, Acts, no_acts, Procedure, ProcedureSource}
 use Rattle.ts_syntax.specs.Derived.{Holds}
 use Rattle.ts_syntax.specs.declared.bin_op.BinOp.TheVariants as op
-use Rattle.ts_machine.specs.Machine.{Frame, top, then_part, else_part, for_part, while_part, Operand, in_negative, first_product, in_product, Product, first_sum, in_sum, Sum, first_compare, in_compare, Inverse, in_inverse, first_and, in_and, Conjunction, first_or, in_or, Whole, in_paren, in_item, in_message, in_args, in_set, in_index, in_set_item, in_append, in_call, in_if, in_from, in_to, in_while, State, decls, decl_name, decl_more, want, want_inverse, named, opened, sized, size_opened, size_named, message, have_product, have_sum, have_inverse, have_and, have, block, stmt_named, set_to, set_named, set_boxed, set_taken, boxed, append_to, item_indexed, call_opened, cleared, clear_opened, clear_named, closed, for_word, for_named, stepped, step_signed, nexted, if_ended, while_ended, with_tree, with_act, word, inverse_due, give, other_places, first_place, run}
+use Rattle.ts_machine.specs.Machine.{Frame, top, main, proc_part, then_part, else_part, for_part, while_part, Operand, in_negative, first_product, in_product, Product, first_sum, in_sum, Sum, first_compare, in_compare, Inverse, in_inverse, first_and, in_and, Conjunction, first_or, in_or, Whole, in_paren, in_item, in_message, in_args, in_set, in_index, in_set_item, in_append, in_call, in_if, in_from, in_to, in_while, in_do, State, decls, decl_name, decl_more, procedures, proc_word, proc_named, proc_opened, param_read, param_due, proc_ended, want, want_inverse, named, opened, sized, size_opened, size_named, message, have_product, have_sum, have_inverse, have_and, have, block, stmt_named, set_to, set_named, set_boxed, set_taken, boxed, append_to, item_indexed, call_opened, cleared, clear_opened, clear_named, closed, for_word, for_named, stepped, step_signed, nexted, if_ended, while_ended, do_word, do_named, do_opened, with_tree, with_act, word, inverse_due, give, other_places, first_place, run}
 use Rattle.ts_machine.proofs.Turns.{after_and, inverse_follows_and, sum_follows_inverse, product_follows_sum, operand_follows_product, named_is_given, summed, product_is_sum, compared, sum_is_compared, inverse_is_read, inverse_is_first, inverse_is_next, joined, and_is_joined}
 
 -- tokens that lead from a state to a whole script
 pub record Ends (q : State) (ps : List ℕ) : Type 0 where
   pub rest : List TokenKind
-  pub outcome : Source × List ℕ
+  pub outcome : ProcedureSource × List ℕ
   pub read : run rest ps q ≡ Ok outcome
 
 -- the same, by a token that lengthens no part of an expression
@@ -20,7 +21,7 @@ record Closes (q : State) (ps : List ℕ) : Type 0 where
   first : TokenKind
   others : List TokenKind
   follows : Holds (after_and first)
-  outcome : Source × List ℕ
+  outcome : ProcedureSource × List ℕ
   read : run (first ∷ others) ps q ≡ Ok outcome
 
 by_rest : {q : State} {ps : List ℕ} → Closes q ps → Ends q ps
@@ -28,6 +29,8 @@ by_rest c = record { rest = c.first ∷ c.others; outcome = c.outcome; read = c.
 
 end_block : (f : Frame) (a : Acts) (ps : List ℕ) → Ends (block a f) ps
 end_block (top ds) a ps = record { rest = []; outcome = _; read = refl }
+end_block (main ds qs) a ps = record { rest = []; outcome = _; read = refl }
+end_block (proc_part w ws ds qs) a ps = record { rest = kind.End ∷ kind.Proc ∷ []; outcome = _; read = refl }
 end_block (then_part e b f) a ps =
     let r = end_block f (with_act b (if_then e a)) ps in
     record { rest = kind.End ∷ kind.If ∷ r.rest; outcome = r.outcome; read = r.read }
@@ -94,6 +97,7 @@ mutual
   end_whole (in_to w s a f) e ps =
       let r = end_block f (with_act a (for_next w s e None no_acts (word [] (first_place ps)))) (other_places ps) in
       record { first = kind.Next; others = kind.Name [] ∷ r.rest; follows = tt; outcome = r.outcome; read = r.read }
+  end_whole (in_do w es a f) e ps = let r = end_block f (with_act a (run_procedure w (with_tree es e))) ps in record { first = kind.Close; others = kind.Semi ∷ r.rest; follows = tt; outcome = r.outcome; read = r.read }
   end_whole (in_while a f) e ps = let r = end_block f (with_act a (while_do e no_acts)) ps in record { first = kind.End; others = kind.While ∷ r.rest; follows = tt; outcome = r.outcome; read = r.read }
 
 end_named : (w : Word) (k : Operand) (ps : List ℕ) → Ends (named w k) ps
@@ -107,9 +111,16 @@ ahead ks e h = record { rest = ks ++ e.rest; outcome = e.outcome; read = h ∙ e
 
 -- each state can be finished
 pub ends : (q : State) (ps : List ℕ) → Ends q ps
-ends (decls ds) ps = record { rest = []; outcome = _; read = refl }
-ends (decl_name k b ds) ps = record { rest = kind.Name [] ∷ kind.Semi ∷ []; outcome = _; read = refl }
-ends (decl_more k ds) ps = record { rest = kind.Semi ∷ []; outcome = _; read = refl }
+ends (decls d ds) ps = record { rest = []; outcome = _; read = refl }
+ends (decl_name d k b ds) ps = record { rest = kind.Name [] ∷ kind.Semi ∷ []; outcome = _; read = refl }
+ends (decl_more d k ds) ps = record { rest = kind.Semi ∷ []; outcome = _; read = refl }
+ends (procedures ds qs) ps = record { rest = []; outcome = _; read = refl }
+ends (proc_word ds qs) ps = record { rest = kind.Name [] ∷ kind.Open ∷ kind.Close ∷ kind.End ∷ kind.Proc ∷ []; outcome = _; read = refl }
+ends (proc_named w ds qs) ps = record { rest = kind.Open ∷ kind.Close ∷ kind.End ∷ kind.Proc ∷ []; outcome = _; read = refl }
+ends (proc_opened w ds qs) ps = record { rest = kind.Close ∷ kind.End ∷ kind.Proc ∷ []; outcome = _; read = refl }
+ends (param_read w ws v ds qs) ps = record { rest = kind.Close ∷ kind.End ∷ kind.Proc ∷ []; outcome = _; read = refl }
+ends (param_due w ws ds qs) ps = record { rest = kind.Name [] ∷ kind.Close ∷ kind.End ∷ kind.Proc ∷ []; outcome = _; read = refl }
+ends (proc_ended q ds qs) ps = record { rest = kind.Proc ∷ []; outcome = _; read = refl }
 ends (want k) ps = ahead (kind.Num 0 ∷ []) (by_rest (end_operand k (number 0) ps)) refl
 ends (want_inverse k) ps = ahead (kind.Num 0 ∷ []) (by_rest (end_operand (inverse_due k) (number 0) ps)) refl
 ends (named w k) ps = end_named w k ps
@@ -155,3 +166,6 @@ ends (step_signed w s t a f) ps =
 ends (nexted w s t c b a f) ps = ahead (kind.Name [] ∷ []) (end_block f (with_act a (for_next w s t c b (word [] (first_place ps)))) (other_places ps)) refl
 ends (if_ended s a f) ps = ahead (kind.If ∷ []) (end_block f (with_act a s) ps) refl
 ends (while_ended e b a f) ps = ahead (kind.While ∷ []) (end_block f (with_act a (while_do e b)) ps) refl
+ends (do_word a f) ps = ahead (kind.Name [] ∷ kind.Open ∷ kind.Close ∷ kind.Semi ∷ []) (end_block f (with_act a (run_procedure (word [] (first_place ps)) no_trees)) (other_places ps)) refl
+ends (do_named w a f) ps = ahead (kind.Open ∷ kind.Close ∷ kind.Semi ∷ []) (end_block f (with_act a (run_procedure w no_trees)) ps) refl
+ends (do_opened w a f) ps = ahead (kind.Close ∷ kind.Semi ∷ []) (end_block f (with_act a (run_procedure w no_trees)) ps) refl

@@ -3,7 +3,7 @@ use Rattle.std.proofs.Common.{ℕ, List, [], ◌∷◌, Option, Some, None}
 use Rattle.ts_syntax.specs.declared.word.Word.{Word}
 use Rattle.ts_syntax.specs.declared.stmt.Step.{Step}
 use Rattle.ts_syntax.specs.declared.script.Decl.{Decl}
-use Rattle.ts_syntax.specs.Tree.{Tree, number, variable, item, size, message_item, message_size, call, negative, inverse, two, paren, Trees, no_trees, tree_then, Act, set, set_item, append, take_last, clear, call_alone, if_then, if_else, for_next, while_do, Acts, no_acts, act_then, Source}
+use Rattle.ts_syntax.specs.Tree.{Tree, number, variable, item, size, message_item, message_size, call, negative, inverse, two, paren, Trees, no_trees, tree_then, Act, set, set_item, append, take_last, clear, call_alone, if_then, if_else, for_next, while_do, run_procedure, Acts, no_acts, act_then, Procedure, ProcedureSource}
 use Rattle.ts_machine.specs.Machine.{word, first_place, other_places}
 
 -- a word with the first place
@@ -68,6 +68,7 @@ abbrev mutual
   act_left (if_else e a b) ps = acts_left b (acts_left a (left e ps))
   act_left (for_next w f t s a v) ps = other_places (acts_left a (step_left s (left t (left f (other_places ps)))))
   act_left (while_do e a) ps = acts_left a (left e ps)
+  act_left (run_procedure w es) ps = args_left es (other_places ps)
 
   pub acts_left : Acts → List ℕ → List ℕ
   acts_left no_acts ps = ps
@@ -87,6 +88,7 @@ abbrev mutual
       for_next (word_at w ps) (placed f (other_places ps)) (placed t (left f (other_places ps))) (step_placed s (left t (left f (other_places ps))))
       (acts_placed a (step_left s (left t (left f (other_places ps))))) (word_at v (acts_left a (step_left s (left t (left f (other_places ps))))))
   act_placed (while_do e a) ps = while_do (placed e ps) (acts_placed a (left e ps))
+  act_placed (run_procedure w es) ps = run_procedure (word_at w ps) (args_placed es (other_places ps))
 
   pub acts_placed : Acts → List ℕ → Acts
   acts_placed no_acts ps = no_acts
@@ -103,8 +105,36 @@ abbrev pub decls_placed : List Decl → List ℕ → List Decl
 decls_placed [] ps = []
 decls_placed (d ∷ ds) ps = decl_placed d ps ∷ decls_placed ds (other_places ps)
 
-abbrev pub source_left : Source → List ℕ → List ℕ
-source_left s ps = acts_left s.body (decls_left s.decls ps)
+-- a procedure, and procedures
+abbrev pub params_left : List Word → List ℕ → List ℕ
+params_left [] ps = ps
+params_left (w ∷ ws) ps = params_left ws (other_places ps)
 
-abbrev pub source_placed : Source → List ℕ → Source
-source_placed s ps = record { decls = decls_placed s.decls ps; body = acts_placed s.body (decls_left s.decls ps) }
+abbrev pub params_placed : List Word → List ℕ → List Word
+params_placed [] ps = []
+params_placed (w ∷ ws) ps = word_at w ps ∷ params_placed ws (other_places ps)
+
+abbrev pub procedure_left : Procedure → List ℕ → List ℕ
+procedure_left q ps = acts_left q.body (params_left q.params (other_places ps))
+
+abbrev pub procedure_placed : Procedure → List ℕ → Procedure
+procedure_placed q ps = record { name = word_at q.name ps; params = params_placed q.params (other_places ps); body = acts_placed q.body (params_left q.params (other_places ps)) }
+
+abbrev pub procedures_left : List Procedure → List ℕ → List ℕ
+procedures_left [] ps = ps
+procedures_left (q ∷ qs) ps = procedures_left qs (procedure_left q ps)
+
+abbrev pub procedures_placed : List Procedure → List ℕ → List Procedure
+procedures_placed [] ps = []
+procedures_placed (q ∷ qs) ps = procedure_placed q ps ∷ procedures_placed qs (procedure_left q ps)
+
+-- a script
+abbrev pub source_left : ProcedureSource → List ℕ → List ℕ
+source_left s ps = acts_left s.body (procedures_left s.procs (decls_left s.decls ps))
+
+abbrev pub source_placed : ProcedureSource → List ℕ → ProcedureSource
+source_placed s ps = record {
+  decls = decls_placed s.decls ps;
+  procs = procedures_placed s.procs (decls_left s.decls ps);
+  body = acts_placed s.body (procedures_left s.procs (decls_left s.decls ps));
+}

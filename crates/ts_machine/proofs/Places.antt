@@ -1,11 +1,12 @@
 -- The places of a tree that was read are those of the tokens.
 use Rattle.std.proofs.Common.{◌≡◌, ℕ, List, [], ◌∷◌, ◌++◌, Option, Some, None, refl, ◌∙◌, ap, subst, append_assoc}
+use Rattle.ts_syntax.specs.declared.word.Word.{Word}
 use Rattle.ts_syntax.specs.declared.stmt.Step.{Step}
 use Rattle.ts_syntax.specs.declared.script.Decl.{Decl}
-use Rattle.ts_syntax.specs.Tree.{Tree, number, variable, item, size, message_item, message_size, call, negative, inverse, two, paren, Trees, no_trees, tree_then, Act, set, set_item, append, take_last, clear, call_alone, if_then, if_else, for_next, while_do, Acts, no_acts, act_then, Source}
-use Rattle.ts_syntax.specs.Spelling.{places, args_places, step_places, act_places, acts_places, decls_places, source_places}
+use Rattle.ts_syntax.specs.Tree.{Tree, number, variable, item, size, message_item, message_size, call, negative, inverse, two, paren, Trees, no_trees, tree_then, Act, set, set_item, append, take_last, clear, call_alone, if_then, if_else, for_next, while_do, run_procedure, Acts, no_acts, act_then, Procedure, ProcedureSource}
+use Rattle.ts_syntax.specs.Spelling.{places, args_places, step_places, act_places, acts_places, decls_places, params_places, procedure_places, procedures_places, procedure_source_places}
 use Rattle.ts_machine.specs.Machine.{first_place, other_places}
-use Rattle.ts_machine.proofs.Placed.{left, args_left, step_left, act_left, acts_left, decls_left, source_left, placed, args_placed, step_placed, act_placed, acts_placed, decls_placed, source_placed}
+use Rattle.ts_machine.proofs.Placed.{left, args_left, step_left, act_left, acts_left, decls_left, params_left, procedure_left, procedures_left, source_left, placed, args_placed, step_placed, act_placed, acts_placed, decls_placed, params_placed, procedure_placed, procedures_placed, source_placed}
 
 -- some are there
 abbrev pub IsMore : List ℕ → Type 0
@@ -76,6 +77,7 @@ mutual
       let i = takes s (other_places ps) b.more in
       both (one ps i.more) (both i (both b (both g (both d f))))
   act_takes (while_do e a) ps h = let b = acts_take a (left e ps) h in both (takes e ps b.more) b
+  act_takes (run_procedure w es) ps h = let b = args_take es (other_places ps) h in both (one ps b.more) b
 
   acts_take : (more : Acts) (ps : List ℕ) → IsMore (acts_left more ps) → Takes (acts_places (acts_placed more ps)) (acts_left more ps) ps
   acts_take no_acts ps h = none ps h
@@ -85,8 +87,23 @@ decls_take : (ds : List Decl) (ps : List ℕ) → IsMore (decls_left ds ps) → 
 decls_take [] ps h = none ps h
 decls_take (d ∷ ds) ps h = let b = decls_take ds (other_places ps) h in both (one ps b.more) b
 
+params_take : (ws : List Word) (ps : List ℕ) → IsMore (params_left ws ps) → Takes (params_places (params_placed ws ps)) (params_left ws ps) ps
+params_take [] ps h = none ps h
+params_take (w ∷ ws) ps h = let b = params_take ws (other_places ps) h in both (one ps b.more) b
+
+procedure_takes : (q : Procedure) (ps : List ℕ) → IsMore (procedure_left q ps) → Takes (procedure_places (procedure_placed q ps)) (procedure_left q ps) ps
+procedure_takes q ps h =
+    let b = acts_take q.body (params_left q.params (other_places ps)) h in
+    let c = params_take q.params (other_places ps) b.more in
+    both (one ps c.more) (both c b)
+
+procedures_take : (qs : List Procedure) (ps : List ℕ) → IsMore (procedures_left qs ps) → Takes (procedures_places (procedures_placed qs ps)) (procedures_left qs ps) ps
+procedures_take [] ps h = none ps h
+procedures_take (q ∷ qs) ps h = let b = procedures_take qs (procedure_left q ps) h in both (procedure_takes q ps b.more) b
+
 -- where places are left, those before them are the script's
-pub source_takes : (s : Source) (ps : List ℕ) → IsMore (source_left s ps) → source_places (source_placed s ps) ++ source_left s ps ≡ ps
+pub source_takes : (s : ProcedureSource) (ps : List ℕ) → IsMore (source_left s ps) → procedure_source_places (source_placed s ps) ++ source_left s ps ≡ ps
 source_takes s ps h =
-    let b = acts_take s.body (decls_left s.decls ps) h in
-    (both (decls_take s.decls ps b.more) b).are
+    let b = acts_take s.body (procedures_left s.procs (decls_left s.decls ps)) h in
+    let c = procedures_take s.procs (decls_left s.decls ps) b.more in
+    (both (decls_take s.decls ps c.more) (both c b)).are

@@ -6,7 +6,7 @@ use Rattle.ts_syntax.specs.declared.token.TokenKind.{TokenKind}
 use Rattle.ts_syntax.specs.declared.token.TokenKind.TheVariants as kind
 use Rattle.ts_syntax.specs.Tree.{Tree, variable, inverse, negative, two, no_trees, Acts}
 use Rattle.ts_syntax.specs.Derived.{Holds}
-use Rattle.ts_machine.specs.Machine.{Frame, Operand, in_negative, first_product, in_product, Product, first_sum, in_sum, Sum, first_compare, in_compare, Inverse, in_inverse, first_and, in_and, Conjunction, first_or, in_or, in_args, in_index, in_call, State, want, want_inverse, named, opened, have_product, have_sum, have_inverse, have_and, have, boxed, call_opened, expr_due, inverse_due, give, step_given, step, wants_size, takes, places_after, first_place, finish, Outcome, ending, going, run}
+use Rattle.ts_machine.specs.Machine.{Frame, Operand, in_negative, first_product, in_product, Product, first_sum, in_sum, Sum, first_compare, in_compare, Inverse, in_inverse, first_and, in_and, Conjunction, first_or, in_or, in_args, in_index, in_call, in_do, State, want, want_inverse, named, opened, have_product, have_sum, have_inverse, have_and, have, boxed, call_opened, do_opened, expr_due, inverse_due, give, step_given, step, wants_size, takes, places_after, first_place, finish, Outcome, ending, going, run}
 use Rattle.std.proofs.Common.{None}
 
 -- tokens that lengthen an operand, a product, a sum, an inverse and a conjunction
@@ -209,6 +209,13 @@ call_step w a f m h p = refl
 
 pub call_is_due : (w : Word) (a : Acts) (f : Frame) (m : TokenKind) → Holds (begins_expr m) → (ms : List TokenKind) (ps : List ℕ) → run (m ∷ ms) ps (call_opened w a f) ≡ run (m ∷ ms) ps (expr_due (in_call w no_trees a f))
 call_is_due w a f m h ms ps = turn_alike (call_opened w a f) (expr_due (in_call w no_trees a f)) m (call_step w a f m h) refl ms ps
+
+do_step : (w : Word) (a : Acts) (f : Frame) (m : TokenKind) → Holds (begins_expr m) → (p : ℕ) → step (do_opened w a f) m p ≡ step (expr_due (in_do w no_trees a f)) m p
+do_step w a f kind.Close h p = absurd h
+do_step w a f m h p = refl
+
+pub do_is_due : (w : Word) (a : Acts) (f : Frame) (m : TokenKind) → Holds (begins_expr m) → (ms : List TokenKind) (ps : List ℕ) → run (m ∷ ms) ps (do_opened w a f) ≡ run (m ∷ ms) ps (expr_due (in_do w no_trees a f))
+do_is_due w a f m h ms ps = turn_alike (do_opened w a f) (expr_due (in_do w no_trees a f)) m (do_step w a f m h) refl ms ps
 
 boxed_step : (w : Word) (a : Acts) (f : Frame) (m : TokenKind) → Holds (begins_expr m) → (p : ℕ) → step (boxed w a f) m p ≡ step (expr_due (in_index w a f)) m p
 boxed_step w a f kind.CloseBox h p = absurd h

@@ -39,9 +39,11 @@ code_of kind.Minus = 31
 code_of kind.Star = 32
 code_of kind.Slash = 33
 code_of kind.Percent = 34
-code_of (kind.Name n) = 35
-code_of (kind.Num n) = 36
+code_of kind.Proc = 35
+code_of kind.Do = 36
+code_of (kind.Name n) = 37
+code_of (kind.Num n) = 38
 
 -- a sign or a keyword
 abbrev pub is_sign : TokenKind → Bool
-is_sign k = nat_lt (code_of k) 35
+is_sign k = nat_lt (code_of k) 37

@@ -1,7 +1,9 @@
--- The grammar as a machine that reads one token after another. A continuation says where a part stands.
+-- The grammar of each dialect as a machine that reads one token after another. A continuation says where a part stands.
 use Rattle.std.specs.Prelude.{ℕ, Bool, true, false, List, [], ◌∷◌, ◌++◌, Option, Some, None, Result, Ok, Err}
 use Rattle.ts_syntax.specs.declared.bin_op.BinOp.{BinOp}
 use Rattle.ts_syntax.specs.declared.bin_op.BinOp.TheVariants as op
+use Rattle.ts_syntax.specs.declared.dialect.Dialect.{Dialect}
+use Rattle.ts_syntax.specs.declared.dialect.Dialect.TheVariants as dialect
 use Rattle.ts_syntax.specs.declared.word.Word.{Word}
 use Rattle.ts_syntax.specs.declared.stmt.Step.{Step}
 use Rattle.ts_syntax.specs.declared.script.Decl.{Decl}
@@ -9,11 +11,14 @@ use Rattle.ts_syntax.specs.declared.script.DeclKind.{DeclKind}
 use Rattle.ts_syntax.specs.declared.script.DeclKind.TheVariants as decl
 use Rattle.ts_syntax.specs.declared.token.TokenKind.{TokenKind}
 use Rattle.ts_syntax.specs.declared.token.TokenKind.TheVariants as kind
-use Rattle.ts_syntax.specs.Tree.{Tree, number, variable, item, size, message_item, message_size, call, negative, inverse, two, paren, Trees, no_trees, tree_then, Act, set, set_item, append, take_last, clear, call_alone, if_then, if_else, for_next, while_do, Acts, no_acts, act_then, Source}
+use Rattle.ts_syntax.specs.Tree.{Tree, number, variable, item, size, message_item, message_size, call, negative, inverse, two, paren, Trees, no_trees, tree_then, Act, set, set_item, append, take_last, clear, call_alone, if_then, if_else, for_next, while_do, run_procedure, Acts, no_acts, act_then, Procedure, ProcedureSource}
 
--- a block that is open: the script's own, or one inside another with the statements before it
+-- a block that is open: the script's own, that of a script with procedures, a procedure's, or one inside another with
+-- the statements before it
 pub data Frame : Type 0 where
   top : List Decl → Frame
+  main : List Decl → List Procedure → Frame
+  proc_part : Word → List Word → List Decl → List Procedure → Frame
   then_part : Tree → Acts → Frame → Frame
   else_part : Tree → Acts → Acts → Frame → Frame
   for_part : Word → Tree → Tree → Option Step → Acts → Frame → Frame
@@ -57,13 +62,22 @@ mutual
     in_from : Word → Acts → Frame → Whole
     in_to : Word → Tree → Acts → Frame → Whole
     in_while : Acts → Frame → Whole
+    in_do : Word → Trees → Acts → Frame → Whole
 
 -- what was read, and what may follow
 pub data State : Type 0 where
   -- declarations
-  decls : List Decl → State
-  decl_name : DeclKind → Bool → List Decl → State
-  decl_more : DeclKind → List Decl → State
+  decls : Dialect → List Decl → State
+  decl_name : Dialect → DeclKind → Bool → List Decl → State
+  decl_more : Dialect → DeclKind → List Decl → State
+  -- procedures
+  procedures : List Decl → List Procedure → State
+  proc_word : List Decl → List Procedure → State
+  proc_named : Word → List Decl → List Procedure → State
+  proc_opened : Word → List Decl → List Procedure → State
+  param_read : Word → List Word → Word → List Decl → List Procedure → State
+  param_due : Word → List Word → List Decl → List Procedure → State
+  proc_ended : Procedure → List Decl → List Procedure → State
   -- expressions
   want : Operand → State
   want_inverse : Inverse → State
@@ -100,6 +114,9 @@ pub data State : Type 0 where
   nexted : Word → Tree → Tree → Option Step → Acts → Acts → Frame → State
   if_ended : Act → Acts → Frame → State
   while_ended : Tree → Acts → Acts → Frame → State
+  do_word : Acts → Frame → State
+  do_named : Word → Acts → Frame → State
+  do_opened : Word → Acts → Frame → State
 
 -- one more argument, and one more statement, at the end
 abbrev pub with_tree : Trees → Tree → Trees
@@ -132,6 +149,19 @@ give (in_negative k) e = give k (negative e)
 give (first_product k) e = have_product e k
 give (in_product o l k) e = have_product (two o l e) k
 
+-- the dialect of a script in which a block is open
+abbrev pub dialect_of : Frame → Dialect
+dialect_of (top ds) = dialect.Plain
+dialect_of (main ds ps) = dialect.Procedures
+dialect_of (proc_part w ws ds ps) = dialect.Procedures
+dialect_of (then_part e b f) = dialect_of f
+dialect_of (else_part e a b f) = dialect_of f
+dialect_of (for_part w s t p b f) = dialect_of f
+dialect_of (while_part e b f) = dialect_of f
+
+abbrev pub procedure : Word → List Word → Acts → Procedure
+procedure w ws a = record { name = w; params = ws; body = a }
+
 -- a block goes on, or ends
 abbrev pub step_frame : Acts → Frame → TokenKind → Option State
 step_frame a (then_part e b f) kind.Else = Some (block no_acts (else_part e a b f))
@@ -139,7 +169,13 @@ step_frame a (then_part e b f) kind.End = Some (if_ended (if_then e a) b f)
 step_frame a (else_part e c b f) kind.End = Some (if_ended (if_else e c a) b f)
 step_frame a (for_part w s t p b f) kind.Next = Some (nexted w s t p a b f)
 step_frame a (while_part e b f) kind.End = Some (while_ended e a b f)
+step_frame a (proc_part w ws ds ps) kind.End = Some (proc_ended (procedure w ws a) ds ps)
 step_frame a f m = None
+
+-- a `do` where a dialect has one
+abbrev pub step_do : Dialect → Acts → Frame → Option State
+step_do dialect.Plain a f = None
+step_do dialect.Procedures a f = Some (do_word a f)
 
 abbrev pub step_block : Acts → Frame → TokenKind → ℕ → Option State
 step_block a f (kind.Name n) p = Some (stmt_named (word n p) a f)
@@ -147,6 +183,7 @@ step_block a f kind.Clear p = Some (cleared a f)
 step_block a f kind.If p = Some (expr_due (in_if a f))
 step_block a f kind.For p = Some (for_word a f)
 step_block a f kind.While p = Some (expr_due (in_while a f))
+step_block a f kind.Do p = step_do (dialect_of f) a f
 step_block a f m p = step_frame a f m
 
 -- behind a whole expression
@@ -162,6 +199,8 @@ step_whole e (in_set_item w i a f) kind.Semi p = Some (block (with_act a (set_it
 step_whole e (in_append w a f) kind.Semi p = Some (block (with_act a (append w e)) f)
 step_whole e (in_call w es a f) kind.Comma p = Some (expr_due (in_call w (with_tree es e) a f))
 step_whole e (in_call w es a f) kind.Close p = Some (closed (call_alone w (with_tree es e)) a f)
+step_whole e (in_do w es a f) kind.Comma p = Some (expr_due (in_do w (with_tree es e) a f))
+step_whole e (in_do w es a f) kind.Close p = Some (closed (run_procedure w (with_tree es e)) a f)
 step_whole e (in_if a f) kind.Then p = Some (block no_acts (then_part e a f))
 step_whole e (in_from w a f) kind.To p = Some (expr_due (in_to w e a f))
 step_whole e (in_to w s a f) kind.Step p = Some (stepped w s e a f)
@@ -283,6 +322,10 @@ abbrev pub step_while : TokenKind → State → Option State
 step_while kind.While q = Some q
 step_while m q = None
 
+abbrev pub step_proc : TokenKind → State → Option State
+step_proc kind.Proc q = Some q
+step_proc m q = None
+
 -- a name, and the state that it leads to
 abbrev pub step_name : TokenKind → ℕ → (Word → State) → Option State
 step_name (kind.Name n) p q = Some (q (word n p))
@@ -317,6 +360,10 @@ abbrev pub step_call : Word → Acts → Frame → TokenKind → ℕ → Option 
 step_call w a f kind.Close p = Some (closed (call_alone w no_trees) a f)
 step_call w a f m p = step_want_inverse (due (in_call w no_trees a f)) m p
 
+abbrev pub step_run : Word → Acts → Frame → TokenKind → ℕ → Option State
+step_run w a f kind.Close p = Some (closed (run_procedure w no_trees) a f)
+step_run w a f m p = step_want_inverse (due (in_do w no_trees a f)) m p
+
 -- behind `step`, and behind `step -`
 abbrev pub step_signed_by : Bool → Word → Tree → Tree → Acts → Frame → TokenKind → ℕ → Option State
 step_signed_by b w s t a f (kind.Num n) p = Some (block no_acts (for_part w s t (Some (record { minus = b; size = n; place = p })) a f))
@@ -326,26 +373,53 @@ abbrev pub step_stepped : Word → Tree → Tree → Acts → Frame → TokenKin
 step_stepped w s t a f kind.Minus p = Some (step_signed w s t a f)
 step_stepped w s t a f m p = step_signed_by false w s t a f m p
 
+-- where procedures stand, and behind the declarations of a dialect
+abbrev pub step_procedures : List Decl → List Procedure → TokenKind → ℕ → Option State
+step_procedures ds ps kind.Proc p = Some (proc_word ds ps)
+step_procedures ds ps m p = step_block no_acts (main ds ps) m p
+
+abbrev pub step_declared : Dialect → List Decl → TokenKind → ℕ → Option State
+step_declared dialect.Plain ds m p = step_block no_acts (top ds) m p
+step_declared dialect.Procedures ds m p = step_procedures ds [] m p
+
+-- the parameters of a procedure, from behind `(` on
+abbrev pub step_proc_opened : Word → List Decl → List Procedure → TokenKind → ℕ → Option State
+step_proc_opened w ds ps (kind.Name n) p = Some (param_read w [] (word n p) ds ps)
+step_proc_opened w ds ps kind.Close p = Some (block no_acts (proc_part w [] ds ps))
+step_proc_opened w ds ps m p = None
+
+abbrev pub step_param_read : Word → List Word → Word → List Decl → List Procedure → TokenKind → Option State
+step_param_read w ws v ds ps kind.Comma = Some (param_due w (ws ++ v ∷ []) ds ps)
+step_param_read w ws v ds ps kind.Close = Some (block no_acts (proc_part w (ws ++ v ∷ []) ds ps))
+step_param_read w ws v ds ps m = None
+
 -- where declarations stand
-abbrev pub step_decls : List Decl → TokenKind → ℕ → Option State
-step_decls ds kind.Shared p = Some (decl_name decl.Shared true ds)
-step_decls ds kind.Private p = Some (decl_name decl.Private true ds)
-step_decls ds kind.Buffer p = Some (decl_name decl.Buffer true ds)
-step_decls ds m p = step_block no_acts (top ds) m p
+abbrev pub step_decls : Dialect → List Decl → TokenKind → ℕ → Option State
+step_decls d ds kind.Shared p = Some (decl_name d decl.Shared true ds)
+step_decls d ds kind.Private p = Some (decl_name d decl.Private true ds)
+step_decls d ds kind.Buffer p = Some (decl_name d decl.Buffer true ds)
+step_decls d ds m p = step_declared d ds m p
 
 abbrev pub declared : DeclKind → Bool → Word → Decl
 declared k b w = record { kind = k; word = w; first = b }
 
-abbrev pub step_decl_more : DeclKind → List Decl → TokenKind → Option State
-step_decl_more k ds kind.Comma = Some (decl_name k false ds)
-step_decl_more k ds kind.Semi = Some (decls ds)
-step_decl_more k ds m = None
+abbrev pub step_decl_more : Dialect → DeclKind → List Decl → TokenKind → Option State
+step_decl_more d k ds kind.Comma = Some (decl_name d k false ds)
+step_decl_more d k ds kind.Semi = Some (decls d ds)
+step_decl_more d k ds m = None
 
 -- one token, with the place that a name or a step's literal stands at
 abbrev pub step : State → TokenKind → ℕ → Option State
-step (decls ds) m p = step_decls ds m p
-step (decl_name k b ds) m p = step_name m p (λ w. decl_more k (ds ++ declared k b w ∷ []))
-step (decl_more k ds) m p = step_decl_more k ds m
+step (decls d ds) m p = step_decls d ds m p
+step (decl_name d k b ds) m p = step_name m p (λ w. decl_more d k (ds ++ declared k b w ∷ []))
+step (decl_more d k ds) m p = step_decl_more d k ds m
+step (procedures ds ps) m p = step_procedures ds ps m p
+step (proc_word ds ps) m p = step_name m p (λ w. proc_named w ds ps)
+step (proc_named w ds ps) m p = step_open m (proc_opened w ds ps)
+step (proc_opened w ds ps) m p = step_proc_opened w ds ps m p
+step (param_read w ws v ds ps) m p = step_param_read w ws v ds ps m
+step (param_due w ws ds ps) m p = step_name m p (λ v. param_read w ws v ds ps)
+step (proc_ended q ds ps) m p = step_proc m (procedures ds (ps ++ q ∷ []))
 step (want k) m p = step_want k m p
 step (want_inverse k) m p = step_want_inverse k m p
 step (named w k) m p = step_named w k m p
@@ -380,6 +454,9 @@ step (step_signed w s t a f) m p = step_signed_by true w s t a f m p
 step (nexted w s t c b a f) m p = step_name m p (λ v. block (with_act a (for_next w s t c b v)) f)
 step (if_ended s a f) m p = step_if m (block (with_act a s) f)
 step (while_ended e b a f) m p = step_while m (block (with_act a (while_do e b)) f)
+step (do_word a f) m p = step_name m p (λ w. do_named w a f)
+step (do_named w a f) m p = step_open m (do_opened w a f)
+step (do_opened w a f) m p = step_run w a f m p
 
 -- whether a state is where a step's literal is due
 abbrev pub wants_size : State → Bool
@@ -405,17 +482,22 @@ abbrev pub places_after : Bool → List ℕ → List ℕ
 places_after true ps = other_places ps
 places_after false ps = ps
 
--- the script that was read, where the text may end
-abbrev pub finish : State → Option Source
-finish (decls ds) = Some (record { decls = ds; body = no_acts })
-finish (block a (top ds)) = Some (record { decls = ds; body = a })
+-- the script that was read, where the text may end; a plain one has no procedures
+abbrev pub read_script : List Decl → List Procedure → Acts → ProcedureSource
+read_script ds ps a = record { decls = ds; procs = ps; body = a }
+
+abbrev pub finish : State → Option ProcedureSource
+finish (decls d ds) = Some (read_script ds [] no_acts)
+finish (procedures ds ps) = Some (read_script ds ps no_acts)
+finish (block a (top ds)) = Some (read_script ds [] a)
+finish (block a (main ds ps)) = Some (read_script ds ps a)
 finish q = None
 
 -- a whole script with the places that are left, or the tokens from the first that doesn't fit
 abbrev pub Outcome : Type 0
-Outcome = Result (Source × List ℕ) (List TokenKind)
+Outcome = Result (ProcedureSource × List ℕ) (List TokenKind)
 
-abbrev pub ending : Option Source → List ℕ → Outcome
+abbrev pub ending : Option ProcedureSource → List ℕ → Outcome
 ending (Some s) ps = Ok (s, ps)
 ending None ps = Err []
 
@@ -428,5 +510,5 @@ abbrev pub run : List TokenKind → List ℕ → State → Outcome
 run [] ps q = ending (finish q) ps
 run (k ∷ ks) ps q = going (step q k (first_place ps)) (run ks (places_after (takes q k) ps)) (k ∷ ks)
 
-abbrev pub start : State
-start = decls []
+abbrev pub start : Dialect → State
+start d = decls d []

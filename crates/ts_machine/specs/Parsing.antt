@@ -12,8 +12,8 @@ use Rattle.ts_syntax.specs.Derived.{Holds}
 use Rattle.ts_machine.specs.declared.halt.Halt.{Halt}
 use Rattle.ts_machine.specs.declared.halt.Halt.TheVariants as halt
 use Rattle.ts_machine.specs.Code.{code_of}
-use Rattle.ts_syntax.specs.Tree.{Trees, Acts, call, call_alone}
-use Rattle.ts_machine.specs.Machine.{Operand, Frame, Whole, in_args, in_call, State, opened, call_opened, closed, give, Outcome, run}
+use Rattle.ts_syntax.specs.Tree.{Trees, Acts, call, call_alone, run_procedure}
+use Rattle.ts_machine.specs.Machine.{Operand, Frame, Whole, in_args, in_call, in_do, State, opened, call_opened, do_opened, closed, give, Outcome, run}
 
 -- the places that tokens note, and one more, so that it shows whether too many were taken
 abbrev pub noted_then : List Token → List ℕ
@@ -114,19 +114,23 @@ abbrev pub FindsOperator : (TokenKind → Option BinOp) → List Token → Optio
 FindsOperator f tokens (Some x) = StartsOperator f x.0 tokens x.1.now
 FindsOperator f tokens None = LacksOperator f tokens
 
--- where the arguments of a call stand: in an expression, or in a statement alone
+-- where the arguments of a call stand: in an expression, in a statement alone, or behind `do`
 pub data Caller : Type 0 where
   of_operand : Word → Operand → Caller
   of_stmt : Word → Acts → Frame → Caller
+  of_do : Word → Acts → Frame → Caller
 
 abbrev pub called_open : Caller → State
 called_open (of_operand w k) = opened w k
 called_open (of_stmt w a f) = call_opened w a f
+called_open (of_do w a f) = do_opened w a f
 
 abbrev pub called_with : Caller → Trees → Whole
 called_with (of_operand w k) es = in_args w es k
 called_with (of_stmt w a f) es = in_call w es a f
+called_with (of_do w a f) es = in_do w es a f
 
 abbrev pub called : Caller → Trees → State
 called (of_operand w k) es = give k (call w es)
 called (of_stmt w a f) es = closed (call_alone w es) a f
+called (of_do w a f) es = closed (run_procedure w es) a f

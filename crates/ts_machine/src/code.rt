@@ -46,7 +46,9 @@ pub fn code(kind: &TokenKind) -> u8
         TokenKind::Star => 32,
         TokenKind::Slash => 33,
         TokenKind::Percent => 34,
-        TokenKind::Name(_) => 35,
-        TokenKind::Num(_) => 36,
+        TokenKind::Proc => 35,
+        TokenKind::Do => 36,
+        TokenKind::Name(_) => 37,
+        TokenKind::Num(_) => 38,
     }
 }

@@ -11,11 +11,11 @@ use Rattle.ts_syntax.specs.declared.token.Token.{Token}
 use Rattle.ts_syntax.specs.declared.token.TokenKind.{TokenKind}
 use Rattle.ts_syntax.specs.declared.token.TokenKind.TheVariants as kind
 use Rattle.ts_syntax.specs.Derived.{Holds}
-use Rattle.ts_syntax.specs.Tree.{Tree, number, variable, item, size, message_item, message_size, call, negative, inverse, two, paren, Trees, no_trees, tree_then, Act, set, set_item, append, take_last, clear, call_alone, if_then, if_else, for_next, while_do, Acts, no_acts, act_then, Source}
-use Rattle.ts_syntax.specs.Spelling.{sign, name, spelled, args_spelled, more_spelled, minus_spelled, step_spelled, act_spelled, acts_spelled, decl_keyword, decl_start, decl_end, decls_gap, decls_spelled, source_spelled, kinds, note, literal_place, number_place}
+use Rattle.ts_syntax.specs.Tree.{Tree, number, variable, item, size, message_item, message_size, call, negative, inverse, two, paren, Trees, no_trees, tree_then, Act, set, set_item, append, take_last, clear, call_alone, if_then, if_else, for_next, while_do, run_procedure, Acts, no_acts, act_then, Procedure, ProcedureSource}
+use Rattle.ts_syntax.specs.Spelling.{sign, name, spelled, args_spelled, more_spelled, minus_spelled, step_spelled, act_spelled, acts_spelled, decl_keyword, decl_start, decl_end, decls_gap, decls_spelled, params_spelled, other_params_spelled, procedure_spelled, procedures_spelled, procedure_source_spelled, kinds, note, literal_place, number_place}
 use Rattle.ts_machine.specs.Machine.{other_places}
 use Rattle.ts_machine.specs.Parsing.{noted_then}
-use Rattle.ts_machine.proofs.Placed.{left, args_left, step_left, act_left, acts_left, decls_left, source_left}
+use Rattle.ts_machine.proofs.Placed.{left, args_left, step_left, act_left, acts_left, decls_left, params_left, procedure_left, procedures_left, source_left}
 use Rattle.ts_parser.proofs.ParseLemmas.{Split, split}
 
 -- what these tokens leave of the places from them on: those behind them
@@ -166,6 +166,7 @@ mutual
       both (both (silent kind.For tt) (both (named w) (both (silent kind.Eq tt) (tree f))))
       (both (both (silent kind.To tt) (tree t)) (both (step s) (both (block a) (both (silent kind.Next tt) (named v)))))
   act (while_do e a) = both (both (silent kind.While tt) (tree e)) (both (block a) (end_with kind.While tt))
+  act (run_procedure w es) = both (both (silent kind.Do tt) (both (named w) (both (silent kind.Open tt) (args es)))) (both (silent kind.Close tt) (silent kind.Semi tt))
 
   block : (more : Acts) → Leaves (acts_spelled more) (acts_left more)
   block no_acts = none
@@ -192,6 +193,23 @@ declarations : (ds : List Decl) → Leaves (decls_spelled ds) (decls_left ds)
 declarations [] = none
 declarations (d ∷ ds) = both (silent (decl_start d.first d.kind) (start_silent d.first d.kind)) (both (named d.word) (both (gap ds) (declarations ds)))
 
+other_params : (ws : List Word) → Leaves (other_params_spelled ws) (params_left ws)
+other_params [] = none
+other_params (w ∷ ws) = both (both (silent kind.Comma tt) (named w)) (other_params ws)
+
+params : (ws : List Word) → Leaves (params_spelled ws) (params_left ws)
+params [] = none
+params (w ∷ ws) = both (named w) (other_params ws)
+
+procedure : (p : Procedure) → Leaves (procedure_spelled p) (procedure_left p)
+procedure p =
+    both (both (silent kind.Proc tt) (both (named p.name) (silent kind.Open tt))) (both (params p.params) (both (both (silent kind.Close tt) (block p.body)) (end_with kind.Proc tt)))
+
+procedures : (ps : List Procedure) → Leaves (procedures_spelled ps) (procedures_left ps)
+procedures [] = none
+procedures (p ∷ ps) = both (procedure p) (procedures ps)
+
 -- a script takes all the places of its tokens
-pub all_taken : (s : Source) (ts : List Token) → source_spelled s ≡ kinds ts → source_left s (noted_then ts) ≡ 0 ∷ []
-all_taken s ts e = ap (λ z. source_left s (noted_then z)) (sym (append-nil ts)) ∙ (both (declarations s.decls) (block s.body)).from ts [] (sym e)
+pub all_taken : (s : ProcedureSource) (ts : List Token) → procedure_source_spelled s ≡ kinds ts → source_left s (noted_then ts) ≡ 0 ∷ []
+all_taken s ts e =
+    ap (λ z. source_left s (noted_then z)) (sym (append-nil ts)) ∙ (both (declarations s.decls) (both (procedures s.procs) (block s.body))).from ts [] (sym e)

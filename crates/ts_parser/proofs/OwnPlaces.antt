@@ -2,13 +2,15 @@
 use Rattle.std.proofs.Common.{◌≡◌, ℕ, List, [], ◌∷◌, ◌++◌, Option, Some, None, refl, sym, ◌∙◌, ap, append_assoc, append-nil}
 use Rattle.ts_syntax.specs.declared.word.Word.{Word}
 use Rattle.ts_syntax.specs.declared.stmt.Step.{Step}
+use Rattle.ts_syntax.specs.declared.dialect.Dialect.{Dialect}
+use Rattle.ts_syntax.specs.declared.dialect.Dialect.TheVariants as dialect
 use Rattle.ts_syntax.specs.declared.script.Decl.{Decl}
 use Rattle.ts_syntax.specs.declared.token.Token.{Token}
-use Rattle.ts_syntax.specs.Tree.{Tree, number, variable, item, size, message_item, message_size, call, negative, inverse, two, paren, Trees, no_trees, tree_then, Act, set, set_item, append, take_last, clear, call_alone, if_then, if_else, for_next, while_do, Acts, no_acts, act_then, Source}
-use Rattle.ts_syntax.specs.Spelling.{places, args_places, step_places, act_places, acts_places, decls_places, source_places, noted}
-use Rattle.ts_syntax.specs.Faults.{Spells}
-use Rattle.ts_machine.specs.Machine.{other_places, run, start}
-use Rattle.ts_machine.proofs.Placed.{word_at, left, args_left, step_left, act_left, acts_left, decls_left, source_left, placed, args_placed, step_placed, act_placed, acts_placed, decl_placed, decls_placed, source_placed}
+use Rattle.ts_syntax.specs.Tree.{Tree, number, variable, item, size, message_item, message_size, call, negative, inverse, two, paren, Trees, no_trees, tree_then, Act, set, set_item, append, take_last, clear, call_alone, if_then, if_else, for_next, while_do, run_procedure, Acts, no_acts, act_then, Source, Procedure, ProcedureSource, without_procedures}
+use Rattle.ts_syntax.specs.Spelling.{places, args_places, step_places, act_places, acts_places, decls_places, params_places, procedure_places, procedures_places, procedure_source_places, acts_spelled, decls_spelled, procedures_spelled, noted}
+use Rattle.ts_syntax.specs.Faults.{Spells, SpellsIn}
+use Rattle.ts_machine.specs.Machine.{other_places, procedure, read_script, run, start}
+use Rattle.ts_machine.proofs.Placed.{word_at, left, args_left, step_left, act_left, acts_left, decls_left, params_left, procedure_left, procedures_left, source_left, placed, args_placed, step_placed, act_placed, acts_placed, decl_placed, decls_placed, params_placed, procedure_placed, procedures_placed, source_placed}
 use Rattle.ts_machine.proofs.CompleteStmt.{source_read}
 use Rattle.ts_machine.proofs.Exact.{whole, whole_same}
 
@@ -72,6 +74,7 @@ mutual
       both (λ (x : Word × Tree) (y : Tree × (Option Step × (Acts × Word))). for_next x.0 x.1 y.0 y.1.0 y.1.1.0 y.1.1.1)
       (both pair (own_word w) (own f)) (both pair (own t) (both pair (own_step s) (both pair (own_acts a) (own_word v))))
   own_act (while_do e a) = both while_do (own e) (own_acts a)
+  own_act (run_procedure w es) = both run_procedure (own_word w) (own_args es)
 
   own_acts : (more : Acts) → Own (acts_placed more) (acts_left more) (acts_places more) more
   own_acts no_acts = none no_acts
@@ -84,21 +87,46 @@ own_decls : (ds : List Decl) → Own (decls_placed ds) (decls_left ds) (decls_pl
 own_decls [] = none []
 own_decls (d ∷ ds) = both (λ (x : Decl) (xs : List Decl). x ∷ xs) (own_decl d) (own_decls ds)
 
-source : List Decl → Acts → Source
-source ds a = record { decls = ds; body = a }
+own_params : (ws : List Word) → Own (params_placed ws) (params_left ws) (params_places ws) ws
+own_params [] = none []
+own_params (w ∷ ws) = both (λ (x : Word) (xs : List Word). x ∷ xs) (own_word w) (own_params ws)
 
-own_source : (s : Source) (qs : List ℕ) → source_placed s (source_places s ++ qs) ≡ s
-unfolding source
-own_source s qs = (both source (own_decls s.decls) (own_acts s.body)).same qs
+own_procedure : (p : Procedure) → Own (procedure_placed p) (procedure_left p) (procedure_places p) p
+own_procedure p = both (λ (x : Word × List Word) (a : Acts). procedure x.0 x.1 a) (both pair (own_word p.name) (own_params p.params)) (own_acts p.body)
+
+own_procedures : (ps : List Procedure) → Own (procedures_placed ps) (procedures_left ps) (procedures_places ps) ps
+own_procedures [] = none []
+own_procedures (p ∷ ps) = both (λ (x : Procedure) (xs : List Procedure). x ∷ xs) (own_procedure p) (own_procedures ps)
+
+own_source : (s : ProcedureSource) (qs : List ℕ) → source_placed s (procedure_source_places s ++ qs) ≡ s
+own_source s qs = (both (λ (ds : List Decl) (x : List Procedure × Acts). read_script ds x.0 x.1) (own_decls s.decls) (both pair (own_procedures s.procs) (own_acts s.body))).same qs
 
 -- the machine reads the script from its tokens and places
-reads_own : (ts : List Token) (s : Source) → Spells ts s → source_placed s (noted ts) ≡ s
-reads_own ts s h = ap (source_placed s) (sym h.places ∙ sym (append-nil (source_places s))) ∙ own_source s []
+reads_own : (d : Dialect) (ts : List Token) (s : ProcedureSource) → SpellsIn d ts s → source_placed s (noted ts) ≡ s
+reads_own d ts s h = ap (source_placed s) (sym h.places ∙ sym (append-nil (procedure_source_places s))) ∙ own_source s []
 
-pub one_tree : (ts : List Token) (s t : Source) → Spells ts s → Spells ts t → s ≡ t
-one_tree ts s t h g =
+pub one_tree_in : (d : Dialect) (ts : List Token) (s t : ProcedureSource) → SpellsIn d ts s → SpellsIn d ts t → s ≡ t
+one_tree_in d ts s t h g =
     let ps : List ℕ = noted ts in
     let w : whole (source_placed s ps) (source_left s ps) ≡ whole (source_placed t ps) (source_left t ps) =
-    sym (source_read s h.derived ps) ∙ ap (λ z. run z ps start) (h.spells ∙ sym g.spells) ∙ source_read t g.derived ps
+    sym (source_read d s h.derived ps) ∙ ap (λ z. run z ps (start d)) (h.spells ∙ sym g.spells) ∙ source_read d t g.derived ps
     in
-    sym (reads_own ts s h) ∙ whole_same (source_placed s ps) (source_placed t ps) (source_left s ps) (source_left t ps) w ∙ reads_own ts t g
+    sym (reads_own d ts s h) ∙ whole_same (source_placed s ps) (source_placed t ps) (source_left s ps) (source_left t ps) w ∙ reads_own d ts t g
+
+-- a plain script is one without procedures
+pub spells_without : (ts : List Token) (s : Source) → Spells ts s → SpellsIn dialect.Plain ts (without_procedures s)
+spells_without ts s h = record { derived = record { decls = h.derived.decls; procs = refl; body = h.derived.body }; spells = h.spells; places = h.places; within = h.within }
+
+abbrev pub plain_part : ProcedureSource → Source
+plain_part s = record { decls = s.decls; body = s.body }
+
+pub spells_plain : (ts : List Token) (s : ProcedureSource) → SpellsIn dialect.Plain ts s → Spells ts (plain_part s)
+spells_plain ts s h = record {
+  derived = record { decls = h.derived.decls; body = h.derived.body };
+  spells = ap (λ z. decls_spelled s.decls ++ (procedures_spelled z ++ acts_spelled s.body)) (sym h.derived.procs) ∙ h.spells;
+  places = ap (λ z. decls_places s.decls ++ (procedures_places z ++ acts_places s.body)) (sym h.derived.procs) ∙ h.places;
+  within = h.within;
+}
+
+pub one_tree : (ts : List Token) (s t : Source) → Spells ts s → Spells ts t → s ≡ t
+one_tree ts s t h g = ap plain_part (one_tree_in dialect.Plain ts (without_procedures s) (without_procedures t) (spells_without ts s h) (spells_without ts t g))

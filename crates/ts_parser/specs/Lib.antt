@@ -1,4 +1,4 @@
 pub mod Depths
-pub mod Statements
+pub mod Scripts
 pub mod Verdict
 pub mod Cutting

@@ -1,10 +1,12 @@
 -- What a whole parse answers.
 use Rattle.std.specs.Prelude.{ℕ, List, Result, Ok, Err}
+use Rattle.ts_syntax.specs.declared.dialect.Dialect.{Dialect}
 use Rattle.ts_syntax.specs.declared.script.Script.{Script}
+use Rattle.ts_syntax.specs.declared.procedure.ProcScript.{ProcScript}
 use Rattle.ts_syntax.specs.declared.token.Token.{Token}
-use Rattle.ts_syntax.specs.Faults.{Spells, IsUnexpected, IsTooDeep}
-use Rattle.ts_syntax.specs.Seen.{source_of}
-use Rattle.ts_syntax.specs.Tree.{Source}
+use Rattle.ts_syntax.specs.Faults.{Spells, IsUnexpected, IsTooDeep, SpellsIn, IsUnexpectedIn, IsTooDeepIn}
+use Rattle.ts_syntax.specs.Seen.{source_of, procedure_source_of}
+use Rattle.ts_syntax.specs.Tree.{Source, ProcedureSource}
 use Rattle.ts_parser.specs.declared.fault.SourceFault.{SourceFault}
 use Rattle.ts_parser.specs.declared.fault.SourceFault.TheVariants as fault
 
@@ -17,14 +19,32 @@ Answers tokens len (Err (fault.Unexpected place)) = IsUnexpected tokens len plac
 Answers tokens len (Err (fault.TooDeep place)) = IsTooDeep tokens place
 Answers tokens len (Err fault.NoMemory) = Unit {0}
 
+-- the same in a dialect; a plain script is one without procedures
+abbrev pub AnswersIn : Dialect → List Token → ℕ → Result ProcScript SourceFault → Type 0
+AnswersIn d tokens len (Ok s) = SpellsIn d tokens (procedure_source_of s)
+AnswersIn d tokens len (Err (fault.BadByte place)) = ⊥
+AnswersIn d tokens len (Err (fault.BigLiteral place)) = ⊥
+AnswersIn d tokens len (Err (fault.Unexpected place)) = IsUnexpectedIn d tokens len place
+AnswersIn d tokens len (Err (fault.TooDeep place)) = IsTooDeepIn d tokens place
+AnswersIn d tokens len (Err fault.NoMemory) = Unit {0}
+
 -- what is to be said of tokens
-pub data Verdict : Type 0 where
-  spelled : Source → Verdict
-  unexpected : ℕ → Verdict
-  too_deep : ℕ → Verdict
+pub data VerdictOf (S : Type 0) : Type 0 where
+  spelled : S → VerdictOf S
+  unexpected : ℕ → VerdictOf S
+  too_deep : ℕ → VerdictOf S
+
+abbrev pub Verdict : Type 0
+Verdict = VerdictOf Source
 
 -- that it is so
 abbrev pub IsSo : List Token → ℕ → Verdict → Type 0
 IsSo tokens len (spelled s) = Spells tokens s
 IsSo tokens len (unexpected place) = IsUnexpected tokens len place
 IsSo tokens len (too_deep place) = IsTooDeep tokens place
+
+-- the same in a dialect
+abbrev pub IsSoIn : Dialect → List Token → ℕ → VerdictOf ProcedureSource → Type 0
+IsSoIn d tokens len (spelled s) = SpellsIn d tokens s
+IsSoIn d tokens len (unexpected place) = IsUnexpectedIn d tokens len place
+IsSoIn d tokens len (too_deep place) = IsTooDeepIn d tokens place

@@ -1,12 +1,12 @@
 //! The tokens of a source, with its faults as those of a source.
 
 ghost use Rattle.std.specs.Prelude.{◌≤◌, length};
-ghost use Rattle.ts_parser.specs.Cutting.{Cuts};
+ghost use Rattle.ts_parser.specs.Cutting.{Cuts, SourceCuts};
 
 use crate::fault::SourceFault;
 use std::alloc::Global;
 use ts_lexer::TokenFault;
-use ts_syntax::Tokens;
+use ts_syntax::{Dialect, Tokens};
 
 /// The tokens of a source of at most 1,048,576 bytes: the longest sign is taken, and blanks and comments (from `!` to the
 /// end of its line) are passed over. `BadByte` and `BigLiteral` come exactly where one of them is the first in the text.
@@ -15,7 +15,16 @@ pub fn tokens(alloc: Global, bytes: &[u8]) -> Result<Tokens, SourceFault>
     requires { length bytes.now ≤ 1048576 }
     ensures { Cuts bytes.now result }
 {
-    match ts_lexer::tokens(alloc, bytes) {
+    tokens_in(alloc, Dialect::Plain, bytes)
+}
+
+/// The tokens of a source in a dialect, by the same rules: where a script may have procedures, `proc` and `do` are
+/// keywords.
+pub fn tokens_in(alloc: Global, dialect: Dialect, bytes: &[u8]) -> Result<Tokens, SourceFault>
+    requires { length bytes.now ≤ 1048576 }
+    ensures { SourceCuts dialect bytes.now result }
+{
+    match ts_lexer::tokens_in(alloc, dialect, bytes) {
         Ok(tokens) => Ok(tokens),
         Err(TokenFault::BadByte { place }) => Err(SourceFault::BadByte { place }),
         Err(TokenFault::BigLiteral { place }) => Err(SourceFault::BigLiteral { place }),

@@ -1,10 +1,11 @@
 //! Declarations.
 
-ghost use Rattle.std.specs.Prelude.{◌≡◌, ◌≤◌, ◌<◌, length, IfOk, [], true};
+ghost use Rattle.std.specs.Prelude.{◌≡◌, ◌<◌, length, IfOk, [], true};
 ghost use Rattle.ts_machine.specs.Machine.{decls, decl_name};
 ghost use Rattle.ts_machine.specs.Parsing.{Gives, reads};
-ghost use Rattle.ts_parser.specs.Statements.{FindsDecl, LacksDecl, Passes, decl_kind};
+ghost use Rattle.ts_parser.specs.Scripts.{FindsDecl, LacksDecl, decl_kind};
 ghost use Rattle.ts_syntax.specs.Spelling.{kinds};
+ghost use Rattle.ts_syntax.specs.declared.dialect.Dialect.{Dialect};
 
 use std::alloc::Global;
 use ts_machine::Halt;
@@ -37,8 +38,8 @@ pub fn declarations<'a>(
     tokens: &'a [Token],
 ) -> Result<(Decls, &'a [Token]), Halt<'a>>
     ensures reads { Gives result
-        (λ x. reads tokens.now (decls []) ≡ reads x.1.now (decls x.0))
-        (λ rest. reads tokens.now (decls []) ≡ Err (kinds rest)) }
+        (λ x. (d : Dialect) → reads tokens.now (decls d []) ≡ reads x.1.now (decls d x.0))
+        (λ rest. (d : Dialect) → reads tokens.now (decls d []) ≡ Err (kinds rest)) }
     ensures over { IfOk result (λ x. LacksDecl x.1.now) }
 {
     let mut all = Decls::new(alloc);
@@ -51,7 +52,9 @@ pub fn declarations<'a>(
 
 /// Reads the names of a declaration and its `;`, from behind its keyword, and appends them: the tokens behind.
 fn names<'a>(all: &mut Decls, kind: DeclKind, tokens: &'a [Token]) -> Result<&'a [Token], Halt<'a>>
-    ensures reads { Passes tokens.now (decl_name kind true all.old) (decls all.new) result }
+    ensures reads { Gives result
+        (λ rest. (d : Dialect) → reads tokens.now (decl_name d kind true all.old) ≡ reads rest.now (decls d all.new))
+        (λ rest. (d : Dialect) → reads tokens.now (decl_name d kind true all.old) ≡ Err (kinds rest)) }
     ensures shorter { IfOk result (λ rest. length rest.now < length tokens.now) }
 {
     let mut first = true;

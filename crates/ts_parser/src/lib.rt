@@ -1,19 +1,16 @@
-//! TinyScript's parser: declarations, statements and whole scripts, with the law of its answers.
+//! TinyScript's parser: declarations, procedures and whole scripts, with the law of its answers.
 #![tactic(auto)]
 
 pub mod cutting;
 pub mod decls;
 pub mod depth;
 pub mod fault;
-pub mod head;
-pub mod opening;
 pub mod parser;
+pub mod procs;
 pub mod role;
-pub mod simple;
-pub mod stmt;
 pub mod verdict;
 
-pub use cutting::tokens;
+pub use cutting::{tokens, tokens_in};
 pub use fault::SourceFault;
-pub use parser::parse;
+pub use parser::{parse, parse_procedures};
 pub use verdict::verdict_law;

@@ -1,19 +1,21 @@
 //! From tokens to a script.
 
 ghost use Rattle.std.specs.Prelude.{◌≡◌, ◌<◌, ◌≤◌, ◌-◌, length, drop, Some, None, Err};
-ghost use Rattle.ts_parser.specs.Statements.{ReadsScript};
-ghost use Rattle.ts_parser.specs.Verdict.{Answers};
+ghost use Rattle.ts_parser.specs.Scripts.{ReadsScript};
+ghost use Rattle.ts_parser.specs.Verdict.{Answers, AnswersIn};
 ghost use Rattle.ts_syntax.specs.Depth.{first_deep};
 ghost use Rattle.ts_syntax.specs.Faults.{place_of};
 ghost use Rattle.ts_syntax.specs.Spelling.{kinds};
+ghost use Rattle.ts_syntax.specs.declared.dialect.Dialect.TheVariants.{Procedures};
 
 use crate::decls::declarations;
 use crate::depth::first_deep;
 use crate::fault::SourceFault;
-use crate::stmt::block;
+use crate::procs::procedures_in;
 use std::alloc::Global;
+use ts_blocks::block;
 use ts_machine::Halt;
-use ts_syntax::{Script, Token, Tokens};
+use ts_syntax::{Dialect, ProcScript, Script, Token, Tokens};
 
 /// The script that the tokens of a source spell; `len` is the source's length in bytes.
 ///
@@ -22,31 +24,62 @@ use ts_syntax::{Script, Token, Tokens};
 pub fn parse(alloc: Global, tokens: &Tokens, len: u32) -> Result<Script, SourceFault>
     ensures { Answers tokens.now len result }
 {
+    match parse_in(alloc, Dialect::Plain, tokens, len) {
+        Ok(script) => Ok(Script {
+            decls: script.decls,
+            body: script.body,
+        }),
+        Err(fault) => Err(fault),
+    }
+}
+
+/// The script with procedures that the tokens of a source spell, whatever its `do` call; refusals are those of `parse`,
+/// by the grammar with `proc` and `do`.
+pub fn parse_procedures(alloc: Global, tokens: &Tokens, len: u32) -> Result<ProcScript, SourceFault>
+    ensures { AnswersIn Procedures tokens.now len result }
+{
+    parse_in(alloc, Dialect::Procedures, tokens, len)
+}
+
+fn parse_in(
+    alloc: Global,
+    dialect: Dialect,
+    tokens: &Tokens,
+    len: u32,
+) -> Result<ProcScript, SourceFault>
+    ensures { AnswersIn dialect tokens.now len result }
+{
     let tokens = tokens.as_slice();
     match first_deep(tokens) {
-        None => shallow(alloc, tokens, len),
-        Some(index) => Err(deep(alloc, tokens, index, len)),
+        None => shallow(alloc, dialect, tokens, len),
+        Some(index) => Err(deep(alloc, dialect, tokens, index, len)),
     }
 }
 
 /// Reads a whole script.
-fn script<'a>(alloc: Global, tokens: &'a [Token]) -> Result<Script, Halt<'a>>
-    ensures { ReadsScript tokens.now result }
+fn script<'a>(alloc: Global, dialect: Dialect, tokens: &'a [Token]) -> Result<ProcScript, Halt<'a>>
+    ensures { ReadsScript dialect tokens.now result }
 {
     let (decls, rest) = declarations(alloc, tokens)?;
-    let (body, rest) = block(alloc, rest)?;
+    let (procs, rest) = procedures_in(alloc, dialect, rest)?;
+    let (body, rest) = block(alloc, dialect, rest)?;
     if !rest.is_empty() {
         return Err(Halt::At(rest));
     }
-    Ok(Script { decls, body })
+    Ok(ProcScript { decls, procs, body })
 }
 
 /// The answer where no token lies too deep.
-fn shallow(alloc: Global, tokens: &[Token], len: u32) -> Result<Script, SourceFault>
+fn shallow(
+    alloc: Global,
+    dialect: Dialect,
+    tokens: &[Token],
+    len: u32,
+) -> Result<ProcScript, SourceFault>
     requires { first_deep (kinds tokens.now) ≡ None }
-    ensures { Answers tokens.now len result }
+    ensures { AnswersIn dialect tokens.now len result }
 {
-    match script(alloc, tokens) {
+    match script(alloc, dialect, tokens) {
         Ok(script) => Ok(script),
         Err(Halt::Memory) => Err(SourceFault::NoMemory),
         Err(Halt::At(rest)) => Err(SourceFault::Unexpected {
@@ -56,14 +89,14 @@ fn shallow(alloc: Global, tokens: &[Token], len: u32) -> Result<Script, SourceFa
 }
 
 /// The fault where the token at `index` is the first that lies too deep: those up to it may stop before.
-fn deep(alloc: Global, tokens: &[Token], index: usize, len: u32) -> SourceFault
+fn deep(alloc: Global, dialect: Dialect, tokens: &[Token], index: usize, len: u32) -> SourceFault
     requires within { index < length tokens.now }
     requires first { first_deep (kinds tokens.now) ≡ Some index }
-    ensures { Answers tokens.now len (Err result) }
+    ensures { AnswersIn dialect tokens.now len (Err result) }
 {
     let place = tokens[index].from;
     let front = &tokens[..index + 1];
-    let rest = match script(alloc, front) {
+    let rest = match script(alloc, dialect, front) {
         Ok(_) => return SourceFault::TooDeep { place },
         Err(Halt::Memory) => return SourceFault::NoMemory,
         Err(Halt::At(rest)) => rest,

@@ -25,7 +25,7 @@ pub fn role_of(kind: &TokenKind) -> Role
     ensures { role_seen result ≡ role kind.now }
 {
     match kind {
-        TokenKind::If | TokenKind::For | TokenKind::While => Role::Opener,
+        TokenKind::If | TokenKind::For | TokenKind::While | TokenKind::Proc => Role::Opener,
         TokenKind::End | TokenKind::Next => Role::Closer,
         TokenKind::Semi | TokenKind::Then | TokenKind::Else => Role::Breaker,
         TokenKind::Not | TokenKind::And | TokenKind::Or => Role::Counter,

@@ -309,6 +309,14 @@ impl Printer {
                 self.block(out, body);
                 self.end(out, "while");
             }
+            Stmt::Run(word, args) => {
+                self.token(out, "do");
+                self.name(out, word);
+                self.token(out, "(");
+                self.args(out, args);
+                self.token(out, ")");
+                self.token(out, ";");
+            }
         }
     }
 

@@ -35,6 +35,6 @@ IsRefused d bytes (Spelling f) = IsMisspelt d bytes f
 IsRefused d bytes (Meaning f) = IsUnmeant d bytes f
 
 -- the bytes are accepted, with the tree that they mean, or this is the first refusal of them
-abbrev pub Tells : Description → List ℕ → Result Checked SourceRefusal → Type 0
-Tells d bytes (Ok c) = IsAccepted d bytes (tree_of c)
-Tells d bytes (Err r) = IsRefused d bytes r
+abbrev pub TellsAcceptance : Description → List ℕ → Result Checked SourceRefusal → Type 0
+TellsAcceptance d bytes (Ok c) = IsAccepted d bytes (tree_of c)
+TellsAcceptance d bytes (Err r) = IsRefused d bytes r

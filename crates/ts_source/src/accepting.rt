@@ -3,7 +3,7 @@
 ghost use Rattle.std.specs.Prelude.{◌≡◌, ◌≤◌, length, IfOk};
 ghost use Rattle.vm_desc.specs.Shapes.{shape_of as shape_of_machine};
 ghost use Rattle.ts_syntax.specs.Checked.{shape_of};
-ghost use Rattle.ts_source.specs.Answers.{Tells};
+ghost use Rattle.ts_source.specs.Answers.{TellsAcceptance};
 
 use crate::refusal::SourceRefusal;
 use std::alloc::Global;
@@ -17,7 +17,7 @@ use vm_desc::Description;
 /// any answer.
 pub fn accept(alloc: Global, desc: &Description, bytes: &[u8]) -> Result<Checked, SourceRefusal>
     requires { length bytes.now ≤ 1048576 }
-    ensures tells { Tells desc.now bytes.now result }
+    ensures tells { TellsAcceptance desc.now bytes.now result }
     ensures shape { IfOk result (λ script. shape_of script ≡ shape_of_machine desc.now) }
 {
     // the tokens go before the checked tree is made

@@ -2,7 +2,7 @@
 use Rattle.std.proofs.Common.{◌≡◌, List, [], ◌∷◌, ◌++◌, refl, sym, ◌∙◌, ap, subst, append_assoc, append-nil}
 use Rattle.ts_syntax.specs.declared.token.TokenKind.{TokenKind}
 use Rattle.ts_syntax.specs.declared.token.TokenKind.TheVariants as kind
-use Rattle.ts_syntax.specs.Grammar.{Rule, script, decl, stmt, expr, andx, notx, cmp, sum, prod, neg, atom, Part, nothing, NAME, NUM, key, rule, ◌▸◌, ◌∣◌, many, Whole, w_nothing, w_name, w_number, w_key, w_rule, w_then, w_left, w_right, w_end, w_more, Begins, b_none, b_name, b_number, b_key, b_rule, b_first, b_second, b_left, b_right, b_here, b_later}
+use Rattle.ts_syntax.specs.Grammar.{Rule, script, decl, stmt, pscript, proc, pstmt, expr, andx, notx, cmp, sum, prod, neg, atom, Part, nothing, NAME, NUM, key, rule, ◌▸◌, ◌∣◌, many, Whole, w_nothing, w_name, w_number, w_key, w_rule, w_then, w_left, w_right, w_end, w_more, Begins, b_none, b_name, b_number, b_key, b_rule, b_first, b_second, b_left, b_right, b_here, b_later}
 
 -- some tokens that are the whole part
 record Made (p : Part) : Type 0 where
@@ -53,6 +53,17 @@ made_rule stmt = record {
   tokens = kind.Clear ∷ kind.Open ∷ kind.Name [] ∷ kind.Close ∷ kind.Semi ∷ [];
   whole = w_rule (w_right (w_right (w_right (w_right (w_left
       (w_then w_key (w_then w_key (w_then w_name (w_then w_key w_key refl) refl) refl) refl))))));
+}
+made_rule pscript = record { tokens = []; whole = w_rule (alone w_end (alone w_end w_end)) }
+made_rule proc = record {
+  tokens = kind.Proc ∷ kind.Name [] ∷ kind.Open ∷ kind.Close ∷ kind.End ∷ kind.Proc ∷ [];
+  whole = w_rule
+      (w_then w_key (w_then w_name (w_then w_key (w_then (w_right w_nothing) (w_then w_key (w_then w_end (w_then w_key w_key refl) refl) refl) refl) refl) refl) refl);
+}
+made_rule pstmt = record {
+  tokens = kind.Clear ∷ kind.Open ∷ kind.Name [] ∷ kind.Close ∷ kind.Semi ∷ [];
+  whole = w_rule (w_left (w_right (w_right (w_right (w_right (w_left
+      (w_then w_key (w_then w_key (w_then w_name (w_then w_key w_key refl) refl) refl) refl)))))));
 }
 made_rule expr = made_expr
 made_rule andx = made_andx

@@ -4,15 +4,17 @@ use Rattle.ts_syntax.specs.declared.bin_op.BinOp.{BinOp}
 use Rattle.ts_syntax.specs.declared.bin_op.BinOp.TheVariants as op
 use Rattle.ts_syntax.specs.declared.word.Word.{Word}
 use Rattle.ts_syntax.specs.declared.stmt.Step.{Step}
+use Rattle.ts_syntax.specs.declared.dialect.Dialect.{Dialect}
+use Rattle.ts_syntax.specs.declared.dialect.Dialect.TheVariants as dialect
 use Rattle.ts_syntax.specs.declared.script.Decl.{Decl}
 use Rattle.ts_syntax.specs.declared.script.DeclKind.{DeclKind}
 use Rattle.ts_syntax.specs.declared.script.DeclKind.TheVariants as decls
 use Rattle.ts_syntax.specs.declared.token.TokenKind.{TokenKind}
 use Rattle.ts_syntax.specs.declared.token.TokenKind.TheVariants as kind
-use Rattle.ts_syntax.specs.Tree.{Tree, number, variable, item, size, message_item, message_size, call, negative, inverse, two, paren, Trees, no_trees, tree_then, Act, set, set_item, append, take_last, clear, call_alone, if_then, if_else, for_next, while_do, Acts, no_acts, act_then, Source}
-use Rattle.ts_syntax.specs.Spelling.{sign, spelled, args_spelled, more_spelled, minus_spelled, step_spelled, act_spelled, acts_spelled, name, decl_keyword, decl_start, decl_end, decls_gap, decls_spelled, source_spelled}
-use Rattle.ts_syntax.specs.Derived.{Level, at_or, at_and, at_not, at_compare, at_sum, at_product, at_sign, at_atom, rank, level, level_of, left_of, right_of, Holds, Derived, ArgsDerived, ActDerived, ActsDerived, DeclsDerived, IsDerived}
-use Rattle.ts_syntax.specs.Grammar.{Rule, script, decl, stmt, expr, andx, notx, cmp, sum, prod, neg, atom, Part, NAME, NUM, key, rule, ◌▸◌, ◌∣◌, many, maybe, arguments, step, rules, Whole, w_nothing, w_name, w_number, w_key, w_rule, w_then, w_left, w_right, w_end, w_more}
+use Rattle.ts_syntax.specs.Tree.{Tree, number, variable, item, size, message_item, message_size, call, negative, inverse, two, paren, Trees, no_trees, tree_then, Act, set, set_item, append, take_last, clear, call_alone, if_then, if_else, for_next, while_do, run_procedure, Acts, no_acts, act_then, Source, Procedure, ProcedureSource}
+use Rattle.ts_syntax.specs.Spelling.{sign, spelled, args_spelled, more_spelled, minus_spelled, step_spelled, act_spelled, acts_spelled, name, decl_keyword, decl_start, decl_end, decls_gap, decls_spelled, source_spelled, params_spelled, other_params_spelled, procedure_spelled, procedures_spelled, procedure_source_spelled}
+use Rattle.ts_syntax.specs.Derived.{Level, at_or, at_and, at_not, at_compare, at_sum, at_product, at_sign, at_atom, rank, level, level_of, left_of, right_of, Holds, Derived, ArgsDerived, ActDerived, ActsDerived, RunDerived, DeclsDerived, ProceduresDerived, IsDerived, IsDerivedWithProcedures}
+use Rattle.ts_syntax.specs.Grammar.{Rule, script, decl, stmt, pscript, proc, pstmt, expr, andx, notx, cmp, sum, prod, neg, atom, Part, NAME, NUM, key, rule, ◌▸◌, ◌∣◌, many, maybe, arguments, step, parameters, forms, rules, Whole, w_nothing, w_name, w_number, w_key, w_rule, w_then, w_left, w_right, w_end, w_more}
 
 -- the rule of a level
 abbrev pub rule_of : Level → Rule
@@ -151,35 +153,51 @@ step_whole (Some s) = w_left (w_then w_key (signed s.minus) refl)
     signed true = w_then (w_left w_key) w_number refl
     signed false = w_then (w_right w_nothing) w_number refl
 
+-- the rule of a dialect's statements
+abbrev stmt_in : Dialect → Rule
+stmt_in dialect.Plain = stmt
+stmt_in dialect.Procedures = pstmt
+
+-- each dialect has the forms of plain statements, and one of them a `do`
+of_form : (d : Dialect) {ms : List TokenKind} → Whole (forms (stmt_in d)) ms → Whole (rule (stmt_in d)) ms
+of_form dialect.Plain w = w_rule w
+of_form dialect.Procedures w = w_rule (w_left w)
+
+run_whole : (d : Dialect) (w : Word) (es : Trees) → RunDerived d es → Whole (rule (stmt_in d)) (act_spelled (run_procedure w es))
+run_whole dialect.Plain w es h = absurd h
+run_whole dialect.Procedures w es h = w_rule (w_right
+    (w_then w_key (w_then w_name (w_then w_key (w_then (args_whole es h) (w_then w_key w_key refl) refl) refl) refl) refl))
+
 -- a statement, and a block's
 mutual
-  act_whole : (a : Act) → ActDerived a → Whole (rule stmt) (act_spelled a)
-  act_whole (set w e) d = w_rule (w_left (w_then w_name (w_then w_key (w_then (expr_whole e d) w_key refl) refl) refl))
-  act_whole (take_last w b) d = w_rule (w_right (w_left
+  act_whole : (d : Dialect) (a : Act) → ActDerived d a → Whole (rule (stmt_in d)) (act_spelled a)
+  act_whole l (set w e) d = of_form l (w_left (w_then w_name (w_then w_key (w_then (expr_whole e d) w_key refl) refl) refl))
+  act_whole l (take_last w b) d = of_form l (w_right (w_left
       (w_then w_name (w_then w_key (w_then w_name (w_then w_key (w_then w_key w_key refl) refl) refl) refl) refl)))
-  act_whole (set_item w i e) d = w_rule (w_right (w_right (w_left
+  act_whole l (set_item w i e) d = of_form l (w_right (w_right (w_left
       (w_then w_name (w_then w_key (w_then (expr_whole i d.0) (w_then w_key (w_then w_key (w_then (expr_whole e d.1) w_key refl) refl) refl) refl) refl) refl))))
-  act_whole (append w e) d = w_rule (w_right (w_right (w_right (w_left
+  act_whole l (append w e) d = of_form l (w_right (w_right (w_right (w_left
       (w_then w_name (w_then w_key (w_then w_key (w_then w_key (w_then (expr_whole e d) w_key refl) refl) refl) refl) refl)))))
-  act_whole (clear w) d = w_rule (w_right (w_right (w_right (w_right (w_left
+  act_whole l (clear w) d = of_form l (w_right (w_right (w_right (w_right (w_left
       (w_then w_key (w_then w_key (w_then w_name (w_then w_key w_key refl) refl) refl) refl))))))
-  act_whole (call_alone w es) d = w_rule (w_right (w_right (w_right (w_right (w_right (w_left
+  act_whole l (call_alone w es) d = of_form l (w_right (w_right (w_right (w_right (w_right (w_left
       (w_then w_name (w_then w_key (w_then (args_whole es d) (w_then w_key w_key refl) refl) refl) refl)))))))
-  act_whole (if_then e a) d = w_rule (w_right (w_right (w_right (w_right (w_right (w_right (w_left
-      (w_then w_key (w_then (expr_whole e d.0) (w_then w_key (w_then (acts_whole a d.1)
+  act_whole l (if_then e a) d = of_form l (w_right (w_right (w_right (w_right (w_right (w_right (w_left
+      (w_then w_key (w_then (expr_whole e d.0) (w_then w_key (w_then (acts_whole l a d.1)
       (w_then (w_right w_nothing) (w_then w_key w_key refl) refl) refl) refl) refl) refl))))))))
-  act_whole (if_else e a b) d = w_rule (w_right (w_right (w_right (w_right (w_right (w_right (w_left
-      (w_then w_key (w_then (expr_whole e d.0) (w_then w_key (w_then (acts_whole a d.1)
-      (w_then (w_left (w_then w_key (acts_whole b d.2) refl)) (w_then w_key w_key refl) refl) refl) refl) refl) refl))))))))
-  act_whole (for_next w f t s a v) d = w_rule (w_right (w_right (w_right (w_right (w_right (w_right (w_right (w_left
+  act_whole l (if_else e a b) d = of_form l (w_right (w_right (w_right (w_right (w_right (w_right (w_left
+      (w_then w_key (w_then (expr_whole e d.0) (w_then w_key (w_then (acts_whole l a d.1)
+      (w_then (w_left (w_then w_key (acts_whole l b d.2) refl)) (w_then w_key w_key refl) refl) refl) refl) refl) refl))))))))
+  act_whole l (for_next w f t s a v) d = of_form l (w_right (w_right (w_right (w_right (w_right (w_right (w_right (w_left
       (w_then w_key (w_then w_name (w_then w_key (w_then (expr_whole f d.0) (w_then w_key (w_then (expr_whole t d.1)
-      (w_then (step_whole s) (w_then (acts_whole a d.2) (w_then w_key w_name refl) refl) refl) refl) refl) refl) refl) refl) refl)))))))))
-  act_whole (while_do e a) d = w_rule (w_right (w_right (w_right (w_right (w_right (w_right (w_right (w_right
-      (w_then w_key (w_then (expr_whole e d.0) (w_then (acts_whole a d.1) (w_then w_key w_key refl) refl) refl) refl)))))))))
+      (w_then (step_whole s) (w_then (acts_whole l a d.2) (w_then w_key w_name refl) refl) refl) refl) refl) refl) refl) refl) refl)))))))))
+  act_whole l (while_do e a) d = of_form l (w_right (w_right (w_right (w_right (w_right (w_right (w_right (w_right
+      (w_then w_key (w_then (expr_whole e d.0) (w_then (acts_whole l a d.1) (w_then w_key w_key refl) refl) refl) refl)))))))))
+  act_whole l (run_procedure w es) d = run_whole l w es d
 
-  acts_whole : (more : Acts) → ActsDerived more → Whole (many (rule stmt)) (acts_spelled more)
-  acts_whole no_acts d = w_end
-  acts_whole (act_then a more) d = w_more (act_whole a d.0) (acts_whole more d.1) refl
+  acts_whole : (d : Dialect) (more : Acts) → ActsDerived d more → Whole (many (rule (stmt_in d))) (acts_spelled more)
+  acts_whole l no_acts d = w_end
+  acts_whole l (act_then a more) d = w_more (act_whole l a d.0) (acts_whole l more d.1) refl
 
 -- what follows a declared name: further names, the sign, and further declarations
 record Follows (ms : List TokenKind) : Type 0 where
@@ -221,4 +239,27 @@ decls_whole (d ∷ ds) h = rw h.0 (declared d.kind d.word (follow ds))
 
 -- a script
 pub source_whole : (s : Source) → IsDerived s → Whole (rule script) (source_spelled s)
-source_whole s d = w_rule (w_then (decls_whole s.decls d.decls) (acts_whole s.body d.body) refl)
+source_whole s d = w_rule (w_then (decls_whole s.decls d.decls) (acts_whole dialect.Plain s.body d.body) refl)
+
+other_params_whole : (ws : List Word) → Whole (many (key kind.Comma ▸ NAME)) (other_params_spelled ws)
+other_params_whole [] = w_end
+other_params_whole (w ∷ ws) = w_more (w_then w_key w_name refl) (other_params_whole ws) refl
+
+params_whole : (ws : List Word) → Whole parameters (params_spelled ws)
+params_whole [] = w_right w_nothing
+params_whole (w ∷ ws) = w_left (w_then w_name (other_params_whole ws) refl)
+
+-- a procedure, and procedures
+procedure_whole : (p : Procedure) → ActsDerived dialect.Procedures p.body → Whole (rule proc) (procedure_spelled p)
+procedure_whole p d = w_rule
+    (w_then w_key (w_then w_name (w_then w_key (w_then (params_whole p.params) (w_then w_key
+    (w_then (acts_whole dialect.Procedures p.body d) (w_then w_key w_key refl) refl) refl) refl) refl) refl) refl)
+
+procedures_whole : (ps : List Procedure) → ProceduresDerived ps → Whole (many (rule proc)) (procedures_spelled ps)
+procedures_whole [] d = w_end
+procedures_whole (p ∷ ps) d = w_more (procedure_whole p d.0) (procedures_whole ps d.1) refl
+
+-- a script with procedures
+pub procedure_source_whole : (s : ProcedureSource) → IsDerivedWithProcedures s → Whole (rule pscript) (procedure_source_spelled s)
+procedure_source_whole s d = w_rule
+    (w_then (decls_whole s.decls d.decls) (w_then (procedures_whole s.procs d.procs) (acts_whole dialect.Procedures s.body d.body) refl) refl)

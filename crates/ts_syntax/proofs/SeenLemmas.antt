@@ -16,7 +16,7 @@ use Rattle.ts_syntax.specs.declared.stmt.ForHead.{ForHead}
 use Rattle.ts_syntax.specs.declared.stmt.Stmt.TheOpen.{Stmt-F}
 use Rattle.ts_syntax.specs.declared.stmt.Stmt.TheVariants as does
 use Rattle.ts_syntax.specs.declared.stmt.Stmt.TheFolds.{fold-roll-Stmt}
-use Rattle.ts_syntax.specs.Tree.{Act, set, set_item, append, take_last, clear, call_alone, if_then, if_else, for_next, while_do}
+use Rattle.ts_syntax.specs.Tree.{Act, set, set_item, append, take_last, clear, call_alone, if_then, if_else, for_next, while_do, run_procedure}
 use Rattle.ts_syntax.specs.Spelling.{name, act_spelled, acts_spelled, spelled, step_spelled}
 use Rattle.ts_syntax.specs.Seen.{tree_step, tree_of, trees_of, act_step, act_of, acts_of}
 
@@ -82,3 +82,6 @@ act_for_next h a v = ap act_of (sym (does.rolls-For h a v)) ∙ fold-roll-Stmt A
 
 pub act_while_do : (e : Expr) (a : List Stmt) → act_of (does.While e a) ≡ while_do (tree_of e) (acts_of a)
 act_while_do e a = ap act_of (sym (does.rolls-While e a)) ∙ fold-roll-Stmt Act act_step (Stmt-F.While e a)
+
+pub act_run_procedure : (w : Word) (es : List Expr) → act_of (does.Run w es) ≡ run_procedure w (trees_of es)
+act_run_procedure w es = ap act_of (sym (does.rolls-Run w es)) ∙ fold-roll-Stmt Act act_step (Stmt-F.Run w es)

@@ -4,16 +4,18 @@ use Rattle.ts_syntax.specs.declared.bin_op.BinOp.{BinOp}
 use Rattle.ts_syntax.specs.declared.bin_op.BinOp.TheVariants as op
 use Rattle.ts_syntax.specs.declared.word.Word.{Word}
 use Rattle.ts_syntax.specs.declared.stmt.Step.{Step}
+use Rattle.ts_syntax.specs.declared.dialect.Dialect.{Dialect}
+use Rattle.ts_syntax.specs.declared.dialect.Dialect.TheVariants as dialect
 use Rattle.ts_syntax.specs.declared.script.Decl.{Decl}
 use Rattle.ts_syntax.specs.declared.script.DeclKind.{DeclKind}
 use Rattle.ts_syntax.specs.declared.script.DeclKind.TheVariants as decls
 use Rattle.ts_syntax.specs.declared.token.TokenKind.{TokenKind}
 use Rattle.ts_syntax.specs.declared.token.TokenKind.TheVariants as kind
-use Rattle.ts_syntax.specs.Tree.{Tree, number, variable, item, size, message_item, message_size, call, negative, inverse, two, paren, Trees, no_trees, tree_then, Act, set, set_item, append, take_last, clear, call_alone, if_then, if_else, for_next, while_do, Acts, no_acts, act_then}
-use Rattle.ts_syntax.specs.Spelling.{sign, spelled, args_spelled, more_spelled, step_spelled, act_spelled, acts_spelled, name, decl_keyword, decls_gap, decls_spelled}
-use Rattle.ts_syntax.specs.Derived.{Level, at_or, at_and, at_not, at_compare, at_sum, at_product, at_sign, at_atom, rank, level, level_of, left_of, right_of, Holds, IsPart, Derived, ArgsDerived, ActDerived, ActsDerived, NamesFollow, DeclsDerived}
-use Rattle.ts_syntax.specs.Grammar.{Rule, script, decl, stmt, expr, andx, notx, cmp, sum, prod, neg, atom, Part, nothing, NAME, NUM, key, rule, ◌▸◌, ◌∣◌, many, maybe, arguments, step, rules, Whole, w_nothing, w_name, w_number, w_key, w_rule, w_then, w_left, w_right, w_end, w_more}
-use Rattle.ts_syntax.specs.Script.{IsScript}
+use Rattle.ts_syntax.specs.Tree.{Tree, number, variable, item, size, message_item, message_size, call, negative, inverse, two, paren, Trees, no_trees, tree_then, Act, set, set_item, append, take_last, clear, call_alone, if_then, if_else, for_next, while_do, run_procedure, Acts, no_acts, act_then, Procedure}
+use Rattle.ts_syntax.specs.Spelling.{sign, spelled, args_spelled, more_spelled, step_spelled, act_spelled, acts_spelled, name, decl_keyword, decls_gap, decls_spelled, params_spelled, other_params_spelled, procedure_spelled, procedures_spelled}
+use Rattle.ts_syntax.specs.Derived.{Level, at_or, at_and, at_not, at_compare, at_sum, at_product, at_sign, at_atom, rank, level, level_of, left_of, right_of, Holds, IsPart, Derived, ArgsDerived, ActDerived, ActsDerived, NamesFollow, DeclsDerived, ProceduresDerived}
+use Rattle.ts_syntax.specs.Grammar.{Rule, script, decl, stmt, pscript, proc, pstmt, expr, andx, notx, cmp, sum, prod, neg, atom, Part, nothing, NAME, NUM, key, rule, ◌▸◌, ◌∣◌, many, maybe, arguments, step, parameters, forms, do_form, rules, Whole, w_nothing, w_name, w_number, w_key, w_rule, w_then, w_left, w_right, w_end, w_more}
+use Rattle.ts_syntax.specs.Script.{IsScript, IsProcedureScript}
 
 -- an expression that spells the tokens, at a level or at a tighter one
 record ExprOf (n : Level) (ms : List TokenKind) : Type 0 where
@@ -38,14 +40,14 @@ record StepOf (ms : List TokenKind) : Type 0 where
   step : Option Step
   spells : step_spelled step ≡ ms
 
-record ActOf (ms : List TokenKind) : Type 0 where
+record ActOf (d : Dialect) (ms : List TokenKind) : Type 0 where
   act : Act
-  derived : ActDerived act
+  derived : ActDerived d act
   spells : act_spelled act ≡ ms
 
-record ActsOf (ms : List TokenKind) : Type 0 where
+record ActsOf (d : Dialect) (ms : List TokenKind) : Type 0 where
   acts : Acts
-  derived : ActsDerived acts
+  derived : ActsDerived d acts
   spells : acts_spelled acts ≡ ms
 
 -- names behind the first of a declaration
@@ -60,11 +62,20 @@ record DeclOf (ms : List TokenKind) : Type 0 where
   others : List (List ℕ)
   spells : decl_keyword of_kind ∷ kind.Name first ∷ commas others ++ kind.Semi ∷ [] ≡ ms
 
+-- a procedure that spells the tokens
+record ProcedureOf (ms : List TokenKind) : Type 0 where
+  procedure : Procedure
+  derived : ActsDerived dialect.Procedures procedure.body
+  spells : procedure_spelled procedure ≡ ms
+
 -- what a rule's tokens mean
 abbrev Value : Rule → List TokenKind → Type 0
 Value script ms = IsScript ms
 Value decl ms = DeclOf ms
-Value stmt ms = ActOf ms
+Value stmt ms = ActOf dialect.Plain ms
+Value pscript ms = IsProcedureScript ms
+Value proc ms = ProcedureOf ms
+Value pstmt ms = ActOf dialect.Procedures ms
 Value expr ms = ExprOf at_or ms
 Value andx ms = ExprOf at_and ms
 Value notx ms = ExprOf at_not ms
@@ -296,12 +307,6 @@ cmp_of {ms} h = of h.second
     of (inl j) = compared h.first j h.are
     of (inr e) = at_end (loosen sum_fits_compare h.first) e h.are
 
-acts_of : {ms : List TokenKind} → Chain ActOf ms → ActsOf ms
-acts_of c_end = record { acts = no_acts; derived = tt; spells = refl }
-acts_of (c_more h c e) =
-    let m : ActsOf _ = acts_of c in
-    record { acts = act_then h.act m.acts; derived = (h.derived, m.derived); spells = append_eq h.spells m.spells ∙ sym e }
-
 step_of : {ms : List TokenKind} → Sense step ms → StepOf ms
 step_of {ms} (inl h) = of h.second.first
   where
@@ -323,16 +328,16 @@ step_of (inr e) = record { step = None; spells = sym e }
 ended : {n : Level} {ms : List TokenKind} (j : Joined (ExprOf n) (Sense (key kind.Semi)) ms) → spelled j.first.tree ++ kind.Semi ∷ [] ≡ ms
 ended j = closed j.first.spells j.second j.are
 
-set_of : {ms : List TokenKind} → Sense (NAME ▸ key kind.Eq ▸ rule expr ▸ key kind.Semi) ms → ActOf ms
+set_of : {d : Dialect} {ms : List TokenKind} → Sense (NAME ▸ key kind.Eq ▸ rule expr ▸ key kind.Semi) ms → ActOf d ms
 set_of h =
     let j : Joined (ExprOf at_or) (Sense (key kind.Semi)) h.second.back = h.second.second in
     let e : spelled j.first.tree ++ kind.Semi ∷ [] ≡ h.second.back = ended j in
     record { act = set (word h.id) j.first.tree; derived = j.first.derived; spells = cc }
 
-take_of : {ms : List TokenKind} → Sense (NAME ▸ key kind.Eq ▸ NAME ▸ key kind.OpenBox ▸ key kind.CloseBox ▸ key kind.Semi) ms → ActOf ms
+take_of : {d : Dialect} {ms : List TokenKind} → Sense (NAME ▸ key kind.Eq ▸ NAME ▸ key kind.OpenBox ▸ key kind.CloseBox ▸ key kind.Semi) ms → ActOf d ms
 take_of h = record { act = take_last (word h.id) (word h.second.second.id); derived = tt; spells = cc }
 
-set_item_of : {ms : List TokenKind} → Sense (NAME ▸ key kind.OpenBox ▸ rule expr ▸ key kind.CloseBox ▸ key kind.Eq ▸ rule expr ▸ key kind.Semi) ms → ActOf ms
+set_item_of : {d : Dialect} {ms : List TokenKind} → Sense (NAME ▸ key kind.OpenBox ▸ rule expr ▸ key kind.CloseBox ▸ key kind.Eq ▸ rule expr ▸ key kind.Semi) ms → ActOf d ms
 set_item_of h =
     let i : Joined (ExprOf at_or) (Sense (key kind.CloseBox ▸ key kind.Eq ▸ rule expr ▸ key kind.Semi)) h.second.back = h.second.second in
     let j : Joined (ExprOf at_or) (Sense (key kind.Semi)) i.second.second.back = i.second.second.second in
@@ -341,95 +346,124 @@ set_item_of h =
     let g : spelled i.first.tree ++ (kind.CloseBox ∷ kind.Eq ∷ (spelled j.first.tree ++ kind.Semi ∷ [])) ≡ h.second.back = append_eq i.first.spells d ∙ sym i.are in
     record { act = set_item (word h.id) i.first.tree j.first.tree; derived = (i.first.derived, j.first.derived); spells = cc }
 
-append_of : {ms : List TokenKind} → Sense (NAME ▸ key kind.OpenBox ▸ key kind.CloseBox ▸ key kind.Eq ▸ rule expr ▸ key kind.Semi) ms → ActOf ms
+append_of : {d : Dialect} {ms : List TokenKind} → Sense (NAME ▸ key kind.OpenBox ▸ key kind.CloseBox ▸ key kind.Eq ▸ rule expr ▸ key kind.Semi) ms → ActOf d ms
 append_of h =
     let b : List TokenKind = h.second.second.second.back in
     let j : Joined (ExprOf at_or) (Sense (key kind.Semi)) b = h.second.second.second.second in
     let e : spelled j.first.tree ++ kind.Semi ∷ [] ≡ h.second.second.second.back = ended j in
     record { act = append (word h.id) j.first.tree; derived = j.first.derived; spells = cc }
 
-clear_of : {ms : List TokenKind} → Sense (key kind.Clear ▸ key kind.Open ▸ NAME ▸ key kind.Close ▸ key kind.Semi) ms → ActOf ms
+clear_of : {d : Dialect} {ms : List TokenKind} → Sense (key kind.Clear ▸ key kind.Open ▸ NAME ▸ key kind.Close ▸ key kind.Semi) ms → ActOf d ms
 clear_of h = record { act = clear (word h.second.second.id); derived = tt; spells = cc }
 
-call_alone_of : {ms : List TokenKind} → Sense (NAME ▸ key kind.Open ▸ arguments ▸ key kind.Close ▸ key kind.Semi) ms → ActOf ms
+call_alone_of : {d : Dialect} {ms : List TokenKind} → Sense (NAME ▸ key kind.Open ▸ arguments ▸ key kind.Close ▸ key kind.Semi) ms → ActOf d ms
 call_alone_of h =
     let j : Joined (Sense arguments) (Sense (key kind.Close ▸ key kind.Semi)) h.second.back = h.second.second in
     let a : ArgsOf j.front = args_of j.first in
     let e : args_spelled a.trees ++ (kind.Close ∷ kind.Semi ∷ []) ≡ h.second.back = append_eq a.spells (cc) ∙ sym j.are in
     record { act = call_alone (word h.id) a.trees; derived = a.derived; spells = cc }
 
-abbrev else_part : Part
-else_part = key kind.Else ▸ many (rule stmt)
+abbrev else_part : Rule → Part
+else_part block = key kind.Else ▸ many (rule block)
 
 abbrev ending : TokenKind → Part
 ending k = key kind.End ▸ key k
 
--- the statements of an `else` and the end
-else_of : (e : Tree) (a : Acts) → Derived e → ActsDerived a → {xs : List TokenKind} (j : Joined (Sense (maybe else_part)) (Sense (ending kind.If)) xs) → {ms : List TokenKind} →
-    ((tail : List TokenKind) → tail ≡ xs → kind.If ∷ spelled e ++ (kind.Then ∷ acts_spelled a ++ tail) ≡ ms) → ActOf ms
-else_of e a d c {xs} j {ms} spells = of j.first
-  where
-    of : Keyed kind.Else (Chain ActOf) j.front ⊎ (j.front ≡ []) → ActOf ms
-    of (inl k) =
-        let b : ActsOf k.back = acts_of k.second in
-        let g : kind.Else ∷ acts_spelled b.acts ++ (kind.End ∷ kind.If ∷ []) ≡ xs = append_eq (ap (λ z. kind.Else ∷ z) b.spells ∙ sym k.are) (cc) ∙ sym j.are in
-        record { act = if_else e a b.acts; derived = (d, c, b.derived); spells = spells _ g }
-    of (inr k) =
-        let f : xs ≡ j.back = none_before k j.are in
-        let g : kind.End ∷ kind.If ∷ [] ≡ xs = cc in
-        record { act = if_then e a; derived = (d, c); spells = spells _ g }
+-- statements with blocks, of the statements of a rule
+module _ (d : Dialect) (block : Rule) (value : (xs : List TokenKind) → Value block xs → ActOf d xs) where
+  acts_of : {ms : List TokenKind} → Chain (Sense (rule block)) ms → ActsOf d ms
+  acts_of c_end = record { acts = no_acts; derived = tt; spells = refl }
+  acts_of (c_more {xs} h c e) =
+      let v : ActOf d xs = value xs h in
+      let m : ActsOf d _ = acts_of c in
+      record { acts = act_then v.act m.acts; derived = (v.derived, m.derived); spells = append_eq v.spells m.spells ∙ sym e }
 
-if_of : {ms : List TokenKind} → Sense (key kind.If ▸ rule expr ▸ key kind.Then ▸ many (rule stmt) ▸ maybe else_part ▸ ending kind.If) ms → ActOf ms
-if_of {ms} h =
-    let j : Joined (ExprOf at_or) (Sense (key kind.Then ▸ many (rule stmt) ▸ maybe else_part ▸ ending kind.If)) h.back = h.second in
-    let b : Joined (Chain ActOf) (Sense (maybe else_part ▸ ending kind.If)) j.second.back = j.second.second in
-    let a : ActsOf b.front = acts_of b.first in
-    else_of j.first.tree a.acts j.first.derived a.derived b.second
-    (λ tail e.
-    let f : acts_spelled a.acts ++ tail ≡ j.second.back = append_eq a.spells e ∙ sym b.are in
-    let g : spelled j.first.tree ++ (kind.Then ∷ acts_spelled a.acts ++ tail) ≡ h.back = append_eq j.first.spells (ap (λ z. kind.Then ∷ z) f ∙ sym j.second.are) ∙ sym j.are in
-    ap (λ z. kind.If ∷ z) g ∙ sym h.are)
+  -- the statements of an `else` and the end
+  else_of : (e : Tree) (a : Acts) → Derived e → ActsDerived d a → {xs : List TokenKind} (j : Joined (Sense (maybe (else_part block))) (Sense (ending kind.If)) xs) → {ms : List TokenKind} →
+      ((tail : List TokenKind) → tail ≡ xs → kind.If ∷ spelled e ++ (kind.Then ∷ acts_spelled a ++ tail) ≡ ms) → ActOf d ms
+  else_of e a x c {xs} j {ms} spells = of j.first
+    where
+      of : Keyed kind.Else (Chain (Sense (rule block))) j.front ⊎ (j.front ≡ []) → ActOf d ms
+      of (inl k) =
+          let b : ActsOf d k.back = acts_of k.second in
+          let g : kind.Else ∷ acts_spelled b.acts ++ (kind.End ∷ kind.If ∷ []) ≡ xs = append_eq (ap (λ z. kind.Else ∷ z) b.spells ∙ sym k.are) (cc) ∙ sym j.are in
+          record { act = if_else e a b.acts; derived = (x, c, b.derived); spells = spells _ g }
+      of (inr k) =
+          let f : xs ≡ j.back = none_before k j.are in
+          let g : kind.End ∷ kind.If ∷ [] ≡ xs = cc in
+          record { act = if_then e a; derived = (x, c); spells = spells _ g }
 
-for_of : {ms : List TokenKind} → Sense (key kind.For ▸ NAME ▸ key kind.Eq ▸ rule expr ▸ key kind.To ▸ rule expr ▸ step ▸ many (rule stmt) ▸ key kind.Next ▸ NAME) ms → ActOf ms
-for_of {ms} h =
-    let x : List TokenKind = h.second.second.back in
-    let j : Joined (ExprOf at_or) (Sense (key kind.To ▸ rule expr ▸ step ▸ many (rule stmt) ▸ key kind.Next ▸ NAME)) x = h.second.second.second in
-    let t : Joined (ExprOf at_or) (Sense (step ▸ many (rule stmt) ▸ key kind.Next ▸ NAME)) j.second.back = j.second.second in
-    let s : Joined (Sense step) (Sense (many (rule stmt) ▸ key kind.Next ▸ NAME)) t.back = t.second in
-    let b : Joined (Chain ActOf) (Sense (key kind.Next ▸ NAME)) s.back = s.second in
-    let c : StepOf s.front = step_of s.first in
-    let a : ActsOf b.front = acts_of b.first in
-    let v : Word = word b.second.second.0 in
-    let e1 : acts_spelled a.acts ++ (kind.Next ∷ name v ∷ []) ≡ s.back = append_eq a.spells (ap (λ z. kind.Next ∷ z) (sym b.second.second.1) ∙ sym b.second.are) ∙ sym b.are in
-    let e2 : step_spelled c.step ++ (acts_spelled a.acts ++ (kind.Next ∷ name v ∷ [])) ≡ t.back = append_eq c.spells e1 ∙ sym s.are in
-    let e3 : spelled t.first.tree ++ (step_spelled c.step ++ (acts_spelled a.acts ++ (kind.Next ∷ name v ∷ []))) ≡ j.second.back = append_eq t.first.spells e2 ∙ sym t.are in
-    let e4 : spelled j.first.tree ++ (kind.To ∷ spelled t.first.tree ++ (step_spelled c.step ++ (acts_spelled a.acts ++ (kind.Next ∷ name v ∷ [])))) ≡ h.second.second.back =
-    append_eq j.first.spells (ap (λ z. kind.To ∷ z) e3 ∙ sym j.second.are) ∙ sym j.are in
-    record {
-      act = for_next (word h.second.id) j.first.tree t.first.tree c.step a.acts v;
-      derived = (j.first.derived, t.first.derived, a.derived);
-      spells = ap (λ z. kind.For ∷ kind.Name h.second.id ∷ kind.Eq ∷ z) e4 ∙ ap (λ z. kind.For ∷ kind.Name h.second.id ∷ z) (sym h.second.second.are) ∙ ap (λ z. kind.For ∷ z) (sym h.second.are) ∙ sym h.are;
-    }
+  if_of : {ms : List TokenKind} → Sense (key kind.If ▸ rule expr ▸ key kind.Then ▸ many (rule block) ▸ maybe (else_part block) ▸ ending kind.If) ms → ActOf d ms
+  if_of {ms} h =
+      let j : Joined (ExprOf at_or) (Sense (key kind.Then ▸ many (rule block) ▸ maybe (else_part block) ▸ ending kind.If)) h.back = h.second in
+      let b : Joined (Chain (Sense (rule block))) (Sense (maybe (else_part block) ▸ ending kind.If)) j.second.back = j.second.second in
+      let a : ActsOf d b.front = acts_of b.first in
+      else_of j.first.tree a.acts j.first.derived a.derived b.second
+      (λ tail e.
+      let f : acts_spelled a.acts ++ tail ≡ j.second.back = append_eq a.spells e ∙ sym b.are in
+      let g : spelled j.first.tree ++ (kind.Then ∷ acts_spelled a.acts ++ tail) ≡ h.back = append_eq j.first.spells (ap (λ z. kind.Then ∷ z) f ∙ sym j.second.are) ∙ sym j.are in
+      ap (λ z. kind.If ∷ z) g ∙ sym h.are)
 
-while_of : {ms : List TokenKind} → Sense (key kind.While ▸ rule expr ▸ many (rule stmt) ▸ ending kind.While) ms → ActOf ms
-while_of h =
-    let j : Joined (ExprOf at_or) (Sense (many (rule stmt) ▸ ending kind.While)) h.back = h.second in
-    let b : Joined (Chain ActOf) (Sense (ending kind.While)) j.back = j.second in
-    let a : ActsOf b.front = acts_of b.first in
-    let e : acts_spelled a.acts ++ (kind.End ∷ kind.While ∷ []) ≡ j.back = append_eq a.spells (cc) ∙ sym b.are in
-    let g : spelled j.first.tree ++ (acts_spelled a.acts ++ (kind.End ∷ kind.While ∷ [])) ≡ h.back = append_eq j.first.spells e ∙ sym j.are in
-    record { act = while_do j.first.tree a.acts; derived = (j.first.derived, a.derived); spells = ap (λ z. kind.While ∷ z) g ∙ sym h.are }
+  for_of : {ms : List TokenKind} → Sense (key kind.For ▸ NAME ▸ key kind.Eq ▸ rule expr ▸ key kind.To ▸ rule expr ▸ step ▸ many (rule block) ▸ key kind.Next ▸ NAME) ms → ActOf d ms
+  for_of {ms} h =
+      let x : List TokenKind = h.second.second.back in
+      let j : Joined (ExprOf at_or) (Sense (key kind.To ▸ rule expr ▸ step ▸ many (rule block) ▸ key kind.Next ▸ NAME)) x = h.second.second.second in
+      let t : Joined (ExprOf at_or) (Sense (step ▸ many (rule block) ▸ key kind.Next ▸ NAME)) j.second.back = j.second.second in
+      let s : Joined (Sense step) (Sense (many (rule block) ▸ key kind.Next ▸ NAME)) t.back = t.second in
+      let b : Joined (Chain (Sense (rule block))) (Sense (key kind.Next ▸ NAME)) s.back = s.second in
+      let c : StepOf s.front = step_of s.first in
+      let a : ActsOf d b.front = acts_of b.first in
+      let v : Word = word b.second.second.0 in
+      let e1 : acts_spelled a.acts ++ (kind.Next ∷ name v ∷ []) ≡ s.back = append_eq a.spells (ap (λ z. kind.Next ∷ z) (sym b.second.second.1) ∙ sym b.second.are) ∙ sym b.are in
+      let e2 : step_spelled c.step ++ (acts_spelled a.acts ++ (kind.Next ∷ name v ∷ [])) ≡ t.back = append_eq c.spells e1 ∙ sym s.are in
+      let e3 : spelled t.first.tree ++ (step_spelled c.step ++ (acts_spelled a.acts ++ (kind.Next ∷ name v ∷ []))) ≡ j.second.back = append_eq t.first.spells e2 ∙ sym t.are in
+      let e4 : spelled j.first.tree ++ (kind.To ∷ spelled t.first.tree ++ (step_spelled c.step ++ (acts_spelled a.acts ++ (kind.Next ∷ name v ∷ [])))) ≡ h.second.second.back =
+      append_eq j.first.spells (ap (λ z. kind.To ∷ z) e3 ∙ sym j.second.are) ∙ sym j.are in
+      record {
+        act = for_next (word h.second.id) j.first.tree t.first.tree c.step a.acts v;
+        derived = (j.first.derived, t.first.derived, a.derived);
+        spells = ap (λ z. kind.For ∷ kind.Name h.second.id ∷ kind.Eq ∷ z) e4 ∙ ap (λ z. kind.For ∷ kind.Name h.second.id ∷ z) (sym h.second.second.are) ∙ ap (λ z. kind.For ∷ z) (sym h.second.are) ∙ sym h.are;
+      }
 
-stmt_of : {ms : List TokenKind} → Sense (rules stmt) ms → ActOf ms
-stmt_of (inl h) = set_of h
-stmt_of (inr (inl h)) = take_of h
-stmt_of (inr (inr (inl h))) = set_item_of h
-stmt_of (inr (inr (inr (inl h)))) = append_of h
-stmt_of (inr (inr (inr (inr (inl h))))) = clear_of h
-stmt_of (inr (inr (inr (inr (inr (inl h)))))) = call_alone_of h
-stmt_of (inr (inr (inr (inr (inr (inr (inl h))))))) = if_of h
-stmt_of (inr (inr (inr (inr (inr (inr (inr (inl h)))))))) = for_of h
-stmt_of (inr (inr (inr (inr (inr (inr (inr (inr h)))))))) = while_of h
+  while_of : {ms : List TokenKind} → Sense (key kind.While ▸ rule expr ▸ many (rule block) ▸ ending kind.While) ms → ActOf d ms
+  while_of h =
+      let j : Joined (ExprOf at_or) (Sense (many (rule block) ▸ ending kind.While)) h.back = h.second in
+      let b : Joined (Chain (Sense (rule block))) (Sense (ending kind.While)) j.back = j.second in
+      let a : ActsOf d b.front = acts_of b.first in
+      let e : acts_spelled a.acts ++ (kind.End ∷ kind.While ∷ []) ≡ j.back = append_eq a.spells (cc) ∙ sym b.are in
+      let g : spelled j.first.tree ++ (acts_spelled a.acts ++ (kind.End ∷ kind.While ∷ [])) ≡ h.back = append_eq j.first.spells e ∙ sym j.are in
+      record { act = while_do j.first.tree a.acts; derived = (j.first.derived, a.derived); spells = ap (λ z. kind.While ∷ z) g ∙ sym h.are }
+
+  form_of : {ms : List TokenKind} → Sense (forms block) ms → ActOf d ms
+  form_of (inl h) = set_of h
+  form_of (inr (inl h)) = take_of h
+  form_of (inr (inr (inl h))) = set_item_of h
+  form_of (inr (inr (inr (inl h)))) = append_of h
+  form_of (inr (inr (inr (inr (inl h))))) = clear_of h
+  form_of (inr (inr (inr (inr (inr (inl h)))))) = call_alone_of h
+  form_of (inr (inr (inr (inr (inr (inr (inl h))))))) = if_of h
+  form_of (inr (inr (inr (inr (inr (inr (inr (inl h)))))))) = for_of h
+  form_of (inr (inr (inr (inr (inr (inr (inr (inr h)))))))) = while_of h
+
+plain_value : (xs : List TokenKind) → Value stmt xs → ActOf dialect.Plain xs
+plain_value xs v = v
+
+do_value : (xs : List TokenKind) → Value pstmt xs → ActOf dialect.Procedures xs
+do_value xs v = v
+
+stmt_of : {ms : List TokenKind} → Sense (rules stmt) ms → ActOf dialect.Plain ms
+stmt_of h = form_of dialect.Plain stmt plain_value h
+
+run_of : {ms : List TokenKind} → Sense do_form ms → ActOf dialect.Procedures ms
+run_of h =
+    let j : Joined (Sense arguments) (Sense (key kind.Close ▸ key kind.Semi)) h.second.second.back = h.second.second.second in
+    let a : ArgsOf j.front = args_of j.first in
+    let e : args_spelled a.trees ++ (kind.Close ∷ kind.Semi ∷ []) ≡ h.second.second.back = append_eq a.spells (cc) ∙ sym j.are in
+    record { act = run_procedure (word h.second.id) a.trees; derived = a.derived; spells = cc }
+
+pstmt_of : {ms : List TokenKind} → Sense (rules pstmt) ms → ActOf dialect.Procedures ms
+pstmt_of (inl h) = form_of dialect.Procedures pstmt do_value h
+pstmt_of (inr h) = run_of h
 
 -- the names behind commas of a declaration
 names_of : {ms : List TokenKind} → Chain (Keyed kind.Comma (Sense NAME)) ms → (ns : List (List ℕ)) × (commas ns ≡ ms)
@@ -499,13 +533,71 @@ decls_of (c_more h c e) = decls_more h (decls_of c) e
 script_of : {ms : List TokenKind} → Sense (rules script) ms → IsScript ms
 script_of h =
     let d : DeclsOf h.front = decls_of h.first in
-    let a : ActsOf h.back = acts_of h.second in
+    let a : ActsOf dialect.Plain h.back = acts_of dialect.Plain stmt plain_value h.second in
     record { source = record { decls = d.decls; body = a.acts }; derived = record { decls = d.derived; body = a.derived }; spells = append_eq d.spells a.spells ∙ sym h.are }
+
+-- the parameters of a procedure
+words : List (List ℕ) → List Word
+words [] = []
+words (n ∷ ns) = word n ∷ words ns
+
+words_spelled : (ns : List (List ℕ)) → other_params_spelled (words ns) ≡ commas ns
+unfolding words
+words_spelled [] = refl
+words_spelled (n ∷ ns) = ap (λ z. kind.Comma ∷ kind.Name n ∷ z) (words_spelled ns)
+
+params_of : {ms : List TokenKind} → Sense parameters ms → (ws : List Word) × (params_spelled ws ≡ ms)
+params_of (inl h) =
+    let n : (ns : List (List ℕ)) × (commas ns ≡ h.back) = names_of h.second in
+    (word h.id ∷ words n.0, ap (λ z. kind.Name h.id ∷ z) (words_spelled n.0 ∙ n.1) ∙ sym h.are)
+params_of (inr e) = ([], sym e)
+
+procedure_read : {ms : List TokenKind} → Sense (rules proc) ms → ProcedureOf ms
+procedure_read h =
+    let j : Joined (Sense parameters) (Sense (key kind.Close ▸ many (rule pstmt) ▸ ending kind.Proc)) h.second.second.back = h.second.second.second in
+    let b : Joined (Chain (Sense (rule pstmt))) (Sense (ending kind.Proc)) j.second.back = j.second.second in
+    let w : (ws : List Word) × (params_spelled ws ≡ j.front) = params_of j.first in
+    let a : ActsOf dialect.Procedures b.front = acts_of dialect.Procedures pstmt do_value b.first in
+    let e : acts_spelled a.acts ++ (kind.End ∷ kind.Proc ∷ []) ≡ j.second.back = append_eq a.spells (cc) ∙ sym b.are in
+    let f : params_spelled w.0 ++ (kind.Close ∷ acts_spelled a.acts ++ (kind.End ∷ kind.Proc ∷ [])) ≡ h.second.second.back =
+    append_eq w.1 (ap (λ z. kind.Close ∷ z) e ∙ sym j.second.are) ∙ sym j.are in
+    record {
+      procedure = record { name = word h.second.id; params = w.0; body = a.acts };
+      derived = a.derived;
+      spells = ap (λ z. kind.Proc ∷ kind.Name h.second.id ∷ kind.Open ∷ z) f ∙ ap (λ z. kind.Proc ∷ kind.Name h.second.id ∷ z) (sym h.second.second.are) ∙ ap (λ z. kind.Proc ∷ z) (sym h.second.are) ∙ sym h.are;
+    }
+
+-- procedures that spell the tokens
+record ProceduresOf (ms : List TokenKind) : Type 0 where
+  procs : List Procedure
+  derived : ProceduresDerived procs
+  spells : procedures_spelled procs ≡ ms
+
+procedures_of : {ms : List TokenKind} → Chain ProcedureOf ms → ProceduresOf ms
+procedures_of c_end = record { procs = []; derived = tt; spells = refl }
+procedures_of (c_more h c e) =
+    let m : ProceduresOf _ = procedures_of c in
+    record { procs = h.procedure ∷ m.procs; derived = (h.derived, m.derived); spells = append_eq h.spells m.spells ∙ sym e }
+
+pscript_of : {ms : List TokenKind} → Sense (rules pscript) ms → IsProcedureScript ms
+pscript_of h =
+    let d : DeclsOf h.front = decls_of h.first in
+    let j : Joined (Chain ProcedureOf) (Chain (Sense (rule pstmt))) h.back = h.second in
+    let p : ProceduresOf j.front = procedures_of j.first in
+    let a : ActsOf dialect.Procedures j.back = acts_of dialect.Procedures pstmt do_value j.second in
+    record {
+      source = record { decls = d.decls; procs = p.procs; body = a.acts };
+      derived = record { decls = d.derived; procs = p.derived; body = a.derived };
+      spells = append_eq d.spells (append_eq p.spells a.spells ∙ sym j.are) ∙ sym h.are;
+    }
 
 rule_sense : (r : Rule) (ms : List TokenKind) → Sense (rules r) ms → Value r ms
 rule_sense script ms h = script_of h
 rule_sense decl ms h = decl_of h
 rule_sense stmt ms h = stmt_of h
+rule_sense pscript ms h = pscript_of h
+rule_sense proc ms h = procedure_read h
+rule_sense pstmt ms h = pstmt_of h
 rule_sense expr ms h = chain or_link (loosen and_fits_or h.first) h.second h.are
 rule_sense andx ms h = chain and_link (loosen not_fits_and h.first) h.second h.are
 rule_sense notx ms h = notx_of h
@@ -531,3 +623,7 @@ sense (w_more v w e) = c_more (sense v) (sense w) e
 -- a whole script is what a derived tree spells
 pub script_spelled : {ms : List TokenKind} → Whole (rule script) ms → IsScript ms
 script_spelled w = sense w
+
+-- the same, with procedures
+pub procedure_script_spelled : {ms : List TokenKind} → Whole (rule pscript) ms → IsProcedureScript ms
+procedure_script_spelled w = sense w

@@ -1,6 +1,8 @@
 -- How bytes are cut into tokens, byte by byte from the left.
-use Rattle.std.specs.Prelude.{ℕ, ◌+◌, ◌-◌, ◌*◌, Bool, ◌&&◌, ◌||◌, ◌==◌, nat_lt, nat_le, if◌then◌else◌, List, [], ◌∷◌, ◌++◌, length, Option, Some, None, Result, Ok, Err}
+use Rattle.std.specs.Prelude.{ℕ, ◌+◌, ◌-◌, ◌*◌, Bool, ◌&&◌, ◌||◌, ◌==◌, nat_lt, nat_le, if◌then◌else◌, List, [], ◌∷◌, ◌++◌, length, map, Option, Some, None, Result, Ok, Err}
 use Rattle.std.specs.Str.{bytes_eq}
+use Rattle.ts_syntax.specs.declared.dialect.Dialect.{Dialect}
+use Rattle.ts_syntax.specs.declared.dialect.Dialect.TheVariants as dialect
 use Rattle.ts_syntax.specs.declared.token.Token.{Token}
 use Rattle.ts_syntax.specs.declared.token.TokenKind.{TokenKind}
 use Rattle.ts_syntax.specs.declared.token.TokenKind.TheVariants as kind
@@ -134,3 +136,24 @@ cut_from i m (b ∷ bs) = turned (λ n. cut_from (i + 1) n bs) (turn i m b)
 -- the tokens of a text, or its first fault
 abbrev pub cut : List ℕ → Result (List Token) CutFault
 cut bytes = cut_from 0 between bytes
+
+-- what a kind of token is in a dialect: where a script may have procedures, the names `proc` and `do` are keywords
+abbrev pub procedure_kind : TokenKind → TokenKind
+procedure_kind (kind.Name w) = keyword_among (kind.Proc ∷ kind.Do ∷ []) w
+procedure_kind k = k
+
+abbrev pub kind_in : Dialect → TokenKind → TokenKind
+kind_in dialect.Plain k = k
+kind_in dialect.Procedures k = procedure_kind k
+
+abbrev pub token_in : Dialect → Token → Token
+token_in d t = token (kind_in d t.kind) t.from t.to
+
+abbrev pub all_in : Dialect → Result (List Token) CutFault → Result (List Token) CutFault
+all_in d (Ok ts) = Ok (map (token_in d) ts)
+all_in d (Err f) = Err f
+
+-- the tokens of a text in a dialect, or its first fault
+abbrev pub cut_in : Dialect → List ℕ → Result (List Token) CutFault
+cut_in dialect.Plain bytes = cut bytes
+cut_in dialect.Procedures bytes = all_in dialect.Procedures (cut bytes)

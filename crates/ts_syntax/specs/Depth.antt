@@ -16,6 +16,7 @@ abbrev pub role : TokenKind → Role
 role kind.If = opener
 role kind.For = opener
 role kind.While = opener
+role kind.Proc = opener
 role kind.End = closer
 role kind.Next = closer
 role kind.Semi = breaker

@@ -1,10 +1,13 @@
--- Which trees the grammar derives: each operand stands at a level that its place allows.
+-- Which trees the grammar derives: each operand stands at a level that its place allows, and a `do` in the dialect with
+-- procedures alone.
 use Rattle.std.specs.Prelude.{◌≡◌, ◌⊎◌, ℕ, Bool, true, false, nat_le, List, [], ◌∷◌}
 use Rattle.ts_syntax.specs.declared.bin_op.BinOp.{BinOp}
 use Rattle.ts_syntax.specs.declared.bin_op.BinOp.TheVariants as op
+use Rattle.ts_syntax.specs.declared.dialect.Dialect.{Dialect}
+use Rattle.ts_syntax.specs.declared.dialect.Dialect.TheVariants as dialect
 use Rattle.ts_syntax.specs.declared.script.Decl.{Decl}
 use Rattle.ts_syntax.specs.declared.script.DeclKind.{DeclKind}
-use Rattle.ts_syntax.specs.Tree.{Tree, number, variable, item, size, message_item, message_size, call, negative, inverse, two, paren, Trees, no_trees, tree_then, Act, set, set_item, append, take_last, clear, call_alone, if_then, if_else, for_next, while_do, Acts, no_acts, act_then, Source}
+use Rattle.ts_syntax.specs.Tree.{Tree, number, variable, item, size, message_item, message_size, call, negative, inverse, two, paren, Trees, no_trees, tree_then, Act, set, set_item, append, take_last, clear, call_alone, if_then, if_else, for_next, while_do, run_procedure, Acts, no_acts, act_then, Source, Procedure, ProcedureSource}
 
 -- the levels of expressions, from the loosest
 pub data Level : Type 0 where
@@ -117,23 +120,29 @@ abbrev mutual
   ArgsDerived no_trees = Unit {0}
   ArgsDerived (tree_then e es) = Derived e × ArgsDerived es
 
--- each expression in a statement is derived
-abbrev mutual
-  pub ActDerived : Act → Type 0
-  ActDerived (set w e) = Derived e
-  ActDerived (set_item w i e) = Derived i × Derived e
-  ActDerived (append w e) = Derived e
-  ActDerived (take_last w b) = Unit {0}
-  ActDerived (clear w) = Unit {0}
-  ActDerived (call_alone w es) = ArgsDerived es
-  ActDerived (if_then e a) = Derived e × ActsDerived a
-  ActDerived (if_else e a b) = Derived e × ActsDerived a × ActsDerived b
-  ActDerived (for_next w f t s a v) = Derived f × Derived t × ActsDerived a
-  ActDerived (while_do e a) = Derived e × ActsDerived a
+-- the arguments of a `do`
+abbrev pub RunDerived : Dialect → Trees → Type 0
+RunDerived dialect.Plain es = ⊥
+RunDerived dialect.Procedures es = ArgsDerived es
 
-  pub ActsDerived : Acts → Type 0
-  ActsDerived no_acts = Unit {0}
-  ActsDerived (act_then a more) = ActDerived a × ActsDerived more
+-- each expression in a statement is derived, and the dialect has each statement
+abbrev mutual
+  pub ActDerived : Dialect → Act → Type 0
+  ActDerived d (set w e) = Derived e
+  ActDerived d (set_item w i e) = Derived i × Derived e
+  ActDerived d (append w e) = Derived e
+  ActDerived d (take_last w b) = Unit {0}
+  ActDerived d (clear w) = Unit {0}
+  ActDerived d (call_alone w es) = ArgsDerived es
+  ActDerived d (if_then e a) = Derived e × ActsDerived d a
+  ActDerived d (if_else e a b) = Derived e × ActsDerived d a × ActsDerived d b
+  ActDerived d (for_next w f t s a v) = Derived f × Derived t × ActsDerived d a
+  ActDerived d (while_do e a) = Derived e × ActsDerived d a
+  ActDerived d (run_procedure w es) = RunDerived d es
+
+  pub ActsDerived : Dialect → Acts → Type 0
+  ActsDerived d no_acts = Unit {0}
+  ActsDerived d (act_then a more) = ActDerived d a × ActsDerived d more
 
 -- names of one declaration, and then whole declarations
 abbrev pub NamesFollow : DeclKind → List Decl → Type 0
@@ -145,7 +154,27 @@ abbrev pub DeclsDerived : List Decl → Type 0
 DeclsDerived [] = Unit {0}
 DeclsDerived (d ∷ ds) = (d.first ≡ true) × NamesFollow d.kind ds
 
+-- the statements of each procedure are derived
+abbrev pub ProceduresDerived : List Procedure → Type 0
+ProceduresDerived [] = Unit {0}
+ProceduresDerived (p ∷ ps) = ActsDerived dialect.Procedures p.body × ProceduresDerived ps
+
 -- a script that the grammar derives
 pub record IsDerived (s : Source) : Type 0 where
   pub decls : DeclsDerived s.decls
-  pub body : ActsDerived s.body
+  pub body : ActsDerived dialect.Plain s.body
+
+-- a dialect's procedures
+abbrev pub ProceduresIn : Dialect → List Procedure → Type 0
+ProceduresIn dialect.Plain ps = ps ≡ []
+ProceduresIn dialect.Procedures ps = ProceduresDerived ps
+
+-- a script that a dialect's grammar derives; where the dialect has no procedures, the script has none
+pub record IsDerivedIn (d : Dialect) (s : ProcedureSource) : Type 0 where
+  pub decls : DeclsDerived s.decls
+  pub procs : ProceduresIn d s.procs
+  pub body : ActsDerived d s.body
+
+-- a script with procedures that the grammar derives
+abbrev pub IsDerivedWithProcedures : ProcedureSource → Type 0
+IsDerivedWithProcedures s = IsDerivedIn dialect.Procedures s

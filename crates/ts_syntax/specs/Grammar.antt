@@ -1,15 +1,18 @@
--- TinyScript's grammar, rule by rule, and what it derives.
+-- TinyScript's grammar and that of its dialect with procedures, rule by rule, and what they derive.
 use Rattle.std.specs.Prelude.{◌≡◌, ℕ, List, [], ◌∷◌, ◌++◌}
 use Rattle.ts_syntax.specs.declared.token.TokenKind.{TokenKind}
 use Rattle.ts_syntax.specs.declared.token.TokenKind.TheVariants as kind
 
 infixr 30 ◌▸◌
 infixr 20 ◌∣◌
--- the names of the rules
+-- the names of the rules; those of `pscript`, `proc` and `pstmt` are a script with procedures, a procedure and a statement there
 pub data Rule : Type 0 where
   script : Rule
   decl : Rule
   stmt : Rule
+  pscript : Rule
+  proc : Rule
+  pstmt : Rule
   expr : Rule
   andx : Rule
   notx : Rule
@@ -43,19 +46,34 @@ arguments = maybe (rule expr ▸ many (key kind.Comma ▸ rule expr))
 abbrev pub step : Part
 step = maybe (key kind.Step ▸ maybe (key kind.Minus) ▸ NUM)
 
--- what each rule is
-abbrev pub rules : Rule → Part
-rules script = many (rule decl) ▸ many (rule stmt)
-rules decl = (key kind.Shared ∣ key kind.Private ∣ key kind.Buffer) ▸ NAME ▸ many (key kind.Comma ▸ NAME) ▸ key kind.Semi
-rules stmt = NAME ▸ key kind.Eq ▸ rule expr ▸ key kind.Semi
+-- the parameters of a procedure: `[ NAME { "," NAME } ]`
+abbrev pub parameters : Part
+parameters = maybe (NAME ▸ many (key kind.Comma ▸ NAME))
+
+-- the forms of a statement, with blocks of a rule's statements
+abbrev pub forms : Rule → Part
+forms block = NAME ▸ key kind.Eq ▸ rule expr ▸ key kind.Semi
     ∣ NAME ▸ key kind.Eq ▸ NAME ▸ key kind.OpenBox ▸ key kind.CloseBox ▸ key kind.Semi
     ∣ NAME ▸ key kind.OpenBox ▸ rule expr ▸ key kind.CloseBox ▸ key kind.Eq ▸ rule expr ▸ key kind.Semi
     ∣ NAME ▸ key kind.OpenBox ▸ key kind.CloseBox ▸ key kind.Eq ▸ rule expr ▸ key kind.Semi
     ∣ key kind.Clear ▸ key kind.Open ▸ NAME ▸ key kind.Close ▸ key kind.Semi
     ∣ NAME ▸ key kind.Open ▸ arguments ▸ key kind.Close ▸ key kind.Semi
-    ∣ key kind.If ▸ rule expr ▸ key kind.Then ▸ many (rule stmt) ▸ maybe (key kind.Else ▸ many (rule stmt)) ▸ key kind.End ▸ key kind.If
-    ∣ key kind.For ▸ NAME ▸ key kind.Eq ▸ rule expr ▸ key kind.To ▸ rule expr ▸ step ▸ many (rule stmt) ▸ key kind.Next ▸ NAME
-    ∣ key kind.While ▸ rule expr ▸ many (rule stmt) ▸ key kind.End ▸ key kind.While
+    ∣ key kind.If ▸ rule expr ▸ key kind.Then ▸ many (rule block) ▸ maybe (key kind.Else ▸ many (rule block)) ▸ key kind.End ▸ key kind.If
+    ∣ key kind.For ▸ NAME ▸ key kind.Eq ▸ rule expr ▸ key kind.To ▸ rule expr ▸ step ▸ many (rule block) ▸ key kind.Next ▸ NAME
+    ∣ key kind.While ▸ rule expr ▸ many (rule block) ▸ key kind.End ▸ key kind.While
+
+-- the form that the dialect with procedures adds
+abbrev pub do_form : Part
+do_form = key kind.Do ▸ NAME ▸ key kind.Open ▸ arguments ▸ key kind.Close ▸ key kind.Semi
+
+-- what each rule is
+abbrev pub rules : Rule → Part
+rules script = many (rule decl) ▸ many (rule stmt)
+rules decl = (key kind.Shared ∣ key kind.Private ∣ key kind.Buffer) ▸ NAME ▸ many (key kind.Comma ▸ NAME) ▸ key kind.Semi
+rules stmt = forms stmt
+rules pscript = many (rule decl) ▸ many (rule proc) ▸ many (rule pstmt)
+rules proc = key kind.Proc ▸ NAME ▸ key kind.Open ▸ parameters ▸ key kind.Close ▸ many (rule pstmt) ▸ key kind.End ▸ key kind.Proc
+rules pstmt = forms pstmt ∣ do_form
 rules expr = rule andx ▸ many (key kind.Or ▸ rule andx)
 rules andx = rule notx ▸ many (key kind.And ▸ rule notx)
 rules notx = key kind.Not ▸ rule notx ∣ rule cmp

@@ -1,9 +1,11 @@
 -- When tokens are a script and when they begin one, by what derived trees spell.
 use Rattle.std.specs.Prelude.{◌≡◌, List, ◌++◌}
 use Rattle.ts_syntax.specs.declared.token.TokenKind.{TokenKind}
-use Rattle.ts_syntax.specs.Tree.{Source}
-use Rattle.ts_syntax.specs.Spelling.{source_spelled}
-use Rattle.ts_syntax.specs.Derived.{IsDerived}
+use Rattle.ts_syntax.specs.declared.dialect.Dialect.{Dialect}
+use Rattle.ts_syntax.specs.declared.dialect.Dialect.TheVariants as dialect
+use Rattle.ts_syntax.specs.Tree.{Source, ProcedureSource}
+use Rattle.ts_syntax.specs.Spelling.{source_spelled, procedure_source_spelled}
+use Rattle.ts_syntax.specs.Derived.{IsDerived, IsDerivedWithProcedures}
 
 -- tokens that a derived tree spells
 pub record IsScript (ms : List TokenKind) : Type 0 where
@@ -11,7 +13,22 @@ pub record IsScript (ms : List TokenKind) : Type 0 where
   pub derived : IsDerived source
   pub spells : source_spelled source ≡ ms
 
--- tokens that some tokens after them make a script
-pub record BeginsScript (ms : List TokenKind) : Type 0 where
+-- the same, with procedures
+pub record IsProcedureScript (ms : List TokenKind) : Type 0 where
+  pub source : ProcedureSource
+  pub derived : IsDerivedWithProcedures source
+  pub spells : procedure_source_spelled source ≡ ms
+
+-- a script of a dialect
+abbrev pub IsScriptIn : Dialect → List TokenKind → Type 0
+IsScriptIn dialect.Plain ms = IsScript ms
+IsScriptIn dialect.Procedures ms = IsProcedureScript ms
+
+-- tokens that some tokens after them make a script of a dialect
+pub record BeginsScriptIn (d : Dialect) (ms : List TokenKind) : Type 0 where
   pub rest : List TokenKind
-  pub script : IsScript (ms ++ rest)
+  pub script : IsScriptIn d (ms ++ rest)
+
+-- tokens that some tokens after them make a script
+abbrev pub BeginsScript : List TokenKind → Type 0
+BeginsScript ms = BeginsScriptIn dialect.Plain ms

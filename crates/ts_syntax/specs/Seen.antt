@@ -7,7 +7,9 @@ use Rattle.ts_syntax.specs.declared.stmt.Stmt.{Stmt}
 use Rattle.ts_syntax.specs.declared.stmt.Stmt.TheOpen.{Stmt-F}
 use Rattle.ts_syntax.specs.declared.stmt.Stmt.TheFolds.{fold-Stmt}
 use Rattle.ts_syntax.specs.declared.script.Script.{Script}
-use Rattle.ts_syntax.specs.Tree.{Tree, number, variable, item, size, message_item, message_size, call, negative, inverse, two, paren, Trees, no_trees, tree_then, Act, set, set_item, append, take_last, clear, call_alone, if_then, if_else, for_next, while_do, Acts, no_acts, act_then, Source}
+use Rattle.ts_syntax.specs.declared.procedure.Proc.{Proc}
+use Rattle.ts_syntax.specs.declared.procedure.ProcScript.{ProcScript}
+use Rattle.ts_syntax.specs.Tree.{Tree, number, variable, item, size, message_item, message_size, call, negative, inverse, two, paren, Trees, no_trees, tree_then, Act, set, set_item, append, take_last, clear, call_alone, if_then, if_else, for_next, while_do, run_procedure, Acts, no_acts, act_then, Source, Procedure, ProcedureSource}
 
 -- a list of expressions as arguments
 abbrev pub trees : List Tree → Trees
@@ -56,6 +58,7 @@ act_step (Stmt-F.Do w es) = call_alone w (trees_of es)
 act_step (Stmt-F.If e a b) = if_act (tree_of e) a b
 act_step (Stmt-F.For h a v) = for_next h.var (tree_of h.from) (tree_of h.to) h.step (acts a) v
 act_step (Stmt-F.While e a) = while_do (tree_of e) (acts a)
+act_step (Stmt-F.Run w es) = run_procedure w (trees_of es)
 
 -- a statement, and a block
 abbrev pub act_of : Stmt → Act
@@ -67,3 +70,10 @@ acts_of more = acts (map act_of more)
 -- a script
 abbrev pub source_of : Script → Source
 source_of s = record { decls = s.decls; body = acts_of s.body }
+
+-- a procedure, and a script with procedures
+abbrev pub procedure_of : Proc → Procedure
+procedure_of p = record { name = p.name; params = p.params; body = acts_of p.body }
+
+abbrev pub procedure_source_of : ProcScript → ProcedureSource
+procedure_source_of s = record { decls = s.decls; procs = map procedure_of s.procs; body = acts_of s.body }

@@ -10,7 +10,7 @@ use Rattle.ts_syntax.specs.declared.script.DeclKind.TheVariants as decl
 use Rattle.ts_syntax.specs.declared.token.Token.{Token}
 use Rattle.ts_syntax.specs.declared.token.TokenKind.{TokenKind}
 use Rattle.ts_syntax.specs.declared.token.TokenKind.TheVariants as kind
-use Rattle.ts_syntax.specs.Tree.{Tree, number, variable, item, size, message_item, message_size, call, negative, inverse, two, paren, Trees, no_trees, tree_then, Act, set, set_item, append, take_last, clear, call_alone, if_then, if_else, for_next, while_do, Acts, no_acts, act_then, Source}
+use Rattle.ts_syntax.specs.Tree.{Tree, number, variable, item, size, message_item, message_size, call, negative, inverse, two, paren, Trees, no_trees, tree_then, Act, set, set_item, append, take_last, clear, call_alone, if_then, if_else, for_next, while_do, run_procedure, Acts, no_acts, act_then, Source, Procedure, ProcedureSource}
 
 -- the sign or keyword of an operator
 abbrev pub sign : BinOp → TokenKind
@@ -77,10 +77,28 @@ abbrev mutual
   act_spelled (if_else e a b) = kind.If ∷ spelled e ++ (kind.Then ∷ acts_spelled a ++ (kind.Else ∷ acts_spelled b ++ kind.End ∷ kind.If ∷ []))
   act_spelled (for_next w f t s a v) = kind.For ∷ name w ∷ kind.Eq ∷ spelled f ++ (kind.To ∷ spelled t ++ (step_spelled s ++ (acts_spelled a ++ kind.Next ∷ name v ∷ [])))
   act_spelled (while_do e a) = kind.While ∷ spelled e ++ (acts_spelled a ++ kind.End ∷ kind.While ∷ [])
+  act_spelled (run_procedure w es) = kind.Do ∷ name w ∷ kind.Open ∷ args_spelled es ++ kind.Close ∷ kind.Semi ∷ []
 
   pub acts_spelled : Acts → List TokenKind
   acts_spelled no_acts = []
   acts_spelled (act_then a more) = act_spelled a ++ acts_spelled more
+
+-- the parameters of a procedure, with commas between them; and those after the first
+abbrev pub other_params_spelled : List Word → List TokenKind
+other_params_spelled [] = []
+other_params_spelled (w ∷ ws) = kind.Comma ∷ name w ∷ other_params_spelled ws
+
+abbrev pub params_spelled : List Word → List TokenKind
+params_spelled [] = []
+params_spelled (w ∷ ws) = name w ∷ other_params_spelled ws
+
+-- a procedure's tokens, and those of procedures
+abbrev pub procedure_spelled : Procedure → List TokenKind
+procedure_spelled p = kind.Proc ∷ name p.name ∷ kind.Open ∷ params_spelled p.params ++ (kind.Close ∷ acts_spelled p.body ++ kind.End ∷ kind.Proc ∷ [])
+
+abbrev pub procedures_spelled : List Procedure → List TokenKind
+procedures_spelled [] = []
+procedures_spelled (p ∷ ps) = procedure_spelled p ++ procedures_spelled ps
 
 -- the keyword of a declaration
 abbrev pub decl_keyword : DeclKind → TokenKind
@@ -111,6 +129,10 @@ decls_spelled (d ∷ ds) = decl_start d.first d.kind ∷ name d.word ∷ (decls_
 -- a script's tokens
 abbrev pub source_spelled : Source → List TokenKind
 source_spelled s = decls_spelled s.decls ++ acts_spelled s.body
+
+-- those of a script with procedures
+abbrev pub procedure_source_spelled : ProcedureSource → List TokenKind
+procedure_source_spelled s = decls_spelled s.decls ++ (procedures_spelled s.procs ++ acts_spelled s.body)
 
 -- the places that an expression keeps: those of its words
 abbrev mutual
@@ -148,6 +170,7 @@ abbrev mutual
   act_places (if_else e a b) = places e ++ (acts_places a ++ acts_places b)
   act_places (for_next w f t s a v) = w.place ∷ places f ++ (places t ++ (step_places s ++ (acts_places a ++ v.place ∷ [])))
   act_places (while_do e a) = places e ++ acts_places a
+  act_places (run_procedure w es) = w.place ∷ args_places es
 
   pub acts_places : Acts → List ℕ
   acts_places no_acts = []
@@ -159,6 +182,20 @@ decls_places ds = map (λ d. d.word.place) ds
 -- the places that a script keeps, in the order in which they stand
 abbrev pub source_places : Source → List ℕ
 source_places s = decls_places s.decls ++ acts_places s.body
+
+-- those of a procedure, of procedures, and of a script with procedures
+abbrev pub params_places : List Word → List ℕ
+params_places ws = map (λ w. w.place) ws
+
+abbrev pub procedure_places : Procedure → List ℕ
+procedure_places p = p.name.place ∷ params_places p.params ++ acts_places p.body
+
+abbrev pub procedures_places : List Procedure → List ℕ
+procedures_places [] = []
+procedures_places (p ∷ ps) = procedure_places p ++ procedures_places ps
+
+abbrev pub procedure_source_places : ProcedureSource → List ℕ
+procedure_source_places s = decls_places s.decls ++ (procedures_places s.procs ++ acts_places s.body)
 
 -- the place of a token where it is a literal
 abbrev pub number_place : Token → TokenKind → List ℕ

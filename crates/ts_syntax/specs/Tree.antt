@@ -1,5 +1,5 @@
 -- Trees without pointers: what definitions and laws see of a script.
-use Rattle.std.specs.Prelude.{ℕ, List, Option}
+use Rattle.std.specs.Prelude.{ℕ, List, [], Option}
 use Rattle.ts_syntax.specs.declared.bin_op.BinOp.{BinOp}
 use Rattle.ts_syntax.specs.declared.word.Word.{Word}
 use Rattle.ts_syntax.specs.declared.stmt.Step.{Step}
@@ -24,7 +24,7 @@ mutual
     no_trees : Trees
     tree_then : Tree → Trees → Trees
 
--- a statement, a case for each of its forms; and the statements of a block
+-- a statement, a case for each of its forms, of which the last stands in scripts with procedures alone; and the statements of a block
 mutual
   pub data Act : Type 0 where
     set : Word → Tree → Act
@@ -37,6 +37,7 @@ mutual
     if_else : Tree → Acts → Acts → Act
     for_next : Word → Tree → Tree → Option Step → Acts → Word → Act
     while_do : Tree → Acts → Act
+    run_procedure : Word → Trees → Act
 
   pub data Acts : Type 0 where
     no_acts : Acts
@@ -46,3 +47,19 @@ mutual
 pub record Source : Type 0 where
   pub decls : List Decl
   pub body : Acts
+
+-- a procedure: its name, its parameters and its statements
+pub record Procedure : Type 0 where
+  pub name : Word
+  pub params : List Word
+  pub body : Acts
+
+-- a script with procedures
+pub record ProcedureSource : Type 0 where
+  pub decls : List Decl
+  pub procs : List Procedure
+  pub body : Acts
+
+-- a plain script as one without procedures
+abbrev pub without_procedures : Source → ProcedureSource
+without_procedures s = record { decls = s.decls; procs = []; body = s.body }

@@ -45,6 +45,8 @@ pub enum Stmt {
     For(ForHead, Block, Word),
     /// `while e .. end while`
     While(Expr, Block),
+    /// `do q(e, e);`, which runs a procedure. No text of plain TinyScript spells it.
+    Run(Word, Args),
 }
 
 /// Statements in order. Contracts see a list of Stmt.

@@ -23,6 +23,9 @@ pub enum TokenKind {
     Size,
     Clear,
     Msg,
+    /// A keyword where a script may have procedures, and a plain name elsewhere; `Do` likewise.
+    Proc,
+    Do,
     /// `;`
     Semi,
     /// `,`

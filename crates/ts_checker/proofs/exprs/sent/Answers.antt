@@ -1,10 +1,10 @@
 use Rattle.std.proofs.Common.{rules}
-use Rattle.ts_checker.specs.Seen.{names_of}
+use Rattle.ts_checker.specs.Seen.{scope_names}
 use Rattle.ts_checker.proofs.CallLemmas.{sent_other}
 use Rattle.ts_checker.proofs.exprs.sent.Goals as goal
 use Rattle.ts_checker.proofs.exprs.sent.Goals.{in_default-via-then-args-lt1, in_default-via-else-args-lt1+else-args-lt2}
 
 pub returns-in_default : goal.returns-in_default
 returns-in_default c =
-    sent_other (names_of c.args.scope.now) c.args.place c.args.args.now
+    sent_other (scope_names c.args.scope.now) c.args.place c.args.args.now
     (elim c.in_default.branch [ in_default-via-then-args-lt1 w ↦ λ e. search rules | in_default-via-else-args-lt1+else-args-lt2 w ↦ λ e. search rules ])

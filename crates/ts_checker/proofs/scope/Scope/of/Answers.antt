@@ -1,6 +1,6 @@
 use Rattle.std.proofs.Common.{ap, sym, ◌∙◌}
 use Rattle.ts_checker.specs.Names.{names_before, declare, declare_all}
-use Rattle.ts_checker.specs.Seen.{names_of}
+use Rattle.ts_checker.specs.Seen.{scope_names}
 use Rattle.ts_checker.proofs.CheckLemmas.{refuses_along, gives_refusal}
 use Rattle.ts_checker.proofs.LoopLemmas.{decls_refused}
 use Rattle.ts_checker.proofs.RoomLemmas.{fit_none}
@@ -12,7 +12,7 @@ loop-decl-init c =
 
 pub returns-in_err-declare : goal.returns-in_err-declare
 returns-in_err-declare c =
-    gives_refusal names_of c.in_err-declare.field-0.0 c.from_residual.result (declare_all (names_before c.args.desc.now) c.args.decls.now) c.from_residual.ensures.1
-    (refuses_along c.in_err-declare.field-0.0 (declare (names_of c.loop-decl.scope) c.decl-item.result) (declare_all (names_before c.args.desc.now) c.args.decls.now)
-    (λ f refused. c.loop-decl.invariant.0 ∙ decls_refused (names_of c.loop-decl.scope) c.args.decls.now c.loop-decl.decl-index c.decl-item.result f c.loop-decl-test.true c.decl-item.is refused)
+    gives_refusal scope_names c.in_err-declare.field-0.0 c.from_residual.result (declare_all (names_before c.args.desc.now) c.args.decls.now) c.from_residual.ensures.1
+    (refuses_along c.in_err-declare.field-0.0 (declare (scope_names c.loop-decl.scope) c.decl-item.result) (declare_all (names_before c.args.desc.now) c.args.decls.now)
+    (λ f refused. c.loop-decl.invariant.0 ∙ decls_refused (scope_names c.loop-decl.scope) c.args.decls.now c.loop-decl.decl-index c.decl-item.result f c.loop-decl-test.true c.decl-item.is refused)
     c.in_err-declare.ensures.value)

@@ -6,7 +6,7 @@ use Rattle.ts_syntax.specs.declared.stmt.Stmt.TheVariants as does
 use Rattle.ts_syntax.specs.Spelling.{act_spelled, acts_spelled}
 use Rattle.ts_syntax.specs.Seen.{act_of, acts_of}
 use Rattle.ts_printer.proofs.PrintLemmas.{◌⋙◌, tokens_by, acts_start, acts_end, acts_next, for_spelled}
-use Rattle.ts_syntax.proofs.SeenLemmas.{act_set, act_set_item, act_append, act_take_last, act_clear, act_call_alone, act_if_then, act_if_else, act_while_do}
+use Rattle.ts_syntax.proofs.SeenLemmas.{act_set, act_set_item, act_append, act_take_last, act_clear, act_call_alone, act_if_then, act_if_else, act_while_do, act_run_procedure}
 use Rattle.ts_printer.proofs.printer.Printer.+print_stmt.Goals as goal
 
 pub stmt-returns-in-Set : goal.stmt-returns-in-Set
@@ -62,6 +62,12 @@ pub stmt-returns-in-While : goal.stmt-returns-in-While
 stmt-returns-in-While g t c =
     tokens_by (ap act_spelled (ap act_of c.in-While.is ∙ act_while_do _ _))
     (c.token-in-While.ensures kind.While refl ⋙ (c.expr-in-While.ensures ⋙ (c.block-in-While.ensures ⋙ c.end-in-While.ensures kind.While refl)))
+
+pub stmt-returns-in-Run : goal.stmt-returns-in-Run
+stmt-returns-in-Run g t c =
+    tokens_by (ap act_spelled (ap act_of c.in-Run.is ∙ act_run_procedure _ _))
+    (c.token-in-Run.ensures kind.Do refl ⋙ c.name-in-Run.ensures ⋙ c.token-in-Run-2.ensures kind.Open refl
+    ⋙ (c.args-in-Run.ensures ⋙ (c.token-in-Run-3.ensures kind.Close refl ⋙ c.token-in-Run-4.ensures kind.Semi refl)))
 
 pub block-loop-stmt-init : goal.block-loop-stmt-init
 block-loop-stmt-init g t c = acts_start _ _ _ _

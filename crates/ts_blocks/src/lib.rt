@@ -1,0 +1,7 @@
+//! TinyScript's statements and blocks, by recursive descent.
+#![tactic(auto)]
+
+pub mod opening;
+pub mod stmt;
+
+pub use stmt::block;

@@ -1,0 +1,163 @@
+-- Reading declarations, procedures and scripts: which token is taken in each state, and where none fits.
+use Rattle.std.proofs.Common.{◌≡◌, ℕ, List, [], ◌∷◌, ◌++◌, Some, None, Ok, Err, refl, sym, ◌∙◌, ap, subst, Result, Bor}
+use Rattle.ts_syntax.specs.declared.word.Word.{Word}
+use Rattle.ts_syntax.specs.declared.dialect.Dialect.{Dialect}
+use Rattle.ts_syntax.specs.declared.dialect.Dialect.TheVariants as dialect
+use Rattle.ts_syntax.specs.declared.stmt.Stmt.{Stmt}
+use Rattle.ts_syntax.specs.declared.script.Decl.{Decl}
+use Rattle.ts_syntax.specs.declared.token.Token.{Token}
+use Rattle.ts_syntax.specs.declared.token.TokenKind.{TokenKind}
+use Rattle.ts_syntax.specs.declared.token.TokenKind.TheVariants as kind
+use Rattle.ts_syntax.specs.Seen.{acts_of, procedure_source_of}
+use Rattle.ts_syntax.specs.Spelling.{kinds}
+use Rattle.ts_syntax.specs.Tree.{Acts, no_acts, Procedure}
+use Rattle.ts_machine.specs.Code.{code_of}
+use Rattle.ts_machine.specs.Machine.{top, State, decls, block, word, step, step_frame, takes, places_after, first_place, finish, going, run, start, main, proc_part, dialect_of, procedures, proc_word, proc_named, proc_opened, param_read, param_due, read_script, ending, procedure, proc_ended, step_proc}
+use Rattle.ts_machine.specs.Parsing.{noted_then, reads, Starts, Lacks, StartsName, Reads}
+use Rattle.ts_blocks.specs.Blocks.{LacksStmt, FrameIn}
+use Rattle.ts_parser.specs.Scripts.{decl_kind, LacksDecl, Header, params_due, script_frame, FewIn, Routine, ReadsScript}
+use Rattle.ts_machine.proofs.Reading.{sign_read, name_read, stops, agree}
+use Rattle.ts_statements.proofs.SimpleLemmas.{sign_stops, IsOther, lacks_first}
+use Rattle.ts_blocks.proofs.OpeningLemmas.{block_stops, ends_block}
+use Rattle.std.specs.Result.{IsErrAnd}
+use Rattle.ts_syntax.specs.declared.procedure.ProcScript.{ProcScript}
+use Rattle.ts_machine.specs.declared.halt.Halt.{Halt}
+use Rattle.ts_statements.proofs.Halting.{passed_on, same_fault}
+
+-- ---- procedures
+
+pub header_begins : {v : Word} {ts us vs : List Token} → StartsName v ts us → Starts kind.Open us vs → (ds : List Decl) (ps : List Procedure) → reads ts (proc_word ds ps) ≡ reads vs (proc_opened v ds ps)
+header_begins {v} {ts} {us} s o ds ps =
+    ap (λ xs. reads xs (proc_word ds ps)) s.are
+    ∙ name_read s.token us v.name (proc_word ds ps) (proc_named v ds ps) s.name (ap (λ p. Some (proc_named (word v.name p) ds ps)) (sym s.place))
+    ∙ sign_read kind.Open o tt _ _ (λ p. refl)
+
+params_step : (w : Word) (ds : List Decl) (ps : List Procedure) (m : TokenKind) → IsOther kind.Close m → (p : ℕ) → step (proc_opened w ds ps) m p ≡ step (param_due w [] ds ps) m p
+params_step w ds ps kind.Close h p = absurd (h refl)
+params_step w ds ps m h p = refl
+
+-- the first parameter
+pub params_begin : (ts : List Token) → Lacks kind.Close ts → (h : Header) → reads ts (params_due h) ≡ reads ts (param_due h.name [] h.decls h.procs)
+params_begin ts l h = agree ts _ _ refl refl (λ t rest e p. params_step h.name h.decls h.procs t.kind (lacks_first kind.Close ts l t rest e) p)
+
+pub param_taken : {v : Word} {ts us : List Token} → StartsName v ts us → (w : Word) (ws : List Word) (ds : List Decl) (ps : List Procedure) → reads ts (param_due w ws ds ps) ≡ reads us (param_read w ws v ds ps)
+param_taken {v} {ts} {us} s w ws ds ps =
+    ap (λ xs. reads xs (param_due w ws ds ps)) s.are
+    ∙ name_read s.token us v.name (param_due w ws ds ps) (param_read w ws v ds ps) s.name (ap (λ p. Some (param_read w ws (word v.name p) ds ps)) (sym s.place))
+
+pub param_follows : {ts us : List Token} → Starts kind.Comma ts us → (w : Word) (ws : List Word) (v : Word) (ds : List Decl) (ps : List Procedure) → reads ts (param_read w ws v ds ps) ≡ reads us (param_due w (ws ++ v ∷ []) ds ps)
+param_follows o w ws v ds ps = sign_read kind.Comma o tt _ _ (λ p. refl)
+
+pub params_close : {ts us : List Token} → Starts kind.Close ts us → (w : Word) (ws : List Word) (v : Word) (ds : List Decl) (ps : List Procedure) → reads ts (param_read w ws v ds ps) ≡ reads us (block no_acts (proc_part w (ws ++ v ∷ []) ds ps))
+params_close o w ws v ds ps = sign_read kind.Close o tt _ _ (λ p. refl)
+
+only_param : (w : Word) (ws : List Word) (v : Word) (ds : List Decl) (ps : List Procedure) (m : TokenKind) → IsOther kind.Comma m → IsOther kind.Close m → (p : ℕ) → step (param_read w ws v ds ps) m p ≡ None
+only_param w ws v ds ps kind.Comma h g p = absurd (h refl)
+only_param w ws v ds ps kind.Close h g p = absurd (g refl)
+only_param w ws v ds ps m h g p = refl
+
+pub param_stops : {ts rest : List Token} → Lacks kind.Comma ts → (rest ≡ ts) × Lacks kind.Close ts → (w : Word) (ws : List Word) (v : Word) (ds : List Decl) (ps : List Procedure) → reads ts (param_read w ws v ds ps) ≡ Err (kinds rest)
+param_stops {ts} {rest} o l w ws v ds ps =
+    stops ts _ refl (λ t more e p. only_param w ws v ds ps t.kind (lacks_first kind.Comma ts o t more e) (lacks_first kind.Close ts l.1 t more e) p) ∙ ap (λ z. Err (kinds z)) (sym l.0)
+
+pub proc_begins : {ts us : List Token} → Starts kind.Proc ts us → (ds : List Decl) (ps : List Procedure) → reads ts (procedures ds ps) ≡ reads us (proc_word ds ps)
+proc_begins o ds ps = sign_read kind.Proc o tt _ _ (λ p. refl)
+
+main_step : (ds : List Decl) (ps : List Procedure) (m : TokenKind) → IsOther kind.Proc m → (p : ℕ) → step (procedures ds ps) m p ≡ step (block no_acts (main ds ps)) m p
+main_step ds ps kind.Proc h p = absurd (h refl)
+main_step ds ps m h p = refl
+
+-- no further procedure
+pub main_begins : (ts : List Token) → Lacks kind.Proc ts → (ds : List Decl) (ps : List Procedure) → reads ts (procedures ds ps) ≡ reads ts (block no_acts (main ds ps))
+main_begins ts l ds ps = agree ts _ _ refl refl (λ t rest e p. main_step ds ps t.kind (lacks_first kind.Proc ts l t rest e) p)
+
+pub routine_ends : (a : Acts) (w : Word) (ws : List Word) (ds : List Decl) (ps : List Procedure) (m : TokenKind) → IsOther kind.End m → step_frame a (proc_part w ws ds ps) m ≡ None
+routine_ends a w ws ds ps kind.End h = absurd (h refl)
+routine_ends a w ws ds ps m h = refl
+
+abbrev pub routine_in : Routine → FrameIn dialect.Procedures
+routine_in k = record { frame = proc_part k.header.name k.params k.header.decls k.header.procs; speaks = refl }
+
+only_proc : (q : State) (m : TokenKind) → (code_of m ≡ code_of kind.Proc → ⊥) → step_proc m q ≡ None
+only_proc q kind.Proc h = absurd (h refl)
+only_proc q m h = refl
+
+pub routine_open : {ts rest : List Token} → LacksStmt dialect.Procedures ts → (rest ≡ ts) × Lacks kind.End ts → (a : Acts) (k : Routine) → reads ts (block a (proc_part k.header.name k.params k.header.decls k.header.procs)) ≡ Err (kinds rest)
+routine_open o l a k =
+    block_stops kind.End o l a (proc_part k.header.name k.params k.header.decls k.header.procs) refl refl (routine_ends a k.header.name k.params k.header.decls k.header.procs)
+
+pub routine_end : {ts us : List Token} → Starts kind.End ts us → (a : Acts) (w : Word) (ws : List Word) (ds : List Decl) (ps : List Procedure) → reads ts (block a (proc_part w ws ds ps)) ≡ reads us (proc_ended (procedure w ws a) ds ps)
+routine_end s a w ws ds ps = sign_read kind.End s tt _ _ (λ p. refl)
+
+pub routine_named : {ts us : List Token} → Starts kind.Proc ts us → (q : Procedure) (ds : List Decl) (ps : List Procedure) → reads ts (proc_ended q ds ps) ≡ reads us (procedures ds (ps ++ q ∷ []))
+routine_named s q ds ps = sign_read kind.Proc s tt _ _ (λ p. refl)
+
+pub routine_left : {ts rest : List Token} → (rest ≡ ts) × Lacks kind.Proc ts → (q : Procedure) (ds : List Decl) (ps : List Procedure) → reads ts (proc_ended q ds ps) ≡ Err (kinds rest)
+routine_left l q ds ps = sign_stops kind.Proc l _ refl (λ m p o. only_proc _ m o)
+
+-- ---- a whole script
+
+plain_step : (ds : List Decl) (m : TokenKind) (p : ℕ) → decl_kind m ≡ None → step (decls dialect.Plain ds) m p ≡ step (block no_acts (top ds)) m p
+plain_step ds kind.Shared p h = cc
+plain_step ds kind.Private p h = cc
+plain_step ds kind.Buffer p h = cc
+plain_step ds m p h = refl
+
+procedures_step : (ds : List Decl) (m : TokenKind) (p : ℕ) → decl_kind m ≡ None → step (decls dialect.Procedures ds) m p ≡ step (procedures ds []) m p
+procedures_step ds kind.Shared p h = cc
+procedures_step ds kind.Private p h = cc
+procedures_step ds kind.Buffer p h = cc
+procedures_step ds m p h = refl
+
+lacks_keyword : (ts : List Token) → LacksDecl ts → (t : Token) (rest : List Token) → ts ≡ t ∷ rest → decl_kind t.kind ≡ None
+lacks_keyword ts l t rest e = let h : LacksDecl (t ∷ rest) = subst LacksDecl e l in h
+
+pub body_begins : (ts : List Token) → LacksDecl ts → (ds : List Decl) → reads ts (decls dialect.Plain ds) ≡ reads ts (block no_acts (top ds))
+body_begins ts l ds = agree ts _ _ refl refl (λ t rest e p. plain_step ds t.kind p (lacks_keyword ts l t rest e))
+
+pub procedures_begin : (ts : List Token) → LacksDecl ts → (ds : List Decl) → reads ts (decls dialect.Procedures ds) ≡ reads ts (procedures ds [])
+procedures_begin ts l ds = agree ts _ _ refl refl (λ t rest e p. procedures_step ds t.kind p (lacks_keyword ts l t rest e))
+
+pub body_speaks : (d : Dialect) (ds : List Decl) (ps : List Procedure) → dialect_of (script_frame d ds ps) ≡ d
+body_speaks dialect.Plain ds ps = refl
+body_speaks dialect.Procedures ds ps = refl
+
+abbrev pub body_frame : (d : Dialect) (ds : List Decl) (ps : List Procedure) → FrameIn d
+body_frame d ds ps = record { frame = script_frame d ds ps; speaks = body_speaks d ds ps }
+
+finish_body : (d : Dialect) (ds : List Decl) (ps : List Procedure) (a : Acts) → FewIn d ps → finish (block a (script_frame d ds ps)) ≡ Some (read_script ds ps a)
+finish_body dialect.Plain ds ps a h = ap (λ z. Some (read_script ds z a)) (sym h)
+finish_body dialect.Procedures ds ps a h = refl
+
+none_behind : (d : Dialect) (ds : List Decl) (ps : List Procedure) (a : Acts) (m : TokenKind) → step_frame a (script_frame d ds ps) m ≡ None
+none_behind dialect.Plain ds ps a m = refl
+none_behind dialect.Procedures ds ps a m = refl
+
+stuck_run : (ks : List TokenKind) (m : TokenKind) (ps : List ℕ) (q : State) → step q m (first_place ps) ≡ None → run (m ∷ ks) ps q ≡ Err (m ∷ ks)
+stuck_run ks m ps q e = ap (λ o. going o (run ks (places_after (takes q m) ps)) (m ∷ ks)) e
+
+-- how the body of a script is read, behind its declarations and procedures
+pub record ReadsBody (d : Dialect) (ts vs : List Token) (ds : List Decl) (ps : List Procedure) (b : List Stmt) : Type 0 where
+  pub begins : reads ts (start d) ≡ reads vs (block (acts_of b) (script_frame d ds ps))
+  pub few : FewIn d ps
+
+pub script_read : (d : Dialect) (ts vs : List Token) (ds : List Decl) (ps : List Procedure) (b : List Stmt) → ReadsBody d ts vs ds ps b → vs ≡ [] → reads ts (start d) ≡ Ok (read_script ds ps (acts_of b), 0 ∷ [])
+script_read d ts vs ds ps b r n =
+    r.begins ∙ ap (λ z. reads z (block (acts_of b) (script_frame d ds ps))) n ∙ ap (λ z. ending z (0 ∷ [])) (finish_body d ds ps (acts_of b) r.few)
+
+left_over : (d : Dialect) (vs : List Token) (ds : List Decl) (ps : List Procedure) (a : Acts) → LacksStmt d vs → ¬ (vs ≡ []) → reads vs (block a (script_frame d ds ps)) ≡ Err (kinds vs)
+left_over d [] ds ps a l n = absurd (n refl)
+left_over d (t ∷ ts) ds ps a l n =
+    stuck_run (kinds ts) t.kind (noted_then (t ∷ ts)) (block a (script_frame d ds ps))
+    (ends_block d t t.kind l a (script_frame d ds ps) (body_speaks d ds ps) _ ∙ none_behind d ds ps a t.kind)
+
+pub script_left : (d : Dialect) (ts vs : List Token) (ds : List Decl) (ps : List Procedure) (b : List Stmt) → ReadsBody d ts vs ds ps b → LacksStmt d vs → ¬ (vs ≡ []) → reads ts (start d) ≡ Err (kinds vs)
+script_left d ts vs ds ps b r o n = r.begins ∙ left_over d vs ds ps (acts_of b) o n
+
+-- a part of a script stops
+pub script_halts : {X K : Type 0} (d : Dialect) (ts us : List Token) (due : K → State) (got : X → K → State) (k : K) → reads ts (start d) ≡ reads us (due k) → (r : Result ProcScript Halt) (e : Halt) → IsErrAnd r (λ x. x ≡ e) →
+    Reads {X = X} {K = K} us due got (Err e) → ReadsScript d ts r
+script_halts {X} {K} d ts us due got k b r e i h =
+    same_fault {Y = ProcScript} (λ s. reads ts (start d) ≡ Ok (procedure_source_of s, 0 ∷ [])) (λ more. reads ts (start d) ≡ Err (kinds more)) r e i
+    (passed_on {X = X × Bor (List Token)} {Y = ProcScript} (λ x. (k : K) → reads us (due k) ≡ reads x.1.now (got x.0 k)) (λ more. (k : K) → reads us (due k) ≡ Err (kinds more))
+    (λ s. reads ts (start d) ≡ Ok (procedure_source_of s, 0 ∷ [])) (λ more. reads ts (start d) ≡ Err (kinds more)) (λ more q. b ∙ q k) e h)

@@ -1,0 +1,10 @@
+//! TinyScript, and its dialect with procedures.
+
+/// What a source is written in.
+#[derive(Clone, Copy, PartialEq, Eq, Debug)]
+pub enum Dialect {
+    /// TinyScript, in which `proc` and `do` are names as any other.
+    Plain,
+    /// TinyScript with procedures, in which `proc` and `do` are keywords.
+    Procedures,
+}
