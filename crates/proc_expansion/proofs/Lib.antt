@@ -1,0 +1,6 @@
+pub mod InOrderLemmas
+pub mod CalleeLemmas
+pub mod ExtentLemmas
+pub mod RenamingLemmas
+pub mod WritingLemmas
+pub mod ExpandLemmas

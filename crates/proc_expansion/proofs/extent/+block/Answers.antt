@@ -1,0 +1,32 @@
+use Rattle.std.proofs.Common.{rules, ◌≡◌, ◌∙◌, List, ap, sym, arith, take, ℕ}
+use Rattle.ts_syntax.specs.declared.stmt.Stmt.{the_lemmas}
+use Rattle.ts_syntax.specs.Seen.{tree_of, act_of, acts_of}
+use Rattle.ts_syntax.specs.Tree.{Act, if_else}
+use Rattle.proc_expansion.specs.Expansion.{Callee, renamed_expr, expanded_act, expanded_acts}
+use Rattle.proc_expansion.specs.Extents.{extent_of as extent_of_acts}
+use Rattle.proc_expansion.specs.Plan.{bodies_of}
+use Rattle.proc_expansion.proofs.ExtentLemmas.{if_else_measured, joined_from}
+use Rattle.proc_expansion.proofs.extent.+block.Goals as goal
+
+pub block_extent-loop-stmt-preserved : goal.block_extent-loop-stmt-preserved
+block_extent-loop-stmt-preserved t c =
+    record {
+      capped = omega (arith, c.then-extent.ensures.count);
+      whole = λ h. c.loop-stmt.invariant.whole h ∙ joined_from (take c.args.count (bodies_of c.args.heads.now.procs.now)) h c.as_slice-stmt-items.result.now c.loop-stmt.stmt-index
+          c.stmt-item.result c.loop-stmt.extent c.extent_of.result c.then-extent.result c.loop-stmt-test.true c.stmt-item.is (c.extent_of.ensures h)
+          c.then-extent.ensures.count c.then-extent.ensures.depth;
+    }
+
+pub extent_of-returns-in-If-default-default-Some : goal.extent_of-returns-in-If-default-default-Some
+extent_of-returns-in-If-default-default-Some t c = λ h.
+    let known : List (List ℕ × Callee) = take c.args.count (bodies_of c.args.heads.now.procs.now) in
+    let seen : act_of c.args.stmt.now ≡ if_else (tree_of c.in-If-default-default-Some.field-0) (acts_of c.in-If-default-default-Some.body) (acts_of c.in-If-default-default-Some.other) =
+    search (rules, the_lemmas) in
+    let is_other : c.block_extent-other.result ≡ extent_of_acts (expanded_acts known h (acts_of c.in-If-default-default-Some.other)) =
+    first_of (search (rules, the_lemmas), cc (c.in-If-default-default-Some.other-is, c.block_extent-other.ensures h)) in
+    if_else_measured (renamed_expr h (tree_of c.in-If-default-default-Some.field-0))
+    (expanded_acts known h (acts_of c.in-If-default-default-Some.body)) (expanded_acts known h (acts_of c.in-If-default-default-Some.other))
+    c.block_extent-body.result c.block_extent-other.result c.then.result c.within-in-If-default-default-Some.result
+    (c.block_extent-body.ensures h) is_other c.then.ensures.count c.then.ensures.depth
+    c.within-in-If-default-default-Some.ensures.count c.within-in-If-default-default-Some.ensures.depth
+    ∙ sym (ap (λ (a : Act). extent_of_acts (expanded_act known h a)) seen)

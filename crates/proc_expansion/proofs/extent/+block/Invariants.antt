@@ -1,0 +1,16 @@
+use Rattle.std.proofs.Common.{◌≡◌, ◌≤◌, take, drop}
+use Rattle.ts_syntax.specs.Seen.{acts_of}
+use Rattle.proc_expansion.specs.Expansion.{Hiding, expanded_acts}
+use Rattle.proc_expansion.specs.Extents.{extent_of}
+use Rattle.proc_expansion.specs.Plan.{bodies_of}
+use Rattle.proc_expansion.proofs.ExtentLemmas.{joined}
+use Rattle.proc_expansion.proofs.extent.+block.Given as goal
+
+-- the extent of all statements is that of those so far and of the rest
+abbrev pub invariant-block_extent-loop-stmt : goal.invariant-block_extent-loop-stmt
+invariant-block_extent-loop-stmt l =
+    record {
+      capped : l.extent.count ≤ 1000000;
+      whole : (h : Hiding) → extent_of (expanded_acts (take l.count (bodies_of l.heads.procs.now)) h (acts_of l.stmt-items))
+          ≡ joined l.extent (extent_of (expanded_acts (take l.count (bodies_of l.heads.procs.now)) h (acts_of (drop l.stmt-index l.stmt-items))));
+    }

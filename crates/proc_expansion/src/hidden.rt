@@ -1,0 +1,52 @@
+//! Names that parameters hide.
+
+ghost use Rattle.std.specs.Prelude.{◌≤◌, ◌+◌, ◌^◌, length, map};
+ghost use Rattle.proc_names.specs.Numbers.{Tabulates};
+
+use crate::numbers::parameter_name;
+use mate_num::NoMemory;
+use proc_names::NameTable;
+use std::alloc::Global;
+use ts_syntax::Word;
+
+/// The parameters that hide names within a body, and the number of the first.
+#[derive(Drop)]
+pub(crate) struct Hidden<'a> {
+    first: u32,
+    params: &'a [Word],
+    places: NameTable<'a>,
+    ghost tabulated: { Tabulates places (map (λ w. w.name) params.now) },
+    ghost few: { first + length params.now ≤ 2 ^ 32 },
+}
+
+impl<'a> Hidden<'a> {
+    ghost use Rattle.std.specs.Prelude.{◌≡◌, IfOk};
+    ghost use Rattle.proc_expansion.specs.Expansion.{renamed};
+    ghost use Rattle.proc_expansion.specs.Hidden.{hiding_of};
+
+    pub(crate) fn of(alloc: Global, first: u32, params: &'a [Word]) -> Result<Hidden<'a>, NoMemory>
+        requires { first + length params.now ≤ 2 ^ 32 }
+        ensures { IfOk result (λ hidden. hiding_of hidden ≡ record { first = first; params = params.now }) }
+    {
+        let places = NameTable::of_words(alloc, params)?;
+        Ok(Hidden {
+            first,
+            params,
+            places,
+        })
+    }
+
+    /// The name of a variable or a buffer, as it stands in the expansion.
+    pub(crate) fn word(&self, alloc: Global, word: &Word) -> Result<Word, NoMemory>
+        ensures { IfOk result (λ new. new ≡ renamed (hiding_of self.now) word.now) }
+    {
+        let name = match self.places.get(&word.name) {
+            None => word.name.copy(),
+            Some(place) => parameter_name(alloc, self.first + place as u32)?,
+        };
+        Ok(Word {
+            name,
+            place: word.place,
+        })
+    }
+}

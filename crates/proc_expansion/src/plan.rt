@@ -1,0 +1,76 @@
+//! What an expansion knows of the procedures of its script.
+
+ghost use Rattle.std.specs.Prelude.{◌≡◌, ◌<◌, ◌^◌, map, IfOk};
+ghost use Rattle.ts_syntax.specs.Seen.{procedure_of};
+ghost use Rattle.proc_names.specs.Heads.{parameter_count};
+ghost use Rattle.proc_expansion.specs.Extents.{body_extents};
+ghost use Rattle.proc_expansion.specs.Plan.{bodies_of, firsts_of};
+
+use crate::extent::{Extent, block_extent, extents};
+use mate_num::NoMemory;
+use proc_names::Heads;
+use std::alloc::Global;
+use ts_syntax::{Block, Proc};
+
+/// The procedures of a script, with the number of each one's first parameter, the extent of its body, and how many parameters
+/// they have.
+#[derive(Drop)]
+pub(crate) struct Plan<'a> {
+    pub(crate) heads: Heads<'a>,
+    pub(crate) firsts: Vec<u32>,
+    pub(crate) extents: Vec<Extent>,
+    pub(crate) parameters: u32,
+    ghost numbered: { firsts.items ≡ firsts_of (bodies_of heads.procs.now) },
+    ghost measured: { extents.items ≡ body_extents (bodies_of heads.procs.now) },
+    ghost counted: { parameters ≡ parameter_count (map procedure_of heads.procs.now) },
+    ghost few: { parameter_count (map procedure_of heads.procs.now) < 2 ^ 32 },
+}
+
+impl<'a> Plan<'a> {
+    ghost use Rattle.ts_syntax.specs.Seen.{acts_of};
+    ghost use Rattle.proc_expansion.specs.Expansion.{Hiding, expanded_acts};
+    ghost use Rattle.proc_expansion.specs.Extents.{extent_of};
+
+    pub(crate) fn of(alloc: Global, procs: &'a [Proc]) -> Result<Plan<'a>, NoMemory>
+        requires { parameter_count (map procedure_of procs.now) < 2 ^ 32 }
+        ensures { IfOk result (λ plan. plan.heads.procs.now ≡ procs.now) }
+    {
+        let heads = Heads::of(alloc, procs)?;
+        let extents = extents(alloc, &heads)?;
+        let (firsts, parameters) = numbered(alloc, procs)?;
+        Ok(Plan {
+            heads,
+            firsts,
+            extents,
+            parameters,
+        })
+    }
+
+    /// The extent of the expansion of the script's statements.
+    pub(crate) fn extent(&self, body: &Block) -> Extent
+        ensures { let known = bodies_of self.now.heads.procs.now in
+            (h : Hiding) → result ≡ extent_of (expanded_acts known h (acts_of body.now)) }
+    {
+        block_extent(
+            &self.heads,
+            self.extents.as_slice(),
+            self.heads.procs.len(),
+            body,
+        )
+    }
+}
+
+// The number of each procedure's first parameter, and how many parameters there are.
+fn numbered(alloc: Global, procs: &[Proc]) -> Result<(Vec<u32>, u32), NoMemory>
+    requires { parameter_count (map procedure_of procs.now) < 2 ^ 32 }
+    ensures firsts { IfOk result (λ r. r.0.items ≡ firsts_of (bodies_of procs.now)) }
+    ensures count { IfOk result (λ r. r.1 ≡ parameter_count (map procedure_of procs.now)) }
+{
+    let mut firsts = Vec::new(alloc);
+    let mut next: u32 = 0;
+    for proc in procs {
+        firsts.push(next)?;
+        next += proc.params.len() as u32;
+    }
+    Ok((firsts, next))
+}

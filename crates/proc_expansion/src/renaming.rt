@@ -1,0 +1,91 @@
+//! Expressions, with the names that parameters hide renamed.
+
+ghost use Rattle.std.specs.Prelude.{◌≡◌, IfOk};
+ghost use Rattle.ts_syntax.specs.Seen.{tree_of, trees_of};
+ghost use Rattle.proc_expansion.specs.Expansion.{renamed, renamed_expr, renamed_args};
+ghost use Rattle.proc_expansion.specs.Hidden.{hiding_of};
+
+use crate::hidden::Hidden;
+use mate_num::NoMemory;
+use std::alloc::Global;
+use ts_syntax::{Args, Expr, ForHead, Word};
+
+/// A name that stays.
+pub(crate) fn same(word: &Word) -> Word
+    ensures { result ≡ word.now }
+{
+    Word {
+        name: word.name.copy(),
+        place: word.place,
+    }
+}
+
+#[cycle(expression)]
+pub(crate) fn expression(alloc: Global, hidden: &Hidden, expr: &Expr) -> Result<Expr, NoMemory>
+    ensures { IfOk result (λ new. tree_of new ≡ renamed_expr (hiding_of hidden.now) (tree_of expr.now)) }
+{
+    match expr {
+        Expr::Num(number) => Ok(Expr::Num(*number)),
+        Expr::Var(name) => Ok(Expr::Var(hidden.word(alloc, name)?)),
+        Expr::Item(name, index) => {
+            let name = hidden.word(alloc, name)?;
+            let index = expression(alloc, hidden, index)?;
+            Ok(Expr::Item(name, Box::new(alloc, index)?))
+        }
+        Expr::Size(name) => Ok(Expr::Size(hidden.word(alloc, name)?)),
+        Expr::MsgItem(index) => {
+            let index = expression(alloc, hidden, index)?;
+            Ok(Expr::MsgItem(Box::new(alloc, index)?))
+        }
+        Expr::MsgSize => Ok(Expr::MsgSize),
+        Expr::Call(name, args) => Ok(Expr::Call(
+            same(name),
+            arguments(alloc, hidden, args.as_slice())?,
+        )),
+        Expr::Neg(of) => {
+            let of = expression(alloc, hidden, of)?;
+            Ok(Expr::Neg(Box::new(alloc, of)?))
+        }
+        Expr::Not(of) => {
+            let of = expression(alloc, hidden, of)?;
+            Ok(Expr::Not(Box::new(alloc, of)?))
+        }
+        Expr::Two(op, left, right) => {
+            let left = Box::new(alloc, expression(alloc, hidden, left)?)?;
+            let right = Box::new(alloc, expression(alloc, hidden, right)?)?;
+            Ok(Expr::Two(*op, left, right))
+        }
+        Expr::Paren(of) => {
+            let of = expression(alloc, hidden, of)?;
+            Ok(Expr::Paren(Box::new(alloc, of)?))
+        }
+    }
+}
+
+#[cycle(expression)]
+pub(crate) fn arguments(alloc: Global, hidden: &Hidden, args: &[Expr]) -> Result<Args, NoMemory>
+    ensures { IfOk result (λ new. trees_of new ≡ renamed_args (hiding_of hidden.now) (trees_of args.now)) }
+{
+    let mut renamed = Args::new(alloc);
+    for arg in args {
+        renamed.push(expression(alloc, hidden, arg)?)?;
+    }
+    Ok(renamed)
+}
+
+pub(crate) fn for_head(alloc: Global, hidden: &Hidden, head: &ForHead) -> Result<ForHead, NoMemory>
+    ensures var { IfOk result (λ new. new.var ≡ renamed (hiding_of hidden.now) head.now.var) }
+    ensures from { IfOk result (λ new. tree_of new.from ≡ renamed_expr (hiding_of hidden.now) (tree_of head.now.from)) }
+    ensures to { IfOk result (λ new. tree_of new.to ≡ renamed_expr (hiding_of hidden.now) (tree_of head.now.to)) }
+    ensures step { IfOk result (λ new. new.step ≡ head.now.step) }
+{
+    let var = hidden.word(alloc, &head.var)?;
+    let from = expression(alloc, hidden, &head.from)?;
+    let to = expression(alloc, hidden, &head.to)?;
+    Ok(ForHead {
+        var,
+        from,
+        to,
+        step: head.step,
+    })
+}

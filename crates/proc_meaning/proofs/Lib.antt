@@ -1,0 +1,9 @@
+pub mod StateLemmas
+pub mod EvaluationLemmas
+pub mod StatementLemmas
+pub mod CheckLemmas
+pub mod BlockLemmas
+pub mod CallLemmas
+pub mod DeclarationLemmas
+pub mod ProgramLemmas
+pub mod FrameExamples

@@ -1,0 +1,81 @@
+//! Why a script with procedures is refused.
+
+use mate_num::{Name, NoMemory};
+use std::alloc::AllocFailed;
+use std::error::Error;
+use std::fmt;
+
+/// Why a script with procedures is refused. A place is the offset in bytes of a word's first byte in the source.
+///
+/// The text comes first, with the first of its faults; then the names, from left to right by place, where at one name
+/// `Reserved` comes before `NoProc` and `Again`, and these before `Params`; and then the size of the expansion, before its depth.
+#[derive(PartialEq, Eq, Debug, Drop)]
+pub enum ProcFault {
+    /// A byte that begins no token, the 17th byte of a name, or a letter or `_` directly behind a literal.
+    BadByte { place: u32 },
+    /// A literal over 65535 begins here.
+    BigLiteral { place: u32 },
+    /// The tokens before this one begin some script with procedures, and with it they begin none; the text's length
+    /// where the text ends too early.
+    Unexpected { place: u32 },
+    /// The tokens up to this one begin some script with procedures, and it opens a block inside 32 open ones, or is the
+    /// 65th counted token of a part of a statement.
+    TooDeep { place: u32 },
+    /// The procedure that the `do` at `place` names isn't declared before it.
+    NoProc { name: Name, place: u32 },
+    /// The procedure that is named at `place` takes another number of arguments.
+    Params { place: u32 },
+    /// The name of the procedure or of the parameter at `place` is that of an earlier procedure, or of an earlier
+    /// parameter of the same head.
+    Again { name: Name, place: u32 },
+    /// The name at `place` begins with `_`.
+    Reserved { place: u32 },
+    /// The expansion has more than 10,000 statements: so many, counted up to 1,000,000.
+    TooLarge { count: u32 },
+    /// The blocks of the expansion nest more than 32 deep: so deep.
+    TooNested { depth: u32 },
+    /// Memory was refused.
+    NoMemory,
+}
+
+impl From<NoMemory> for ProcFault {
+    ghost use Rattle.std.specs.Prelude.{◌≡◌};
+    ghost use Rattle.proc_names.specs.declared.fault.ProcFault.TheVariants.{NoMemory};
+
+    ghost from_gives = { λ _ fault. fault ≡ NoMemory };
+
+    fn from(_error: NoMemory) -> ProcFault {
+        ProcFault::NoMemory
+    }
+}
+
+impl<T: Drop> From<AllocFailed<T>> for ProcFault {
+    ghost use Rattle.std.specs.Prelude.{◌≡◌};
+    ghost use Rattle.proc_names.specs.declared.fault.ProcFault.TheVariants.{NoMemory};
+
+    ghost from_gives = { λ _ fault. fault ≡ NoMemory };
+
+    fn from(_error: AllocFailed<T>) -> ProcFault {
+        ProcFault::NoMemory
+    }
+}
+
+impl fmt::Display for ProcFault {
+    fn fmt<W: fmt::Write>(&self, f: &mut fmt::Formatter<W>) -> fmt::Result {
+        match self {
+            ProcFault::BadByte { place } => write!(f, "byte {place}"),
+            ProcFault::BigLiteral { place } => write!(f, "literal {place}"),
+            ProcFault::Unexpected { place } => write!(f, "unexpected {place}"),
+            ProcFault::TooDeep { place } => write!(f, "deep {place}"),
+            ProcFault::NoProc { name, place } => write!(f, "noproc {name} {place}"),
+            ProcFault::Params { place } => write!(f, "params {place}"),
+            ProcFault::Again { name, place } => write!(f, "again {name} {place}"),
+            ProcFault::Reserved { place } => write!(f, "reserved {place}"),
+            ProcFault::TooLarge { count } => write!(f, "large {count}"),
+            ProcFault::TooNested { depth } => write!(f, "nested {depth}"),
+            ProcFault::NoMemory => f.write_str("no memory"),
+        }
+    }
+}
+
+impl Error for ProcFault {}

@@ -1,0 +1,76 @@
+//! Names that an expansion keeps for itself.
+
+ghost use Rattle.std.specs.Prelude.{◌≡◌};
+ghost use Rattle.ts_syntax.specs.Seen.{tree_of, trees_of};
+ghost use Rattle.proc_names.specs.NameFaults.{is_reserved as begins_reserved, word_fault, expr_fault, args_fault, decls_fault};
+ghost use Rattle.proc_names.specs.Passing.{NamesPass};
+
+use crate::fault::ProcFault;
+use mate_num::Name;
+use ts_syntax::{Decl, Expr, Word};
+
+// Whether a name begins with `_`.
+fn is_reserved(name: &Name) -> bool
+    ensures { result ≡ begins_reserved name.now }
+{
+    match name.as_bytes() {
+        [] => false,
+        [first, ..] => *first == b'_',
+    }
+}
+
+pub(crate) fn word(word: &Word) -> Result<(), ProcFault>
+    ensures { NamesPass result (word_fault word.now) }
+{
+    if is_reserved(&word.name) {
+        return Err(ProcFault::Reserved { place: word.place });
+    }
+    Ok(())
+}
+
+pub(crate) fn declarations(decls: &[Decl]) -> Result<(), ProcFault>
+    ensures { NamesPass result (decls_fault decls.now) }
+{
+    for decl in decls {
+        word(&decl.word)?;
+    }
+    Ok(())
+}
+
+#[cycle(expression)]
+pub(crate) fn expression(expr: &Expr) -> Result<(), ProcFault>
+    ensures { NamesPass result (expr_fault (tree_of expr.now)) }
+{
+    match expr {
+        Expr::Num(_) => Ok(()),
+        Expr::Var(name) => word(name),
+        Expr::Item(name, index) => {
+            word(name)?;
+            expression(index)
+        }
+        Expr::Size(name) => word(name),
+        Expr::MsgItem(index) => expression(index),
+        Expr::MsgSize => Ok(()),
+        Expr::Call(name, args) => {
+            word(name)?;
+            arguments(args.as_slice())
+        }
+        Expr::Neg(of) => expression(of),
+        Expr::Not(of) => expression(of),
+        Expr::Two(_, left, right) => {
+            expression(left)?;
+            expression(right)
+        }
+        Expr::Paren(of) => expression(of),
+    }
+}
+
+#[cycle(expression)]
+pub(crate) fn arguments(args: &[Expr]) -> Result<(), ProcFault>
+    ensures { NamesPass result (args_fault (trees_of args.now)) }
+{
+    for arg in args {
+        expression(arg)?;
+    }
+    Ok(())
+}

@@ -1,0 +1,60 @@
+-- What a source with procedures is read as, and which refusal comes first for the others.
+use Rattle.std.specs.Prelude.{◌≡◌, ℕ, List, length, Some, Result, Ok, Err, ⊤}
+use Rattle.ts_syntax.specs.declared.dialect.Dialect.TheVariants.{Procedures}
+use Rattle.ts_syntax.specs.declared.token.Token.{Token}
+use Rattle.ts_syntax.specs.Cut.{cut_in, CutFault, bad_byte, big_literal}
+use Rattle.ts_syntax.specs.Faults.{SpellsIn, IsUnexpectedIn, IsTooDeepIn}
+use Rattle.ts_syntax.specs.Tree.{ProcedureSource}
+use Rattle.ts_parser.specs.declared.fault.SourceFault.{SourceFault}
+use Rattle.ts_parser.specs.declared.fault.SourceFault.TheVariants as text
+use Rattle.proc_names.specs.declared.fault.ProcFault.{ProcFault}
+use Rattle.proc_names.specs.declared.fault.ProcFault.TheVariants.{BadByte, BigLiteral, Unexpected, TooDeep, NoProc, Params, Again, Reserved, TooLarge, TooNested, NoMemory}
+use Rattle.proc_names.specs.declared.named.PScript.{PScript}
+use Rattle.proc_names.specs.Named.{written_of}
+use Rattle.proc_names.specs.NameFaults.{name_fault}
+
+-- the bytes are cut into tokens, which spell a script with procedures
+pub record IsProcedureText (bytes : List ℕ) (source : ProcedureSource) : Type 0 where
+  pub tokens : List Token
+  pub cuts : cut_in Procedures bytes ≡ Ok tokens
+  pub spells : SpellsIn Procedures tokens source
+
+-- the grammar stops at a place
+pub record StopsGrammarAt (bytes : List ℕ) (place : ℕ) : Type 0 where
+  pub tokens : List Token
+  pub cuts : cut_in Procedures bytes ≡ Ok tokens
+  pub stops : IsUnexpectedIn Procedures tokens (length bytes) place
+
+pub record IsDeepAt (bytes : List ℕ) (place : ℕ) : Type 0 where
+  pub tokens : List Token
+  pub cuts : cut_in Procedures bytes ≡ Ok tokens
+  pub deep : IsTooDeepIn Procedures tokens place
+
+-- a name is refused
+pub record IsMisnamed (bytes : List ℕ) (fault : ProcFault) : Type 0 where
+  pub source : ProcedureSource
+  pub written : IsProcedureText bytes source
+  pub names : name_fault source ≡ Some fault
+
+-- the script, or the first refusal: the bytes come before the grammar, and the grammar before the names; want of memory tells nothing
+abbrev pub Reads : List ℕ → Result PScript ProcFault → Type 0
+Reads bytes (Ok script) = IsProcedureText bytes (written_of script)
+Reads bytes (Err (BadByte place)) = cut_in Procedures bytes ≡ Err (bad_byte place)
+Reads bytes (Err (BigLiteral place)) = cut_in Procedures bytes ≡ Err (big_literal place)
+Reads bytes (Err (Unexpected place)) = StopsGrammarAt bytes place
+Reads bytes (Err (TooDeep place)) = IsDeepAt bytes place
+Reads bytes (Err (NoProc name place)) = IsMisnamed bytes (NoProc name place)
+Reads bytes (Err (Params place)) = IsMisnamed bytes (Params place)
+Reads bytes (Err (Again name place)) = IsMisnamed bytes (Again name place)
+Reads bytes (Err (Reserved place)) = IsMisnamed bytes (Reserved place)
+Reads bytes (Err (TooLarge count)) = ⊥
+Reads bytes (Err (TooNested depth)) = ⊥
+Reads bytes (Err NoMemory) = ⊤
+
+-- a fault of the text, as a refusal
+abbrev pub proc_fault_of : SourceFault → ProcFault
+proc_fault_of (text.BadByte place) = BadByte place
+proc_fault_of (text.BigLiteral place) = BigLiteral place
+proc_fault_of (text.Unexpected place) = Unexpected place
+proc_fault_of (text.TooDeep place) = TooDeep place
+proc_fault_of text.NoMemory = NoMemory

@@ -1,0 +1,10 @@
+//! TinyScript with procedures: from the bytes of a source to the script whose names pass, and on to its plain expansion.
+#![tactic(auto)]
+
+pub mod law;
+pub mod reading;
+
+pub use law::reading_law;
+pub use proc_expansion::expand;
+pub use proc_names::{PScript, ProcFault};
+pub use reading::read;
