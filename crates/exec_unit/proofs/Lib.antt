@@ -1,3 +1,4 @@
+pub mod StackLemmas
 pub mod MachineLemmas
 pub mod OperandLemmas
 pub mod StepLemmas

@@ -1,160 +1,173 @@
-//! The instructions that work on the machine alone. Each function does its instruction for a machine that
-//! is already at the place after it.
+//! The instructions that work on the machine alone. Each function does its instruction for registers that are already at
+//! the place after it.
 
 ghost use Rattle.std.specs.Prelude.{◌≡◌, ◌<◌, ◌≤◌, length};
 ghost use Rattle.mate_code.specs.Effect.{push, gives, or_div_zero};
 ghost use Rattle.mate_code.specs.declared.instr.Instr.TheVariants as instrs;
-ghost use Rattle.exec_unit.specs.Follows.{FollowsAlone, DoesAlone};
+ghost use Rattle.exec_unit.specs.Follows.{FollowsAlone, DoesAlone, step_end};
+ghost use Rattle.exec_unit.specs.Machine.{private_in};
 ghost use Rattle.exec_unit.specs.Operands.{ReplacesOne, ReplacesTwo, DividesTwo};
-ghost use Rattle.exec_unit.specs.declared.step_end.StepEnd.TheVariants.{Next};
+ghost use Rattle.exec_unit.specs.declared.step_end.PlainEnd.TheVariants.{Next};
 
-use crate::machine::Machine;
-use crate::step_end::StepEnd;
+use crate::registers::{Memory, Registers};
+use crate::step_end::PlainEnd;
 use mate_num::{FaultKind, Num16};
 
 // Pushes a value.
-pub fn give(machine: &mut Machine, value: i16) -> StepEnd
-    requires { length machine.old.stack < 16 }
+pub fn give(registers: &mut Registers, memory: &mut Memory, value: i16) -> PlainEnd
+    requires { registers.old.depth < 16 }
     ensures end { result ≡ Next }
-    ensures pushed { machine.new ≡ push value machine.old }
+    ensures pushed { private_in registers.new memory.new ≡ push value (private_in registers.old memory.old) }
 {
-    machine.push(value);
-    StepEnd::Next
+    registers.push(memory, value);
+    PlainEnd::Next
 }
 
 // Pushes a value, or faults.
-pub fn give_or_fault(machine: &mut Machine, value: Result<i16, FaultKind>) -> StepEnd
-    requires { length machine.old.stack < 16 }
-    ensures { FollowsAlone (gives value machine.old) result machine.new }
+pub fn give_or_fault(
+    registers: &mut Registers,
+    memory: &mut Memory,
+    value: Result<i16, FaultKind>,
+) -> PlainEnd
+    requires { registers.old.depth < 16 }
+    ensures { FollowsAlone (gives value (private_in registers.old memory.old)) (step_end result) (private_in registers.new memory.new) }
 {
     match value {
-        Ok(value) => give(machine, value),
-        Err(kind) => StepEnd::Fault(kind),
+        Ok(value) => give(registers, memory, value),
+        Err(kind) => PlainEnd::Fault(kind),
     }
 }
 
 // Replaces the topmost value by a function of it.
-pub fn on_one<F: FnOnce(Num16) -> Num16>(machine: &mut Machine, f: F) -> StepEnd
+pub fn on_one<F: FnOnce(Num16) -> Num16>(
+    registers: &mut Registers,
+    memory: &mut Memory,
+    f: F,
+) -> PlainEnd
     requires callable { F.IsAlwaysCallable f }
-    requires operand { 1 ≤ length machine.old.stack }
-    requires room { length machine.old.stack ≤ 16 }
-    ensures value { ReplacesOne (F.post f) machine.old machine.new }
+    requires operand { 1 ≤ registers.old.depth }
+    ensures value { ReplacesOne (F.post f) (private_in registers.old memory.old) (private_in registers.new memory.new) }
     ensures end { result ≡ Next }
 {
-    let operand = Num16(machine.pop());
+    let operand = Num16(registers.pop(memory));
     let value = f(operand);
-    machine.push(value.0);
-    StepEnd::Next
+    registers.push(memory, value.0);
+    PlainEnd::Next
 }
 
 // Replaces the topmost two values, the right one above the left one, by a function of them.
-pub fn on_two<F: FnOnce(Num16, Num16) -> Num16>(machine: &mut Machine, f: F) -> StepEnd
+pub fn on_two<F: FnOnce(Num16, Num16) -> Num16>(
+    registers: &mut Registers,
+    memory: &mut Memory,
+    f: F,
+) -> PlainEnd
     requires callable { F.IsAlwaysCallable f }
-    requires operands { 2 ≤ length machine.old.stack }
-    requires room { length machine.old.stack ≤ 17 }
-    ensures value { ReplacesTwo (F.post f) machine.old machine.new }
+    requires operands { 2 ≤ registers.old.depth }
+    ensures value { ReplacesTwo (F.post f) (private_in registers.old memory.old) (private_in registers.new memory.new) }
     ensures end { result ≡ Next }
 {
-    let right = Num16(machine.pop());
-    let left = Num16(machine.pop());
+    let right = Num16(registers.pop(memory));
+    let left = Num16(registers.pop(memory));
     let value = f(left, right);
-    machine.push(value.0);
-    StepEnd::Next
+    registers.push(memory, value.0);
+    PlainEnd::Next
 }
 
 // The same for a function that has no value where the right one is 0.
-pub fn divide<F: FnOnce(Num16, Num16) -> Option<Num16>>(machine: &mut Machine, f: F) -> StepEnd
+pub fn divide<F: FnOnce(Num16, Num16) -> Option<Num16>>(
+    registers: &mut Registers,
+    memory: &mut Memory,
+    f: F,
+) -> PlainEnd
     requires callable { F.IsAlwaysCallable f }
-    requires operands { 2 ≤ length machine.old.stack }
-    requires room { length machine.old.stack ≤ 17 }
-    ensures { DividesTwo (F.post f) machine.old result machine.new }
+    requires operands { 2 ≤ registers.old.depth }
+    ensures { DividesTwo (F.post f) (private_in registers.old memory.old) (step_end result) (private_in registers.new memory.new) }
 {
-    let right = Num16(machine.pop());
-    let left = Num16(machine.pop());
+    let right = Num16(registers.pop(memory));
+    let left = Num16(registers.pop(memory));
     let quotient = f(left, right);
-    give_quotient(machine, quotient)
+    give_quotient(registers, memory, quotient)
 }
 
 // Pushes a quotient or a remainder, or faults where there is none.
-fn give_quotient(machine: &mut Machine, value: Option<Num16>) -> StepEnd
-    requires { length machine.old.stack < 16 }
-    ensures { FollowsAlone (gives (or_div_zero value) machine.old) result machine.new }
+fn give_quotient(registers: &mut Registers, memory: &mut Memory, value: Option<Num16>) -> PlainEnd
+    requires { registers.old.depth < 16 }
+    ensures { FollowsAlone (gives (or_div_zero value) (private_in registers.old memory.old)) (step_end result) (private_in registers.new memory.new) }
 {
     match value {
-        Some(value) => give(machine, value.0),
-        None => StepEnd::Fault(FaultKind::DivZero),
+        Some(value) => give(registers, memory, value.0),
+        None => PlainEnd::Fault(FaultKind::DivZero),
     }
 }
 
-pub fn get_private(machine: &mut Machine, private: u8) -> StepEnd
+pub fn get_private(registers: &mut Registers, memory: &mut Memory, private: u8) -> PlainEnd
     requires known { private < 8 }
-    requires room { length machine.old.stack < 16 }
-    ensures { DoesAlone (instrs.GetP private) machine.old result machine.new }
+    requires room { registers.old.depth < 16 }
+    ensures { DoesAlone (instrs.GetP private) (private_in registers.old memory.old) (step_end result) (private_in registers.new memory.new) }
 {
-    let value = machine.private(private);
-    give(machine, value)
+    let value = memory.private(private);
+    give(registers, memory, value)
 }
 
-pub fn set_private(machine: &mut Machine, private: u8) -> StepEnd
+pub fn set_private(registers: &mut Registers, memory: &mut Memory, private: u8) -> PlainEnd
     requires known { private < 8 }
-    requires operand { 1 ≤ length machine.old.stack }
-    ensures { DoesAlone (instrs.SetP private) machine.old result machine.new }
+    requires operand { 1 ≤ registers.old.depth }
+    ensures { DoesAlone (instrs.SetP private) (private_in registers.old memory.old) (step_end result) (private_in registers.new memory.new) }
 {
-    let value = machine.pop();
-    machine.set_private(private, value);
-    StepEnd::Next
+    let value = registers.pop(memory);
+    memory.set_private(private, value);
+    PlainEnd::Next
 }
 
-pub fn drop_top(machine: &mut Machine) -> StepEnd
-    requires { 1 ≤ length machine.old.stack }
-    ensures { DoesAlone instrs.Drop machine.old result machine.new }
+pub fn drop_top(registers: &mut Registers, memory: &mut Memory) -> PlainEnd
+    requires { 1 ≤ registers.old.depth }
+    ensures { DoesAlone instrs.Drop (private_in registers.old memory.old) (step_end result) (private_in registers.new memory.new) }
 {
-    machine.pop();
-    StepEnd::Next
+    registers.pop(memory);
+    PlainEnd::Next
 }
 
-pub fn jump_at_zero(machine: &mut Machine, place: u16) -> StepEnd
-    requires { 1 ≤ length machine.old.stack }
-    ensures { DoesAlone (instrs.Jz place) machine.old result machine.new }
+pub fn jump_at_zero(registers: &mut Registers, memory: &mut Memory, place: u16) -> PlainEnd
+    requires { 1 ≤ registers.old.depth }
+    ensures { DoesAlone (instrs.Jz place) (private_in registers.old memory.old) (step_end result) (private_in registers.new memory.new) }
 {
-    let value = machine.pop();
+    let value = registers.pop(memory);
     if value == 0 {
-        machine.go_to(place);
+        registers.go_to(place);
     }
-    StepEnd::Next
+    PlainEnd::Next
 }
 
-pub fn jump(machine: &mut Machine, place: u16) -> StepEnd
-    ensures { DoesAlone (instrs.Jmp place) machine.old result machine.new }
+pub fn jump(registers: &mut Registers, memory: &mut Memory, place: u16) -> PlainEnd
+    ensures { DoesAlone (instrs.Jmp place) (private_in registers.old memory.old) (step_end result) (private_in registers.new memory.new) }
 {
-    machine.go_to(place);
-    StepEnd::Next
+    registers.go_to(place);
+    PlainEnd::Next
 }
 
-pub fn go_back(machine: &mut Machine, place: u16) -> StepEnd
-    ensures { DoesAlone (instrs.Back place) machine.old result machine.new }
+pub fn go_back(registers: &mut Registers, memory: &mut Memory, place: u16) -> PlainEnd
+    ensures { DoesAlone (instrs.Back place) (private_in registers.old memory.old) (step_end result) (private_in registers.new memory.new) }
 {
-    if !machine.pay() {
-        return StepEnd::Fault(FaultKind::Overrun);
+    if !registers.pay() {
+        return PlainEnd::Fault(FaultKind::Overrun);
     }
-    machine.go_to(place);
-    StepEnd::Next
+    registers.go_to(place);
+    PlainEnd::Next
 }
 
-pub fn get_message_item(machine: &mut Machine) -> StepEnd
-    requires operand { 1 ≤ length machine.old.stack }
-    requires room { length machine.old.stack ≤ 16 }
-    ensures { DoesAlone instrs.MsgGet machine.old result machine.new }
+pub fn get_message_item(registers: &mut Registers, memory: &mut Memory) -> PlainEnd
+    requires operand { 1 ≤ registers.old.depth }
+    ensures { DoesAlone instrs.MsgGet (private_in registers.old memory.old) (step_end result) (private_in registers.new memory.new) }
 {
-    let index = machine.pop();
-    let value = machine.message_item(index);
-    give_or_fault(machine, value)
+    let index = registers.pop(memory);
+    let value = memory.message_item(index);
+    give_or_fault(registers, memory, value)
 }
 
-pub fn get_message_size(machine: &mut Machine) -> StepEnd
-    requires { length machine.old.stack < 16 }
-    ensures { DoesAlone instrs.MsgSize machine.old result machine.new }
+pub fn get_message_size(registers: &mut Registers, memory: &mut Memory) -> PlainEnd
+    requires { registers.old.depth < 16 }
+    ensures { DoesAlone instrs.MsgSize (private_in registers.old memory.old) (step_end result) (private_in registers.new memory.new) }
 {
-    let size = machine.message_size();
-    give(machine, size)
+    let size = memory.message_size();
+    give(registers, memory, size)
 }

@@ -1,6 +1,9 @@
 //! How a step of a machine ends.
 
-use mate_num::{FaultKind, FunId, Payload};
+ghost use Rattle.std.specs.Prelude.{◌≡◌};
+ghost use Rattle.exec_unit.specs.Follows.{step_end};
+
+use mate_num::{BufId, FaultKind, FunId, Payload};
 
 /// How a step ended.
 #[derive(PartialEq, Eq, Debug, Drop)]
@@ -13,4 +16,33 @@ pub enum StepEnd {
     Halt,
     /// It was stopped.
     Fault(FaultKind),
+}
+
+/// How an instruction ended that asks no function.
+#[derive(Clone, Copy)]
+pub enum PlainEnd {
+    Next,
+    Halt,
+    Fault(FaultKind),
+}
+
+/// What came of an instruction: it was done; or it asks a function, with values of the stack or of a buffer, and nothing
+/// was done yet. It holds no arguments, so that a loop over instructions writes nothing for it.
+#[derive(Clone, Copy)]
+pub enum Act {
+    Done(PlainEnd),
+    Asks(FunId),
+    Sends(FunId, BufId),
+}
+
+impl PlainEnd {
+    pub(crate) fn step_end(self) -> StepEnd
+        ensures { result ≡ step_end self }
+    {
+        match self {
+            PlainEnd::Next => StepEnd::Next,
+            PlainEnd::Halt => StepEnd::Halt,
+            PlainEnd::Fault(kind) => StepEnd::Fault(kind),
+        }
+    }
 }

@@ -3,13 +3,52 @@
 ghost use Rattle.std.specs.Prelude.{◌≡◌};
 ghost use Rattle.mate_code.specs.Effect.{push};
 ghost use Rattle.code_verifier.specs.Verified.{Fits};
-ghost use Rattle.exec_unit.specs.Step.{HasLengths, IsStep, Waits};
+ghost use Rattle.exec_unit.specs.Machine.{private_in};
+ghost use Rattle.exec_unit.specs.Step.{HasLengths, IsStep, ComesTo, Waits};
 
+use crate::calls::{ask, send};
 use crate::instruction::act;
 use crate::machine::Machine;
-use crate::step_end::StepEnd;
+use crate::registers::{Memory, Registers};
+use crate::step_end::{Act, StepEnd};
 use code_verifier::Verified;
 use node_heap::Heap;
+
+// Executes the instruction at the registers' place, unless it asks a function. A loop over instructions holds nothing that
+// has to be written in each round.
+#[inline(always)]
+pub(crate) fn advance(
+    code: &Verified,
+    registers: &mut Registers,
+    memory: &mut Memory,
+    heap: &mut Heap,
+) -> Act
+    requires fits { Fits code.now (private_in registers.old memory.old) }
+    requires lengths { HasLengths code.now.shape heap.old }
+    ensures { ComesTo result code.now (private_in registers.old memory.old) heap.old (private_in registers.new memory.new) heap.new }
+{
+    registers.has_depth(memory);
+    let instr = code.at(registers.place);
+    act(code.shape(), instr, registers, memory, heap)
+}
+
+// Executes the instruction at the registers' place.
+fn execute(
+    code: &Verified,
+    registers: &mut Registers,
+    memory: &mut Memory,
+    heap: &mut Heap,
+) -> StepEnd
+    requires fits { Fits code.now (private_in registers.old memory.old) }
+    requires lengths { HasLengths code.now.shape heap.old }
+    ensures { IsStep code.now (private_in registers.old memory.old) heap.old result (private_in registers.new memory.new) heap.new }
+{
+    match advance(code, registers, memory, heap) {
+        Act::Done(end) => end.step_end(),
+        Act::Asks(fun) => ask(code, registers, memory, heap, fun),
+        Act::Sends(fun, buffer) => send(code, registers, memory, heap, fun, buffer),
+    }
+}
 
 /// Executes the instruction at the machine's place. It takes no memory, and copies neither code nor a
 /// payload, but for that of an `Ask`, which it builds once.
@@ -21,8 +60,7 @@ pub fn step(code: &Verified, machine: &mut Machine, heap: &mut Heap) -> StepEnd
     requires lengths { HasLengths code.now.shape heap.old }
     ensures { IsStep code.now machine.old heap.old result machine.new heap.new }
 {
-    let instr = code.instr(machine.place());
-    act(code.shape(), instr, machine, heap)
+    execute(code, &mut machine.registers, &mut machine.memory, heap)
 }
 
 /// Gives a machine that waits in this code the answer to its call.
@@ -32,5 +70,6 @@ pub fn resume(code: &Verified, machine: &mut Machine, value: i16)
     ensures fits { Fits code.now machine.new }
 {
     let _ = code;
-    machine.push(value);
+    machine.registers.has_depth(&machine.memory);
+    machine.registers.push(&mut machine.memory, value);
 }

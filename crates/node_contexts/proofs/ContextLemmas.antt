@@ -23,12 +23,13 @@ use Rattle.exec_unit.specs.declared.step_end.StepEnd.{StepEnd}
 use Rattle.exec_unit.specs.declared.step_end.StepEnd.TheVariants.{Next, Ask, Halt, Fault}
 use Rattle.exec_unit.specs.Step.{IsStep}
 use Rattle.node_contexts.specs.declared.handlers.Held.{Held}
-use Rattle.node_contexts.specs.declared.executing.Ran.{Ran}
+use Rattle.exec_unit.specs.declared.running.Ran.{Ran}
 use Rattle.node_contexts.specs.declared.seat.Seat.{Seat}
 use Rattle.node_contexts.specs.declared.contexts.Contexts.{Contexts}
 use Rattle.node_contexts.specs.At.{At, seat_at, at, Becomes, Starts, GivesWay}
 use Rattle.node_contexts.specs.Programs.{Programs}
-use Rattle.node_contexts.specs.Executing.{GoFor, StopsAfter, HasRunTo, HasRun, IsSameSeat, with_seat, HasTurn, IsAnswered}
+use Rattle.exec_unit.specs.Running.{HasRun}
+use Rattle.node_contexts.specs.Executing.{IsSameSeat, with_seat, HasTurn, IsAnswered}
 
 -- ---- starts
 
@@ -125,19 +126,6 @@ with_seat-same old c s is =
 -- the last one stays
 pub with_seat-twice : (old : Contexts) (c : ContextId) (s now : Seat) → with_seat (with_seat old c s) c now ≡ with_seat old c now
 with_seat-twice old c s now = ap (λ (l : List (Option Seat)). record old { seats = l }) (set-twice old.seats c.0 (Some s) (Some now))
-
--- one more instruction of a machine
-pub HasRun-stop : (v : VerifiedCode) (old : Private) (before : Store) (n gone : ℕ) (ran : Ran) (mid new : Private) (store after : Store) → gone < n → ran.instructions ≡ gone + 1 → GoFor v gone old before mid store
-    → IsStep v mid store ran.how new after → (ran.how ≡ Next → ⊥) → HasRun v old before n ran new after
-HasRun-stop v old before n gone ran mid new store after few counted goes last not = by ran.how refl where
-  stops : StopsAfter v old before n ran new after
-  stops = record { gone = gone; few = few; instructions = counted; mid = mid; store = store; goes = goes; last = last }
-
-  by : (how : StepEnd) → ran.how ≡ how → HasRunTo how v old before n ran new after
-  by Next e = absurd (not e)
-  by (Ask f args) e = stops
-  by Halt e = stops
-  by (Fault kind) e = stops
 
 pub HasTurn-from : (held : Programs) (old : Contexts) (before after : Store) (c : ContextId) (n : ℕ) (ran : Ran) (s now : Seat) (x : Held) (place : ℕ) (mid : Option Seat)
     → place ≡ c.0 → (at old c).seat ≡ Some s → held s.handler ≡ Some x → IsSameSeat s now → now.count ≡ s.count + ran.instructions → HasRun x.code s.machine before n ran now.machine after

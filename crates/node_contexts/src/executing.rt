@@ -1,25 +1,15 @@
 //! What the invocation in a context does: it executes instructions and takes answers.
 
 ghost use Rattle.std.specs.Prelude.{◌≡◌, ◌<◌, IsSome};
-ghost use Rattle.code_verifier.specs.Verified.{Fits};
-ghost use Rattle.exec_unit.specs.Step.{HasLengths};
 ghost use Rattle.node_contexts.specs.At.{at as at_context, IsPlaced};
 ghost use Rattle.node_contexts.specs.Programs.{held_at};
-ghost use Rattle.node_contexts.specs.Executing.{CanExecute, HasRun, HasTurn, CanAnswer, IsAnswered};
+ghost use Rattle.node_contexts.specs.Executing.{CanExecute, HasTurn, CanAnswer, IsAnswered};
 
 use crate::contexts::Contexts;
 use crate::handlers::Handlers;
-use code_verifier::Verified;
-use exec_unit::{Machine, StepEnd, resume, step};
+use exec_unit::{Ran, resume, run};
 use mate_num::ContextId;
 use node_heap::Heap;
-
-/// How far an invocation came in a turn: how many instructions it executed, and how the last one ended.
-#[derive(Drop)]
-pub struct Ran {
-    pub instructions: u32,
-    pub how: StepEnd,
-}
 
 /// The number of the invocation in the context.
 pub fn number(contexts: &Contexts, ctx: ContextId) -> u32
@@ -31,29 +21,6 @@ pub fn number(contexts: &Contexts, ctx: ContextId) -> u32
         unreachable!()
     };
     seat.inv
-}
-
-/// Executes n instructions, or fewer where one asks or ends.
-fn run(code: &Verified, machine: &mut Machine, heap: &mut Heap, n: u32) -> Ran
-    requires fits { Fits code.now machine.old }
-    requires lengths { HasLengths code.now.shape heap.old }
-    ensures { HasRun code.now machine.old heap.old n result machine.new heap.new }
-{
-    for before in 0..n {
-        match step(code, machine, heap) {
-            StepEnd::Next => {}
-            how => {
-                return Ran {
-                    instructions: before + 1,
-                    how,
-                };
-            }
-        }
-    }
-    Ran {
-        instructions: n,
-        how: StepEnd::Next,
-    }
 }
 
 /// The invocation in the context executes n instructions, or fewer where one asks or ends.

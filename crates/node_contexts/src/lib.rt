@@ -7,6 +7,6 @@ pub mod handlers;
 pub mod seat;
 
 pub use contexts::Contexts;
-pub use executing::{Ran, answer, number, turn};
+pub use executing::{answer, number, turn};
 pub use handlers::{Handlers, Held};
 pub use seat::Seat;

@@ -14,12 +14,13 @@ use Rattle.exec_unit.specs.Step.{HasLengths, IsStep}
 use Rattle.vm_desc.specs.declared.description.Description.{Description}
 use Rattle.mate_journal.specs.Journal.{Phase, Ready, Invocation, Reading}
 use Rattle.node_contexts.specs.declared.handlers.Held.{Held}
-use Rattle.node_contexts.specs.declared.executing.Ran.{Ran}
+use Rattle.exec_unit.specs.declared.running.Ran.{Ran}
 use Rattle.node_contexts.specs.declared.seat.Seat.{Seat}
 use Rattle.node_contexts.specs.declared.contexts.Contexts.{Contexts}
 use Rattle.node_contexts.specs.At.{At, at, Becomes}
 use Rattle.node_contexts.specs.Programs.{Programs, held_at}
-use Rattle.node_contexts.specs.Executing.{GoFor, StopsAfter, HasRunTo, HasRun, IsSameSeat, with_seat, CanExecute, Executes, HasTurn}
+use Rattle.exec_unit.specs.Running.{GoFor, StopsAfter, HasRunTo, HasRun}
+use Rattle.node_contexts.specs.Executing.{IsSameSeat, with_seat, CanExecute, Executes, HasTurn}
 use Rattle.node_contexts.proofs.ContextLemmas.{with_seat-becomes, with_seat-same, with_seat-twice}
 use Rattle.node_invariant.specs.declared.parts.Parts.{Parts}
 use Rattle.node_invariant.specs.Meaning.{machine_in}

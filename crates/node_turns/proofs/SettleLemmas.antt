@@ -1,8 +1,8 @@
 -- One turn after another, until nobody is ready.
-use Rattle.std.proofs.Common.{◌≡◌, ◌≢◌, ℕ, ◌+◌, ◌<◌, ◌≤◌, Bool, true, false, List, [], ◌∷◌, ◌++◌, Option, Some, None, refl, sym, ◌∙◌, ap, subst, arith, length-append, append_assoc}
+use Rattle.std.proofs.Common.{◌≡◌, ◌≢◌, ◌⊎◌, ℕ, suc, ◌+◌, ◌*◌, ◌<◌, ◌≤◌, Bool, true, false, List, [], ◌∷◌, ◌++◌, Option, Some, None, refl, sym, ◌∙◌, ap, subst, arith, inl, inr, length, length-append, append_assoc, mul-zero}
 use Rattle.std.specs.Prelude.{map, slice_get, ◌||◌}
 use Rattle.std.proofs.lemmas.Bool.{eq-eqb}
-use Rattle.std.proofs.lemmas.List.{append-nil, map-append}
+use Rattle.std.proofs.lemmas.List.{map-append}
 use Rattle.mate_num.specs.declared.call.Stamp.{Stamp}
 use Rattle.mate_num.specs.declared.id.ContextId.{ContextId}
 use Rattle.mate_num.specs.declared.lock_set.LockSet.{LockSet}
@@ -30,16 +30,17 @@ use Rattle.node_grants.specs.Queue.{number_at, invocation_in, NumbersRise}
 use Rattle.node_grants.specs.Totals.{if_waits, if_ready, may_start, owed, left, starts_left, owes, falls}
 use Rattle.mate_journal.specs.Journal.{heard_told}
 use Rattle.mate_journal.specs.Pace.{Pace, others, gives_way}
-use Rattle.mate_journal.specs.Turns.{Clock, Turn, IsTurn, mark_of, after_turn, AreTurns, told_in, pace_after}
+use Rattle.mate_journal.specs.Turns.{Clock, Turn, IsTurn, after_step, after_turn, AreTurns, told_in, pace_after}
 use Rattle.node_grants.specs.Pace.{IsPace}
 use Rattle.node_grants.specs.Starting.{Rests}
 use Rattle.node_grants.proofs.QueueLemmas.{NumbersRise-same}
 use Rattle.node_grants.proofs.TotalLemmas.{over_all-same, over_all-less}
 use Rattle.node_grants.proofs.OrderLemmas.{live-above}
 use Rattle.node_invariant.specs.Meaning.{clock_of}
-use Rattle.node_turns.specs.Pacing.{most, TakesTurn, AreWithin, Chains, SettlesSome, SettlesAll}
+use Rattle.node_turns.specs.Pacing.{most, TakesTurn, AreWithin, AreQuanta, AreTogether, Chains, SettlesSome, SettlesAll}
 use Rattle.node_turns.proofs.RunningLemmas.{one, one-ready}
 use Rattle.node_turns.proofs.TurnLemmas.{line-without}
+use Rattle.node_turns.proofs.QuantaLemmas.{AreTogether-one, AreTogether-lone}
 
 -- ---- lists of turns
 
@@ -47,31 +48,27 @@ pub heard_told-append : (m : Machine) (r : Reading) (xs ys : List Told) → hear
 heard_told-append m r [] ys = refl
 heard_told-append m r (x ∷ xs) ys = heard_told-append m (heard m r x) xs ys
 
-abbrev HasHead : List ℕ → ℕ → Type 0
-HasHead line n = (rest : List ℕ) × (line ≡ n ∷ rest)
+AreTurns-append : (k : Clock) (m : Machine) (r : Reading) (p : Pace) (ts us : List Turn) → AreTurns k m r p ts → AreTurns k m (heard_told m r (told_in ts)) (pace_after k m r p ts) us → AreTurns k m r p (ts ++ us)
+AreTurns-append k m r p [] us are further = further
+AreTurns-append k m r p (t ∷ ts) us are further =
+    let P : Reading → Type 0 = λ q. AreTurns k m q (pace_after k m (heard_told m r t.told) (after_turn k m r p t) ts) us in
+    (are.0, are.1, AreTurns-append k m (heard_told m r t.told) (after_turn k m r p t) ts us are.2 (subst P (heard_told-append m r t.told (told_in ts)) further))
 
-AreTurns-push : (k : Clock) (m : Machine) (r : Reading) (p : Pace) (ts : List Turn) (t : Turn) → AreTurns k m r p ts → HasHead (pace_after k m r p ts).line t.invocation
-    → IsTurn k m (heard_told m r (told_in ts)) (pace_after k m r p ts) k.quantum t → AreTurns k m r p (ts ++ t ∷ [])
-AreTurns-push k m r p [] t are head turn = (head, turn, tt)
-AreTurns-push k m r p (u ∷ ts) t are head turn =
-    let P : Reading → Type 0 = λ q. IsTurn k m q (pace_after k m (heard_told m r u.told) (after_turn k m r p u) ts) k.quantum t in
-    (are.0, are.1, AreTurns-push k m (heard_told m r u.told) (after_turn k m r p u) ts t are.2 head (subst P (heard_told-append m r u.told (told_in ts)) turn))
+AreWithin-append : (k : Clock) (m : Machine) (bound : ℕ) (r : Reading) (p : Pace) (ts us : List Turn) → AreWithin k m bound r p ts → AreWithin k m bound (heard_told m r (told_in ts)) (pace_after k m r p ts) us → AreWithin k m bound r p (ts ++ us)
+AreWithin-append k m bound r p [] us are further = further
+AreWithin-append k m bound r p (t ∷ ts) us are further =
+    let P : Reading → Type 0 = λ q. AreWithin k m bound q (pace_after k m (heard_told m r t.told) (after_turn k m r p t) ts) us in
+    (are.0, AreWithin-append k m bound (heard_told m r t.told) (after_turn k m r p t) ts us are.1 (subst P (heard_told-append m r t.told (told_in ts)) further))
 
-AreWithin-push : (k : Clock) (m : Machine) (bound : ℕ) (r : Reading) (p : Pace) (ts : List Turn) (t : Turn) → AreWithin k m bound r p ts → mark_of k m (heard_told m r (told_in ts)) t.invocation ≤ bound → AreWithin k m bound r p (ts ++ t ∷ [])
-AreWithin-push k m bound r p [] t are last = (last, tt)
-AreWithin-push k m bound r p (u ∷ ts) t are last =
-    let P : Reading → Type 0 = λ q. mark_of k m q t.invocation ≤ bound in
-    (are.0, AreWithin-push k m bound (heard_told m r u.told) (after_turn k m r p u) ts t are.1 (subst P (heard_told-append m r u.told (told_in ts)) last))
+pace_after-append : (k : Clock) (m : Machine) (r : Reading) (p : Pace) (ts us : List Turn) → pace_after k m r p (ts ++ us) ≡ pace_after k m (heard_told m r (told_in ts)) (pace_after k m r p ts) us
+pace_after-append k m r p [] us = refl
+pace_after-append k m r p (t ∷ ts) us =
+    pace_after-append k m (heard_told m r t.told) (after_turn k m r p t) ts us
+    ∙ ap (λ (q : Reading). pace_after k m q (pace_after k m (heard_told m r t.told) (after_turn k m r p t) ts) us) (sym (heard_told-append m r t.told (told_in ts)))
 
-pace_after-push : (k : Clock) (m : Machine) (r : Reading) (p : Pace) (ts : List Turn) (t : Turn) → pace_after k m r p (ts ++ t ∷ []) ≡ after_turn k m (heard_told m r (told_in ts)) (pace_after k m r p ts) t
-pace_after-push k m r p [] t = refl
-pace_after-push k m r p (u ∷ ts) t =
-    pace_after-push k m (heard_told m r u.told) (after_turn k m r p u) ts t
-    ∙ ap (λ (q : Reading). after_turn k m q (pace_after k m (heard_told m r u.told) (after_turn k m r p u) ts) t) (sym (heard_told-append m r u.told (told_in ts)))
-
-told_in-push : (ts : List Turn) (t : Turn) → told_in (ts ++ t ∷ []) ≡ told_in ts ++ t.told
-told_in-push [] t = append-nil t.told
-told_in-push (u ∷ ts) t = ap (λ (l : List Told). u.told ++ l) (told_in-push ts t) ∙ sym (append_assoc u.told (told_in ts) t.told)
+told_in-append : (ts us : List Turn) → told_in (ts ++ us) ≡ told_in ts ++ told_in us
+told_in-append [] us = refl
+told_in-append (t ∷ ts) us = ap (λ (l : List Told). t.told ++ l) (told_in-append ts us) ∙ sym (append_assoc t.told (told_in ts) (told_in us))
 
 -- ---- what a log tells more is heard
 
@@ -198,8 +195,8 @@ SettlesSome-none d s at_ rests timely = record {
 }
 
 pub SettlesSome-then : (d : Description) (old mid next : Parts) (contexts : Contexts) (at_ : Stamp) (c : ContextId) → Some c ≡ slice_get mid.contexts.ring 0 → SettlesSome d old mid at_ → GivesWay mid.contexts contexts c
-    → (ran : ℕ) → TakesTurn d (record mid { contexts = contexts }) next at_ c d.quantum ran → SettlesSome d old next at_
-SettlesSome-then d old mid next contexts at_ c first f way ran g = record {
+    → (n ran : ℕ) → AreQuanta d.quantum (length mid.contexts.ring) n → TakesTurn d (record mid { contexts = contexts }) next at_ c n ran → SettlesSome d old next at_
+SettlesSome-then d old mid next contexts at_ c first f way n ran quanta g = record {
   told = f.told ++ g.told;
   rests = g.rests;
   grows = grown;
@@ -212,38 +209,50 @@ SettlesSome-then d old mid next contexts at_ c first f way ran g = record {
   grown : Grows old.log next.log at_ (f.told ++ g.told)
   grown = Grows-then old.log mid.log next.log at_ f.told g.told f.grows g.grows
 
-  is_ready : (at mid.contexts c).ready ≡ true
-  is_ready = first-ready mid.contexts c first
-
   -- the one that has the turn
   whose : (one d mid c f.rests.order.keeps (first-ready mid.contexts c first)).seat.inv ≡ g.invocation
   whose = sym (ap number_at (one d mid c f.rests.order.keeps (first-ready mid.contexts c first)).is) ∙ sym (ap (λ (a : At). number_at a.seat) (way.each c)) ∙ g.number
 
+  number-is : invocation_in mid.contexts c ≡ g.invocation
+  number-is = ap number_at (one d mid c f.rests.order.keeps (first-ready mid.contexts c first)).is ∙ whose
+
+  -- its quanta, from the pace before
+  together : (q : Pace) → IsPace (reading d mid.log) mid.contexts q → IsTurn (clock_of d) (machine_in d) (reading d mid.log) q n record { invocation = g.invocation; told = g.told } → AreTogether (clock_of d) (machine_in d) (most d) (reading d mid.log) q (after_step (clock_of d) (machine_in d) (reading d mid.log) (gives_way q g.invocation) n record { invocation = g.invocation; told = g.told }) g.told
+  together q pace turn = (let ring = first-is mid.contexts.ring c first in by ring.0 ring.1 quanta.lone) where
+    line : (rest : List ContextId) → mid.contexts.ring ≡ c ∷ rest → q.line ≡ g.invocation ∷ map (invocation_in mid.contexts) rest
+    line rest e = pace.line ∙ ap (map (invocation_in mid.contexts)) e ∙ ap (λ (j : ℕ). j ∷ map (invocation_in mid.contexts) rest) number-is
+
+    by : (rest : List ContextId) → mid.contexts.ring ≡ c ∷ rest → (quanta.more ≡ 0) ⊎ (length mid.contexts.ring ≡ 1)
+        → AreTogether (clock_of d) (machine_in d) (most d) (reading d mid.log) q (after_step (clock_of d) (machine_in d) (reading d mid.log) (gives_way q g.invocation) n record { invocation = g.invocation; told = g.told }) g.told
+    by rest e (inl none) =
+        let P : ℕ → Type 0 = λ j. IsTurn (clock_of d) (machine_in d) (reading d mid.log) q j record { invocation = g.invocation; told = g.told } → AreTogether (clock_of d) (machine_in d) (most d) (reading d mid.log) q (after_step (clock_of d) (machine_in d) (reading d mid.log) (gives_way q g.invocation) j record { invocation = g.invocation; told = g.told }) g.told in
+        let are = quanta.are in
+        let no_more : d.quantum * quanta.more ≡ 0 = ap (λ (j : ℕ). d.quantum * j) none ∙ mul-zero d.quantum in
+        let same : d.quantum ≡ n = omega arith in
+        subst P same (AreTogether-one (clock_of d) (machine_in d) (most d) (reading d mid.log) record { invocation = g.invocation; told = g.told } g.within q (map (invocation_in mid.contexts) rest) (line rest e)) turn
+    by [] e (inr lone) = AreTogether-lone (clock_of d) (machine_in d) (most d) (reading d mid.log) record { invocation = g.invocation; told = g.told } g.within quanta.more n quanta.are q (line [] e) turn
+    by (a ∷ rest) e (inr lone) = absurd (let two = ap length e in let more : length (c ∷ a ∷ rest) ≡ suc (suc (length rest)) = refl in omega arith)
+
   chained : (p : Pace) → Chains d old mid f.told p → Chains d old next (f.told ++ g.told) p
   chained p h =
-      let t : Turn = record { invocation = g.invocation; told = g.told } in
       let k = clock_of d in
       let m = machine_in d in
       let r = reading d old.log in
-      let q = pace_after (clock_of d) (machine_in d) (reading d old.log) p h.turns in
+      let q = pace_after k m r p h.turns in
       let N : ℕ → Type 0 = λ j. IsPace (reading d mid.log) contexts (gives_way q j) in
       let way_pace : IsPace (reading d mid.log) contexts (gives_way q g.invocation) = subst N whose (pace-way d mid contexts c way f.rests (first-ready mid.contexts c first) q h.pace) in
       let x = g.turn (gives_way q g.invocation) way_pace in
-      let turn : IsTurn k m (reading d mid.log) q d.quantum t = record { ready = x.0.ready; short = x.0.short; reached = x.0.reached } in
+      let y = together q h.pace record { ready = x.0.ready; short = x.0.short; reached = x.0.reached } in
       let heard_is : reading d mid.log ≡ heard_told m r (told_in h.turns) = f.heard_is ∙ ap (heard_told m r) h.made in
-      let P : Reading → Type 0 = λ s. IsTurn k m s q d.quantum t in
-      let Q : Reading → Type 0 = λ s. IsPace (reading d next.log) next.contexts (after_turn k m s q t) in
+      let P : Reading → Type 0 = λ s. AreTurns k m s q y.turns in
+      let W : Reading → Type 0 = λ s. AreWithin k m (most d) s q y.turns in
       let R : Pace → Type 0 = λ s. IsPace (reading d next.log) next.contexts s in
-      let W : Reading → Type 0 = λ s. mark_of k m s g.invocation ≤ most d in
-      let ring = first-is mid.contexts.ring c first in
       record {
-        turns = h.turns ++ t ∷ [];
-        are_turns = AreTurns-push k m r p h.turns t h.are_turns
-            (map (invocation_in mid.contexts) ring.0, h.pace.line ∙ ap (map (invocation_in mid.contexts)) ring.1 ∙ ap (λ (j : ℕ). j ∷ map (invocation_in mid.contexts) ring.0) (ap number_at (one d mid c f.rests.order.keeps (first-ready mid.contexts c first)).is ∙ whose))
-            (subst P heard_is turn);
-        made = ap (λ (l : List Told). l ++ g.told) h.made ∙ sym (told_in-push h.turns t);
-        within = AreWithin-push k m (most d) r p h.turns t h.within (subst W heard_is g.within);
-        pace = subst R (sym (pace_after-push k m r p h.turns t)) (subst Q heard_is x.2);
+        turns = h.turns ++ y.turns;
+        are_turns = AreTurns-append k m r p h.turns y.turns h.are_turns (subst P heard_is y.are_turns);
+        made = ap (λ (l : List Told). l ++ g.told) h.made ∙ ap (λ (l : List Told). told_in h.turns ++ l) y.made ∙ sym (told_in-append h.turns y.turns);
+        within = AreWithin-append k m (most d) r p h.turns y.turns h.within (subst W heard_is y.within);
+        pace = subst R (sym (pace_after-append k m r p h.turns y.turns ∙ ap (λ (s : Reading). pace_after k m s q y.turns) (sym heard_is) ∙ y.then)) x.2;
       }
 
 pub SettlesAll-from : (d : Description) (old next : Parts) (at_ : Stamp) → SettlesSome d old next at_ → None ≡ slice_get next.contexts.ring 0 → SettlesAll d old next at_

@@ -1,5 +1,5 @@
 -- The pace of a node, and what its instructions, calls and ends make of its parts.
-use Rattle.std.specs.Prelude.{◌≡◌, ℕ, ◌+◌, ◌*◌, ◌<◌, ◌≤◌, Some, List, [], ◌∷◌, min, length}
+use Rattle.std.specs.Prelude.{◌≡◌, ◌⊎◌, ℕ, ◌+◌, ◌*◌, ◌<◌, ◌≤◌, Some, List, [], ◌∷◌, min, length}
 use Rattle.mate_num.specs.declared.bounds.TheConstants.{CODE_MAX}
 use Rattle.mate_num.specs.declared.call.Stamp.{Stamp}
 use Rattle.mate_num.specs.declared.id.ContextId.{ContextId}
@@ -8,7 +8,7 @@ use Rattle.exec_unit.specs.declared.step_end.StepEnd.TheVariants.{Next, Ask, Hal
 use Rattle.vm_desc.specs.declared.description.Description.{Description}
 use Rattle.mate_journal.specs.Machine.{Machine}
 use Rattle.mate_journal.specs.Journal.{Told, Ready, Reading, whole_run, changed, heard}
-use Rattle.node_contexts.specs.declared.executing.Ran.{Ran}
+use Rattle.exec_unit.specs.declared.running.Ran.{Ran}
 use Rattle.node_contexts.specs.declared.seat.Seat.{Seat}
 use Rattle.node_contexts.specs.At.{at, Becomes}
 use Rattle.node_contexts.specs.Programs.{held_at}
@@ -100,10 +100,24 @@ pub record TakesTurn (d : Description) (old new : Parts) (at_ : Stamp) (c : Cont
   pub handlers : new.handlers ≡ old.handlers
   pub posts : new.posts ≡ old.posts
 
+-- quanta in one; more than one only where a single invocation is ready
+pub record AreQuanta (quantum ready n : ℕ) : Type 0 where
+  pub more : ℕ
+  pub are : n ≡ quantum + quantum * more
+  pub lone : (more ≡ 0) ⊎ (ready ≡ 1)
+
 -- in each of these turns the invocation's next mark is within the bound; so no invocation executes more instructions since its start
 abbrev pub AreWithin : Clock → Machine → ℕ → Reading → Pace → List Turn → Type 0
 AreWithin k m bound r p [] = Unit {0}
 AreWithin k m bound r p (t ∷ ts) = (mark_of k m r t.invocation ≤ bound) × AreWithin k m bound (heard_told m r t.told) (after_turn k m r p t) ts
+
+-- turns from this pace to that one, one after another
+pub record AreTogether (k : Clock) (m : Machine) (bound : ℕ) (r : Reading) (p q : Pace) (told : List Told) : Type 0 where
+  pub turns : List Turn
+  pub are_turns : AreTurns k m r p turns
+  pub made : told ≡ told_in turns
+  pub within : AreWithin k m bound r p turns
+  pub then : pace_after k m r p turns ≡ q
 
 -- turns from this pace on, one after another
 pub record Chains (d : Description) (old new : Parts) (told : List Told) (p : Pace) : Type 0 where

@@ -5,8 +5,9 @@ ghost use Rattle.node_contexts.specs.At.{at};
 ghost use Rattle.node_grants.specs.Starting.{KeepsOrder};
 ghost use Rattle.node_turns.specs.Pacing.{RunsFor};
 
+use exec_unit::Ran;
 use mate_num::ContextId;
-use node_contexts::{Ran, turn};
+use node_contexts::turn;
 use node_invariant::Parts;
 use vm_desc::Description;
 

@@ -5,13 +5,13 @@ ghost use Rattle.node_contexts.specs.At.{at as at_context};
 ghost use Rattle.node_invariant.specs.Keeps.{IsTimely};
 ghost use Rattle.node_grants.specs.Totals.{owes, starts_left};
 ghost use Rattle.node_grants.specs.Starting.{Rests};
-ghost use Rattle.node_turns.specs.Pacing.{TakesTurn, SettlesAll};
+ghost use Rattle.node_turns.specs.Pacing.{TakesTurn, AreQuanta, SettlesAll};
 
 use crate::running::run_some;
-use exec_unit::StepEnd;
+use exec_unit::{Ran, StepEnd};
 use mate_journal::Entry;
 use mate_num::{ContextId, Stamp, copy_of};
-use node_contexts::{Ran, number};
+use node_contexts::number;
 use node_grants::start_all;
 use node_invariant::{Parts, tell};
 use vm_desc::Description;
@@ -64,6 +64,19 @@ pub fn take_turn(
     instructions
 }
 
+/// How many instructions whoever is first of so many ready ones has at once: a quantum, or where no other is ready, as
+/// many quanta as a number holds. Turns of one invocation, one after another, are one longer turn.
+fn length_of_turn(quantum: u32, ready: usize) -> u32
+    requires { 0 < quantum }
+    ensures { AreQuanta quantum ready result }
+{
+    if ready == 1 {
+        u32::MAX / quantum * quantum
+    } else {
+        quantum
+    }
+}
+
 /// Turns follow one another until nobody is ready.
 pub fn settle(description: &Description, parts: &mut Parts, at: Stamp)
     requires rests { Rests description.now parts.old }
@@ -73,7 +86,8 @@ pub fn settle(description: &Description, parts: &mut Parts, at: Stamp)
     ensures { SettlesAll description.now parts.old parts.new at }
 {
     while let Some(ctx) = parts.contexts.first_ready() {
+        let n = length_of_turn(description.quantum, parts.contexts.ring.len());
         parts.contexts.give_way(ctx);
-        let _ = take_turn(description, parts, at, ctx, description.quantum);
+        let _ = take_turn(description, parts, at, ctx, n);
     }
 }

@@ -1,8 +1,14 @@
-use Rattle.exec_unit.proofs.StepLemmas.{did-IsStep}
+use Rattle.std.proofs.Common.{sym, subst}
+use Rattle.mate_code.specs.Effect.{Private}
+use Rattle.code_verifier.specs.Verified.{Fits}
+use Rattle.exec_unit.specs.Machine.{private_in}
+use Rattle.exec_unit.specs.Step.{IsStep}
 use Rattle.exec_unit.proofs.stepping.step.Goals as goal
+
+pub execute-requires-clause-fits : goal.execute-requires-clause-fits
+execute-requires-clause-fits c = let P : Private → Type 0 = λ p. Fits c.args.code.now p in subst P (sym c.machine.view_is) c.requires.fits
 
 pub returns : goal.returns
 returns c =
-    did-IsStep c.args.code.now c.shape.result.now c.place.result c.instr-instr.result c.args.machine.now c.act.new.machine
-    c.args.heap.now c.act.new.heap c.act.result c.requires.fits c.requires.lengths c.place.ensures
-    c.instr-instr.ensures.value c.instr-instr.ensures.right c.instr-instr.ensures.fits c.shape.ensures.value c.act.ensures
+    let P : Private → Type 0 = λ p. IsStep c.args.code.now p c.args.heap.now c.execute.result (private_in c.execute.new.registers c.execute.new.memory) c.execute.new.heap in
+    subst P c.machine.view_is c.execute.ensures

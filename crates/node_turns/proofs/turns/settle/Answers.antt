@@ -1,7 +1,7 @@
 -- The first of the ring goes last, and has a turn.
-use Rattle.std.proofs.Common.{ap, ◌∙◌, ◌<◌, arith}
+use Rattle.std.proofs.Common.{ℕ, ap, ◌∙◌, subst, ◌<◌, arith}
 use Rattle.node_contexts.specs.At.{At}
-use Rattle.node_turns.specs.Pacing.{most}
+use Rattle.node_turns.specs.Pacing.{most, AreQuanta}
 use Rattle.node_grants.specs.Totals.{falls}
 use Rattle.node_turns.proofs.SettleLemmas.{first-ready, Rests-way, owes-way, falls-way, SettlesSome-none, SettlesSome-then, SettlesAll-from, room-turn}
 use Rattle.node_turns.proofs.turns.settle.Goals as goal
@@ -32,7 +32,9 @@ loop-ctx-smaller c =
 
 pub loop-ctx-preserved : goal.loop-ctx-preserved
 loop-ctx-preserved c =
-    SettlesSome-then c.args.description.now c.args.parts.now c.loop-ctx.parts c.take_turn.new.parts c.give_way.new.self c.args.at c.in-Some.ctx c.in-Some.ensures.first c.loop-ctx.invariant c.give_way.ensures c.take_turn.result c.take_turn.ensures
+    let P : ℕ → Type 0 = λ j. AreQuanta c.args.description.now.quantum j c.length_of_turn-n.result in
+    SettlesSome-then c.args.description.now c.args.parts.now c.loop-ctx.parts c.take_turn.new.parts c.give_way.new.self c.args.at c.in-Some.ctx c.in-Some.ensures.first c.loop-ctx.invariant c.give_way.ensures c.length_of_turn-n.result c.take_turn.result
+    (subst P c.len.ensures.count c.length_of_turn-n.ensures) c.take_turn.ensures
 
 pub returns : goal.returns
 returns c = SettlesAll-from c.args.description.now c.args.parts.now c.loop-ctx.parts c.args.at c.loop-ctx.invariant c.in_default.ensures.first

@@ -1,0 +1,24 @@
+//! What an invocation of a handler has of its own, in two parts: what nearly every instruction changes, and the rest.
+
+ghost use Rattle.std.specs.Prelude.{◌≤◌};
+
+use mate_num::Payload;
+
+/// The place of the next instruction, how many values are on the stack, and the turns that are left.
+///
+/// A loop over instructions holds these apart from the arrays, so that the compiler keeps them in registers.
+#[derive(Clone, Copy)]
+pub struct Registers {
+    pub place: usize,
+    pub depth: u32,
+    pub turns: u32,
+    ghost fits: { depth ≤ 16 },
+}
+
+/// The stack, whose top is its last value of so many as the registers say, the private variables, and the message.
+#[derive(Drop)]
+pub struct Memory {
+    pub stack: [i16; 16],
+    pub privates: [i16; 8],
+    pub msg: Payload,
+}
