@@ -3,8 +3,9 @@
 
 use command_line::{CommandLine, read};
 use std::alloc::{AllocError, Global};
+use vm_desc::Description;
 
-pub fn answer(alloc: Global, case: &str) -> Result<String, AllocError> {
+pub fn answer(alloc: Global, _desc: &Description, case: &str) -> Result<String, AllocError> {
     let mut words = Vec::new(alloc);
     if !case.is_empty() {
         for word in case.split(' ') {

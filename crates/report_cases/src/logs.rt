@@ -3,10 +3,11 @@
 use mate_journal::{Air, Aired, Airs, Entry, NodeLog, NodeLogs, Report, Stamped};
 use mate_num::{ContextId, HandlerId, Image, NoMemory, Payload, Stamp, Store};
 use std::alloc::{AllocError, Global};
+use vm_desc::Description;
 
 const STAMP: Stamp = Stamp { event: 1, time: 5 };
 
-pub fn answer(alloc: Global, case: &str) -> Result<String, AllocError> {
+pub fn answer(alloc: Global, _desc: &Description, case: &str) -> Result<String, AllocError> {
     if case == "report" {
         return match report(alloc) {
             Ok(report) => parts(alloc, &report),

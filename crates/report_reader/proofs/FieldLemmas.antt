@@ -2,7 +2,7 @@
 use Rattle.std.proofs.Common.{◌≡◌, ℕ, zero, suc, ◌+◌, ◌*◌, ◌^◌, ◌<◌, ◌≤◌, nat_lt, Bool, true, false, not, ◌&&◌, ◌==◌, nat_le, cond, List, [], ◌∷◌, ◌++◌, length, map, Option, Some, None, refl, sym, ap, subst, ◌∙◌, arith, inl, inr}
 use Rattle.std.specs.Prelude.{ℤ}
 use Rattle.std.specs.List.{slice_get}
-use Rattle.std.specs.Option.{option_and_then, option_map}
+use Rattle.std.specs.Option.{option_map}
 use Rattle.std.specs.Fmt.{decimal, signed_decimal}
 use Rattle.std.specs.Str.{bytes_eq}
 use Rattle.std.proofs.lemmas.Bool.{cases_Bool, cond-true, cond-false, and_parts}
@@ -17,17 +17,15 @@ use Rattle.mate_num.specs.declared.id.FunId.{FunId}
 use Rattle.mate_num.specs.declared.id.ContextId.{ContextId}
 use Rattle.vm_desc.specs.declared.description.Description.{Description}
 use Rattle.vm_desc.specs.Whole.{context_count}
-use Rattle.vm_desc.proofs.DescriptionLemmas.{bounds_of}
 use Rattle.mate_journal.specs.declared.entry.DropCause.{DropCause}
 use Rattle.mate_journal.specs.declared.entry.DropCause.TheVariants as drop
 use Rattle.report_text.specs.Words.{drop_word, fault_word, handler_name, function_name}
 use Rattle.report_reader.specs.Words.{first, rest}
 use Rattle.report_reader.specs.Numbers.{below_of, values_after, value_of}
-use Rattle.report_reader.specs.Verbs.{named_among}
 use Rattle.report_reader.specs.Hex.{is_hex_word, bytes_of, hex_of}
 use Rattle.report_reader.specs.Names as names
 use Rattle.report_reader.specs.Reading.{number_of, node_of, drop_of, fault_of, payload_of}
-use Rattle.report_reader.proofs.OptionLemmas.{Steps, steps, when_some}
+use Rattle.report_reader.proofs.OptionLemmas.{steps, when_some}
 use Rattle.report_reader.proofs.NumberLemmas.{Tells, decimal-below_of, signed-value_of}
 use Rattle.report_reader.proofs.VerbLemmas.{named_among-word}
 use Rattle.report_reader.proofs.HexLemmas.{IsHex, hex_word, encode_lower-bytes_of}

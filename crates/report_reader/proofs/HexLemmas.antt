@@ -1,15 +1,16 @@
 -- Hexadecimal words are read as they are written.
-use Rattle.std.proofs.Common.{◌≡◌, ℕ, zero, suc, ◌+◌, ◌-◌, ◌*◌, ◌/◌, ◌%◌, ◌<◌, ◌≤◌, ◌==◌, nat_lt, nat_le, eqb, Bool, true, false, not, ◌&&◌, ◌||◌, cond, List, [], ◌∷◌, length, slice_index, Option, Some, None, Result, Ok, Err, is_some, unwrap_or, refl, sym, ap, subst, ◌∙◌, arith, inl, inr}
-use Rattle.std.specs.Prelude.{MatchResult}
+use Rattle.std.proofs.Common.{◌≡◌, ℕ, zero, suc, ◌+◌, ◌*◌, ◌/◌, ◌%◌, ◌<◌, ◌==◌, nat_lt, Bool, true, false, not, ◌&&◌, ◌||◌, List, [], ◌∷◌, length, slice_index, Option, Some, None, Result, Ok, Err, is_some, unwrap_or, refl, sym, ap, subst, ◌∙◌, arith, inl, inr}
+use Rattle.std.specs.Prelude.{MatchResult, All}
 use Rattle.std.specs.List.{list_all}
 use Rattle.std.specs.Result.{result_unwrap_or}
-use Rattle.std.proofs.lemmas.Bool.{and_parts, and_from, ltb-true, eqb-true, eq-eqb, cases_lt}
+use Rattle.std.proofs.lemmas.Bool.{and_parts, ltb-true, eqb-true, cases_lt}
 use Rattle.std.proofs.lemmas.Bool.Decides.{nat_tests}
-use Rattle.hex.specs.Hex.{decode_of, decode_pairs, decode_sized, encode_lower, encode_with, lower_digits, hex_digit_value, pair_value, value_at, digit_or_error}
+use Rattle.std.proofs.lemmas.List.Elements.{All-nil, All-cons}
+use Rattle.hex.specs.Hex.{decode_of, decode_pairs, decode_sized, encode_lower, encode_with, lower_digits, hex_digit_value, pair_value}
 use Rattle.hex.specs.declared.error.FromHexError.{FromHexError}
 use Rattle.hex.proofs.HexLemmas.{decode_of-even, decode_sized-twice}
 use Rattle.hex.proofs.Pairs.{cons_byte, decode_pairs-ok_pair}
-use Rattle.report_reader.specs.Hex.{is_lower_digit, is_hex_word, bytes_of, hex_of}
+use Rattle.report_reader.specs.Hex.{is_lower_digit, is_hex_word, bytes_of}
 
 -- ---- one digit
 
@@ -71,6 +72,7 @@ record Pairs (i : ℕ) (s : List ℕ) : Type 0 where
   bytes : List ℕ
   reads : decode_pairs i s ≡ Ok bytes
   writes : encode_with lower_digits bytes ≡ s
+  small : All (λ (b : ℕ). b < 256) bytes
 
 pair_reads : (a b i : ℕ) (x : Digit a) (y : Digit b) → pair_value a b i ≡ Ok (x.value * 16 + y.value)
 pair_reads a b i x y = rw (x.reads, y.reads) refl
@@ -85,7 +87,7 @@ pair_writes x y bytes small less =
 
 pairs : (i : ℕ) (s : List ℕ) → length s % 2 ≡ 0 → list_all is_lower_digit s ≡ true → Pairs i s
 unfolding decode_pairs encode_with
-pairs i [] even h = record { bytes = []; reads = refl; writes = refl }
+pairs i [] even h = record { bytes = []; reads = refl; writes = refl; small = All-nil (λ (b : ℕ). b < 256) }
 pairs i (a ∷ []) even h = absurd (omega arith)
 pairs i (a ∷ b ∷ s) even h =
     let first = and_parts (is_lower_digit a) (list_all is_lower_digit (b ∷ s)) h in
@@ -97,6 +99,7 @@ pairs i (a ∷ b ∷ s) even h =
       bytes = (x.value * 16 + y.value) ∷ ih.bytes;
       reads = decode_pairs-ok_pair i a b (x.value * 16 + y.value) s (pair_reads a b i x y) ∙ ap (cons_byte (x.value * 16 + y.value)) ih.reads;
       writes = pair_writes x.value y.value ih.bytes x.small y.small ∙ cc (x.writes, y.writes, ih.writes);
+      small = (let high = x.small in let low = y.small in All-cons (λ (b : ℕ). b < 256) (x.value * 16 + y.value) ih.bytes (omega (arith, high, low)) ih.small);
     }
 
 -- ---- words
@@ -128,6 +131,12 @@ encode_lower-bytes_of w h =
     let is : IsHex w = hex_word w h in
     let found : Pairs 0 w = pairs 0 w is.even is.digits in
     ap encode_lower (unwrapped (decode_of w) found.bytes (decode_of-even w is.even ∙ found.reads)) ∙ found.writes
+
+pub small-bytes_of : (w : List ℕ) → is_hex_word w ≡ true → All (λ (b : ℕ). b < 256) (bytes_of w)
+small-bytes_of w h =
+    let is : IsHex w = hex_word w h in
+    let found : Pairs 0 w = pairs 0 w is.even is.digits in
+    subst (All (λ (b : ℕ). b < 256)) (sym (unwrapped (decode_of w) found.bytes (decode_of-even w is.even ∙ found.reads))) found.small
 
 decodes_at : (read : Result (List ℕ) FromHexError) (bytes : List ℕ) (r : Result Unit FromHexError) (out : List ℕ) → read ≡ Ok bytes
     → MatchResult read (λ bytes. (r ≡ Ok tt) × (out ≡ bytes)) (λ e. r ≡ Err e) → (r ≡ Ok tt) × (out ≡ bytes)

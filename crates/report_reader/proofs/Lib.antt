@@ -8,3 +8,8 @@ pub mod StoreLemmas
 pub mod LineLemmas
 pub mod LineOf
 pub mod ItemLemmas
+pub mod WrittenWords
+pub mod WrittenFields
+pub mod WrittenStores
+pub mod WrittenLines
+pub mod Ranges

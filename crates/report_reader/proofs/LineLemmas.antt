@@ -1,24 +1,21 @@
 -- A line is written as it was read.
-use Rattle.std.proofs.Common.{◌≡◌, ℕ, ◌+◌, ◌^◌, ◌<◌, List, [], ◌∷◌, ◌++◌, length, map, Option, Some, None, refl, sym, ap, subst, ◌∙◌, arith, append_assoc, append-nil}
-use Rattle.std.specs.Prelude.{ℤ, codes, flat_map}
-use Rattle.std.specs.List.{slice_split, join_with_byte}
-use Rattle.std.specs.Option.{option_and_then, option_map}
+use Rattle.std.proofs.Common.{◌≡◌, ℕ, ◌<◌, List, [], ◌∷◌, ◌++◌, length, map, Option, Some, refl, sym, ap, subst, ◌∙◌, arith, append_assoc, append-nil}
+use Rattle.std.specs.Prelude.{ℤ, codes}
+use Rattle.std.specs.List.{join_with_byte}
 use Rattle.std.specs.Fmt.{decimal, signed_decimal}
 use Rattle.std.proofs.lemmas.List.Splits.{join_with_byte-slice_split}
 use Rattle.arrayvec.specs.ArrayVec.{ArrayVec}
 use Rattle.hex.specs.Hex.{encode_lower}
 use Rattle.mate_num.specs.declared.store.Store.{Store}
-use Rattle.mate_num.specs.declared.call.FaultKind.{FaultKind}
 use Rattle.mate_num.specs.declared.id.HandlerId.{HandlerId}
 use Rattle.mate_num.specs.declared.id.FunId.{FunId}
 use Rattle.mate_num.specs.declared.id.ContextId.{ContextId}
 use Rattle.vm_desc.specs.declared.description.Description.{Description}
 use Rattle.mate_journal.specs.declared.air.Air.TheVariants as air
 use Rattle.mate_journal.specs.declared.entry.DropCause.{DropCause}
-use Rattle.mate_journal.specs.declared.entry.VoidCause.{VoidCause}
 use Rattle.mate_journal.specs.declared.entry.VoidCause.TheVariants as void
 use Rattle.mate_journal.specs.declared.entry.Entry.TheVariants as entry
-use Rattle.report_text.specs.Words.{number, value, values, word, drop_word, fault_word, void_words, handler_name, function_name, image_word, store_words, stamp_words}
+use Rattle.report_text.specs.Words.{number, values, word, drop_word, handler_name, function_name, image_word}
 use Rattle.report_reader.specs.declared.line.Told.{Told}
 use Rattle.report_reader.specs.declared.line.Told.TheVariants as told
 use Rattle.report_reader.specs.declared.line.Line.{Line}
@@ -31,11 +28,11 @@ use Rattle.report_reader.specs.Hex.{image_of, packet_of}
 use Rattle.report_reader.specs.Names.{handler_of, function_of, context_of}
 use Rattle.report_reader.specs.Stores.{store_of}
 use Rattle.report_reader.specs.Told.{told_words, line_words, IsRightTold, IsRight}
-use Rattle.report_reader.specs.Reading.{number_of, node_of, drop_of, fault_of, payload_of, post_of, dropped_of, ask_of, answer_of, faulted_of, installed_of, not_newer_of, VoidVerb, ready, waiting, newer, void_word, void_by, void_of, started_of, halted_of, shown_of, interval_of, sent_of, lost_of, got_of, noise_of, told_by, told_of, line_with, line_of_words, line_in}
-use Rattle.report_reader.proofs.OptionLemmas.{Steps, steps}
+use Rattle.report_reader.specs.Reading.{number_of, node_of, drop_of, fault_of, payload_of, post_of, dropped_of, ask_of, answer_of, faulted_of, installed_of, VoidVerb, ready, waiting, newer, void_word, void_by, void_of, started_of, halted_of, shown_of, interval_of, sent_of, lost_of, got_of, noise_of, told_by, told_of, line_with, line_in}
+use Rattle.report_reader.proofs.OptionLemmas.{steps}
 use Rattle.report_reader.proofs.NumberLemmas.{Tells, decimal-unsigned_of, signed-value_of}
 use Rattle.report_reader.proofs.VerbLemmas.{named_among-word, word-verb_of}
-use Rattle.report_reader.proofs.FieldLemmas.{Maps, maps, Next, next, handler_of-name, function_of-name, context_of-number, number_of-word, node_of-word, drop_of-word, fault_of-word, hex_of-word, TellsBytes, payload_of-words}
+use Rattle.report_reader.proofs.FieldLemmas.{maps, next, handler_of-name, function_of-name, context_of-number, number_of-word, node_of-word, drop_of-word, fault_of-word, hex_of-word, TellsBytes, payload_of-words}
 use Rattle.report_reader.proofs.StoreLemmas.{joined, only_end, store_of-words}
 
 -- words that were read tell what is written so, and that is right for the description
@@ -59,7 +56,7 @@ image-joined (b ∷ bs) h = refl
 regrouped : (v a b c z : List ℕ) → v ++ a ++ b ++ c ++ z ≡ v ++ (a ++ (b ++ (c ++ z)))
 regrouped v a b c z = simp append_assoc
 
-post_words : (d : Description) (n : ℕ) (h : HandlerId) (c : ContextId) (p : ArrayVec ℤ)
+pub post_words : (d : Description) (n : ℕ) (h : HandlerId) (c : ContextId) (p : ArrayVec ℤ)
     → told_words d (told.Made (entry.Post n h c p)) ≡ joined (codes "post" ∷ decimal n ∷ handler_name d h ∷ decimal c.0 ∷ map signed_decimal p.items)
 post_words d n h c p =
     let e : codes " post" ++ number n ++ word (handler_name d h) ++ number c.0 ++ joined (map signed_decimal p.items)
@@ -83,7 +80,7 @@ post_read d ws t h =
     along d (told.Made (entry.Post a.step b.step c.step p.value)) t (codes "post" ∷ ws) p.gives
     (record { words = post_words d a.step b.step c.step p.value ∙ ap (λ (x : List (List ℕ)). joined (codes "post" ∷ x)) e; right = (wb.below, wc.below) })
 
-dropped_words : (d : Description) (h : HandlerId) (cause : DropCause)
+pub dropped_words : (d : Description) (h : HandlerId) (cause : DropCause)
     → told_words d (told.Made (entry.Dropped h cause)) ≡ joined (codes "drop" ∷ handler_name d h ∷ drop_word cause ∷ [])
 dropped_words d h cause = simp (append_assoc, append-nil)
 
@@ -100,7 +97,7 @@ dropped_read d ws t h =
     (record { words = dropped_words d a.step b.step ∙ ap (λ (x : List (List ℕ)). joined (codes "drop" ∷ x)) e; right = wa.below })
 
 -- a record of one number
-numbered_words : (verb : List ℕ) (n : ℕ) → (32 ∷ verb) ++ number n ≡ joined (verb ∷ decimal n ∷ [])
+pub numbered_words : (verb : List ℕ) (n : ℕ) → (32 ∷ verb) ++ number n ≡ joined (verb ∷ decimal n ∷ [])
 numbered_words verb n = simp (append_assoc, append-nil)
 
 numbered_read : (make : ℕ → Told) (ws : List (List ℕ)) (t : Told) → reads number_of (λ n. only_at_end (make n)) ws ≡ Some t
@@ -129,7 +126,7 @@ interval_read d ws t h =
     along d (told.OnAir (air.Interval r.0)) t (codes "interval" ∷ ws) r.2
     (record { words = numbered_words (codes "interval") r.0 ∙ ap (λ (x : List (List ℕ)). joined (codes "interval" ∷ x)) r.1; right = tt })
 
-ask_words : (d : Description) (n : ℕ) (f : FunId) (p : ArrayVec ℤ)
+pub ask_words : (d : Description) (n : ℕ) (f : FunId) (p : ArrayVec ℤ)
     → told_words d (told.Made (entry.Ask n f p)) ≡ joined (codes "ask" ∷ decimal n ∷ function_name d f ∷ map signed_decimal p.items)
 ask_words d n f p =
     let e : codes " ask" ++ number n ++ word (function_name d f) ++ joined (map signed_decimal p.items)
@@ -150,7 +147,7 @@ ask_read d ws t h =
     (record { words = ask_words d a.step b.step p.value ∙ ap (λ (x : List (List ℕ)). joined (codes "ask" ∷ x)) e; right = wb.below })
 
 -- a record of a number and another word
-paired_words : (verb : List ℕ) (n : ℕ) (w : List ℕ) → (32 ∷ verb) ++ number n ++ word w ≡ joined (verb ∷ decimal n ∷ w ∷ [])
+pub paired_words : (verb : List ℕ) (n : ℕ) (w : List ℕ) → (32 ∷ verb) ++ number n ++ word w ≡ joined (verb ∷ decimal n ∷ w ∷ [])
 paired_words verb n w = simp (append_assoc, append-nil)
 
 record Paired {A : Type 0} (tells : List ℕ → Option A) (make : ℕ → A → Told) (ws : List (List ℕ)) (t : Told) : Type 0 where
@@ -204,7 +201,7 @@ got_read d ws t h =
     along d (told.OnAir (air.Got r.n r.a)) t (codes "got" ∷ ws) r.gives
     (record { words = ap (λ (x : List ℕ). codes " got" ++ number r.n ++ word x) (sym b.word) ∙ paired_words (codes "got") r.n r.w ∙ ap (λ (x : List (List ℕ)). joined (codes "got" ∷ x)) r.is; right = b.below })
 
-installed_words : (d : Description) (h : HandlerId) (version : ℕ) (image : ArrayVec ℕ) → 0 < length image.items
+pub installed_words : (d : Description) (h : HandlerId) (version : ℕ) (image : ArrayVec ℕ) → 0 < length image.items
     → told_words d (told.Installed h version image) ≡ joined (codes "install" ∷ handler_name d h ∷ decimal version ∷ encode_lower image.items ∷ [])
 installed_words d h version image some =
     let e : codes " install" ++ word (handler_name d h) ++ number version ++ word (encode_lower image.items)
@@ -311,7 +308,7 @@ pub record WritesLine (d : Description) (l : Line) (bytes : List ℕ) : Type 0 w
   pub words : bytes ≡ line_words d l
   pub right : IsRight d l
 
-join_words : (w : List ℕ) (ws : List (List ℕ)) → join_with_byte 32 (w ∷ ws) ≡ w ++ joined ws
+pub join_words : (w : List ℕ) (ws : List (List ℕ)) → join_with_byte 32 (w ∷ ws) ≡ w ++ joined ws
 join_words w [] = sym (append-nil w)
 join_words w (v ∷ ws) = ap (λ (x : List ℕ). w ++ 32 ∷ x) (join_words v ws)
 

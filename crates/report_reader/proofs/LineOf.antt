@@ -1,11 +1,13 @@
 -- What holds of the line that was read, where there is one.
-use Rattle.std.proofs.Common.{◌≡◌, ℕ, List, Option, Some, None, sym}
-use Rattle.std.specs.Prelude.{IfSome}
+use Rattle.std.proofs.Common.{◌≡◌, ℕ, List, Option, Some, None, sym, ap, ◌∙◌}
+use Rattle.std.specs.Prelude.{IfSome, IfNone}
 use Rattle.vm_desc.specs.declared.description.Description.{Description}
 use Rattle.report_reader.specs.declared.line.Line.{Line}
-use Rattle.report_reader.specs.Told.{line_words, IsRight}
+use Rattle.report_reader.specs.Told.{line_words, IsRight, HasRanges}
 use Rattle.report_reader.specs.Reading.{line_in}
 use Rattle.report_reader.proofs.LineLemmas.{line_in-words}
+use Rattle.report_reader.proofs.Ranges.{line_ranges}
+use Rattle.report_reader.proofs.WrittenLines.{line_is_read}
 
 pub form_of : (d : Description) (bytes : List ℕ) (r : Option Line) → r ≡ line_in d bytes → IfSome r (λ l. bytes ≡ line_words d l)
 form_of d bytes None h = tt
@@ -14,3 +16,13 @@ form_of d bytes (Some l) h = (line_in-words d bytes l (sym h)).words
 pub right_of : (d : Description) (bytes : List ℕ) (r : Option Line) → r ≡ line_in d bytes → IfSome r (λ l. IsRight d l)
 right_of d bytes None h = tt
 right_of d bytes (Some l) h = (line_in-words d bytes l (sym h)).right
+
+pub ranges_of : (d : Description) (bytes : List ℕ) (r : Option Line) → r ≡ line_in d bytes → IfSome r (λ l. HasRanges l)
+ranges_of d bytes None h = tt
+ranges_of d bytes (Some l) h = line_ranges d bytes l (sym h)
+
+-- where none was read, the bytes are the words of no line
+pub none_of : (d : Description) (bytes : List ℕ) (r : Option Line) → r ≡ line_in d bytes → IfNone r ((l : Line) → IsRight d l → HasRanges l → bytes ≡ line_words d l → ⊥)
+none_of d bytes (Some l) h = tt
+none_of d bytes None h = λ l right ranges words.
+    let e : None ≡ Some l = h ∙ ap (line_in d) words ∙ (line_is_read d l right ranges).is in absurd cc

@@ -1,5 +1,5 @@
 -- A store is written as it was read.
-use Rattle.std.proofs.Common.{◌≡◌, ℕ, zero, suc, ◌+◌, ◌-◌, ◌<◌, ◌≤◌, nat_lt, Bool, true, false, not, ◌&&◌, ◌==◌, cond, List, [], ◌∷◌, ◌++◌, length, take, drop, min, map, Option, Some, None, refl, sym, ap, subst, ◌∙◌, arith, inl, inr, append_assoc, append-nil, slice_index}
+use Rattle.std.proofs.Common.{◌≡◌, ℕ, suc, ◌-◌, ◌<◌, nat_lt, not, ◌&&◌, ◌==◌, List, [], ◌∷◌, ◌++◌, length, take, drop, min, map, Option, Some, None, refl, sym, ap, subst, ◌∙◌, arith, inl, inr, append_assoc, append-nil, slice_index}
 use Rattle.std.specs.Prelude.{ℤ, codes, flat_map}
 use Rattle.std.specs.List.{zip}
 use Rattle.std.specs.Option.{option_and_then, option_map}
@@ -12,14 +12,14 @@ use Rattle.std.proofs.lemmas.Slice.Eq.{bytes_eq-Decides}
 use Rattle.arrayvec.specs.ArrayVec.{ArrayVec}
 use Rattle.mate_num.specs.declared.store.Store.{Store}
 use Rattle.vm_desc.specs.declared.description.Description.{Description}
-use Rattle.report_text.specs.Words.{value, values, word, spaced, shared_word, buffer_word, store_words}
+use Rattle.report_text.specs.Words.{values, word, spaced, shared_word, buffer_word, store_words}
 use Rattle.report_reader.specs.Words.{first, rest, only_at_end}
 use Rattle.report_reader.specs.Numbers.{value_of}
 use Rattle.report_reader.specs.Stores.{after, closed, shared_value, shared_after, item, items_after, opened, buffer_of, buffers_after, store_with, store_of}
 use Rattle.report_reader.specs.Told.{IsStoreOf}
-use Rattle.report_reader.proofs.OptionLemmas.{Steps, steps, when_some}
+use Rattle.report_reader.proofs.OptionLemmas.{steps, when_some}
 use Rattle.report_reader.proofs.NumberLemmas.{signed-value_of}
-use Rattle.report_reader.proofs.FieldLemmas.{Maps, maps, Next, next}
+use Rattle.report_reader.proofs.FieldLemmas.{maps, next}
 
 -- words, each after a space
 abbrev pub joined : List (List ℕ) → List ℕ
@@ -39,7 +39,7 @@ after-front front w x h =
     sym (take-append-drop n w) ∙ cc (begins, behind)
 
 -- a shared variable's word
-abbrev shared_list : List ℕ × ℤ → List ℕ
+abbrev pub shared_list : List ℕ × ℤ → List ℕ
 shared_list (name, v) = name ++ codes "=" ++ signed_decimal v
 
 shared_value-word : (name w : List ℕ) (v : ℤ) → shared_value name w ≡ Some v → w ≡ shared_list (name, v)
@@ -96,7 +96,7 @@ closed-word w inner h =
     last_split w some ∙ cc (last, front)
 
 -- values, the last one with a `]`
-abbrev item_list : ℤ → List ℤ → List (List ℕ)
+abbrev pub item_list : ℤ → List ℤ → List (List ℕ)
 item_list v [] = (signed_decimal v ++ codes "]") ∷ []
 item_list v (u ∷ us) = signed_decimal v ∷ item_list u us
 
@@ -144,16 +144,16 @@ items_after-words before w (u ∷ ws) r h =
     room.1
 
 -- the front of the first word
-abbrev with_front : List ℕ → List (List ℕ) → List (List ℕ)
+abbrev pub with_front : List ℕ → List (List ℕ) → List (List ℕ)
 with_front front [] = []
 with_front front (w ∷ ws) = (front ++ w) ∷ ws
 
-abbrev listed : List ℤ → List (List ℕ)
+abbrev pub listed : List ℤ → List (List ℕ)
 listed [] = codes "]" ∷ []
 listed (v ∷ vs) = item_list v vs
 
 -- a buffer's words
-abbrev buffer_list : List ℕ × ArrayVec ℤ → List (List ℕ)
+abbrev pub buffer_list : List ℕ × ArrayVec ℤ → List (List ℕ)
 buffer_list (name, b) = with_front (name ++ codes "=[") (listed b.items)
 
 record ReadsOpened (w : List ℕ) (ws : List (List ℕ)) (all : List ℤ) (left : List (List ℕ)) : Type 0 where
@@ -231,7 +231,7 @@ buffers_after-words before (name ∷ names) ws r h =
 
 -- ---- as they are written
 
-joined-shared : (pairs : List (List ℕ × ℤ)) → joined (map shared_list pairs) ≡ flat_map shared_word pairs
+pub joined-shared : (pairs : List (List ℕ × ℤ)) → joined (map shared_list pairs) ≡ flat_map shared_word pairs
 joined-shared [] = refl
 joined-shared ((name, v) ∷ pairs) = rw (joined-shared pairs) refl
 
@@ -257,7 +257,7 @@ joined-buffer name b =
     joined-front_of (name ++ codes "=[") (spaced b.items ++ codes "]") (listed b.items) (joined-listed b.items)
     ∙ ap (λ (x : List ℕ). 32 ∷ x) (sym (append_assoc (name ++ codes "=[") (spaced b.items) (codes "]")))
 
-joined-buffers : (pairs : List (List ℕ × ArrayVec ℤ)) → joined (flat_map buffer_list pairs) ≡ flat_map buffer_word pairs
+pub joined-buffers : (pairs : List (List ℕ × ArrayVec ℤ)) → joined (flat_map buffer_list pairs) ≡ flat_map buffer_word pairs
 joined-buffers [] = refl
 joined-buffers ((name, b) ∷ pairs) =
     joined-append (buffer_list (name, b)) (flat_map buffer_list pairs) ∙ rw (joined-buffer name b, joined-buffers pairs) refl

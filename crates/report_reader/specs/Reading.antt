@@ -1,17 +1,14 @@
 -- What the words of a line tell.
-use Rattle.std.specs.Prelude.{ℕ, ◌^◌, ◌==◌, List, [], ◌∷◌, codes, ℤ, Option, None, Some}
-use Rattle.std.specs.Option.{option_map, option_and_then}
+use Rattle.std.specs.Prelude.{ℕ, ◌^◌, List, [], ◌∷◌, codes, ℤ, Option}
+use Rattle.std.specs.Option.{option_map}
 use Rattle.arrayvec.specs.ArrayVec.{ArrayVec}
 use Rattle.mate_num.specs.declared.call.FaultKind.{FaultKind}
 use Rattle.mate_num.specs.declared.call.FaultKind.TheVariants as fault
 use Rattle.vm_desc.specs.declared.description.Description.{Description}
-use Rattle.mate_journal.specs.declared.air.Air.{Air}
 use Rattle.mate_journal.specs.declared.air.Air.TheVariants as air
 use Rattle.mate_journal.specs.declared.entry.DropCause.{DropCause}
 use Rattle.mate_journal.specs.declared.entry.DropCause.TheVariants as drop
-use Rattle.mate_journal.specs.declared.entry.VoidCause.{VoidCause}
 use Rattle.mate_journal.specs.declared.entry.VoidCause.TheVariants as void
-use Rattle.mate_journal.specs.declared.entry.Entry.{Entry}
 use Rattle.mate_journal.specs.declared.entry.Entry.TheVariants as entry
 use Rattle.report_text.specs.Words.{drop_word, fault_word}
 use Rattle.report_reader.specs.declared.line.Told.{Told}
@@ -19,7 +16,7 @@ use Rattle.report_reader.specs.declared.line.Told.TheVariants as told
 use Rattle.report_reader.specs.declared.line.Line.{Line}
 use Rattle.report_reader.specs.declared.verb.Verb.{Verb}
 use Rattle.report_reader.specs.declared.verb.Verb.TheVariants as verb
-use Rattle.report_reader.specs.Words.{words_of, first, rest, reads, only_at_end}
+use Rattle.report_reader.specs.Words.{words_of, reads, only_at_end}
 use Rattle.report_reader.specs.Numbers.{unsigned_of, below_of, value_of, values_after}
 use Rattle.report_reader.specs.Verbs.{named_among, verb_of}
 use Rattle.report_reader.specs.Hex.{image_of, packet_of}

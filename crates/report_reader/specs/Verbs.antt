@@ -1,8 +1,6 @@
 -- The words that begin a record, and those of a small choice.
-use Rattle.std.specs.Prelude.{ℕ, List, [], ◌∷◌, codes, find, Option, if◌then◌else◌, None, Some}
+use Rattle.std.specs.Prelude.{ℕ, List, [], ◌∷◌, codes, Option, if◌then◌else◌, None, Some}
 use Rattle.std.specs.Str.{bytes_eq}
-use Rattle.mate_num.specs.declared.call.FaultKind.{FaultKind}
-use Rattle.mate_num.specs.declared.call.FaultKind.TheVariants as fault
 use Rattle.report_reader.specs.declared.verb.Verb.{Verb}
 use Rattle.report_reader.specs.declared.verb.Verb.TheVariants as verb
 

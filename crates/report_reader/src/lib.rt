@@ -3,11 +3,13 @@
 
 mod fields;
 mod hex_words;
+pub mod laws;
 pub mod line;
 mod names;
-mod numbers;
+pub mod numbers;
 mod store_words;
 pub mod verb;
 pub mod words;
 
+pub use laws::written_line_is_read;
 pub use line::{Line, Told, line_of};

@@ -1,8 +1,9 @@
 //! A line of a report: when and where something happened, and what.
 
-ghost use Rattle.std.specs.Prelude.{◌≡◌, IfSome};
+ghost use Rattle.std.specs.Prelude.{◌≡◌, IfSome, IfNone};
 ghost use Rattle.report_reader.specs.Words.{first, rest, only_at_end};
-ghost use Rattle.report_reader.specs.Told.{line_words, IsRight};
+ghost use Rattle.report_reader.specs.Told.{line_words, IsRight, HasRanges};
+ghost use Rattle.report_reader.specs.declared.line.Line.{Line};
 ghost use Rattle.report_reader.specs.Verbs.{verb_of};
 ghost use Rattle.report_reader.specs.Reading.{started_of, halted_of, shown_of, interval_of, told_by, told_of, line_of_words, line_in, post_of, dropped_of, ask_of, answer_of, faulted_of, installed_of, void_of, not_newer_of, sent_of, lost_of, got_of, noise_of};
 
@@ -45,11 +46,13 @@ pub struct Line {
 
 /// The line that bytes tell, which do not have the LF at its end; None where they tell none.
 ///
-/// What it gives is written as these bytes again, so no other line is.
+/// What it gives is written as these bytes again, so no other line is, and no line is written as bytes that tell none.
 pub fn line_of(desc: &Description, bytes: &[u8]) -> Option<Line>
     ensures value { result ≡ line_in desc.now bytes.now }
     ensures form { IfSome result (λ l. bytes.now ≡ line_words desc.now l) }
     ensures right { IfSome result (λ l. IsRight desc.now l) }
+    ensures ranges { IfSome result (λ l. HasRanges l) }
+    ensures none { IfNone result ((l : Line) → IsRight desc.now l → HasRanges l → bytes.now ≡ line_words desc.now l → ⊥) }
 {
     read_line(desc, bytes)
 }

@@ -12,7 +12,7 @@ use Rattle.mate_journal.specs.Pace.{Pace, no_pace}
 use Rattle.mate_journal.specs.Turns.{Clock}
 use Rattle.mate_journal.specs.NodeScript.{Step, RunEnd, Whole, Full, Cut, AreOfEvent, HaveMade, EndsRun, IsRunOf}
 use Rattle.mate_journal.specs.NodeReport.{IsNodeReport}
-use Rattle.mate_journal.specs.Tidy.{store_named, EventsRise, IsTidyLog}
+use Rattle.mate_journal.specs.Tidy.{store_named, EventsRise, IsTidyLog, HasFullImages}
 use Rattle.mate_journal.specs.declared.air.Aired.{Aired}
 use Rattle.mate_journal.specs.declared.entry.Stamped.{Stamped}
 use Rattle.mate_journal.specs.declared.report.Report.{Report}
@@ -85,6 +85,7 @@ node-tidy d k meaning steps how r n =
       nodes_low = omega (arith, count);
       nodes_high = omega (arith, count);
       logs = All-same (IsTidyLog d) r.nodes (n.log ∷ []) n.one_node (All-cons (IsTidyLog d) n.log [] n.tidy (All-nil (IsTidyLog d)));
+      images = All-same HasFullImages r.nodes (n.log ∷ []) n.one_node (All-cons HasFullImages n.log [] n.images (All-nil HasFullImages));
       air_in_range =
           let P : Aired → Type 0 = λ (a : Aired). (a.node < length r.nodes) × IsAirInRange (length r.nodes) a.air in
           All-same P r.air [] n.no_air (All-nil P);

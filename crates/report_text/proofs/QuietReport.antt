@@ -14,7 +14,7 @@ use Rattle.mate_journal.specs.declared.air.Air.TheVariants as air
 use Rattle.mate_journal.specs.declared.entry.Stamped.{Stamped}
 use Rattle.mate_journal.specs.declared.entry.Entry.TheVariants as entry
 use Rattle.mate_journal.specs.declared.report.Report.{Report}
-use Rattle.mate_journal.specs.Tidy.{image_named, store_named, names_in, below, IsEntryInRange, IsStoreOf, EventsRise, entry_event, IsTidyLog}
+use Rattle.mate_journal.specs.Tidy.{image_named, store_named, names_in, below, IsEntryInRange, IsStoreOf, EventsRise, entry_event, IsTidyLog, HasFullImages}
 use Rattle.report_text.specs.Progress.{air_event}
 use Rattle.report_text.specs.Tidy.{IsTidy, IsAirInRange, AirNodesRise, Mark, IsNoEarlier, AreOfOneNode, IsLastSeen, marks}
 
@@ -49,6 +49,10 @@ tidy_log d l quiet =
           (All-cons (IsStoreOf d) store [] (record { shared = length-replicate (length d.shared.items) (pos 0); buffers = length-replicate (length d.buffers.items) (record { items = [] }) }) (All-nil (IsStoreOf d)));
       ordered = subst (EventsRise entry_event 0) (sym quiet.entries) (omega arith, tt);
     }
+
+full_images : (d : Description) (l : Log) → IsQuiet d l → HasFullImages l
+full_images d l quiet =
+    let P : ArrayVec ℕ → Type 0 = λ (image : ArrayVec ℕ). 0 < length image.items in record { full = All-same P l.images [] quiet.images (All-nil P) }
 
 -- a mark of the first event, or one of the second that shows a store
 abbrev IsPlain : Mark → Type 0
@@ -97,6 +101,8 @@ quiet_is_tidy d r l0 l1 nodes on_air quiet0 quiet1 =
       nodes_high = omega (arith, count);
       logs = All-same (IsTidyLog d) r.nodes (l0 ∷ l1 ∷ []) nodes
           (All-cons (IsTidyLog d) l0 (l1 ∷ []) (tidy_log d l0 quiet0) (All-cons (IsTidyLog d) l1 [] (tidy_log d l1 quiet1) (All-nil (IsTidyLog d))));
+      images = All-same HasFullImages r.nodes (l0 ∷ l1 ∷ []) nodes
+          (All-cons HasFullImages l0 (l1 ∷ []) (full_images d l0 quiet0) (All-cons HasFullImages l1 [] (full_images d l1 quiet1) (All-nil HasFullImages)));
       air_in_range =
           let P : Aired → Type 0 = λ (a : Aired). (a.node < length r.nodes) × IsAirInRange (length r.nodes) a.air in
           All-same P r.air (begun 0 ∷ begun 1 ∷ []) on_air (All-cons P (begun 0) (begun 1 ∷ []) (omega (arith, count), tt) (All-cons P (begun 1) [] (omega (arith, count), tt) (All-nil P)));

@@ -3,7 +3,7 @@ use Rattle.std.specs.Prelude.{◌≡◌, ◌≤◌, ◌<◌, ℕ, suc, Bool, fal
 use Rattle.mate_num.specs.declared.call.Stamp.{Stamp}
 use Rattle.vm_desc.specs.declared.description.Description.{Description}
 use Rattle.mate_journal.specs.Log.{Log}
-use Rattle.mate_journal.specs.Tidy.{store_named, EventsRise, IsTidyLog}
+use Rattle.mate_journal.specs.Tidy.{store_named, EventsRise, IsTidyLog, HasFullImages}
 use Rattle.mate_journal.specs.declared.air.Air.{Air}
 use Rattle.mate_journal.specs.declared.air.Air.TheVariants as air
 use Rattle.mate_journal.specs.declared.air.Aired.{Aired}
@@ -52,13 +52,14 @@ IsLastSeen ms event = All (λ (m : Mark). (m.stamp.event ≤ event) × (m.stamp.
 abbrev pub AreOfOneNode : List Mark → Mark → Mark → Type 0
 AreOfOneNode ms a b = a.stamp.event ≡ b.stamp.event → (a.node ≡ b.node) ⊎ ((a.stamp.event ≡ 0) ⊎ IsLastSeen ms a.stamp.event)
 
--- A report is tidy for a description: its logs are; node numbers and packets are in range; event numbers don't fall on
--- the air, nor do nodes within one event there; events agree in time and, but for the first and the last, are each of one
+-- A report is tidy for a description: its logs are, and no image is empty; node numbers and packets are in range; event
+-- numbers don't fall on the air, nor do nodes within one event there; events agree in time and, but for the first and the last, are each of one
 -- node.
 pub record IsTidy (d : Description) (r : Report) : Type 0 where
   pub nodes_low : 1 ≤ length r.nodes
   pub nodes_high : length r.nodes ≤ 64
   pub logs : All (IsTidyLog d) r.nodes
+  pub images : All HasFullImages r.nodes
   pub air_in_range : All (λ (a : Aired). (a.node < length r.nodes) × IsAirInRange (length r.nodes) a.air) r.air
   pub air_ordered : EventsRise air_event 0 r.air
   pub air_nodes : AirNodesRise r.air

@@ -1,0 +1,10 @@
+pub mod OrderLemmas
+pub mod LastLineLemmas
+pub mod PartLemmas
+pub mod TextLemmas
+pub mod TidyLemmas
+pub mod BackLemmas
+pub mod VerdictLemmas
+pub mod LinesLemmas
+pub mod RoundLemmas
+pub mod TripLemmas

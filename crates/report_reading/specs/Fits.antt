@@ -1,0 +1,73 @@
+-- Which lines of a report fit one after another, and which last line fits after them.
+use Rattle.std.specs.Prelude.{◌≡◌, ◌≤◌, ◌<◌, ℕ, Bool, true, false, List, map, length, All, AllPairs, IsTrue, ⊤}
+use Rattle.vm_desc.specs.declared.description.Description.{Description}
+use Rattle.report_text.specs.Tidy.{Mark, IsNoEarlier, AreOfOneNode, IsAirInRange}
+use Rattle.report_reader.specs.declared.line.Line.{Line}
+use Rattle.report_reader.specs.declared.line.Told.{Told}
+use Rattle.report_reader.specs.declared.line.Told.TheVariants as told
+use Rattle.report_reader.specs.Told.{IsRight, HasRanges}
+use Rattle.report_reading.specs.LastLines.{HasLastRanges}
+use Rattle.report_reading.specs.declared.last_line.LastLine.{LastLine}
+
+-- whether a line tells of the air, and whether it shows a store
+abbrev pub is_on_air : Told → Bool
+is_on_air (told.OnAir a) = true
+is_on_air (told.Made e) = false
+is_on_air (told.Installed h version image) = false
+is_on_air (told.Shown s) = false
+
+abbrev pub is_shown : Told → Bool
+is_shown (told.OnAir a) = false
+is_shown (told.Made e) = false
+is_shown (told.Installed h version image) = false
+is_shown (told.Shown s) = true
+
+-- a line as a record of a report: when, where, and whether it shows a store
+abbrev pub line_mark : Line → Mark
+line_mark l = record { stamp = l.stamp; node = l.node; is_seen = is_shown l.told }
+
+abbrev pub line_marks : List Line → List Mark
+line_marks ls = map line_mark ls
+
+-- Line `l` may stand behind `p`: events don't fall; within one, what happened on the air comes before the entries, and of
+-- each of these two kinds the nodes don't fall.
+pub record StandsBehind (p l : Line) : Type 0 where
+  pub event : p.stamp.event ≤ l.stamp.event
+  pub air_first : p.stamp.event ≡ l.stamp.event → IsTrue (is_on_air l.told) → IsTrue (is_on_air p.told)
+  pub nodes : p.stamp.event ≡ l.stamp.event → is_on_air p.told ≡ is_on_air l.told → p.node ≤ l.node
+
+-- Lines stand in order, and agree as the records of a tidy report do: one event has one time, and a later event no earlier
+-- one; an event is of one node, but for event 0 and a last event that only shows stores.
+pub record AreInOrder (ls : List Line) : Type 0 where
+  pub ordered : AllPairs StandsBehind ls
+  pub in_time : All (λ (a : Line). All (λ (b : Line). IsNoEarlier (line_mark a) (line_mark b)) ls) ls
+  pub one_node : All (λ (a : Line). All (λ (b : Line). AreOfOneNode (line_marks ls) (line_mark a) (line_mark b)) ls) ls
+
+-- a line is right for a description, and its numbers are in range
+pub record IsSound (d : Description) (l : Line) : Type 0 where
+  pub right : IsRight d l
+  pub ranges : HasRanges l
+
+-- Lines fit one after another: each is right, and they are in order. The first of them then fit, too.
+pub record AreFitting (d : Description) (ls : List Line) : Type 0 where
+  pub sound : All (IsSound d) ls
+  pub order : AreInOrder ls
+
+-- the node of a line, and those that it names, are below a number
+abbrev pub IsToldBelow : ℕ → Told → Type 0
+IsToldBelow nodes (told.OnAir a) = IsAirInRange nodes a
+IsToldBelow nodes (told.Made e) = ⊤
+IsToldBelow nodes (told.Installed h version image) = ⊤
+IsToldBelow nodes (told.Shown s) = ⊤
+
+pub record IsLineBelow (nodes : ℕ) (l : Line) : Type 0 where
+  pub node : l.node < nodes
+  pub told : IsToldBelow nodes l.told
+
+-- a last line fits after lines: it counts them, and its 1 to 64 nodes are more than each node number in them
+pub record FitsLast (ls : List Line) (e : LastLine) : Type 0 where
+  pub ranges : HasLastRanges e
+  pub records : e.records ≡ length ls
+  pub low : 1 ≤ e.nodes
+  pub high : e.nodes ≤ 64
+  pub above : All (IsLineBelow e.nodes) ls

@@ -1,0 +1,24 @@
+//! Why bytes are not the text of a report.
+
+use mate_num::NoMemory;
+
+/// Why a text isn't read.
+#[derive(Clone, Copy, PartialEq, Eq, Debug)]
+pub enum TextFault {
+    /// The first line, counted from 1, that doesn't fit after the lines before it. A last line without LF is such a line, and so
+    /// is one behind the last line of a report; where a text of whole lines ends too early, it is the line that would come next.
+    BadLine { line: u32 },
+    /// Memory was refused.
+    NoMemory,
+}
+
+impl From<NoMemory> for TextFault {
+    ghost use Rattle.std.specs.Prelude.{◌≡◌};
+    ghost use Rattle.report_reading.specs.declared.fault.TextFault.TheVariants.{NoMemory as OutOfMemory};
+
+    ghost from_gives = { λ _ fault. fault ≡ OutOfMemory };
+
+    fn from(_refusal: NoMemory) -> TextFault {
+        TextFault::NoMemory
+    }
+}

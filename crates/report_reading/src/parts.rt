@@ -1,0 +1,176 @@
+//! The parts of a report, as its lines are read.
+
+ghost use Rattle.std.specs.Prelude.{◌≡◌, ◌≤◌, ◌<◌, ◌+◌, ◌∷◌, ◌++◌, [], List, ℕ, length, take, max, All, OnOk, MatchResult, IfOk, Err, IsTrue, ◌↔◌};
+ghost use Rattle.vm_desc.specs.declared.description.Description.{Description};
+ghost use Rattle.mate_journal.specs.Log.{Log, IsSameLog};
+ghost use Rattle.mate_journal.specs.declared.report.Report.{Report};
+ghost use Rattle.report_reader.specs.declared.line.Line.{Line};
+ghost use Rattle.report_reading.specs.Fits.{IsSound};
+ghost use Rattle.report_reading.specs.Parts.{log_with_line, log_of, node_in_air, node_named, nodes_in, nodes_of, report_of, IsSameReport};
+ghost use Rattle.report_reading.specs.Steps.{AreShort, AddsLine, HasRead, TakesLine, fits_last};
+ghost use Rattle.report_reading.specs.declared.fault.TextFault.TheVariants as fault;
+
+use crate::fault::TextFault;
+use crate::last_line::LastLine;
+use crate::place::{Place, admits_next, place_after};
+use mate_journal::{Air, Aired, Airs, NodeLog, NodeLogs, Report, Stamped};
+use mate_num::{NoMemory, Stamp};
+use report_reader::{Line, Told};
+use std::alloc::Global;
+
+/// The most nodes that a report has.
+const NODES_MAX: u8 = 64;
+
+/// What the lines of a text have told so far.
+#[derive(Drop)]
+pub struct Parts {
+    /// A log for each node that there can be.
+    pub logs: Vec<NodeLog>,
+    pub air: Airs,
+    pub place: Option<Place>,
+    /// How many lines were read.
+    pub count: u32,
+    /// A number above each node number in them.
+    pub nodes: u64,
+}
+
+/// The number of the node that a line names beside its own, or 0.
+fn node_named(told: &Told) -> u8
+    ensures { result ≡ node_named told.now }
+{
+    match told {
+        Told::OnAir(air) => node_in_air(air),
+        Told::Made(_) | Told::Installed { .. } | Told::Shown(_) => 0,
+    }
+}
+
+fn node_in_air(air: &Air) -> u8
+    ensures { result ≡ node_in_air air.now }
+{
+    match air {
+        Air::Lost { number: _, to } => *to,
+        Air::Got { number: _, from } => *from,
+        Air::Interval { .. } | Air::Keep | Air::Sent { .. } | Air::Noise { .. } => 0,
+    }
+}
+
+/// A number above each node number of a line.
+fn nodes_in(line: &Line) -> u64
+    ensures { result ≡ nodes_in line.now }
+{
+    line.node.max(node_named(&line.told)) as u64 + 1
+}
+
+/// Appends what a line tells to the log of its node; a line that tells of the air leaves it.
+fn add_to_log(log: &mut NodeLog, stamp: Stamp, told: Told) -> Result<(), NoMemory>
+    requires images { length log.old.images < 4100000000 }
+    requires stores { length log.old.stores < 4100000000 }
+    ensures { OnOk result (IsSameLog log.new (log_with_line log.old stamp told)) }
+{
+    log.reserve(1)?;
+    match told {
+        Told::OnAir(_) => {}
+        Told::Made(entry) => log.push(Stamped { stamp, entry }),
+        Told::Installed {
+            handler,
+            version,
+            image,
+        } => log.push_install(stamp, handler, version, &image),
+        Told::Shown(store) => log.push_seen(stamp, &store),
+    }
+    Ok(())
+}
+
+impl Parts {
+    /// What no line has told.
+    pub fn new(alloc: Global) -> Result<Parts, NoMemory>
+        ensures { IfOk result (λ p. (d : Description) → HasRead d [] p) }
+    {
+        let mut logs = Vec::new(alloc);
+        for _node in 0..NODES_MAX {
+            logs.push(NodeLog::new(alloc))?;
+        }
+        Ok(Parts {
+            logs,
+            air: Airs::new(alloc),
+            place: None,
+            count: 0,
+            nodes: 0,
+        })
+    }
+
+    /// The line behind those that were read is bad.
+    pub fn bad_line(&self) -> TextFault
+        requires { self.now.count ≤ 4000000000 }
+        ensures { result ≡ fault.BadLine (self.now.count + 1) }
+    {
+        TextFault::BadLine {
+            line: self.count + 1,
+        }
+    }
+
+    /// Takes the next line. A line that doesn't fit after those before is the bad line.
+    pub fn take(&mut self, line: Line) -> Result<(), TextFault>
+        requires node { line.node < 64 }
+        requires few { self.old.count < 4000000000 }
+        requires read { (d : Description) × (ls : List Line) × HasRead d ls self.old }
+        ensures { (d : Description) (ls : List Line) → HasRead d ls self.old → IsSound d line → TakesLine d ls line self.new result }
+    {
+        if !admits_next(&self.place, &line) {
+            return Err(self.bad_line());
+        }
+        self.add(line)?;
+        Ok(())
+    }
+
+    fn add(&mut self, line: Line) -> Result<(), NoMemory>
+        requires node { line.node < length self.old.logs.items }
+        requires few { self.old.count < 4000000000 }
+        requires short { AreShort self.old.logs.items }
+        ensures { OnOk result (AddsLine line self.old self.new) }
+    {
+        let place = place_after(&self.place, &line);
+        let nodes = nodes_in(&line);
+        let Line { stamp, node, told } = line;
+        match told {
+            Told::OnAir(air) => self.air.push(Aired { stamp, node, air })?,
+            told => add_to_log(&mut self.logs[node as usize], stamp, told)?,
+        }
+        self.place = Some(place);
+        self.count += 1;
+        self.nodes = self.nodes.max(nodes);
+        Ok(())
+    }
+
+    /// Whether a last line fits after the lines that were read.
+    pub fn fits_last(&self, last: &LastLine) -> bool
+        ensures { result ≡ fits_last self.now last.now }
+    {
+        last.records == self.count as u64
+            && 1 <= last.nodes
+            && last.nodes <= NODES_MAX as u64
+            && self.nodes <= last.nodes
+    }
+
+    /// The report of the lines that were read and a last line.
+    pub fn into_report(self, alloc: Global, last: LastLine) -> Result<Report, NoMemory>
+        requires { last.nodes ≤ 64 }
+        ensures { IfOk result (λ r. (d : Description) (ls : List Line) → HasRead d ls self → IsSameReport r (report_of ls last)) }
+    {
+        let Parts { logs, air, .. } = self;
+        let nodes = first_logs(alloc, logs, last.nodes as usize)?;
+        Ok(Report::new(nodes, air, last.events, last.whole))
+    }
+}
+
+/// The first logs, as many as a run has nodes.
+fn first_logs(alloc: Global, mut logs: Vec<NodeLog>, count: usize) -> Result<NodeLogs, NoMemory>
+    ensures { IfOk result (λ nodes. nodes ≡ take count logs.items) }
+{
+    logs.truncate(count);
+    let mut nodes = NodeLogs::new(alloc);
+    for log in logs {
+        nodes.push(log)?;
+    }
+    Ok(nodes)
+}

@@ -1,0 +1,122 @@
+//! How far the lines of a report have come: which line may stand behind those so far.
+
+ghost use Rattle.std.specs.Prelude.{◌≡◌, ◌==◌, not, Some};
+ghost use Rattle.report_reading.specs.Fits.{is_on_air, is_shown};
+ghost use Rattle.report_reading.specs.Places.{keeps_order, keeps_node, joins, admits, admits_next, begun_at, place_after};
+
+use mate_num::Stamp;
+use report_reader::{Line, Told};
+
+/// The last line that was read, and what is known of its event.
+#[derive(Clone, Copy)]
+pub struct Place {
+    pub stamp: Stamp,
+    pub node: u8,
+    /// The last line tells of the air.
+    pub on_air: bool,
+    /// Each line of the event shows a store.
+    pub only_shown: bool,
+    /// Two lines of the event are of two nodes.
+    pub several: bool,
+}
+
+fn is_on_air(told: &Told) -> bool
+    ensures { result ≡ is_on_air told.now }
+{
+    match told {
+        Told::OnAir(_) => true,
+        Told::Made(_) | Told::Installed { .. } | Told::Shown(_) => false,
+    }
+}
+
+fn is_shown(told: &Told) -> bool
+    ensures { result ≡ is_shown told.now }
+{
+    match told {
+        Told::Shown(_) => true,
+        Told::OnAir(_) | Told::Made(_) | Told::Installed { .. } => false,
+    }
+}
+
+impl Place {
+    /// The place after the first line of an event.
+    fn begun_at(line: &Line) -> Place
+        ensures { result ≡ begun_at line.now }
+    {
+        Place {
+            stamp: line.stamp,
+            node: line.node,
+            on_air: is_on_air(&line.told),
+            only_shown: is_shown(&line.told),
+            several: false,
+        }
+    }
+
+    // In one event what happened on the air comes first, and of each of the two kinds no node comes behind a greater one.
+    fn keeps_order(&self, line: &Line) -> bool
+        ensures { result ≡ keeps_order self.now line.now }
+    {
+        if is_on_air(&line.told) {
+            self.on_air && self.node <= line.node
+        } else {
+            self.on_air || self.node <= line.node
+        }
+    }
+
+    // An event is of one node, other than the first one and a last one whose lines all show stores.
+    fn keeps_node(&self, line: &Line) -> bool
+        ensures { result ≡ keeps_node self.now line.now }
+    {
+        self.stamp.event == 0
+            || (!self.several && self.node == line.node)
+            || (self.only_shown && is_shown(&line.told))
+    }
+
+    /// Whether a line of the same event may stand behind those so far.
+    fn joins(&self, line: &Line) -> bool
+        ensures { result ≡ joins self.now line.now }
+    {
+        self.stamp.time == line.stamp.time && self.keeps_order(line) && self.keeps_node(line)
+    }
+
+    /// Whether a line may stand behind those so far.
+    fn admits(&self, line: &Line) -> bool
+        ensures { result ≡ admits self.now line.now }
+    {
+        if self.stamp.event == line.stamp.event {
+            self.joins(line)
+        } else {
+            self.stamp.event < line.stamp.event
+                && self.stamp.time <= line.stamp.time
+                && (self.stamp.event == 0 || !self.several)
+        }
+    }
+}
+
+/// Whether a line may stand behind those so far; the first line may be any.
+pub fn admits_next(place: &Option<Place>, line: &Line) -> bool
+    ensures { result ≡ admits_next place.now line.now }
+{
+    match place {
+        Some(place) => place.admits(line),
+        None => true,
+    }
+}
+
+/// The place after one more line.
+pub fn place_after(place: &Option<Place>, line: &Line) -> Place
+    ensures { result ≡ place_after place.now line.now }
+{
+    let begun = Place::begun_at(line);
+    let Some(before) = place else {
+        return begun;
+    };
+    if before.stamp.event != line.stamp.event {
+        return begun;
+    }
+    Place {
+        only_shown: before.only_shown && begun.only_shown,
+        several: before.several || before.node != line.node,
+        ..begun
+    }
+}

@@ -1,0 +1,89 @@
+//! A whole text as a report.
+
+ghost use Rattle.std.specs.Prelude.{◌≡◌, ◌≤◌, ◌<◌, ◌+◌, ◌∷◌, ◌++◌, not, ◌==◌, true, List, ℕ, length, MatchOption, IfOk};
+ghost use Rattle.report_text.specs.Text.{text};
+ghost use Rattle.report_text.specs.Tidy.{IsTidy};
+ghost use Rattle.std.specs.List.{prefix_len};
+ghost use Rattle.vm_desc.specs.declared.description.Description.{Description};
+ghost use Rattle.report_reader.specs.declared.line.Line.{Line};
+ghost use Rattle.mate_journal.specs.declared.report.Report.{Report};
+ghost use Rattle.report_reading.specs.Reads.{ReadsReport};
+ghost use Rattle.report_reading.specs.Written.{HasReportRanges, GivesBack};
+ghost use Rattle.report_reading.specs.Steps.{IsOneLine, TellsNone, HasRead, ReadsLast};
+
+use crate::fault::TextFault;
+use crate::last_line::last_line_of;
+use crate::parts::Parts;
+use mate_journal::Report;
+use report_reader::line_of;
+use std::alloc::Global;
+use vm_desc::Description;
+
+/// Reads the text of a report.
+///
+/// It answers the report whose text the bytes are, and refuses with `BadLine` exactly where they are the text of none, at the
+/// first line that doesn't fit after the lines before it.
+pub fn read(alloc: Global, desc: &Description, bytes: &[u8]) -> Result<Report, TextFault>
+    requires { length bytes.now ≤ 4000000000 }
+    ensures reads { ReadsReport desc.now bytes.now result }
+    ensures tidy { IfOk result (λ r. IsTidy desc.now r) }
+    ensures same { IfOk result (λ r. text desc.now r ≡ bytes.now) }
+    ensures back { (r : Report) → IsTidy desc.now r → HasReportRanges r → bytes.now ≡ text desc.now r → GivesBack r result }
+{
+    read_lines(alloc, desc, bytes)
+}
+
+fn read_lines(alloc: Global, desc: &Description, bytes: &[u8]) -> Result<Report, TextFault>
+    requires { length bytes.now ≤ 4000000000 }
+    ensures { ReadsReport desc.now bytes.now result }
+{
+    let mut parts = Parts::new(alloc)?;
+    let mut left = bytes;
+    while let Some((line, behind)) = first_line(left) {
+        let Some(told) = line_of(desc, line) else {
+            return read_last(alloc, parts, line, behind);
+        };
+        parts.take(told)?;
+        left = behind;
+    }
+    Err(parts.bad_line())
+}
+
+/// The bytes before the first LF and those behind it; None exactly where there is none.
+fn first_line(bytes: &[u8]) -> Option<(&[u8], &[u8])>
+    ensures { MatchOption result (IsOneLine bytes.now) (λ cut. IsOneLine cut.0.now × (bytes.now ≡ cut.0.now ++ 10 ∷ cut.1.now)) }
+{
+    let length = line_len(bytes);
+    if length == bytes.len() {
+        return None;
+    }
+    Some((&bytes[..length], bytes.split_at(length + 1).1))
+}
+
+/// How many bytes stand before the first LF, or before the end where there is none.
+fn line_len(bytes: &[u8]) -> usize
+    ensures value { result ≡ prefix_len (λ b. not (b == 10)) bytes.now }
+    ensures within { result ≤ length bytes.now }
+{
+    bytes.iter().take_while(|byte| **byte != b'\n').count()
+}
+
+/// Reads the last line, behind which nothing may stand.
+fn read_last(alloc: Global, parts: Parts, line: &[u8], behind: &[u8]) -> Result<Report, TextFault>
+    requires { parts.count ≤ 4000000000 }
+    ensures { (d : Description) (ls : List Line) → HasRead d ls parts → TellsNone d line.now
+        → ReadsLast d ls (line.now ++ 10 ∷ behind.now) result }
+{
+    let Some(last) = last_line_of(line) else {
+        return Err(parts.bad_line());
+    };
+    if !parts.fits_last(&last) {
+        return Err(parts.bad_line());
+    }
+    if !behind.is_empty() {
+        return Err(TextFault::BadLine {
+            line: parts.count + 2,
+        });
+    }
+    Ok(parts.into_report(alloc, last)?)
+}
