@@ -18,7 +18,7 @@ use crate::machines::Machines;
 use std::{fs, io};
 
 /// The tables of cases; those of refusals begin with `bad-`.
-const TABLES: [&str; 13] = [
+const TABLES: [&str; 15] = [
     "table",
     "bad-table",
     "compile",
@@ -29,6 +29,8 @@ const TABLES: [&str; 13] = [
     "bad-sources",
     "check",
     "bad-check",
+    "expand",
+    "bad-expand",
     "node",
     "bad-node",
     "bad-words",

@@ -1,1 +1,3 @@
 pub mod OneCommand
+pub mod OneNode
+pub mod OneCall

@@ -15,9 +15,12 @@ use Rattle.vm_desc.specs.declared.description.Description.{Description}
 use Rattle.mate_cli.specs.Check.{check}
 use Rattle.mate_steps.specs.CapsuleFiles.{capsule}
 use Rattle.mate_cli.specs.Compile.{compile, capsule_hex}
+use Rattle.mate_cli.specs.Documents.{script_line}
+use Rattle.mate_cli.specs.Expand.{expand}
 use Rattle.mate_cli.specs.Ends.{task}
 use Rattle.mate_steps.specs.OneAnswer.{AnswersAgree, steady}
 use Rattle.mate_cli.specs.Outputs.{writes, SameText}
+use Rattle.mate_cli.specs.declared.output.Output.TheVariants as output
 use Rattle.mate_cli.specs.Table.{opcode_table}
 use Rattle.opcode_gen.specs.TableText.{table_text}
 use Rattle.mate_steps.specs.Parts.{handler, handler_named}
@@ -28,11 +31,17 @@ use Rattle.mate_refusals.specs.declared.refusal.Refusal.{Refusal}
 use Rattle.mate_steps.proofs.OneAnswer.{then_agrees, judged_agrees, machine_agrees}
 use Rattle.mate_steps.proofs.OneCapsule.{SameCapsule, capsule_agrees}
 use Rattle.mate_steps.proofs.OneSource.{SameCompiled, source_agrees}
+use Rattle.mate_steps.proofs.OneExpansion.{SameScript, expansion_agrees}
+use Rattle.ts_syntax.specs.Seen.{source_of}
+use Rattle.ts_syntax.specs.Tree.{Source}
+use Rattle.ts_syntax.specs.declared.script.Script.{Script}
 
 -- ---- table
 
 pub writes_agree : (bytes : List ℕ) → AnswersAgree SameText (writes bytes) (writes bytes)
-writes_agree bytes (Ok a) (Ok b) p q = p ∙ sym q
+writes_agree bytes (Ok (output.Document a)) (Ok (output.Document b)) p q = p ∙ sym q
+writes_agree bytes (Ok (output.Document a)) (Ok (output.Run d s ps)) p q = absurd q
+writes_agree bytes (Ok (output.Run d s ps)) (Ok b) p q = absurd p
 writes_agree bytes (Ok a) (Err r) p q = q
 writes_agree bytes (Err r) (Ok b) p q = p
 writes_agree bytes (Err r) (Err t) p q = inr (inl p)
@@ -99,6 +108,15 @@ check_agrees names vm name =
 
       with_machine : (d : Description) → AnswersAgree SameText (after_machine d) (after_machine d)
       with_machine d = then_agrees SameCapsule SameText _ _ _ _ (capsule_agrees names d name) (with_capsule d)
+
+-- ---- expand
+
+pub expand_agrees : (names : Names) (name : List ℕ) → AnswersAgree SameText (expand (steady names) name) (expand (steady names) name)
+expand_agrees names name =
+    then_agrees SameScript SameText _ _ _ _ (expansion_agrees names name)
+    (λ a b e. subst (λ (s : Source). AnswersAgree SameText (writes (script_line (source_of a))) (writes (script_line s))) (same a b e) (writes_agree (script_line (source_of a)))) where
+      same : (a b : Script) → SameScript a b → source_of a ≡ source_of b
+      same a b e = e
 
 -- ---- words
 

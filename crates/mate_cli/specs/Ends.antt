@@ -1,8 +1,8 @@
 -- What a call of the program owes, and how it ends.
-use Rattle.std.specs.Prelude.{◌≡◌, ℕ, true, false, List, Option, Result, Ok, Err, ⊤}
+use Rattle.std.specs.Prelude.{◌≡◌, ℕ, true, false, List, Option, Result, Ok, Err, ⊤, ◌⊎◌}
 use Rattle.mate_files.specs.Counts.{Rose}
 use Rattle.mate_files.specs.Sink.{Sent, SentPart}
-use Rattle.mate_commands.specs.Words.{Task, Node, Table, Compile, Check, Says, SaysNothing}
+use Rattle.mate_commands.specs.Words.{Task, Node, Table, Compile, Check, Expand, Says, SaysNothing}
 use Rattle.mate_refusals.specs.Refusals.{TellsRefusal}
 use Rattle.mate_refusals.specs.declared.status.Status.{Status}
 use Rattle.mate_refusals.specs.declared.status.Status.TheVariants.{Ok as AllDone}
@@ -10,18 +10,30 @@ use Rattle.mate_refusals.specs.declared.refusal.Refusal.{Refusal}
 use Rattle.mate_refusals.specs.declared.refusal.Refusal.TheVariants.{Usage, LogFull, SinkFault, NoMemory}
 use Rattle.mate_cli.specs.Check.{check}
 use Rattle.mate_cli.specs.Compile.{compile}
+use Rattle.mate_cli.specs.Expand.{expand}
 use Rattle.mate_cli.specs.Node.{node}
-use Rattle.mate_cli.specs.Outputs.{output_text, is_full}
+use Rattle.mate_cli.specs.Documents.{document_text, is_full}
 use Rattle.mate_steps.specs.Parts.{Folder, IsUnreadAnswer}
 use Rattle.mate_steps.specs.Steps.{judged, ◌▸◌}
 use Rattle.mate_cli.specs.Table.{opcode_table}
+use Rattle.mate_cli.specs.declared.document.Document.{Document}
 use Rattle.mate_cli.specs.declared.output.Output.{Output}
+use Rattle.mate_cli.specs.declared.output.Output.TheVariants as output
+use Rattle.mate_journal.specs.NodeScript.{Whole, Full}
+use Rattle.mate_journal.specs.declared.program.Program.{Program}
+use Rattle.mate_journal.specs.declared.report.Report.{Report}
+use Rattle.report_text.specs.Text.{text}
+use Rattle.run_steps.specs.Running.{IsReportOf}
+use Rattle.run_steps.specs.Writing.{IsWrittenPart, IsNothingRun}
+use Rattle.script_reader.specs.Steps.{NodeScript}
+use Rattle.vm_desc.specs.declared.description.Description.{Description}
 
 abbrev pub command : Folder → Task → Result Output Refusal → Type 0
 command f (Node fold brief vm script) = node f fold brief vm script
 command f (Table vm) = opcode_table f vm
 command f (Compile fold vm h version name) = compile f fold vm h version name
 command f (Check vm name) = check f vm name
+command f (Expand name) = expand f name
 
 -- the task that the words say
 abbrev pub task : List (List ℕ) → Result Task Refusal → Type 0
@@ -42,21 +54,40 @@ pub record Sinks : Type 0 where
 abbrev pub RefusesTo : Sinks → Sinks → Refusal → Status → Type 0
 RefusesTo s t r status = TellsRefusal s.err s.err_faults t.err t.err_faults r status
 
--- How the writing of an output ends.
-pub data IsWritten (o : Output) (s t : Sinks) (status : Status) : Type 0 where
+-- How the writing of a document ends.
+pub data IsDocumentWritten (x : Document) (s t : Sinks) (status : Status) : Type 0 where
   -- the whole text was written, and nothing told
-  done : is_full o ≡ false → Sent s.out t.out (output_text o) → t.err ≡ s.err → status ≡ AllDone → IsWritten o s t status
+  done : is_full x ≡ false → Sent s.out t.out (document_text x) → t.err ≡ s.err → status ≡ AllDone → IsDocumentWritten x s t status
   -- the whole text was written, of a run that a full log ended
-  full : is_full o ≡ true → Sent s.out t.out (output_text o) → RefusesTo s t LogFull status → IsWritten o s t status
+  full : is_full x ≡ true → Sent s.out t.out (document_text x) → RefusesTo s t LogFull status → IsDocumentWritten x s t status
   -- `out` failed, and a prefix of the text was written
-  failed : SentPart s.out t.out (output_text o) → Rose s.out_faults t.out_faults → RefusesTo s t SinkFault status → IsWritten o s t status
+  failed : SentPart s.out t.out (document_text x) → Rose s.out_faults t.out_faults → RefusesTo s t SinkFault status → IsDocumentWritten x s t status
   -- memory was wanting, and a prefix of the text was written
-  wanting : SentPart s.out t.out (output_text o) → RefusesTo s t NoMemory status → IsWritten o s t status
+  wanting : SentPart s.out t.out (document_text x) → RefusesTo s t NoMemory status → IsDocumentWritten x s t status
+
+-- How the writing of a run ends. Its report is that of the events that ended, and tidy.
+pub data IsRunWritten (d : Description) (script : NodeScript) (ps : List Program) (s t : Sinks) (status : Status) : Type 0 where
+  -- the whole text of the report of the whole run was written, and nothing told
+  whole : (r : Report) → IsReportOf d script ps Whole r → Sent s.out t.out (text d r) → t.err ≡ s.err → status ≡ AllDone
+      → IsRunWritten d script ps s t status
+  -- the log was full before a step, and the whole text of the report up to there was written
+  stopped : (r : Report) → IsReportOf d script ps Full r → Sent s.out t.out (text d r) → RefusesTo s t LogFull status
+      → IsRunWritten d script ps s t status
+  -- `out` failed, and a prefix of the report's text was written, with all lines of its events but those of the last one
+  unwritten : (r : Report) → IsWrittenPart d script ps s.out t.out r → Rose s.out_faults t.out_faults → RefusesTo s t SinkFault status
+      → IsRunWritten d script ps s t status
+  -- memory was wanting; such a prefix was written, or nothing was run
+  cut : (r : Report) → IsNothingRun s.out t.out r ⊎ IsWrittenPart d script ps s.out t.out r → RefusesTo s t NoMemory status
+      → IsRunWritten d script ps s t status
+
+abbrev pub IsOutputWritten : Output → Sinks → Sinks → Status → Type 0
+IsOutputWritten (output.Document x) s t status = IsDocumentWritten x s t status
+IsOutputWritten (output.Run d script ps) s t status = IsRunWritten d script ps s t status
 
 -- How a call ends, with the counts of the files' faults before it and after it.
 pub data CallEnds (f : Folder) (words : List (List ℕ)) (before now : ℕ) (s t : Sinks) (status : Status) : Type 0 where
   -- what is owed was written, as far as it could be
-  written : (o : Output) → Owes f words (Ok o) → IsWritten o s t status → CallEnds f words before now s t status
+  written : (o : Output) → Owes f words (Ok o) → IsOutputWritten o s t status → CallEnds f words before now s t status
   -- nothing was written; a file could not be read only where the count rose
   refused : (r : Refusal) → Owes f words (Err r) → (IsUnreadAnswer {A = Output} (Err r) → Rose before now) → t.out ≡ s.out
       → RefusesTo s t r status → CallEnds f words before now s t status

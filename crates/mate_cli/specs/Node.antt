@@ -1,9 +1,8 @@
--- The command `node`: the report of the run of a node script with the programs of its files, or its summary.
-use Rattle.std.specs.Prelude.{◌≡◌, ℕ, Bool, true, false, List, Result, ◌⊎◌}
-use Rattle.mate_journal.specs.NodeScript.{Whole, Full}
+-- The command `node`: the run of a node script with the programs of its files, or the summary of its report.
+use Rattle.std.specs.Prelude.{◌≡◌, ℕ, Bool, true, false, List, Result}
 use Rattle.mate_journal.specs.declared.program.Program.{Program}
 use Rattle.mate_journal.specs.declared.report.Report.{Report}
-use Rattle.run_steps.specs.Running.{IsReportOf}
+use Rattle.mate_cli.specs.Outputs.{IsEndedReport}
 use Rattle.script_programs.specs.Programs.{script_programs}
 use Rattle.script_programs.specs.Scripts.{script}
 use Rattle.script_reader.specs.Steps.{NodeScript}
@@ -12,17 +11,17 @@ use Rattle.mate_steps.specs.Parts.{Folder, machine}
 use Rattle.mate_steps.specs.Steps.{obtained, ◌▸◌}
 use Rattle.mate_cli.specs.declared.output.Output.{Output}
 use Rattle.mate_cli.specs.declared.output.Output.TheVariants as output
+use Rattle.mate_cli.specs.declared.document.Document.TheVariants as document
 use Rattle.mate_refusals.specs.declared.refusal.Refusal.{Refusal}
 
--- a report of the script's run, which is whole or was ended by a full log
+-- the report of the script's run
 abbrev pub reported : Description → NodeScript → List Program → Result Report Refusal → Type 0
-reported d s ps = obtained (λ r. IsReportOf d s ps Whole r ⊎ IsReportOf d s ps Full r)
+reported d s ps = obtained (IsEndedReport d s ps)
 
--- its summary where that is asked for, and else the report
-abbrev pub report_output : Bool → Description → Report → Output
-report_output true d r = output.Summary d r
-report_output false d r = output.Report d r
+-- what is written of the run: its report, event by event; with `--brief` the summary of its report, when it has ended
+abbrev pub run_output : Bool → Description → NodeScript → List Program → Result Output Refusal → Type 0
+run_output false d s ps = obtained (λ o. o ≡ output.Run d s ps)
+run_output true d s ps = reported d s ps ▸ λ r. obtained (λ o. o ≡ output.Document (document.Summary d r))
 
 abbrev pub node : Folder → (fold brief : Bool) → (vm name : List ℕ) → Result Output Refusal → Type 0
-node f fold brief vm name =
-    machine f vm ▸ λ d. script f d name ▸ λ s. script_programs f d fold s ▸ λ ps. reported d s ps ▸ λ r. obtained (λ o. o ≡ report_output brief d r)
+node f fold brief vm name = machine f vm ▸ λ d. script f d name ▸ λ s. script_programs f d fold s ▸ λ ps. run_output brief d s ps

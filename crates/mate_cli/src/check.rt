@@ -5,6 +5,7 @@ ghost use Rattle.mate_cli.specs.Outputs.{CanBeWritten};
 ghost use Rattle.mate_steps.specs.Parts.{ReadsFiles};
 ghost use Rattle.mate_cli.specs.Check.{check};
 
+use crate::document::Document;
 use crate::output::Output;
 use mate_files::Files;
 use mate_refusals::Refusal;
@@ -12,6 +13,7 @@ use mate_steps::{capsule_of, machine_of};
 use std::alloc::Global;
 
 /// The text of the capsule in a file.
+#[inline(never)]
 pub fn output<F: Files>(
     alloc: Global,
     files: &mut F,
@@ -24,5 +26,5 @@ pub fn output<F: Files>(
 {
     let desc = machine_of(alloc, files, vm)?;
     let (capsule, code) = capsule_of(alloc, files, &desc, name)?;
-    Ok(Output::Listing(desc, capsule, code))
+    Ok(Output::Document(Document::Listing(desc, capsule, code)))
 }

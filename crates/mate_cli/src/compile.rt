@@ -5,6 +5,7 @@ ghost use Rattle.mate_cli.specs.Compile.{compile};
 ghost use Rattle.mate_cli.specs.Outputs.{CanBeWritten};
 ghost use Rattle.mate_steps.specs.Parts.{ReadsFiles, handler_named};
 
+use crate::document::Document;
 use crate::output::Output;
 use capsule_codec::{Capsule, encode};
 use mate_commands::Compilation;
@@ -16,6 +17,7 @@ use std::alloc::Global;
 use vm_desc::Description;
 
 /// The image of a source's capsule.
+#[inline(never)]
 pub fn output<F: Files>(
     alloc: Global,
     files: &mut F,
@@ -36,7 +38,7 @@ pub fn output<F: Files>(
         version: words.version,
         code: source.code,
     };
-    Ok(Output::Capsule(encode(&capsule)))
+    Ok(Output::Document(Document::Capsule(encode(&capsule))))
 }
 
 /// The machine's handler of this name.

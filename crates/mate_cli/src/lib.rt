@@ -4,6 +4,8 @@
 mod check;
 mod compile;
 pub mod completeness;
+mod document;
+mod expand;
 mod node;
 mod output;
 mod table;

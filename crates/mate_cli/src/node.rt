@@ -1,12 +1,14 @@
 //! The command `node`.
 
-ghost use Rattle.std.specs.Prelude.{◌≡◌, IfOk};
+ghost use Rattle.std.specs.Prelude.{◌≡◌, IfOk, IfErr, true};
+ghost use Rattle.mate_refusals.specs.declared.refusal.Refusal.TheVariants.{NoMemory};
 ghost use Rattle.report_text.specs.Tidy.{IsTidy};
-ghost use Rattle.mate_cli.specs.Node.{node, reported};
+ghost use Rattle.mate_cli.specs.Node.{node, run_output, reported};
 ghost use Rattle.mate_cli.specs.Outputs.{CanBeWritten};
 ghost use Rattle.mate_steps.specs.Parts.{ReadsFiles};
 ghost use Rattle.node_programs.specs.ScriptSteps.{AreProgramsOf};
 
+use crate::document::Document;
 use crate::output::Output;
 use mate_commands::ScriptRun;
 use mate_files::Files;
@@ -20,7 +22,8 @@ use script_reader::Steps;
 use std::alloc::Global;
 use vm_desc::Description;
 
-/// The report of the run of a node script, or its summary.
+/// The run of a node script, whose report is written while it is made; or the summary of its report, when it was made.
+#[inline(never)]
 pub fn output<F: Files>(
     alloc: Global,
     files: &mut F,
@@ -33,15 +36,32 @@ pub fn output<F: Files>(
     let desc = machine_of(alloc, files, words.machine)?;
     let script = script_of(alloc, files, &desc, words.script)?;
     let programs = programs_of(alloc, files, &desc, words.fold, &script)?;
-    let report = reported(alloc, &desc, &script, &programs)?;
     if words.brief {
-        Ok(Output::Summary(desc, report))
+        summary(alloc, desc, &script, &programs)
     } else {
-        Ok(Output::Report(desc, report))
+        Ok(Output::Run(desc, script, programs))
     }
 }
 
+/// The summary of the report of a script's run.
+#[inline(never)]
+fn summary(
+    alloc: Global,
+    desc: Description,
+    script: &Steps,
+    programs: &Programs,
+) -> Result<Output, Refusal>
+    requires { AreProgramsOf desc script.now programs.now }
+    ensures does { run_output true desc script.now programs.now result }
+    ensures memory { IfErr result (λ r. r ≡ NoMemory) }
+    ensures writable { IfOk result CanBeWritten }
+{
+    let report = reported(alloc, &desc, script, programs)?;
+    Ok(Output::Document(Document::Summary(desc, report)))
+}
+
 /// The report of a script's run, whole or until its log is full.
+#[inline(never)]
 fn reported(
     alloc: Global,
     desc: &Description,

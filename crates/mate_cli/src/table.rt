@@ -5,6 +5,7 @@ ghost use Rattle.mate_cli.specs.Outputs.{CanBeWritten};
 ghost use Rattle.mate_steps.specs.Parts.{ReadsFiles};
 ghost use Rattle.mate_cli.specs.Table.{opcode_table};
 
+use crate::document::Document;
 use crate::output::Output;
 use mate_files::Files;
 use mate_refusals::Refusal;
@@ -12,11 +13,12 @@ use mate_steps::machine_of;
 use std::alloc::Global;
 
 /// The opcode table of a machine.
+#[inline(never)]
 pub fn output<F: Files>(alloc: Global, files: &mut F, vm: &str) -> Result<Output, Refusal>
     ensures does { opcode_table (record { told = F.contents files.old; steady = F.steady files.old }) vm.now result }
     ensures reads { ReadsFiles (F.contents files.old) (F.steady files.old) (F.faults files.old) (F.contents files.new) (F.steady files.new) (F.faults files.new) result }
     ensures writable { IfOk result CanBeWritten }
 {
     let desc = machine_of(alloc, files, vm)?;
-    Ok(Output::OpcodeTable(desc))
+    Ok(Output::Document(Document::OpcodeTable(desc)))
 }

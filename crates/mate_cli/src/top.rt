@@ -2,15 +2,15 @@
 
 ghost use Rattle.std.specs.Prelude.{◌≡◌, map, string_bytes, IfOk};
 ghost use Rattle.mate_commands.specs.Words.{task_held};
-ghost use Rattle.mate_cli.specs.Ends.{CallEnds, IsWritten, Owes, command};
-ghost use Rattle.mate_cli.specs.Outputs.{CanBeWritten, output_text};
+ghost use Rattle.mate_cli.specs.Ends.{CallEnds, Owes, command};
+ghost use Rattle.mate_cli.specs.Outputs.{CanBeWritten};
 ghost use Rattle.mate_steps.specs.Parts.{ReadsFiles};
 
-use crate::output::Output;
-use crate::{check, compile, node, table};
+use crate::output::{Output, write_output};
+use crate::{check, compile, expand, node, table};
 use command_line::WordsFault;
 use mate_commands::{Command, command_of};
-use mate_files::{Files, Sink, SinkFault};
+use mate_files::{Files, Sink};
 use mate_refusals::{Refusal, Status};
 use std::alloc::Global;
 
@@ -18,13 +18,15 @@ use std::alloc::Global;
 ///
 /// - `node VM SCRIPT` runs the node script in the file `SCRIPT`, with the programs of the files that it names, on a node of
 ///   the machine that the file `VM` describes, or of the built-in one where the word is `builtin`. It writes the report's
-///   text, or with `--brief` its summary; with `--fold` sources are folded before they are compiled. `LogFull` comes where
-///   the run met the limit of records before its end; what was written then is of the run so far.
+///   text, the lines of each event when it ends, or with `--brief` its summary when the run has ended; with `--fold` sources
+///   are folded before they are compiled. `LogFull` comes where the run met the limit of records before its end; what was
+///   written then is of the run so far. After a fault of `out` no further event is run.
 /// - `table VM` writes the opcode table of such a machine.
 /// - `compile VM HANDLER VERSION SOURCE` writes the image of the source's capsule, in hexadecimal digits; with `--fold`
 ///   the source is folded before it is compiled.
 /// - `check VM HEX` decodes and verifies the capsule whose image the file `HEX` has in hexadecimal digits, and writes its
 ///   head line, its listing and its locks.
+/// - `expand SOURCE` writes the plain script that the source with procedures stands for, its tokens in one line.
 ///
 /// For any other status than `Ok` one line goes to `err`, and, but for `LogFull`, a fault of `out` and want of memory,
 /// nothing to `out`. A failing `err` changes nothing.
@@ -40,27 +42,13 @@ pub fn mate<F: Files, S: Sink, E: Sink>(
         (record { out = S.written out.new; out_faults = S.faults out.new; err = E.written err.new; err_faults = E.faults err.new }) result }
 {
     match output_of(alloc, files, words) {
-        Ok(output) => written(&output, out, err),
+        Ok(output) => write_output(alloc, &output, out, err),
         Err(refusal) => refusal.refuse(err),
     }
 }
 
-/// Writes an output.
-fn written<S: Sink, E: Sink>(output: &Output, out: &mut S, err: &mut E) -> Status
-    requires { CanBeWritten output.now }
-    ensures { IsWritten output.now
-        (record { out = S.written out.old; out_faults = S.faults out.old; err = E.written err.old; err_faults = E.faults err.old })
-        (record { out = S.written out.new; out_faults = S.faults out.new; err = E.written err.new; err_faults = E.faults err.new }) result }
-{
-    match output.write(out) {
-        Ok(()) if output.is_full() => Refusal::LogFull.refuse(err),
-        Ok(()) => Status::Ok,
-        Err(SinkFault::Failed) => Refusal::SinkFault.refuse(err),
-        Err(SinkFault::NoMemory) => Refusal::NoMemory.refuse(err),
-    }
-}
-
 /// What the command of the words is to write.
+#[inline(never)]
 fn output_of<F: Files>(alloc: Global, files: &mut F, words: &Vec<String>) -> Result<Output, Refusal>
     ensures does { Owes (record { told = F.contents files.old; steady = F.steady files.old }) (map string_bytes words.now.items) result }
     ensures reads { ReadsFiles (F.contents files.old) (F.steady files.old) (F.faults files.old) (F.contents files.new) (F.steady files.new) (F.faults files.new) result }
@@ -88,5 +76,6 @@ fn task_output<F: Files>(alloc: Global, files: &mut F, task: Command<'_>) -> Res
         Command::Table { machine } => table::output(alloc, files, machine),
         Command::Compile(words) => compile::output(alloc, files, words),
         Command::Check { machine, capsule } => check::output(alloc, files, machine, capsule),
+        Command::Expand { source } => expand::output(alloc, files, source),
     }
 }

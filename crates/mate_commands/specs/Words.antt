@@ -20,6 +20,8 @@ pub data Task : Type 0 where
   Compile : (fold : Bool) (machine handler : List ℕ) → (version : ℕ) → (source : List ℕ) → Task
   -- write the text of the capsule of a machine that a file has in hexadecimal digits
   Check : (machine file : List ℕ) → Task
+  -- write the plain script that a source with procedures stands for
+  Expand : (source : List ℕ) → Task
 
 -- the word for the built-in machine, in place of a description's file
 abbrev pub builtin_word : List ℕ
@@ -50,6 +52,10 @@ abbrev pub check_task : List (List ℕ) → Option Task
 check_task (machine ∷ file ∷ []) = Some (Check machine file)
 check_task words = None
 
+abbrev pub expand_task : List (List ℕ) → Option Task
+expand_task (source ∷ []) = Some (Expand source)
+expand_task words = None
+
 -- the task of a line; `node` takes both flags, `compile` takes `--fold`, and no other command takes a flag
 abbrev pub task_of : Line → Option Task
 task_of l =
@@ -57,7 +63,8 @@ task_of l =
     if bytes_eq l.command (codes "compile") && not l.brief then compile_task l.fold l.args else
     if l.brief || l.fold then None else
     if bytes_eq l.command (codes "table") then table_task l.args else
-    if bytes_eq l.command (codes "check") then check_task l.args else None
+    if bytes_eq l.command (codes "check") then check_task l.args else
+    if bytes_eq l.command (codes "expand") then expand_task l.args else None
 
 -- the words say the task
 pub record Says (words : List (List ℕ)) (task : Task) : Type 0 where
@@ -79,3 +86,4 @@ task_held (command.Node r) = Node r.fold r.brief r.machine.now r.script.now
 task_held (command.Table machine) = Table machine.now
 task_held (command.Compile c) = Compile c.fold c.machine.now c.handler.now c.version c.source.now
 task_held (command.Check machine file) = Check machine.now file.now
+task_held (command.Expand source) = Expand source.now

@@ -3,7 +3,7 @@
 ghost use Rattle.std.specs.Prelude.{◌≡◌, ◌≤◌, map, option_map, IfSome};
 ghost use Rattle.std.specs.Char.{is_ascii_digit};
 ghost use Rattle.std.specs.List.{list_all};
-ghost use Rattle.mate_commands.specs.Words.{task_held, line_said, task_of, node_task, table_task, compile_task, check_task, version_said, is_counting};
+ghost use Rattle.mate_commands.specs.Words.{task_held, line_said, task_of, node_task, table_task, compile_task, check_task, expand_task, version_said, is_counting};
 
 use crate::compilation::Compilation;
 use crate::script_run::ScriptRun;
@@ -20,6 +20,8 @@ pub enum Command<'a> {
     Compile(Compilation<'a>),
     /// Writes the text of the capsule of a machine that the file `capsule` has in hexadecimal digits.
     Check { machine: &'a str, capsule: &'a str },
+    /// Writes the plain script that the source with procedures in a file stands for.
+    Expand { source: &'a str },
 }
 
 /// The command of a line; None where its word is unknown, or has other words or flags than the command takes.
@@ -40,6 +42,9 @@ pub fn command_of<'a>(line: &CommandLine<'a>) -> Option<Command<'a>>
     }
     if line.command == "check" {
         return check(line.args.as_slice());
+    }
+    if line.command == "expand" {
+        return expand(line.args.as_slice());
     }
     None
 }
@@ -90,6 +95,15 @@ fn check<'a>(args: &[&'a str]) -> Option<Command<'a>>
         return None;
     };
     Some(Command::Check { machine, capsule })
+}
+
+fn expand<'a>(args: &[&'a str]) -> Option<Command<'a>>
+    ensures { option_map task_held result ≡ expand_task (map (λ w. w.now) args.now) }
+{
+    let [source] = args else {
+        return None;
+    };
+    Some(Command::Expand { source })
 }
 
 /// A version in decimal digits, from 1 to 4294967295, with no sign and no 0 before it.

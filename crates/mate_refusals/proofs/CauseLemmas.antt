@@ -3,7 +3,7 @@ use Rattle.std.proofs.Common.{◌≡◌, Option, Some, None, refl, sym, ap, ◌�
 use Rattle.vm_desc.specs.declared.fault.DescFault.{DescFault}
 use Rattle.vm_desc.specs.declared.fault.DescFault.TheVariants as desc
 use Rattle.ts_syntax.specs.Cut.{bad_byte, big_literal}
-use Rattle.ts_checker.specs.Accepted.{Refusal, by_bytes, unexpected, too_deep, by_check}
+use Rattle.ts_checker.specs.Accepted.{TextRefusal, by_bytes, unexpected, too_deep, by_check}
 use Rattle.ts_checker.specs.declared.fault.CheckFault.TheVariants as check
 use Rattle.mate_refusals.specs.DescriptionCauses.{fault_told}
 use Rattle.mate_refusals.specs.SourceCauses.{refusal_told}
@@ -11,6 +11,12 @@ use Rattle.mate_refusals.specs.declared.description_cause.DescriptionCause.{Desc
 use Rattle.mate_refusals.specs.declared.description_cause.DescriptionCause.TheVariants as description
 use Rattle.mate_refusals.specs.declared.source_cause.SourceCause.{SourceCause}
 use Rattle.mate_refusals.specs.declared.source_cause.SourceCause.TheVariants as source
+use Rattle.mate_refusals.specs.declared.spelling_cause.SpellingCause.TheVariants as spelling
+use Rattle.mate_refusals.specs.declared.expansion_cause.ExpansionCause.{ExpansionCause}
+use Rattle.mate_refusals.specs.declared.expansion_cause.ExpansionCause.TheVariants as expansion
+use Rattle.mate_refusals.specs.ExpansionCauses.{expansion_fault}
+use Rattle.proc_names.specs.declared.fault.ProcFault.{ProcFault}
+use Rattle.proc_names.specs.declared.fault.ProcFault.TheVariants as proc
 
 -- what tells a fault of a description, but want of memory
 description_in : DescFault → Option DescriptionCause
@@ -33,11 +39,11 @@ pub fault_told-once : (a b : DescriptionCause) → fault_told a ≡ fault_told b
 fault_told-once a b e = let h : Some a ≡ Some b = sym (description_in-told a) ∙ ap description_in e ∙ description_in-told b in cc
 
 -- what tells a refusal of a source, but want of memory
-source_in : Refusal → Option SourceCause
-source_in (by_bytes (bad_byte place)) = Some (source.BadByte place)
-source_in (by_bytes (big_literal place)) = Some (source.BigLiteral place)
-source_in (unexpected place) = Some (source.Unexpected place)
-source_in (too_deep place) = Some (source.TooDeep place)
+source_in : TextRefusal → Option SourceCause
+source_in (by_bytes (bad_byte place)) = Some (source.Spelling (spelling.BadByte place))
+source_in (by_bytes (big_literal place)) = Some (source.Spelling (spelling.BigLiteral place))
+source_in (unexpected place) = Some (source.Spelling (spelling.Unexpected place))
+source_in (too_deep place) = Some (source.Spelling (spelling.TooDeep place))
 source_in (by_check (check.Undeclared name place)) = Some (source.Undeclared name place)
 source_in (by_check (check.NotInVm name)) = Some (source.NotInVm name)
 source_in (by_check (check.Twice name)) = Some (source.Twice name)
@@ -48,10 +54,10 @@ source_in (by_check check.NoMemory) = None
 
 source_in-told : (a : SourceCause) → source_in (refusal_told a) ≡ Some a
 unfolding source_in
-source_in-told (source.BadByte place) = refl
-source_in-told (source.BigLiteral place) = refl
-source_in-told (source.Unexpected place) = refl
-source_in-told (source.TooDeep place) = refl
+source_in-told (source.Spelling (spelling.BadByte place)) = refl
+source_in-told (source.Spelling (spelling.BigLiteral place)) = refl
+source_in-told (source.Spelling (spelling.Unexpected place)) = refl
+source_in-told (source.Spelling (spelling.TooDeep place)) = refl
 source_in-told (source.Undeclared name place) = refl
 source_in-told (source.NotInVm name) = refl
 source_in-told (source.Twice name) = refl
@@ -61,3 +67,38 @@ source_in-told source.TooManyPrivates = refl
 
 pub refusal_told-once : (a b : SourceCause) → refusal_told a ≡ refusal_told b → a ≡ b
 refusal_told-once a b e = let h : Some a ≡ Some b = sym (source_in-told a) ∙ ap source_in e ∙ source_in-told b in cc
+
+-- what tells a fault of a source with procedures, but want of memory
+expansion_in : ProcFault → Option ExpansionCause
+expansion_in (proc.BadByte place) = Some (expansion.Spelling (spelling.BadByte place))
+expansion_in (proc.BigLiteral place) = Some (expansion.Spelling (spelling.BigLiteral place))
+expansion_in (proc.Unexpected place) = Some (expansion.Spelling (spelling.Unexpected place))
+expansion_in (proc.TooDeep place) = Some (expansion.Spelling (spelling.TooDeep place))
+expansion_in (proc.NoProc name place) = Some (expansion.NoProc name place)
+expansion_in (proc.Params place) = Some (expansion.Params place)
+expansion_in (proc.Again name place) = Some (expansion.Again name place)
+expansion_in (proc.Reserved place) = Some (expansion.Reserved place)
+expansion_in (proc.TooLarge count) = Some (expansion.TooLarge count)
+expansion_in (proc.TooNested depth) = Some (expansion.TooNested depth)
+expansion_in proc.NoMemory = None
+
+expansion_in-told : (a : ExpansionCause) → expansion_in (expansion_fault a) ≡ Some a
+unfolding expansion_in
+expansion_in-told (expansion.Spelling (spelling.BadByte place)) = refl
+expansion_in-told (expansion.Spelling (spelling.BigLiteral place)) = refl
+expansion_in-told (expansion.Spelling (spelling.Unexpected place)) = refl
+expansion_in-told (expansion.Spelling (spelling.TooDeep place)) = refl
+expansion_in-told (expansion.NoProc name place) = refl
+expansion_in-told (expansion.Params place) = refl
+expansion_in-told (expansion.Again name place) = refl
+expansion_in-told (expansion.Reserved place) = refl
+expansion_in-told (expansion.TooLarge count) = refl
+expansion_in-told (expansion.TooNested depth) = refl
+
+pub expansion_fault-once : (a b : ExpansionCause) → expansion_fault a ≡ expansion_fault b → a ≡ b
+expansion_fault-once a b e = let h : Some a ≡ Some b = sym (expansion_in-told a) ∙ ap expansion_in e ∙ expansion_in-told b in cc
+
+-- a cause tells no want of memory
+pub expansion_fault-told : (a : ExpansionCause) → expansion_fault a ≡ proc.NoMemory → ⊥
+unfolding expansion_in
+expansion_fault-told a e = let h : Some a ≡ None = sym (expansion_in-told a) ∙ ap expansion_in e in cc

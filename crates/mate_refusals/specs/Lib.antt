@@ -1,6 +1,8 @@
 pub mod LineEnds
 pub mod Statuses
+pub mod SpellingCauses
 pub mod SourceCauses
+pub mod ExpansionCauses
 pub mod DescriptionCauses
 pub mod CapsuleCauses
 pub mod ScriptCauses

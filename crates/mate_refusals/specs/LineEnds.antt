@@ -8,3 +8,7 @@ number_line word n = word ++ decimal n ++ codes "\n"
 -- a word, a name and a line feed
 abbrev pub name_line : List ℕ → List ℕ → List ℕ
 name_line word name = word ++ name ++ codes "\n"
+
+-- a word, a name, its place and a line feed
+abbrev pub placed_name_line : List ℕ → List ℕ → ℕ → List ℕ
+placed_name_line word name place = word ++ name ++ number_line (codes " ") place

@@ -4,8 +4,9 @@ use Rattle.mate_files.specs.Counts.{Rose}
 use Rattle.mate_files.specs.Sink.{Sent, SentPart}
 use Rattle.mate_refusals.specs.CapsuleCauses.{capsule_words}
 use Rattle.mate_refusals.specs.DescriptionCauses.{description_words}
+use Rattle.mate_refusals.specs.ExpansionCauses.{expansion_words}
 use Rattle.mate_refusals.specs.LineEnds.{name_line}
-use Rattle.mate_refusals.specs.ScriptCauses.{line_words}
+use Rattle.mate_refusals.specs.ScriptCauses.{bad_line_words}
 use Rattle.mate_refusals.specs.SourceCauses.{source_words, code_words}
 use Rattle.mate_refusals.specs.declared.status.Status.{Status}
 use Rattle.mate_refusals.specs.declared.status.Status.TheVariants as status
@@ -20,6 +21,7 @@ cause_status (cause.Unread why) = status.FileFault
 cause_status (cause.Source why) = status.BadSource
 cause_status (cause.Code why) = status.BadSource
 cause_status (cause.Capsule why) = status.BadCapsule
+cause_status (cause.Expansion why) = status.BadSource
 
 abbrev pub status_of : Refusal → Status
 status_of refusal.Usage = status.Usage
@@ -37,12 +39,13 @@ file_line name (cause.Unread Large) = name_line (codes "file large ") name
 file_line name (cause.Source why) = codes "bad source " ++ name ++ codes " " ++ source_words why
 file_line name (cause.Code why) = codes "bad source " ++ name ++ codes " " ++ code_words why
 file_line name (cause.Capsule why) = codes "bad capsule " ++ name ++ codes " " ++ capsule_words why
+file_line name (cause.Expansion why) = codes "bad source " ++ name ++ codes " " ++ expansion_words why
 
 -- the one line that tells of it
 abbrev pub line_of : Refusal → List ℕ
 line_of refusal.Usage = codes "usage\n"
 line_of (refusal.BadDescription why) = codes "bad description " ++ description_words why
-line_of (refusal.BadScript line why) = codes "bad script line " ++ line_words line why
+line_of (refusal.BadScript line why) = codes "bad script line " ++ bad_line_words line why
 line_of (refusal.InFile name why) = file_line name why
 line_of refusal.LogFull = codes "log full\n"
 line_of refusal.SinkFault = codes "sink fault\n"

@@ -14,5 +14,5 @@ cause_words Node = codes "node\n"
 cause_words Packet = codes "packet\n"
 
 -- the line's number, and the cause
-abbrev pub line_words : ℕ → Cause → List ℕ
-line_words line why = decimal line ++ codes " " ++ cause_words why
+abbrev pub bad_line_words : ℕ → Cause → List ℕ
+bad_line_words line why = decimal line ++ codes " " ++ cause_words why

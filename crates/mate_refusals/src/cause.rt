@@ -3,10 +3,12 @@
 ghost use Rattle.std.specs.Prelude.{◌≡◌, ◌++◌, codes};
 ghost use Rattle.mate_files.specs.Pen.{Prints};
 ghost use Rattle.mate_refusals.specs.CapsuleCauses.{capsule_words};
+ghost use Rattle.mate_refusals.specs.ExpansionCauses.{expansion_words};
 ghost use Rattle.mate_refusals.specs.LineEnds.{name_line};
 ghost use Rattle.mate_refusals.specs.SourceCauses.{source_words, code_words};
 
 use crate::capsule_cause::CapsuleCause;
+use crate::expansion_cause::ExpansionCause;
 use crate::line_ends::{print_about, print_numbered};
 use crate::source_cause::SourceCause;
 use crate::status::Status;
@@ -32,6 +34,8 @@ pub enum Cause {
     Code(CompileFault),
     /// It has no capsule of the machine.
     Capsule(CapsuleCause),
+    /// It is a source with procedures that has no expansion.
+    Expansion(ExpansionCause),
 }
 
 impl Cause {
@@ -45,6 +49,7 @@ impl Cause {
             Cause::Source(_) => Status::BadSource,
             Cause::Code(_) => Status::BadSource,
             Cause::Capsule(_) => Status::BadCapsule,
+            Cause::Expansion(_) => Status::BadSource,
         }
     }
 
@@ -58,6 +63,7 @@ impl Cause {
             Cause::Source(cause) => bad_source(pen, err, name, cause),
             Cause::Code(fault) => bad_code(pen, err, name, *fault),
             Cause::Capsule(cause) => bad_capsule(pen, err, name, *cause),
+            Cause::Expansion(cause) => bad_expansion(pen, err, name, cause),
         }
     }
 }
@@ -96,6 +102,16 @@ fn bad_capsule<E: Sink>(pen: &mut Pen, err: &mut E, name: &str, cause: CapsuleCa
     ensures { Prints (E.written err.old) (E.faults err.old) pen.old.result (E.written err.new) (E.faults err.new) pen.new.result (codes "bad capsule " ++ name.now ++ codes " " ++ capsule_words cause) }
 {
     pen.text(err, "bad capsule ");
+    pen.text(err, name);
+    pen.text(err, " ");
+    cause.print(pen, err);
+}
+
+/// The line of a source that has no expansion.
+fn bad_expansion<E: Sink>(pen: &mut Pen, err: &mut E, name: &str, cause: &ExpansionCause)
+    ensures { Prints (E.written err.old) (E.faults err.old) pen.old.result (E.written err.new) (E.faults err.new) pen.new.result (codes "bad source " ++ name.now ++ codes " " ++ expansion_words cause.now) }
+{
+    pen.text(err, "bad source ");
     pen.text(err, name);
     pen.text(err, " ");
     cause.print(pen, err);

@@ -4,15 +4,19 @@
 pub mod capsule_cause;
 pub mod cause;
 pub mod description_cause;
+pub mod expansion_cause;
 mod line_ends;
 pub mod refusal;
 mod script_cause;
 pub mod source_cause;
+pub mod spelling_cause;
 pub mod status;
 
 pub use capsule_cause::CapsuleCause;
 pub use cause::{Cause, Unread};
 pub use description_cause::DescriptionCause;
+pub use expansion_cause::ExpansionCause;
 pub use refusal::{Refusal, in_file};
 pub use source_cause::SourceCause;
+pub use spelling_cause::SpellingCause;
 pub use status::Status;

@@ -2,9 +2,10 @@
 
 ghost use Rattle.std.specs.Prelude.{◌++◌, codes};
 ghost use Rattle.mate_files.specs.Pen.{Prints};
-ghost use Rattle.mate_refusals.specs.LineEnds.{number_line, name_line};
+ghost use Rattle.mate_refusals.specs.LineEnds.{number_line, name_line, placed_name_line};
 
 use mate_files::{Pen, Sink};
+use mate_num::Name;
 
 /// A word, a number and a line feed.
 pub fn print_numbered<E: Sink>(pen: &mut Pen, err: &mut E, word: &str, number: u32)
@@ -22,4 +23,13 @@ pub fn print_about<E: Sink>(pen: &mut Pen, err: &mut E, word: &str, name: &str)
     pen.text(err, word);
     pen.text(err, name);
     pen.text(err, "\n");
+}
+
+/// A word, a name, its place and a line feed.
+pub fn print_placed_name<E: Sink>(pen: &mut Pen, err: &mut E, word: &str, name: &Name, place: u32)
+    ensures { Prints (E.written err.old) (E.faults err.old) pen.old.result (E.written err.new) (E.faults err.new) pen.new.result (placed_name_line word.now name.now place) }
+{
+    pen.text(err, word);
+    pen.text(err, name.as_str());
+    print_numbered(pen, err, " ", place);
 }

@@ -4,7 +4,7 @@ ghost use Rattle.std.specs.Prelude.{◌≡◌, ◌++◌, ◌⊎◌, codes};
 ghost use Rattle.mate_files.specs.Pen.{Prints};
 ghost use Rattle.mate_files.specs.Sink.{Puts};
 ghost use Rattle.mate_refusals.specs.DescriptionCauses.{description_words};
-ghost use Rattle.mate_refusals.specs.ScriptCauses.{line_words};
+ghost use Rattle.mate_refusals.specs.ScriptCauses.{bad_line_words};
 ghost use Rattle.mate_refusals.specs.declared.refusal.Refusal.TheVariants.{InFile, NoMemory};
 
 use crate::cause::Cause;
@@ -94,7 +94,7 @@ fn bad_description<E: Sink>(pen: &mut Pen, err: &mut E, cause: &DescriptionCause
 }
 
 fn bad_script<E: Sink>(pen: &mut Pen, err: &mut E, line: u32, cause: script_reader::Cause)
-    ensures { Prints (E.written err.old) (E.faults err.old) pen.old.result (E.written err.new) (E.faults err.new) pen.new.result (codes "bad script line " ++ line_words line cause) }
+    ensures { Prints (E.written err.old) (E.faults err.old) pen.old.result (E.written err.new) (E.faults err.new) pen.new.result (codes "bad script line " ++ bad_line_words line cause) }
 {
     pen.text(err, "bad script line ");
     print_line(pen, err, line, cause);

@@ -1,13 +1,13 @@
 //! Why a source's text is refused, as the program tells it.
 
-ghost use Rattle.std.specs.Prelude.{◌≡◌, ◌++◌, ℕ, List, codes, ⊤, MatchOption};
+ghost use Rattle.std.specs.Prelude.{◌≡◌, ℕ, List, ⊤, MatchOption};
 ghost use Rattle.mate_files.specs.Pen.{Prints};
 ghost use Rattle.vm_desc.specs.declared.description.Description.{Description as DescriptionValue};
 ghost use Rattle.ts_source.specs.Answers.{IsRefused, IsMisspelt, IsUnmeant};
-ghost use Rattle.mate_refusals.specs.LineEnds.{number_line};
 ghost use Rattle.mate_refusals.specs.SourceCauses.{source_words, IsBadSource};
 
-use crate::line_ends::{print_about, print_numbered};
+use crate::line_ends::{print_about, print_numbered, print_placed_name};
+use crate::spelling_cause::SpellingCause;
 use mate_files::{Pen, Sink};
 use mate_num::Name;
 use ts_checker::CheckFault;
@@ -18,14 +18,8 @@ use ts_source::SourceRefusal;
 /// offset in bytes.
 #[derive(Debug, Drop)]
 pub enum SourceCause {
-    /// A byte that begins no token.
-    BadByte { place: u32 },
-    /// A literal over 65535.
-    BigLiteral { place: u32 },
-    /// A token that the grammar doesn't allow there.
-    Unexpected { place: u32 },
-    /// A token that lies too deep.
-    TooDeep { place: u32 },
+    /// The text spells no script.
+    Spelling(SpellingCause),
     Undeclared { name: Name, place: u32 },
     NotInVm { name: Name },
     /// The name is declared twice.
@@ -53,11 +47,14 @@ impl SourceCause {
         ensures { Prints (E.written err.old) (E.faults err.old) pen.old.result (E.written err.new) (E.faults err.new) pen.new.result (source_words self.now) }
     {
         match self {
-            SourceCause::BadByte { place } => print_numbered(pen, err, "byte ", *place),
-            SourceCause::BigLiteral { place } => print_numbered(pen, err, "literal ", *place),
-            SourceCause::Unexpected { place } => print_numbered(pen, err, "unexpected ", *place),
-            SourceCause::TooDeep { place } => print_numbered(pen, err, "deep ", *place),
-            SourceCause::Undeclared { name, place } => print_undeclared(pen, err, name, *place),
+            SourceCause::Spelling(cause) => cause.print(pen, err),
+            SourceCause::Undeclared { name, place } => print_placed_name(
+                pen,
+                err,
+                "undeclared ",
+                name,
+                *place,
+            ),
             SourceCause::NotInVm { name } => print_about(pen, err, "notinvm ", name.as_str()),
             SourceCause::Twice { name } => print_about(pen, err, "twice ", name.as_str()),
             SourceCause::Kind { place } => print_numbered(pen, err, "kind ", *place),
@@ -71,10 +68,18 @@ fn spelling_cause(fault: SourceFault) -> Option<SourceCause>
     ensures { (d : DescriptionValue) (bytes : List ℕ) → IsMisspelt d bytes fault → MatchOption result ⊤ (IsBadSource d bytes) }
 {
     match fault {
-        SourceFault::BadByte { place } => Some(SourceCause::BadByte { place }),
-        SourceFault::BigLiteral { place } => Some(SourceCause::BigLiteral { place }),
-        SourceFault::Unexpected { place } => Some(SourceCause::Unexpected { place }),
-        SourceFault::TooDeep { place } => Some(SourceCause::TooDeep { place }),
+        SourceFault::BadByte { place } => Some(SourceCause::Spelling(SpellingCause::BadByte {
+            place,
+        })),
+        SourceFault::BigLiteral { place } => Some(SourceCause::Spelling(SpellingCause::BigLiteral {
+            place,
+        })),
+        SourceFault::Unexpected { place } => Some(SourceCause::Spelling(SpellingCause::Unexpected {
+            place,
+        })),
+        SourceFault::TooDeep { place } => Some(SourceCause::Spelling(SpellingCause::TooDeep {
+            place,
+        })),
         SourceFault::NoMemory => None,
     }
 }
@@ -91,12 +96,4 @@ fn meaning_cause(fault: CheckFault) -> Option<SourceCause>
         CheckFault::TooManyPrivates => Some(SourceCause::TooManyPrivates),
         CheckFault::NoMemory => None,
     }
-}
-
-fn print_undeclared<E: Sink>(pen: &mut Pen, err: &mut E, name: &Name, place: u32)
-    ensures { Prints (E.written err.old) (E.faults err.old) pen.old.result (E.written err.new) (E.faults err.new) pen.new.result (codes "undeclared " ++ name.now ++ number_line (codes " ") place) }
-{
-    pen.text(err, "undeclared ");
-    pen.text(err, name.as_str());
-    print_numbered(pen, err, " ", place);
 }

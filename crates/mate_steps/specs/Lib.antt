@@ -2,4 +2,5 @@ pub mod Steps
 pub mod Parts
 pub mod Sources
 pub mod CapsuleFiles
+pub mod Expansions
 pub mod OneAnswer

@@ -44,6 +44,7 @@ IsUnreadCause (cause.Unread why) = ⊤
 IsUnreadCause (cause.Source why) = ⊥
 IsUnreadCause (cause.Code why) = ⊥
 IsUnreadCause (cause.Capsule why) = ⊥
+IsUnreadCause (cause.Expansion why) = ⊥
 
 abbrev pub IsUnreadAnswer : {A : Type 0} → Result A Refusal → Type 0
 IsUnreadAnswer (Ok a) = ⊥

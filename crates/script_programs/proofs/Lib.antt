@@ -2,3 +2,5 @@ pub mod StepLaws
 pub mod OrderLemmas
 pub mod RightLemmas
 pub mod EachLemmas
+pub mod OnePrograms
+pub mod SameMeaning

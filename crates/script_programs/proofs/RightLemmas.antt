@@ -16,7 +16,7 @@ use Rattle.ts_syntax.specs.Statement.{Block}
 use Rattle.ts_syntax.specs.Checked.{tree_of}
 use Rattle.ts_meaning.specs.Meaning.{run_of}
 use Rattle.ts_meaning.specs.Uses.{uses_of}
-use Rattle.ts_translation.specs.Laws.{RunsAsItsScript, as_played}
+use Rattle.ts_translation.specs.Laws.{RunsAsItsScript}
 use Rattle.ts_translation.specs.Translation as translation
 use Rattle.capsule_codec.specs.Image.{CapsuleParts, image_of, IsCapsule, IsOfMachine}
 use Rattle.code_verifier.specs.Verified.{VerifiedCode, IsVerifiedCode, marks_of}
@@ -59,7 +59,7 @@ source-of_code : (shape : Shape) (fold : Bool) (tree : Block) (x : CompiledScrip
 source-of_code shape fold tree x c image is bytes image_is =
     let verified : bytes_verification shape c.code ≡ Ok (translation.code_of (compiled_tree fold tree), is.code_is.verified.0) = ap (bytes_verification shape) bytes ∙ is.code_is.verified.1 in
     let code_is : code_of shape image ≡ translation.code_of (compiled_tree fold tree) = image-code shape c image (translation.code_of (compiled_tree fold tree)) is.code_is.verified.0 image_is verified in
-    let R : Code → Type 0 = λ code. (store : _) (msg : _) (answers : _) (turns : _) → as_played (code_run shape code store msg answers turns) ≡ run_of (compiled_tree fold tree) store msg answers turns in
+    let R : Code → Type 0 = λ code. (store : _) (msg : _) (answers : _) (turns : _) → code_run shape code store msg answers turns ≡ run_of (compiled_tree fold tree) store msg answers turns in
     record {
       shape_is = is.shape_is;
       runs = λ store msg answers turns.

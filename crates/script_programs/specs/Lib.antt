@@ -1,3 +1,4 @@
 pub mod Scripts
 pub mod Numbers
 pub mod Programs
+pub mod SamePrograms

@@ -1,9 +1,10 @@
-use Rattle.std.proofs.Common.{Bool, Ok, Err, sym, ap}
+use Rattle.std.proofs.Common.{Bool, Result, Ok, Err, refl, sym, subst}
 use Rattle.script_programs.specs.Programs.{script_programs}
 use Rattle.script_programs.specs.Scripts.{script}
 use Rattle.mate_steps.specs.Steps.{goes_on}
 use Rattle.mate_steps.proofs.Laws.{stops_by, moved}
-use Rattle.mate_cli.specs.Node.{report_output}
+use Rattle.mate_cli.specs.Node.{run_output}
+use Rattle.mate_cli.specs.declared.output.Output.TheVariants as output
 use Rattle.mate_cli.proofs.node.output.Goals as goal
 
 pub returns-in_err-desc-clause-does : goal.returns-in_err-desc-clause-does
@@ -27,17 +28,6 @@ returns-in_err-programs-clause-does g c =
     c.in_err-programs.ensures.does))
     c.from_residual-in_err-programs.ensures.1))
 
-pub returns-in_err-report-clause-does : goal.returns-in_err-report-clause-does
-returns-in_err-report-clause-does g c =
-    goes_on c.in_ok-desc.desc c.in_ok-desc.ensures.does
-    (goes_on c.in_ok-script.script
-    (moved (λ f. script f c.in_ok-desc.desc c.args.words.script.now (Ok c.in_ok-script.script)) c.in_ok-desc.ensures.reads c.in_ok-script.ensures.does)
-    (goes_on c.in_ok-programs.programs
-    (moved (λ f. script_programs f c.in_ok-desc.desc c.args.words.fold c.in_ok-script.script (Ok c.in_ok-programs.programs)) c.in_ok-desc.ensures.reads
-    (moved (λ f. script_programs f c.in_ok-desc.desc c.args.words.fold c.in_ok-script.script (Ok c.in_ok-programs.programs)) c.in_ok-script.ensures.reads
-    c.in_ok-programs.ensures.does))
-    (stops_by c.in_err-report.field-0.0 c.from_residual-in_err-report.result c.in_err-report.ensures.does c.from_residual-in_err-report.ensures.1)))
-
 pub returns-then-words-clause-does : goal.returns-then-words-clause-does
 returns-then-words-clause-does g c =
     goes_on c.in_ok-desc.desc c.in_ok-desc.ensures.does
@@ -47,11 +37,10 @@ returns-then-words-clause-does g c =
     (moved (λ f. script_programs f c.in_ok-desc.desc c.args.words.fold c.in_ok-script.script (Ok c.in_ok-programs.programs)) c.in_ok-desc.ensures.reads
     (moved (λ f. script_programs f c.in_ok-desc.desc c.args.words.fold c.in_ok-script.script (Ok c.in_ok-programs.programs)) c.in_ok-script.ensures.reads
     c.in_ok-programs.ensures.does))
-    (goes_on c.in_ok-report.report c.in_ok-report.ensures.does
-    (ap (λ (b : Bool). report_output b c.in_ok-desc.desc c.in_ok-report.report) (sym c.if-words.true)))))
+    (subst (λ (b : Bool). run_output b c.in_ok-desc.desc c.in_ok-script.script c.in_ok-programs.programs c.summary.result) (sym c.if-words.true) c.summary.ensures.does)))
 
-pub returns-clause-does : goal.returns-clause-does
-returns-clause-does g c =
+pub returns-else-words-clause-does : goal.returns-else-words-clause-does
+returns-else-words-clause-does g c =
     goes_on c.in_ok-desc.desc c.in_ok-desc.ensures.does
     (goes_on c.in_ok-script.script
     (moved (λ f. script f c.in_ok-desc.desc c.args.words.script.now (Ok c.in_ok-script.script)) c.in_ok-desc.ensures.reads c.in_ok-script.ensures.does)
@@ -59,5 +48,4 @@ returns-clause-does g c =
     (moved (λ f. script_programs f c.in_ok-desc.desc c.args.words.fold c.in_ok-script.script (Ok c.in_ok-programs.programs)) c.in_ok-desc.ensures.reads
     (moved (λ f. script_programs f c.in_ok-desc.desc c.args.words.fold c.in_ok-script.script (Ok c.in_ok-programs.programs)) c.in_ok-script.ensures.reads
     c.in_ok-programs.ensures.does))
-    (goes_on c.in_ok-report.report c.in_ok-report.ensures.does
-    (ap (λ (b : Bool). report_output b c.in_ok-desc.desc c.in_ok-report.report) (sym c.if-words.false)))))
+    (subst (λ (b : Bool). run_output b c.in_ok-desc.desc c.in_ok-script.script c.in_ok-programs.programs (Ok (output.Run c.in_ok-desc.desc c.in_ok-script.script c.in_ok-programs.programs))) (sym c.if-words.false) refl)))

@@ -24,3 +24,8 @@ pub returns-in-Check-clause-does : goal.returns-in-Check-clause-does
 returns-in-Check-clause-does g c =
     let f : Folder = record { told = g.F.Files.contents c.args.files.now; steady = g.F.Files.steady c.args.files.now } in
     subst (λ (t : Command). command f (task_held t) c.output-in-Check.result) (sym c.in-Check.is) c.output-in-Check.ensures.does
+
+pub returns-in-Expand-clause-does : goal.returns-in-Expand-clause-does
+returns-in-Expand-clause-does g c =
+    let f : Folder = record { told = g.F.Files.contents c.args.files.now; steady = g.F.Files.steady c.args.files.now } in
+    subst (λ (t : Command). command f (task_held t) c.output-in-Expand.result) (sym c.in-Expand.is) c.output-in-Expand.ensures.does

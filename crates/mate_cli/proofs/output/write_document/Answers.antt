@@ -1,6 +1,6 @@
 use Rattle.std.proofs.Common.{sym, ◌∙◌}
 use Rattle.mate_cli.specs.Ends.{full, failed, wanting}
-use Rattle.mate_cli.proofs.top.written.Goals as goal
+use Rattle.mate_cli.proofs.output.write_document.Goals as goal
 
 pub returns-in-Ok : goal.returns-in-Ok
 returns-in-Ok g c = full (sym c.is_full.ensures ∙ c.if-is_full.true) c.in-Ok.ensures.writes c.refuse.ensures

@@ -1,0 +1,6 @@
+use Rattle.journal_answers.proofs.OneText.{text-once, brief-once}
+use Rattle.journal_answers.proofs.laws.script_has_one_text.Goals as goal
+
+pub returns : goal.returns
+returns c d k meaning steps how how' r r' itself itself' is is' =
+    (text-once d k meaning steps how how' r r' itself itself' is is', brief-once d k meaning steps how how' r r' itself itself' is is')

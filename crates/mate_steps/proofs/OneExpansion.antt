@@ -1,0 +1,93 @@
+-- A source with procedures has one answer.
+use Rattle.std.proofs.Common.{◌≡◌, ℕ, List, Ok, Err, refl, sym, ◌∙◌, ap, subst, arith}
+use Rattle.std.specs.Global.{Vec}
+use Rattle.proc_expansion.specs.Answer.{Expands, IsTooLarge, IsTooNested}
+use Rattle.proc_names.specs.Named.{written_of}
+use Rattle.proc_names.specs.declared.fault.ProcFault.{ProcFault}
+use Rattle.proc_names.specs.declared.fault.ProcFault.TheVariants.{BadByte, BigLiteral, Unexpected, TooDeep, NoProc, Params, Again, Reserved, TooLarge, TooNested, NoMemory}
+use Rattle.proc_names.specs.declared.named.PScript.{PScript}
+use Rattle.ts_procs.specs.Reading.{Reads}
+use Rattle.ts_procs.proofs.ReadingLemmas.{one_script, one_refusal, not_both}
+use Rattle.ts_syntax.specs.Seen.{source_of}
+use Rattle.ts_syntax.specs.Tree.{ProcedureSource}
+use Rattle.ts_syntax.specs.declared.script.Script.{Script}
+use Rattle.mate_files.specs.Files.{Names}
+use Rattle.mate_refusals.specs.ExpansionCauses.{expansion_fault}
+use Rattle.mate_refusals.proofs.CauseLemmas.{expansion_fault-once, expansion_fault-told}
+use Rattle.mate_refusals.specs.declared.expansion_cause.ExpansionCause.{ExpansionCause}
+use Rattle.mate_steps.specs.OneAnswer.{AnswersAgree, steady}
+use Rattle.mate_steps.specs.Expansions.{script_with_procedures, expanded_script, expanded_bytes, expanded_source}
+use Rattle.mate_steps.proofs.OneAnswer.{then_agrees, judged_agrees, SameBytes, file_agrees}
+
+-- the same script with procedures, and the same plain script
+abbrev pub SameProcedures : PScript → PScript → Type 0
+SameProcedures a b = written_of a ≡ written_of b
+
+abbrev pub SameScript : Script → Script → Type 0
+SameScript a b = source_of a ≡ source_of b
+
+procedures_agree : (name bytes : List ℕ) → AnswersAgree SameProcedures (script_with_procedures name bytes) (script_with_procedures name bytes)
+procedures_agree name bytes = judged_agrees SameProcedures _ _ _ (one_script bytes) not same where
+  not : (a : PScript) (e : ExpansionCause) → Reads bytes (Ok a) → Reads bytes (Err (expansion_fault e)) → ⊥
+  not a e p q = not_both bytes a (expansion_fault e) p q (expansion_fault-told e)
+
+  same : (e h : ExpansionCause) → Reads bytes (Err (expansion_fault e)) → Reads bytes (Err (expansion_fault h)) → e ≡ h
+  same e h p q = expansion_fault-once e h (one_refusal bytes (expansion_fault e) (expansion_fault h) p q (expansion_fault-told e) (expansion_fault-told h))
+
+-- ---- expansions
+
+-- why an expansion is refused
+data Unexpanded (source : ProcedureSource) (fault : ProcFault) : Type 0 where
+  large : (count : ℕ) → IsTooLarge source count → fault ≡ TooLarge count → Unexpanded source fault
+  nested : (depth : ℕ) → IsTooNested source depth → fault ≡ TooNested depth → Unexpanded source fault
+
+unexpanded : (source : ProcedureSource) (fault : ProcFault) → Expands source (Err fault) → (fault ≡ NoMemory → ⊥) → Unexpanded source fault
+unexpanded source (BadByte place) h told = absurd h
+unexpanded source (BigLiteral place) h told = absurd h
+unexpanded source (Unexpected place) h told = absurd h
+unexpanded source (TooDeep place) h told = absurd h
+unexpanded source (NoProc name place) h told = absurd h
+unexpanded source (Params place) h told = absurd h
+unexpanded source (Again name place) h told = absurd h
+unexpanded source (Reserved place) h told = absurd h
+unexpanded source (TooLarge count) h told = large count h refl
+unexpanded source (TooNested depth) h told = nested depth h refl
+unexpanded source NoMemory h told = absurd (told refl)
+
+one_extent : (source : ProcedureSource) (f g : ProcFault) → Unexpanded source f → Unexpanded source g → f ≡ g
+one_extent source f g (large m p is) (large n q is') = is ∙ ap TooLarge (p.counts ∙ sym q.counts) ∙ sym is'
+one_extent source f g (large m p is) (nested n q is') = absurd (omega (arith, p.large, q.small))
+one_extent source f g (nested m p is) (large n q is') = absurd (omega (arith, p.small, q.large))
+one_extent source f g (nested m p is) (nested n q is') = is ∙ ap TooNested (p.counts ∙ sym q.counts) ∙ sym is'
+
+fits : (source : ProcedureSource) (s : Script) (f : ProcFault) → Expands source (Ok s) → Unexpanded source f → ⊥
+fits source s f p (large n q is) = omega (arith, p.small, q.large)
+fits source s f p (nested n q is) = omega (arith, p.shallow, q.deep)
+
+expanded_agrees : (name : List ℕ) (source : ProcedureSource) → AnswersAgree SameScript (expanded_script name source) (expanded_script name source)
+expanded_agrees name source = judged_agrees SameScript _ _ _ one not same where
+  why : (e : ExpansionCause) → Expands source (Err (expansion_fault e)) → Unexpanded source (expansion_fault e)
+  why e p = unexpanded source (expansion_fault e) p (expansion_fault-told e)
+
+  one : (a b : Script) → Expands source (Ok a) → Expands source (Ok b) → source_of a ≡ source_of b
+  one a b p q = p.is ∙ sym q.is
+
+  not : (a : Script) (e : ExpansionCause) → Expands source (Ok a) → Expands source (Err (expansion_fault e)) → ⊥
+  not a e p q = fits source a (expansion_fault e) p (why e q)
+
+  same : (e h : ExpansionCause) → Expands source (Err (expansion_fault e)) → Expands source (Err (expansion_fault h)) → e ≡ h
+  same e h p q = expansion_fault-once e h (one_extent source (expansion_fault e) (expansion_fault h) (why e p) (why h q))
+
+expanded_bytes_agrees : (name bytes : List ℕ) → AnswersAgree SameScript (expanded_bytes name bytes) (expanded_bytes name bytes)
+expanded_bytes_agrees name bytes =
+    then_agrees SameProcedures SameScript _ _ _ _ (procedures_agree name bytes)
+    (λ a b e. subst (λ (s : ProcedureSource). AnswersAgree SameScript (expanded_script name (written_of a)) (expanded_script name s)) (same a b e) (expanded_agrees name (written_of a))) where
+      same : (a b : PScript) → SameProcedures a b → written_of a ≡ written_of b
+      same a b e = e
+
+pub expansion_agrees : (names : Names) (name : List ℕ) → AnswersAgree SameScript (expanded_source (steady names) name) (expanded_source (steady names) name)
+expansion_agrees names name =
+    then_agrees SameBytes SameScript _ _ _ _ (file_agrees names name)
+    (λ a b e. subst (λ (bs : List ℕ). AnswersAgree SameScript (expanded_bytes name a.items) (expanded_bytes name bs)) (same a b e) (expanded_bytes_agrees name a.items)) where
+      same : (a b : Vec ℕ) → SameBytes a b → a.items ≡ b.items
+      same a b e = e

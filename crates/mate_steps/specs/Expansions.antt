@@ -1,0 +1,38 @@
+-- The plain script that a source with procedures in a file stands for.
+use Rattle.std.specs.Prelude.{◌≡◌, ℕ, List, Result, Ok, Err, ◌⊎◌}
+use Rattle.proc_expansion.specs.Answer.{Expands}
+use Rattle.proc_names.specs.Named.{written_of}
+use Rattle.proc_names.specs.declared.fault.ProcFault.{ProcFault}
+use Rattle.proc_names.specs.declared.named.PScript.{PScript}
+use Rattle.ts_procs.specs.Reading.{Reads}
+use Rattle.ts_syntax.specs.Tree.{ProcedureSource}
+use Rattle.ts_syntax.specs.declared.script.Script.{Script}
+use Rattle.mate_refusals.specs.ExpansionCauses.{expansion_fault}
+use Rattle.mate_refusals.specs.declared.cause.Cause.TheVariants as cause
+use Rattle.mate_refusals.specs.declared.expansion_cause.ExpansionCause.{ExpansionCause}
+use Rattle.mate_refusals.specs.declared.refusal.Refusal.{Refusal}
+use Rattle.mate_refusals.specs.declared.refusal.Refusal.TheVariants.{InFile, NoMemory}
+use Rattle.mate_steps.specs.Parts.{Folder, file}
+use Rattle.mate_steps.specs.Steps.{judged, ◌▸◌}
+
+-- the refusal of the source `name` for this fault, unless memory is wanting
+abbrev pub RefusesExpansion : List ℕ → ProcFault → Refusal → Type 0
+RefusesExpansion name fault r = ((why : ExpansionCause) × (fault ≡ expansion_fault why) × (r ≡ InFile name (cause.Expansion why))) ⊎ (r ≡ NoMemory)
+
+-- the script with procedures that the bytes of the source `name` spell
+abbrev pub script_with_procedures : List ℕ → List ℕ → Result PScript Refusal → Type 0
+script_with_procedures name bytes =
+    judged (λ s. Reads bytes (Ok s)) (λ why. Reads bytes (Err (expansion_fault why))) (λ why. InFile name (cause.Expansion why))
+
+-- the plain script that it stands for
+abbrev pub expanded_script : List ℕ → ProcedureSource → Result Script Refusal → Type 0
+expanded_script name source =
+    judged (λ s. Expands source (Ok s)) (λ why. Expands source (Err (expansion_fault why))) (λ why. InFile name (cause.Expansion why))
+
+-- that of its bytes
+abbrev pub expanded_bytes : List ℕ → List ℕ → Result Script Refusal → Type 0
+expanded_bytes name bytes = script_with_procedures name bytes ▸ λ s. expanded_script name (written_of s)
+
+-- that of a source
+abbrev pub expanded_source : Folder → List ℕ → Result Script Refusal → Type 0
+expanded_source f name = file f name ▸ λ bytes. expanded_bytes name bytes.items

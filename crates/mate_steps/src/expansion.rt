@@ -1,0 +1,62 @@
+//! From the file of a source with procedures to the plain script that it stands for.
+
+ghost use Rattle.std.specs.Prelude.{◌≡◌, ◌≤◌, length};
+ghost use Rattle.proc_names.specs.Named.{written_of};
+ghost use Rattle.mate_steps.specs.Expansions.{RefusesExpansion, script_with_procedures, expanded_script, expanded_bytes, expanded_source};
+ghost use Rattle.mate_steps.specs.Parts.{ReadsFiles};
+
+use crate::parts::read_file;
+use mate_files::Files;
+use mate_refusals::{Cause, ExpansionCause, Refusal, in_file};
+use std::alloc::Global;
+use ts_procs::{PScript, ProcFault, expand, read};
+use ts_syntax::Script;
+
+/// The plain script that the source with procedures in a file stands for.
+pub fn expansion_of<F: Files>(alloc: Global, files: &mut F, name: &str) -> Result<Script, Refusal>
+    ensures does { expanded_source (record { told = F.contents files.old; steady = F.steady files.old }) name.now result }
+    ensures reads { ReadsFiles (F.contents files.old) (F.steady files.old) (F.faults files.old) (F.contents files.new) (F.steady files.new) (F.faults files.new) result }
+{
+    let bytes = read_file(alloc, files, name)?;
+    expanded_bytes(alloc, name, bytes.as_slice())
+}
+
+/// That of the bytes of the source `name`.
+fn expanded_bytes(alloc: Global, name: &str, bytes: &[u8]) -> Result<Script, Refusal>
+    requires { length bytes.now ≤ 1048576 }
+    ensures { expanded_bytes name.now bytes.now result }
+{
+    let script = script_with_procedures(alloc, name, bytes)?;
+    expanded_script(alloc, name, &script)
+}
+
+/// The script with procedures that the bytes of the source `name` spell.
+fn script_with_procedures(alloc: Global, name: &str, bytes: &[u8]) -> Result<PScript, Refusal>
+    requires { length bytes.now ≤ 1048576 }
+    ensures { script_with_procedures name.now bytes.now result }
+{
+    match read(alloc, bytes) {
+        Ok(script) => Ok(script),
+        Err(fault) => Err(refused(alloc, name, fault)),
+    }
+}
+
+/// The plain script that the script of the source `name` stands for.
+fn expanded_script(alloc: Global, name: &str, script: &PScript) -> Result<Script, Refusal>
+    ensures { expanded_script name.now (written_of script.now) result }
+{
+    match expand(alloc, script) {
+        Ok(plain) => Ok(plain),
+        Err(fault) => Err(refused(alloc, name, fault)),
+    }
+}
+
+/// The refusal of the source `name` for this fault, unless memory is wanting.
+fn refused(alloc: Global, name: &str, fault: ProcFault) -> Refusal
+    ensures { RefusesExpansion name.now fault result }
+{
+    match ExpansionCause::of(fault) {
+        Some(cause) => in_file(alloc, name, Cause::Expansion(cause)),
+        None => Refusal::NoMemory,
+    }
+}

@@ -1,0 +1,23 @@
+-- Programs that can't be told apart by what they mean and install.
+use Rattle.std.specs.Prelude.{◌≡◌, List, [], ◌∷◌, Option, Some, None, ⊤}
+use Rattle.mate_journal.specs.declared.program.Program.{Program}
+use Rattle.ts_syntax.specs.Checked.{tree_of}
+use Rattle.ts_syntax.specs.declared.checked.Checked.{Checked}
+
+-- the same tree, or none
+abbrev pub SameSource : Option Checked → Option Checked → Type 0
+SameSource None None = ⊤
+SameSource (Some a) (Some b) = tree_of a ≡ tree_of b
+SameSource _ _ = ⊥
+
+pub record SameProgram (a b : Program) : Type 0 where
+  pub handler : a.handler ≡ b.handler
+  pub version : a.version ≡ b.version
+  pub image : a.image ≡ b.image
+  pub source : SameSource a.source b.source
+
+-- as many, and each the same as the one at its place
+abbrev pub SamePrograms : List Program → List Program → Type 0
+SamePrograms [] [] = ⊤
+SamePrograms (p ∷ ps) (q ∷ qs) = SameProgram p q × SamePrograms ps qs
+SamePrograms _ _ = ⊥
