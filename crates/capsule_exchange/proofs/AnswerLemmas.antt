@@ -19,8 +19,8 @@ use Rattle.capsule_exchange.specs.declared.handler_state.HandlerState.{HandlerSt
 use Rattle.capsule_exchange.specs.Table.{table}
 use Rattle.capsule_exchange.specs.Happenings.{Happening, Hears, Sends, Part, held_version, held_versions, version_in, target_version, target_parts, collected_at, limit_of, places_of, gaps, whole, piece_bytes, collected_image, complete_version, mask_of, ask_for, asks_after, completed_by, IsOpen, is_marked, is_marked_slot, last_sent, next_place, slots_from, next_slot, fragment_of, fragment_for}
 use Rattle.capsule_exchange.specs.Knowledge.{Knowledge, form_of, state_after, knowledge, with_state, Learns, Judges}
-use Rattle.capsule_exchange.specs.Sound.{IsSound, AreSound}
-use Rattle.capsule_exchange.specs.Steps.{no_state, limit_in, places_in, image_in, complete_in, completes_in, ask_in, sends, state_at, aimed_each, asks_upto, is_marked_in, next_in, fragment_in}
+use Rattle.capsule_exchange.specs.Sound.{IsSoundState, AreSound}
+use Rattle.capsule_exchange.specs.Steps.{no_state, limit_in, places_in, image_held, complete_in, completes_in, ask_in, after_sending, state_at, aimed_each, asks_upto, is_marked_in, next_in, fragment_in}
 use Rattle.capsule_exchange.proofs.TableLemmas.{set_value, table_at, take-table}
 use Rattle.capsule_exchange.proofs.MaskLemmas.{mask_upto, mask_push}
 use Rattle.capsule_exchange.proofs.SlotLemmas.{find_same, is_some-find, some_passes}
@@ -53,31 +53,31 @@ limit_few : (parts : List Part) → IfSome (form_of parts) (λ form. form.count 
 limit_few [] few = omega arith
 limit_few (first ∷ parts) few = few
 
-places_is : (h : ℕ) (hs : List Happening) → IsSound (state_after hs h) → places_in (state_after hs h) ≡ places_of (target_parts h hs)
+places_is : (h : ℕ) (hs : List Happening) → IsSoundState (state_after hs h) → places_in (state_after hs h) ≡ places_of (target_parts h hs)
 places_is h hs sound =
     let parts = target_parts h hs in
     ap (λ (n : ℕ). take n (table (collected_at parts))) (limit_is parts) ∙ take-table (collected_at parts) (limit_of parts) (limit_few parts sound.few)
 
-image_is : (h : ℕ) (hs : List Happening) → IsSound (state_after hs h) → image_in (state_after hs h) ≡ collected_image h hs
+image_is : (h : ℕ) (hs : List Happening) → IsSoundState (state_after hs h) → image_held (state_after hs h) ≡ collected_image h hs
 image_is h hs sound = ap whole (places_is h hs sound)
 
-complete_is : (h : ℕ) (hs : List Happening) → IsSound (state_after hs h) → complete_in (state_after hs h) ≡ complete_version h hs
+complete_is : (h : ℕ) (hs : List Happening) → IsSoundState (state_after hs h) → complete_in (state_after hs h) ≡ complete_version h hs
 complete_is h hs sound = ap (λ (o : Option (ArrayVec ℕ)). cond (is_some o) (target_version h hs) 0) (image_is h hs sound)
 
 -- the state of one handler is sound where all are
-sound_after : (old : Knowledge) (n : ℕ) (hs : List Happening) (h : ℕ) → old ≡ knowledge n hs → AreSound old.handlers → h < n → IsSound (state_after hs h)
+sound_after : (old : Knowledge) (n : ℕ) (hs : List Happening) (h : ℕ) → old ≡ knowledge n hs → AreSound old.handlers → h < n → IsSoundState (state_after hs h)
 sound_after old n hs h was sound within =
     let P : Knowledge → Type 0 = λ k. AreSound k.handlers in
     let all : AreSound (states_after n hs) = subst P was sound in
-    subst IsSound (state_at-states n hs h within) (All-get_or IsSound (states_after n hs) h no_state (omega (arith, length-map-range_with_len (state_after hs) 0 n)) all)
+    subst IsSoundState (state_at-states n hs h within) (All-get_or IsSoundState (states_after n hs) h no_state (omega (arith, length-map-range_with_len (state_after hs) 0 n)) all)
 
-pub collected_is : (old : Knowledge) (h : ℕ) (state : HandlerState) (image : Option (ArrayVec ℕ)) → AreSound old.handlers → h < length old.handlers → state ≡ get_or old.handlers h state → image ≡ image_in state
+pub collected_is : (old : Knowledge) (h : ℕ) (state : HandlerState) (image : Option (ArrayVec ℕ)) → AreSound old.handlers → h < length old.handlers → state ≡ get_or old.handlers h state → image ≡ image_held state
     → (n : ℕ) (hs : List Happening) → old ≡ knowledge n hs → image ≡ collected_image h hs
 collected_is old h state image sound within read is n hs was =
     let count = handler_count old n hs was in
     let inside : h < n = omega arith in
     let here : state ≡ state_after hs h = get_or_read old.handlers h state within read no_state ∙ ap (λ (k : Knowledge). state_at k.handlers h) was ∙ state_at-states n hs h inside in
-    is ∙ ap image_in here ∙ image_is h hs (sound_after old n hs h was sound inside)
+    is ∙ ap image_held here ∙ image_is h hs (sound_after old n hs h was sound inside)
 
 pub completed_is : (old new : Knowledge) (g : HandlerId) (version index count : ℕ) (large : Bool) (bytes : ArrayVec ℕ) (complete : Option HandlerId) → g.0 < length old.handlers → AreSound old.handlers → AreSound new.handlers
     → Learns old (Hears (Fragment g version index count large bytes)) new → complete ≡ completes_in g (state_at old.handlers g.0) (state_at new.handlers g.0)
@@ -109,7 +109,7 @@ picks_same p q f g a (suc n) same =
     pick true false e xs ys rest one = absurd cc
     pick false true e xs ys rest one = absurd cc
 
-asks_is : (n : ℕ) (versions : ArrayVec ℕ) (before : List Happening) → ((h : ℕ) → h < n → IsSound (state_after (Hears (Vector versions) ∷ before) h))
+asks_is : (n : ℕ) (versions : ArrayVec ℕ) (before : List Happening) → ((h : ℕ) → h < n → IsSoundState (state_after (Hears (Vector versions) ∷ before) h))
     → asks_upto versions.items (states_after n (Hears (Vector versions) ∷ before)) n ≡ asks_after n (Vector versions) before
 asks_is n versions before sound =
     let hs = Hears (Vector versions) ∷ before in
@@ -201,7 +201,7 @@ some_target h versions before over =
           omega arith)
     ]
 
-ask_right : (n h : ℕ) (versions : ArrayVec ℕ) (before : List Happening) → h < n → IsSound (state_after (Hears (Vector versions) ∷ before) h) → collected_image h before ≡ None
+ask_right : (n h : ℕ) (versions : ArrayVec ℕ) (before : List Happening) → h < n → IsSoundState (state_after (Hears (Vector versions) ∷ before) h) → collected_image h before ≡ None
     → ltb (held_version h before) (version_in h (Vector versions)) ≡ true → IsRight n (ask_for (Hears (Vector versions) ∷ before) h)
 ask_right n h versions before within sound open_ over =
     let hs = Hears (Vector versions) ∷ before in
@@ -262,18 +262,18 @@ pub next_some : (n : ℕ) (hs : List Happening) → is_some (next_slot n hs) ≡
 next_some n hs = some_passes (is_marked_slot hs) (next_place (last_sent hs)) (22 * n)
 
 pub sent_learned : (old new : Knowledge) (slot : ℕ) → slot < 22 * length old.handlers
-    → new ≡ record (with_state old (slot / 22) (sends (slot % 22) (state_at old.handlers (slot / 22)))) { last = Some slot }
+    → new ≡ record (with_state old (slot / 22) (after_sending (slot % 22) (state_at old.handlers (slot / 22)))) { last = Some slot }
     → (n : ℕ) (before : List Happening) → old ≡ knowledge n before → new ≡ knowledge n (Sends slot ∷ before)
 sent_learned old new slot within is n before was =
     let count = handler_count old n before was in
     let h = slot / 22 in
     let inside : h < n = omega arith in
     let states = states_after n before in
-    let value : sends (slot % 22) (state_at states h) ≡ state_after (Sends slot ∷ before) h = ap (sends (slot % 22)) (state_at-states n before h inside) ∙ sym (sends_state slot before) in
+    let value : after_sending (slot % 22) (state_at states h) ≡ state_after (Sends slot ∷ before) h = ap (after_sending (slot % 22)) (state_at-states n before h inside) ∙ sym (sends_state slot before) in
     let set_it : set states h (state_after (Sends slot ∷ before) h) ≡ states_after n (Sends slot ∷ before) =
     set_value (state_after before) (state_after (Sends slot ∷ before)) n h inside (λ k below differs. sym (sends_other k slot before differs)) in
     is
-    ∙ ap (λ (k : Knowledge). record (with_state k h (sends (slot % 22) (state_at k.handlers h))) { last = Some slot }) was
+    ∙ ap (λ (k : Knowledge). record (with_state k h (after_sending (slot % 22) (state_at k.handlers h))) { last = Some slot }) was
     ∙ ap (λ (s : HandlerState). record { handlers = set states h s; last = Some slot }) value
     ∙ ap (λ (ss : List HandlerState). record { handlers = ss; last = Some slot }) set_it
 

@@ -16,8 +16,8 @@ use Rattle.capsule_exchange.specs.declared.handler_state.Form.{Form}
 use Rattle.capsule_exchange.specs.declared.handler_state.HandlerState.{HandlerState}
 use Rattle.capsule_exchange.specs.Table.{table}
 use Rattle.capsule_exchange.specs.Happenings.{fragment_of}
-use Rattle.capsule_exchange.specs.Sound.{IsSound, AreSound}
-use Rattle.capsule_exchange.specs.Steps.{no_state, aimed, kept, hears_fragment, marked, hears_status, sends, forgets, installs, state_at}
+use Rattle.capsule_exchange.specs.Sound.{IsSoundState, AreSound}
+use Rattle.capsule_exchange.specs.Steps.{no_state, aimed, kept, hears_fragment, marked, hears_status, after_sending, forgets, installs, state_at}
 use Rattle.capsule_exchange.proofs.TableLemmas.{table_at, table_past}
 
 -- ---- one handler
@@ -31,24 +31,24 @@ no_mark i = elim (cases_lt i 22) [
   | inr past ↦ table_past (λ (_ : ℕ). false) i false past
 ]
 
-pub no_state_sound : IsSound no_state
+pub no_state_sound : IsSoundState no_state
 no_state_sound = record {
   few = tt;
   owed = λ i marked. absurd (not_true _ (no_mark i) marked);
   numbered = λ some. absurd (omega arith);
 }
 
-pub aimed_sound : (version : ℕ) (s : HandlerState) → IsSound s → IsSound (aimed version s)
+pub aimed_sound : (version : ℕ) (s : HandlerState) → IsSoundState s → IsSoundState (aimed version s)
 aimed_sound version s sound =
-    cond_both (ltb s.held version && ltb s.target version) _ s IsSound (λ _. record { few = tt; owed = sound.owed; numbered = sound.numbered }) (λ _. sound)
+    cond_both (ltb s.held version && ltb s.target version) _ s IsSoundState (λ _. record { few = tt; owed = sound.owed; numbered = sound.numbered }) (λ _. sound)
 
-kept_sound : (index : ℕ) (form : Form) (bytes : ArrayVec ℕ) (s : HandlerState) → form.count ≤ 22 → IsSound s → IsSound (kept index form bytes s)
-kept_sound index form bytes s few sound = cond_both _ _ s IsSound (λ _. record { few = few; owed = sound.owed; numbered = sound.numbered }) (λ _. sound)
+kept_sound : (index : ℕ) (form : Form) (bytes : ArrayVec ℕ) (s : HandlerState) → form.count ≤ 22 → IsSoundState s → IsSoundState (kept index form bytes s)
+kept_sound index form bytes s few sound = cond_both _ _ s IsSoundState (λ _. record { few = few; owed = sound.owed; numbered = sound.numbered }) (λ _. sound)
 
-pub hears_fragment_sound : (version index : ℕ) (form : Form) (bytes : ArrayVec ℕ) (s : HandlerState) → form.count ≤ 22 → IsSound s → IsSound (hears_fragment version index form bytes s)
+pub hears_fragment_sound : (version index : ℕ) (form : Form) (bytes : ArrayVec ℕ) (s : HandlerState) → form.count ≤ 22 → IsSoundState s → IsSoundState (hears_fragment version index form bytes s)
 hears_fragment_sound version index form bytes s few sound =
     let after = aimed_sound version s sound in
-    cond_both _ _ (aimed version s) IsSound (λ _. kept_sound index form bytes (aimed version s) few after) (λ _. after)
+    cond_both _ _ (aimed version s) IsSoundState (λ _. kept_sound index form bytes (aimed version s) few after) (λ _. after)
 
 marked_owed : (count missing : ℕ) (marks : List Bool) (i : ℕ) → ((k : ℕ) → IsTrue (get_or marks k false) → k < count) → IsTrue (get_or (marked count missing marks) i false) → i < count
 marked_owed count missing marks i owed now =
@@ -63,9 +63,9 @@ marked_owed count missing marks i owed now =
       | inr past ↦ absurd (not_true _ (table_past test i false past) now)
     ]
 
-pub hears_status_sound : (version missing : ℕ) (s : HandlerState) → IsSound s → IsSound (hears_status version missing s)
+pub hears_status_sound : (version missing : ℕ) (s : HandlerState) → IsSoundState s → IsSoundState (hears_status version missing s)
 hears_status_sound version missing s sound =
-    cond_both (eqb version s.held) _ s IsSound (λ _. record { few = sound.few; owed = λ i. marked_owed (count_of s.image.items) missing s.marks i sound.owed; numbered = sound.numbered }) (λ _. sound)
+    cond_both (eqb version s.held) _ s IsSoundState (λ _. record { few = sound.few; owed = λ i. marked_owed (count_of s.image.items) missing s.marks i sound.owed; numbered = sound.numbered }) (λ _. sound)
 
 unmarked : (marks : List Bool) (index i : ℕ) → IsTrue (get_or (set marks index false) i false) → IsTrue (get_or marks i false)
 unmarked marks index i now =
@@ -78,13 +78,13 @@ unmarked marks index i now =
     off (inl within) = get_or-set_same marks index false false within
     off (inr past) = get_or_past (set marks index false) index false (omega (arith, length-set marks index false))
 
-pub sends_sound : (index : ℕ) (s : HandlerState) → IsSound s → IsSound (sends index s)
+pub sends_sound : (index : ℕ) (s : HandlerState) → IsSoundState s → IsSoundState (after_sending index s)
 sends_sound index s sound = record { few = sound.few; owed = λ i now. sound.owed i (unmarked s.marks index i now); numbered = sound.numbered }
 
-pub forgets_sound : (s : HandlerState) → IsSound s → IsSound (forgets s)
+pub forgets_sound : (s : HandlerState) → IsSoundState s → IsSoundState (forgets s)
 forgets_sound s sound = record { few = tt; owed = λ i now. absurd (not_true _ (no_mark i) now); numbered = sound.numbered }
 
-pub installs_sound : (version : ℕ) (image : ArrayVec ℕ) (s : HandlerState) → 1 ≤ version → IsSound (installs version image s)
+pub installs_sound : (version : ℕ) (image : ArrayVec ℕ) (s : HandlerState) → 1 ≤ version → IsSoundState (installs version image s)
 installs_sound version image s some = record { few = tt; owed = λ i now. absurd (not_true _ (no_mark i) now); numbered = λ _. some }
 
 -- ---- all handlers
@@ -93,39 +93,39 @@ pub refill_same : (states after : List HandlerState) → length after ≡ length
 refill_same states after same = take_at after (drop (length after) states) (length states) same
 
 pub refilled : (states after : List HandlerState) → length after ≡ length states → AreSound after → AreSound (refill (length states) states after)
-refilled states after same sound = All-same IsSound (refill (length states) states after) after (refill_same states after same) sound
+refilled states after same sound = All-same IsSoundState (refill (length states) states after) after (refill_same states after same) sound
 
 -- the states with a sound one in the place of another
-pub one_sound : (states : List HandlerState) (h : ℕ) (s : HandlerState) → IsSound s → AreSound states → AreSound (refill (length states) states (set states h s))
-one_sound states h s own sound = refilled states (set states h s) (length-set states h s) (All-set IsSound states h s own sound)
+pub one_sound : (states : List HandlerState) (h : ℕ) (s : HandlerState) → IsSoundState s → AreSound states → AreSound (refill (length states) states (set states h s))
+one_sound states h s own sound = refilled states (set states h s) (length-set states h s) (All-set IsSoundState states h s own sound)
 
-pub sound_at : (states : List HandlerState) (h : ℕ) (d : HandlerState) → h < length states → AreSound states → IsSound (get_or states h d)
-sound_at states h d within sound = All-get_or IsSound states h d within sound
+pub sound_at : (states : List HandlerState) (h : ℕ) (d : HandlerState) → h < length states → AreSound states → IsSoundState (get_or states h d)
+sound_at states h d within sound = All-get_or IsSoundState states h d within sound
 
 -- one state was changed in place
 pub changed_one : (states lent : List HandlerState) (h : ℕ) (d after : HandlerState) (step : HandlerState → HandlerState) → lent ≡ states → h < length states → after ≡ step (get_or lent h d)
-    → ((s : HandlerState) → IsSound s → IsSound (step s)) → AreSound states → AreSound (refill (length states) states (set lent h after))
+    → ((s : HandlerState) → IsSoundState s → IsSoundState (step s)) → AreSound states → AreSound (refill (length states) states (set lent h after))
 changed_one states lent h d after step same within is keeps sound =
-    let own : IsSound (get_or lent h d) = subst (λ (ss : List HandlerState). IsSound (get_or ss h d)) (sym same) (sound_at states h d within sound) in
-    subst (λ (ss : List HandlerState). AreSound (refill (length states) states (set ss h after))) (sym same) (one_sound states h after (subst IsSound (sym is) (keeps (get_or lent h d) own)) sound)
+    let own : IsSoundState (get_or lent h d) = subst (λ (ss : List HandlerState). IsSoundState (get_or ss h d)) (sym same) (sound_at states h d within sound) in
+    subst (λ (ss : List HandlerState). AreSound (refill (length states) states (set ss h after))) (sym same) (one_sound states h after (subst IsSoundState (sym is) (keeps (get_or lent h d) own)) sound)
 
 -- all were changed in place
 pub changed_each : (states after : List HandlerState) (step : ℕ → HandlerState → HandlerState) → after ≡ map (λ (h : ℕ). step h (state_at states h)) (range_with_len 0 (length states))
-    → ((h : ℕ) (s : HandlerState) → IsSound s → IsSound (step h s)) → AreSound states → AreSound (refill (length states) states after)
+    → ((h : ℕ) (s : HandlerState) → IsSoundState s → IsSoundState (step h s)) → AreSound states → AreSound (refill (length states) states after)
 changed_each states after step is keeps sound =
     let f = λ (h : ℕ). step h (state_at states h) in
     let long : length after ≡ length states = ap length is ∙ length-map-range_with_len f 0 (length states) in
-    refilled states after long (All-same IsSound after (map f (range_with_len 0 (length states))) is
-    (All-map IsSound f (range_with_len 0 (length states)) (λ k d below.
+    refilled states after long (All-same IsSoundState after (map f (range_with_len 0 (length states))) is
+    (All-map IsSoundState f (range_with_len 0 (length states)) (λ k d below.
     let at : get_or (range_with_len 0 (length states)) k d ≡ 0 + k = get_or-range_with_len 0 (length states) k d (omega (arith, length-range_with_len 0 (length states))) in
     keeps (get_or (range_with_len 0 (length states)) k d) (state_at states (get_or (range_with_len 0 (length states)) k d))
     (sound_at states (get_or (range_with_len 0 (length states)) k d) no_state (omega (arith, length-range_with_len 0 (length states))) sound))))
 
 pub changed_all : (states after : List HandlerState) (step : HandlerState → HandlerState) → after ≡ map step states
-    → ((s : HandlerState) → IsSound s → IsSound (step s)) → AreSound states → AreSound (refill (length states) states after)
+    → ((s : HandlerState) → IsSoundState s → IsSoundState (step s)) → AreSound states → AreSound (refill (length states) states after)
 changed_all states after step is keeps sound =
     let long : length after ≡ length states = ap length is ∙ length-map states step in
-    refilled states after long (All-same IsSound after (map step states) is (All-map IsSound step states (λ k d below. keeps (get_or states k d) (sound k d below))))
+    refilled states after long (All-same IsSoundState after (map step states) is (All-map IsSoundState step states (λ k d below. keeps (get_or states k d) (sound k d below))))
 
 -- ---- fragments of an image are right
 

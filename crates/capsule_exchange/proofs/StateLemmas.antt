@@ -17,7 +17,7 @@ use Rattle.capsule_exchange.specs.declared.handler_state.HandlerState.{HandlerSt
 use Rattle.capsule_exchange.specs.Table.{table}
 use Rattle.capsule_exchange.specs.Happenings.{Happening, Hears, Sends, Installs, Forgets, Part, held_version, held_image, version_in, target_version, part_in, target_parts, collected_at, is_marked}
 use Rattle.capsule_exchange.specs.Knowledge.{form_of, state_after}
-use Rattle.capsule_exchange.specs.Steps.{no_state, aimed, takes, kept, keeps, hears_fragment, marked, hears_status, sends, forgets, installs}
+use Rattle.capsule_exchange.specs.Steps.{no_state, aimed, takes, kept, keeps, hears_fragment, marked, hears_status, after_sending, forgets, installs}
 use Rattle.capsule_exchange.proofs.TableLemmas.{same_table, set_table, table_at}
 use Rattle.capsule_exchange.proofs.CollectLemmas.{is_newer, target_next, target_over, parts_newer, parts_same, form_in, collected_push}
 
@@ -242,7 +242,7 @@ installs_other h g version image hs other =
     rw off (refl {a = state_after hs h})
 
 -- a slot is that of its handler and index alone
-pub sends_state : (slot : ℕ) (hs : List Happening) → state_after (Sends slot ∷ hs) (slot / 22) ≡ sends (slot % 22) (state_after hs (slot / 22))
+pub sends_state : (slot : ℕ) (hs : List Happening) → state_after (Sends slot ∷ hs) (slot / 22) ≡ after_sending (slot % 22) (state_after hs (slot / 22))
 sends_state slot hs =
     let h = slot / 22 in
     let before = λ (i : ℕ). is_marked h i hs in

@@ -5,6 +5,7 @@ use Rattle.std.specs.Bool.{beq}
 use Rattle.std.specs.Int.{bit_at}
 use Rattle.std.specs.List.{filter, filter_map, flat_map, find, list_all, range_with_len, sum_by}
 use Rattle.std.specs.Option.{option_map, option_or}
+use Rattle.mate_num.specs.declared.bounds.TheConstants.{SHORT_IMAGE}
 use Rattle.arrayvec.specs.ArrayVec.{ArrayVec}
 use Rattle.mate_num.specs.declared.id.HandlerId.{HandlerId}
 use Rattle.capsule_codec.specs.Fragments.{count_of, piece_at}
@@ -203,7 +204,7 @@ next_slot n hs =
 -- fragment i of an image
 abbrev pub fragment_of : ℕ → ℕ → List ℕ → ℕ → Packet
 fragment_of h version image i =
-    Fragment (record { 0 = h }) version i (count_of image) (nat_lt 528 (length image)) (record { items = piece_at image i })
+    Fragment (record { 0 = h }) version i (count_of image) (nat_lt SHORT_IMAGE (length image)) (record { items = piece_at image i })
 
 -- what is sent for a slot
 abbrev pub fragment_for : List Happening → ℕ → Packet

@@ -3,7 +3,7 @@ use Rattle.std.specs.Prelude.{ℕ, ◌<◌, ◌≤◌, IsTrue, List, length, sli
 use Rattle.capsule_codec.specs.Fragments.{count_of}
 use Rattle.capsule_exchange.specs.declared.handler_state.HandlerState.{HandlerState}
 
-pub record IsSound (s : HandlerState) : Type 0 where
+pub record IsSoundState (s : HandlerState) : Type 0 where
   -- an image has 22 fragments at most
   pub few : IfSome s.form (λ form. form.count ≤ 22)
   -- only fragments that the held image has are owed
@@ -12,4 +12,4 @@ pub record IsSound (s : HandlerState) : Type 0 where
   pub numbered : 1 ≤ length s.image.items → 1 ≤ s.held
 
 abbrev pub AreSound : List HandlerState → Type 0
-AreSound states = All IsSound states
+AreSound states = All IsSoundState states

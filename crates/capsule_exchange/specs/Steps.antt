@@ -48,8 +48,8 @@ marked count missing marks = table (λ i. (nat_lt i count && bit_at missing i ==
 abbrev pub hears_status : ℕ → ℕ → HandlerState → HandlerState
 hears_status version missing s = if version == s.held then record s { marks = marked (count_of s.image.items) missing s.marks } else s
 
-abbrev pub sends : ℕ → HandlerState → HandlerState
-sends index s = record s { marks = slice_set s.marks index false }
+abbrev pub after_sending : ℕ → HandlerState → HandlerState
+after_sending index s = record s { marks = slice_set s.marks index false }
 
 abbrev pub forgets : HandlerState → HandlerState
 forgets s = record s { target = 0; form = None; pieces = table (λ _. None); marks = table (λ _. false) }
@@ -65,11 +65,11 @@ limit_in (Some form) = form.count
 abbrev pub places_in : HandlerState → List (Option (ArrayVec ℕ))
 places_in s = take (limit_in s.form) s.pieces
 
-abbrev pub image_in : HandlerState → Option (ArrayVec ℕ)
-image_in s = whole (places_in s)
+abbrev pub image_held : HandlerState → Option (ArrayVec ℕ)
+image_held s = whole (places_in s)
 
 abbrev pub complete_in : HandlerState → ℕ
-complete_in s = if is_some (image_in s) then s.target else 0
+complete_in s = if is_some (image_held s) then s.target else 0
 
 -- the handler, where its fragments became complete
 abbrev pub completes_in : HandlerId → HandlerState → HandlerState → Option HandlerId

@@ -8,7 +8,7 @@ ghost use Rattle.packet_codec.specs.Packet.{IsRight};
 ghost use Rattle.capsule_exchange.specs.Happenings.{Hears, Installs, Forgets, asks_after, completed_by, held_version, held_versions, collected_image, IsOpen, is_marked_slot, slots_from, next_slot, fragment_for};
 ghost use Rattle.capsule_exchange.specs.Knowledge.{knowledge, held_of, with_state, Whatever, Learns, Judges, with_sent};
 ghost use Rattle.capsule_exchange.specs.Sound.{AreSound};
-ghost use Rattle.capsule_exchange.specs.Steps.{state_at, aimed_each, asks_upto, hears_status, hears_fragment, completes_in, sends, is_marked_in, fragment_in};
+ghost use Rattle.capsule_exchange.specs.Steps.{state_at, aimed_each, asks_upto, hears_status, hears_fragment, completes_in, after_sending, is_marked_in, fragment_in};
 
 use crate::handler_state::{Form, HandlerState};
 use crate::handlers::{aim_each, asks, first_marked, forget_each, held_versions, next_slot};
@@ -233,7 +233,7 @@ impl Exchange {
     fn send(&mut self, slot: usize) -> Packet
         requires within { slot < 22 * length self.old.handlers }
         requires marked { IsTrue (is_marked_in self.old.handlers slot) }
-        ensures state { self.new ≡ record (with_state self.old (slot / 22) (sends (slot % 22) (state_at self.old.handlers (slot / 22)))) { last = Some slot } }
+        ensures state { self.new ≡ record (with_state self.old (slot / 22) (after_sending (slot % 22) (state_at self.old.handlers (slot / 22)))) { last = Some slot } }
         ensures packet { result ≡ fragment_in self.old.handlers slot }
         ensures right { IsRight (length self.old.handlers) result }
     {

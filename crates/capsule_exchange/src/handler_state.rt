@@ -4,15 +4,12 @@ ghost use Rattle.std.specs.Prelude.{◌≡◌, ℕ, ◌<◌, ◌≤◌, length, 
 ghost use Rattle.packet_codec.specs.Packet.{IsRight};
 ghost use Rattle.capsule_codec.specs.Fragments.{count_of};
 ghost use Rattle.capsule_exchange.specs.Happenings.{fragment_of};
-ghost use Rattle.capsule_exchange.specs.Steps.{no_state, aimed, takes, kept, hears_fragment, marked, hears_status, sends, installs, forgets, places_in, image_in, complete_in, ask_in};
+ghost use Rattle.capsule_exchange.specs.Steps.{no_state, aimed, takes, kept, hears_fragment, marked, hears_status, after_sending, installs, forgets, places_in, image_held, complete_in, ask_in};
 
 use crate::pieces::{copy_of, joined, missing_mask, no_marks, no_pieces};
 use capsule_codec::{Piece, count, fragment};
-use mate_num::{HandlerId, Image};
+use mate_num::{HandlerId, Image, SHORT_IMAGE};
 use packet_codec::Packet;
-
-/// The longest image that is sent in small fragments.
-const SHORT_IMAGE: usize = 528;
 
 /// The count and the kind of an image's fragments.
 #[derive(Clone, Copy, PartialEq, Eq, Debug)]
@@ -112,7 +109,7 @@ impl HandlerState {
     /// The fragment at `index` was sent.
     pub(crate) fn unmark(&mut self, index: usize)
         requires { index < 22 }
-        ensures { self.new ≡ sends index self.old }
+        ensures { self.new ≡ after_sending index self.old }
     {
         self.marks[index] = false;
     }
@@ -154,7 +151,7 @@ impl HandlerState {
     /// The target's image; None exactly where there is no target, or a fragment of it is missing.
     pub(crate) fn collected(&self) -> Option<Image>
         requires { IfSome self.now.form (λ form. form.count ≤ 22) }
-        ensures { result ≡ image_in self.now }
+        ensures { result ≡ image_held self.now }
     {
         joined(self.places())
     }

@@ -3,7 +3,7 @@
 ghost use Rattle.std.specs.Prelude.{◌≡◌, ◌*◌, ◌<◌, ◌≤◌, length, map, slice_set, IfSome, IsTrue, find};
 ghost use Rattle.capsule_exchange.specs.Happenings.{next_place, slots_from};
 ghost use Rattle.capsule_exchange.specs.Sound.{AreSound};
-ghost use Rattle.capsule_exchange.specs.Steps.{state_at, hears_status, hears_fragment, sends, installs, forgets, aimed_each, asks_upto, is_marked_in, next_in};
+ghost use Rattle.capsule_exchange.specs.Steps.{state_at, hears_status, hears_fragment, after_sending, installs, forgets, aimed_each, asks_upto, is_marked_in, next_in};
 
 use crate::handler_state::{Form, HandlerState};
 use arrayvec::ArrayVec;

@@ -2,6 +2,7 @@
 
 ghost use Rattle.std.specs.Prelude.{◌≡◌, ◌+◌, ◌≤◌, ◌++◌, length, false, is_some};
 ghost use Rattle.std.specs.List.{flat_map, list_all};
+ghost use Rattle.mate_num.specs.declared.bounds.TheConstants.{IMAGE_MAX};
 ghost use Rattle.capsule_exchange.specs.Table.{table};
 ghost use Rattle.capsule_exchange.specs.Happenings.{gaps, mask_of, whole, piece_bytes};
 
@@ -79,7 +80,7 @@ fn bytes_in(places: &[Option<Piece>]) -> Image
 
 // Appends the bytes of the piece that is there, for which there is room.
 fn append(image: &mut Image, place: &Option<Piece>)
-    requires { length image.old.items + 48 ≤ 1056 }
+    requires { length image.old.items + 48 ≤ IMAGE_MAX }
     ensures bytes { image.new.items ≡ image.old.items ++ piece_bytes place.now }
     ensures high { length image.new.items ≤ length image.old.items + 48 }
 {

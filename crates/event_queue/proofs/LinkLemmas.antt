@@ -1,12 +1,12 @@
 -- Lists of places: the first one taken out, and one put last.
-use Rattle.std.proofs.Common.{◌≡◌, ◌≢◌, ℕ, zero, suc, ◌+◌, ◌-◌, ◌<◌, ◌⊎◌, List, [], ◌∷◌, ◌++◌, length, get_or, set, refl, sym, ◌∙◌, ap, subst, arith, inl, inr}
-use Rattle.std.proofs.lemmas.Bool.{cases_eq}
-use Rattle.std.proofs.lemmas.List.{get_or-set_same, get_or-set_other, length-set, get_or_default, length-append, length-map}
+use Rattle.std.proofs.Common.{◌≡◌, ◌≢◌, ℕ, zero, suc, ◌+◌, ◌-◌, ◌<◌, ◌≤◌, ◌⊎◌, List, [], ◌∷◌, ◌++◌, length, get_or, set, refl, sym, ◌∙◌, ap, subst, arith, inl, inr}
+use Rattle.std.proofs.lemmas.Bool.{cases_eq, cases_lt}
+use Rattle.std.proofs.lemmas.List.{get_or-set_same, get_or-set_other, length-set, get_or_default, get_or_past, length-append, length-map}
 use Rattle.std.proofs.lemmas.Grind.{get_or_default_zero}
-use Rattle.std.proofs.lemmas.List.Sums.{sum_by-set}
+use Rattle.std.proofs.lemmas.List.Sums.{sum_by-set, get_or-le-sum_by}
 use Rattle.event_queue.specs.declared.chains.Head.{Head}
 use Rattle.std.specs.Prelude.{Some, slice_get, replicate}
-use Rattle.event_queue.specs.Links.{Places, no_head, head_of, follow, place_at, listed, behind, list_of, list_at, places_of, lengths, IsLinked, Lacks, Unlinks, Appends, Moves, Grows}
+use Rattle.event_queue.specs.Links.{Places, no_head, head_of, follow, place_at, listed, behind, list_of, list_at, places_of, lengths, IsLinked, IsRight, Lacks, Unlinks, Appends, Moves, Grows}
 
 pub listed_cong : (n : ℕ) (f g : ℕ → ℕ) → ((p : ℕ) → p < n → f p ≡ g p) → listed n f ≡ listed n g
 listed_cong zero f g same = refl
@@ -380,6 +380,25 @@ first_below_total next heads c list head view linked within read some =
     let below = first_below next heads list head linked within (omega (arith, len_is, some)) read in
     let total : length next ≡ c.total = ap (λ (d : Places). d.total) view in
     omega (arith, below, total)
+
+-- where one list has all places, the others have none
+none_other : (heads : List Head) (list : ℕ) → list < length heads → (head_of heads list).len ≡ lengths heads → (s : ℕ) → s < length heads → s ≢ list → (head_of heads s).len ≡ 0
+none_other heads list within all s below other =
+    let rest : List Head = set heads list no_head in
+    let sum : lengths rest + (head_of heads list).len ≡ lengths heads + 0 = sum_by-set (λ (h : Head). h.len) heads list no_head no_head within in
+    let least : (head_of rest s).len ≤ lengths rest = get_or-le-sum_by (λ (h : Head). h.len) rest s no_head (omega (arith, below, length-set heads list no_head)) in
+    let same : (head_of rest s).len ≡ (head_of heads s).len = ap (λ (h : Head). h.len) (get_or-set_other heads list s no_head no_head other) in
+    omega (arith, sum, least, same, all)
+
+pub others_seen : (next : List ℕ) (heads : List Head) (c : Places) (list : ℕ) (head : Head) → places_of next heads ≡ c → IsRight next heads → list < length heads → head ≡ get_or heads list head → head.len ≡ length next → (s : ℕ) → s ≢ list → list_at c s ≡ []
+others_seen next heads c list head view right within read all s other =
+    let len_is : head.len ≡ (head_of heads list).len = ap (λ (h : Head). h.len) (head_read heads list head within read) in
+    let counted = right.counted in
+    let none : (head_of heads s).len ≡ 0 = elim (cases_lt s (length heads)) [
+      | inl below ↦ none_other heads list within (omega (arith, len_is, all, counted)) s below other
+      | inr past ↦ ap (λ (h : Head). h.len) (get_or_past heads s no_head past)
+    ] in
+    seen next heads c s view ∙ ap (λ (n : ℕ). listed n (place_at next heads s)) none
 
 length-listed : (n : ℕ) (f : ℕ → ℕ) → length (listed n f) ≡ n
 length-listed zero f = refl

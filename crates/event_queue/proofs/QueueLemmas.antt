@@ -147,6 +147,9 @@ right_first group until w v item right sought =
 pub all_none : {T : Type 0} (group : T → Option ℕ) (until : ℕ) (w u : Wheel T) → IsRightQueue group until w → SeeksNone group until w u → (t : ℕ) → due group u t ≡ []
 all_none group until w u right sought t = sought.same t ∙ elim (cases_lt until t) [ inl after ↦ right.none_after t after | inr in_time ↦ sought.none_due t in_time ]
 
+pub idle_agenda : {T : Type 0} (group : T → Option ℕ) (until : ℕ) (w : Wheel T) (q : Agenda T) → agenda_of group until w ≡ q → ((t : ℕ) → due group w t ≡ []) → q.items ≡ []
+idle_agenda {T} group until w q view none = ap (λ (a : Agenda T). a.items) (sym view) ∙ in_order_none (due group w) (suc until) (λ t low. none t)
+
 pub empty_agenda : {T : Type 0} (group : T → Option ℕ) (until : ℕ) (w u : Wheel T) (q : Agenda T) → agenda_of group until w ≡ q → SeeksNone group until w u → q.items ≡ []
 empty_agenda {T} group until w u q view sought = ap (λ (a : Agenda T). a.items) (sym view) ∙ in_order_none (due group w) (suc until) (λ t low. sought.none_due t (omega (arith, low)))
 

@@ -621,3 +621,13 @@ shorter xs ys x is = let long : length xs ≡ suc (length ys) = ap (λ (zs : Lis
 
 pub longer : (xs ys : List ℕ) (y : ℕ) → ys ≡ xs ++ y ∷ [] → length ys ≡ length xs + 1
 longer xs ys y is = ap (λ (zs : List ℕ). length zs) is ∙ length-append xs (y ∷ [])
+
+-- nothing waits where no list but that of the free places has a place
+pub idle_due : {T : Type 0} (group : T → Option ℕ) (w : Wheel T) → ((s : ℕ) → s ≢ 0 → list_at w.chains s ≡ []) → (t : ℕ) → due group w t ≡ []
+idle_due {T} group w none t =
+    let near_none : near_due group w t ≡ [] = ap (λ (ps : List ℕ). items_at group w.generations w.entries.items ps) (none (near t) (λ e. omega (arith, e))) in
+    let far_none : far_due group w t ≡ [] = ap (λ (ps : List ℕ). items_timed group w.generations w.entries.items (t % 2048) ps) (none (far t) (λ e. omega (arith, e))) in
+    elim (cases_eq (t / 2048) (w.at / 2048)) [
+      | inl here ↦ due_here group w t here ∙ ap (λ (xs : List T). xs ++ far_due group w t) near_none ∙ far_none
+      | inr ahead ↦ due_ahead group w t ahead ∙ far_none
+    ]

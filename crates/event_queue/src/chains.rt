@@ -1,7 +1,7 @@
 //! Lists of places that are kept as links between them, each place in one list: a place goes from one list to another
 //! without memory.
 
-ghost use Rattle.std.specs.Prelude.{◌≡◌, ◌≢◌, ◌+◌, ◌^◌, ◌<◌, ℕ, [], ◌∷◌, length, slice_get, IfSome, IfOk, MatchResult};
+ghost use Rattle.std.specs.Prelude.{◌≡◌, ◌≢◌, ◌+◌, ◌^◌, ◌<◌, ℕ, [], ◌∷◌, length, slice_get, IfSome, IfOk, IsTrue, MatchResult};
 ghost use Rattle.std.specs.List.{sum_by};
 ghost use Rattle.event_queue.specs.Links.{IsLinked, IsRight, head_of, place_at, lengths, list_at, places_of, Unlinks, Appends, Moves, Grows};
 
@@ -110,6 +110,14 @@ impl Chains {
         ensures { result ≡ length (list_at self.now list) }
     {
         self.heads[list].len as usize
+    }
+
+    /// Whether the list has all places, so that the others have none.
+    pub fn has_all(&self, list: usize) -> bool
+        requires { list < length self.now.lists }
+        ensures { IsTrue result → (s : ℕ) → s ≢ list → list_at self.now s ≡ [] }
+    {
+        self.heads[list].len as usize == self.next.len()
     }
 
     /// The first place of a list, if it has one.

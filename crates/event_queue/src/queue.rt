@@ -83,6 +83,9 @@ impl<T: Grouped> Queue<T> {
         ensures first { MatchOption result (self.old.items ≡ []) (λ first. Comes self.old first self.new) }
         ensures none { IfNone result (self.new ≡ self.old) }
     {
+        if self.wheel.is_idle() {
+            return None;
+        }
         let now = self.wheel.at;
         let item = seek(&mut self.wheel, self.until);
         match item {

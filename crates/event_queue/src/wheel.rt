@@ -2,7 +2,7 @@
 //! the wheel stands, and the far level one for each block to come. A far slot is spread over the near ones when its block
 //! comes. Slots are lists of places, so that memory is taken only where more items wait than ever before.
 
-ghost use Rattle.std.specs.Prelude.{◌≡◌, ◌≢◌, ◌+◌, ◌/◌, ◌%◌, ◌<◌, ◌≤◌, ℕ, [], true, length, map, IfSome, IfNone, MatchResult, OnOk, IfOk};
+ghost use Rattle.std.specs.Prelude.{◌≡◌, ◌≢◌, ◌+◌, ◌/◌, ◌%◌, ◌<◌, ◌≤◌, ℕ, [], true, length, map, IfSome, IfNone, IsTrue, MatchResult, OnOk, IfOk};
 ghost use Rattle.event_queue.specs.Links.{list_at};
 ghost use Rattle.event_queue.specs.Wheel.{is_current, live_item, list_for, IsPast, due, near, far, IsWheel, IsTurning, Puts, PutsAll, Keeps, Takes, Turns, Cancels, cleared, cleared_item};
 
@@ -224,6 +224,14 @@ impl<T: Grouped> Wheel<T> {
         let generation = entry.generation;
         let item = entry.item.take();
         live(&self.generations, generation, item)
+    }
+
+    /// Whether no place is taken, not even by something cancelled. Nothing waits then.
+    pub fn is_idle(&self) -> bool
+        requires { IsWheel T.group_of self.now }
+        ensures { IsTrue result → (t : ℕ) → due T.group_of self.now t ≡ [] }
+    {
+        self.chains.has_all(FREE)
     }
 
     /// Takes the first item of the time at which the wheel stands.

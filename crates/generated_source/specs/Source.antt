@@ -22,12 +22,12 @@ abbrev pub sensor_term : Option (List ℕ) → List ℕ
 sensor_term None = []
 sensor_term (Some f) = f ++ codes "() + "
 
-abbrev pub head_of : List ℕ → List ℕ
-head_of s = codes "shared " ++ s ++ codes "; " ++ s ++ codes " = " ++ s ++ codes " + "
+abbrev pub source_head : List ℕ → List ℕ
+source_head s = codes "shared " ++ s ++ codes "; " ++ s ++ codes " = " ++ s ++ codes " + "
 
 -- the shared variable s takes itself, and what the sensor reads, and a digit
 abbrev pub assignment : List ℕ → Option (List ℕ) → ℕ → List ℕ
-assignment s sensor digit = head_of s ++ sensor_term sensor ++ (48 + digit) ∷ codes ";"
+assignment s sensor digit = source_head s ++ sensor_term sensor ++ (48 + digit) ∷ codes ";"
 
 abbrev pub source_with : Option (List ℕ) → List (List ℕ) → ℕ → List ℕ
 source_with sensor [] version = []

@@ -3,7 +3,7 @@
 
 ghost use Rattle.std.specs.Prelude.{◌≡◌, ◌≤◌, IfOk, string_bytes};
 ghost use Rattle.std.specs.Option.{option_map};
-ghost use Rattle.generated_source.specs.Source.{reads_sensor, first_sensor, head_of, assignment, source_of};
+ghost use Rattle.generated_source.specs.Source.{reads_sensor, first_sensor, source_head, assignment, source_of};
 
 use mate_num::{NoMemory, Text};
 use std::alloc::Global;
@@ -73,7 +73,7 @@ fn assignment(
 
 // What stands before the sensor and the digit.
 fn head(alloc: Global, shared: &str) -> Result<String, NoMemory>
-    ensures { IfOk result (λ text. string_bytes text ≡ head_of shared.now) }
+    ensures { IfOk result (λ text. string_bytes text ≡ source_head shared.now) }
 {
     let mut text = String::from_str(alloc, "shared ")?;
     text.push_str(shared)?;

@@ -1,17 +1,21 @@
 -- The premises of the hop bound, from a description's limits and a right script.
 use Rattle.std.proofs.Common.{◌≡◌, ◌<◌, ◌≤◌, ℕ, zero, suc, ◌+◌, ◌*◌, ◌^◌, ◌/◌, ◌%◌, List, [], ◌∷◌, ◌++◌, map, length, Option, Some, None, refl, sym, ◌∙◌, ap, subst, arith, inl, inr, append_assoc}
-use Rattle.std.specs.Prelude.{slice_get, slice_index_or, All}
+use Rattle.std.specs.Prelude.{slice_get, slice_index_or, All, Bool, true, false, nat_le, if◌then◌else◌}
+use Rattle.std.specs.Int.{div_ceil}
+use Rattle.std.proofs.lemmas.Grind.{div_ceil_times}
 use Rattle.std.specs.Option.{option_map, option_map_or}
 use Rattle.std.specs.List.{AllPairs}
-use Rattle.std.proofs.lemmas.Bool.{cases_lt}
+use Rattle.std.proofs.lemmas.Bool.{cases_lt, leb-true}
 use Rattle.std.proofs.lemmas.Nat.{pow_pos}
-use Rattle.std.proofs.Math.Nat.{le-mul_of_pos_right, mul_assoc, pow-suc}
+use Rattle.std.proofs.Math.Nat.{le-mul_of_pos_right, mul-le-mul_right, mul_assoc, pow-suc}
 use Rattle.std.proofs.lemmas.List.Elements.{All-head, All-tail, All-contains}
 use Rattle.std.proofs.lemmas.Option.{slice_get-map, slice_get_within, get_or_from_slice_get}
 use Rattle.mate_num.specs.declared.id.HandlerId.{HandlerId}
 use Rattle.vm_desc.specs.declared.description.Description.{Description}
 use Rattle.vm_desc.specs.Limits.{longest}
 use Rattle.vm_desc.proofs.DescriptionLemmas.{bounds_of}
+use Rattle.capsule_codec.specs.Fragments.{count_of}
+use Rattle.capsule_codec.specs.Image.{image_of}
 use Rattle.mate_journal.specs.Machine.{Meaning, HeldProgram}
 use Rattle.mate_journal.specs.Turns.{Clock}
 use Rattle.script_reader.specs.declared.world.World.{World as Script}
@@ -24,15 +28,17 @@ use Rattle.world_rules.specs.World.{World, PlannedLine, Inject, want_of, line_pl
 use Rattle.world_rules.specs.Cause.{Cause}
 use Rattle.world_rules.specs.Cause as event
 use Rattle.world_rules.specs.Effect.{event_node}
-use Rattle.world_rules.specs.State.{Moment}
+use Rattle.world_rules.specs.State.{Moment, state}
+use Rattle.capsule_exchange.specs.Happenings.{held_version}
 use Rattle.world_rules.specs.Run.{HaveCome}
 use Rattle.world_laws.specs.Times.{IsRightSet}
 use Rattle.world_images.specs.Versions.{InjectsAt}
 use Rattle.world_images.specs.Newest.{IsWorldVersion}
 use Rattle.world_images.specs.Installs.{WasInstalled}
-use Rattle.world_images.proofs.Installs.{held_was_installed}
+use Rattle.world_images.proofs.Installs.{held_was_installed, held_never_falls}
+use Rattle.world_images.proofs.Newer.{installs_are_newer}
 use Rattle.world_laws.proofs.Points.{earlier-come}
-use Rattle.hop_bound.specs.Premises.{IsInjectedProgram, IsRightScript, OpenScriptsAreOpen, RightScriptsPlanRightly, InjectedAreVersions, InstalledBy, InjectedIsInstalled}
+use Rattle.hop_bound.specs.Premises.{IsInjectedProgram, IsRightScript, OpenScriptsAreOpen, RightScriptsPlanRightly, CapsulesHaveFewFragments, ScriptsInstallsAreNewer, InjectedAreVersions, InstalledBy, InjectedIsInstalled}
 use Rattle.hop_bound.specs.HopBound.{HoldsBy, version_of}
 use Rattle.hop_bound.proofs.HopBound.{same-line, hop_bound}
 
@@ -167,20 +173,62 @@ plans_rightly d meaning clock script programs right = record {
     ]
   ]
 
+-- ---- images
+
+piece_bounds : (len size : ℕ) → 1 ≤ len → len ≤ 22 * size → 0 < size → (1 ≤ div_ceil len size) × (div_ceil len size ≤ 22)
+piece_bounds len size some few low =
+    let h = div_ceil_times len size low in
+    let enough : len ≤ div_ceil len size * size = h.0 in
+    let needed : div_ceil len size * size < len + size = h.1 in (
+      elim (cases_lt 0 (div_ceil len size)) [
+        | inl yes_some ↦ omega (arith, yes_some)
+        | inr none ↦ absurd (none_clash none)
+      ],
+      elim (cases_lt 22 (div_ceil len size)) [
+        | inl many ↦ absurd (many_clash many)
+        | inr fits ↦ fits
+      ],
+    ) where
+      none_clash : div_ceil len size ≤ 0 → ⊥
+      none_clash none =
+          let is : div_ceil len size ≡ 0 = omega (arith, none) in
+          let enough : len ≤ 0 * size = subst (λ (n : ℕ). len ≤ n * size) is (div_ceil_times len size low).0 in
+          omega (arith, enough, some)
+
+      many_clash : 22 < div_ceil len size → ⊥
+      many_clash many =
+          let most : 23 * size ≤ div_ceil len size * size = mul-le-mul_right size many in
+          let needed : div_ceil len size * size < len + size = (div_ceil_times len size low).1 in
+          omega (arith, most, needed, few)
+
+pub few_fragments : CapsulesHaveFewFragments
+few_fragments c is =
+    let size : length (image_of c) ≡ length c.code + 16 = omega arith in
+    by (nat_le (length (image_of c)) 528) refl where
+      by : (b : Bool) → nat_le (length (image_of c)) 528 ≡ b
+          → (1 ≤ div_ceil (length (image_of c)) (if b then 24 else 48)) × (div_ceil (length (image_of c)) (if b then 24 else 48) ≤ 22)
+      by true short = piece_bounds (length (image_of c)) 24 (omega arith) (let low : length (image_of c) ≤ 528 = leb-true _ _ short in omega (arith, low)) (omega arith)
+      by false long = piece_bounds (length (image_of c)) 48 (omega arith) (let most = is.code_high in omega (arith, most)) (omega arith)
+
 pub injected_are_versions : InjectedAreVersions
 injected_are_versions d meaning clock script programs i p right injects = by (says-inject d meaning clock script programs i p injects) where
   by : SaysInject script programs i p → IsWorldVersion (world_of d meaning clock script programs) (version_of p)
   by a = record {
     handler = subst (λ (h : HandlerId). h.0 < length d.handlers.items) (sym own.handler_is) install.handler_high;
     low = subst (λ (v : ℕ). 1 ≤ v) (sym own.version_is) install.version_low;
-    some = own.some;
-    few = own.few;
+    some = subst (λ (image : List ℕ). 1 ≤ count_of image) (sym own.image_is) (few_fragments own.capsule own.is_capsule).0;
+    few = subst (λ (image : List ℕ). count_of image ≤ 22) (sym own.image_is) (few_fragments own.capsule own.is_capsule).1;
   } where
     own : IsInjectedProgram a.handler a.version p
     own = subst (λ (x : HeldProgram). IsInjectedProgram a.handler a.version x) a.program_is (right.programs_are i a.program a.version a.handler a.planned a.stands a.what_is)
 
     install : IsRightWhat d (length script.files) (what.Inject a.program a.handler a.version)
     install = subst (λ (x : What). IsRightWhat d (length script.files) x) a.what_is (all-at (IsRightPlanned d script.nodes script.until (length script.files)) script.events i a.planned right.right.events a.stands).what
+
+pub scripts_installs_are_newer : ScriptsInstallsAreNewer
+scripts_installs_are_newer d meaning clock script programs right =
+    let plan = plans_rightly d meaning clock script programs right in
+    installs_are_newer (world_of d meaning clock script programs) plan.one_image plan.timely plan.rising (λ i p injects. (injected_are_versions d meaning clock script programs i p right injects).low)
 
 -- ---- the links
 
@@ -223,6 +271,17 @@ injected_is_installed d meaning clock script programs right is before later m i 
         in_time = held.in_time;
         installed = subst (λ (v : ℕ). WasInstalled (world_of d meaning clock script programs) (held.older ++ (m ∷ before)) b p.handler.0 v) held.holds
             (held_was_installed (world_of d meaning clock script programs) b p.handler.0 (held.older ++ (m ∷ before)) come_older (subst (λ (v : ℕ). 1 ≤ v) (sym held.holds) version.low));
+        ever = λ last mid is.
+            let all : later ++ (m ∷ before) ≡ last ++ (mid ++ (held.older ++ (m ∷ before)))
+            = ap (λ (ms : List Moment). ms ++ (m ∷ before)) (held.split ∙ ap (λ (ms : List Moment). ms ++ held.older) is)
+            ∙ append_assoc (last ++ mid) held.older (m ∷ before) ∙ append_assoc last mid (held.older ++ (m ∷ before)) in
+            let come_mid : HaveCome (world_of d meaning clock script programs) (mid ++ (held.older ++ (m ∷ before)))
+            = earlier-come (world_of d meaning clock script programs) (mid ++ (held.older ++ (m ∷ before))) last (subst (λ (ms : List Moment). HaveCome (world_of d meaning clock script programs) ms) all come) in
+            let grows : held_version p.handler.0 ((state (world_of d meaning clock script programs) (held.older ++ (m ∷ before))).nodes b).exchange
+            ≤ held_version p.handler.0 ((state (world_of d meaning clock script programs) (mid ++ (held.older ++ (m ∷ before)))).nodes b).exchange
+            = held_never_falls (world_of d meaning clock script programs) b p.handler.0 (held.older ++ (m ∷ before)) mid come_mid in
+            let holds : held_version p.handler.0 ((state (world_of d meaning clock script programs) (held.older ++ (m ∷ before))).nodes b).exchange ≡ p.version = held.holds in
+            omega (arith, grows, holds);
       } where
         come_older : HaveCome (world_of d meaning clock script programs) (held.older ++ (m ∷ before))
         come_older = earlier-come (world_of d meaning clock script programs) (held.older ++ (m ∷ before)) held.newer

@@ -12,12 +12,8 @@ use Rattle.hop_bound.specs.Hops.{IsAway}
 use Rattle.world_laws.specs.Times.{last_time}
 use Rattle.world_images.specs.Newest.{Version, IsWorldVersion}
 use Rattle.hop_bound.specs.Spread.{HoldsVersion}
-use Rattle.world_images.specs.Versions.{InjectsAt, IsOneImage}
+use Rattle.world_images.specs.Versions.{InjectsAt, IsOneImage, AreVersionsRising}
 use Rattle.world_images.specs.Lines.{IsPlanTimely}
-
--- the versions that lines inject for a handler rise
-abbrev pub AreVersionsRising : World → Type 0
-AreVersionsRising w = (i j : ℕ) (p q : HeldProgram) → InjectsAt w i p → InjectsAt w j q → p.handler.0 ≡ q.handler.0 → i < j → p.version < q.version
 
 pub record IsRightPlan (w : World) : Type 0 where
   pub one_image : IsOneImage w

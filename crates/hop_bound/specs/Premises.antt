@@ -4,8 +4,10 @@ use Rattle.mate_num.specs.declared.id.HandlerId.{HandlerId}
 use Rattle.vm_desc.specs.declared.description.Description.{Description}
 use Rattle.vm_desc.specs.Limits.{longest}
 use Rattle.capsule_codec.specs.Fragments.{count_of}
+use Rattle.capsule_codec.specs.Image.{CapsuleParts, IsCapsule, image_of}
 use Rattle.mate_journal.specs.Machine.{Meaning, HeldProgram}
 use Rattle.mate_journal.specs.Turns.{Clock}
+use Rattle.capsule_exchange.specs.Happenings.{held_version}
 use Rattle.script_reader.specs.declared.world.World.{World as Script}
 use Rattle.script_reader.specs.declared.world.Link.{Link}
 use Rattle.script_reader.specs.declared.world.Planned.{Planned}
@@ -19,7 +21,7 @@ use Rattle.world_rules.specs.Run.{HaveCome, IsDone}
 use Rattle.world_laws.specs.Times.{last_time}
 use Rattle.world_images.specs.Versions.{InjectsAt}
 use Rattle.world_images.specs.Newest.{IsWorldVersion}
-use Rattle.world_images.specs.Installs.{WasInstalled}
+use Rattle.world_images.specs.Installs.{WasInstalled, InstallsAreNewer}
 use Rattle.hop_bound.specs.Hops.{IsAway}
 use Rattle.hop_bound.specs.Spread.{IsOpenWorld}
 use Rattle.hop_bound.specs.HopBound.{IsRightPlan, IsUndisturbed, version_of}
@@ -29,12 +31,13 @@ pub record IsOpenScript (script : Script) : Type 0 where
   pub loud : script.suppress ≡ false
   pub lossless : All (λ (l : Link). l.loss ≡ 0) script.links
 
--- the program of an injected file is of its line's handler and version, and its image has 1 to 22 fragments
+-- the program of an injected file is of its line's handler and version, and its image is a capsule's
 pub record IsInjectedProgram (handler : HandlerId) (version : ℕ) (p : HeldProgram) : Type 0 where
   pub handler_is : p.handler ≡ handler
   pub version_is : p.version ≡ version
-  pub some : 1 ≤ count_of p.image.items
-  pub few : count_of p.image.items ≤ 22
+  pub capsule : CapsuleParts
+  pub is_capsule : IsCapsule capsule
+  pub image_is : p.image.items ≡ image_of capsule
 
 abbrev pub AreInjectedPrograms : Script → (ℕ → HeldProgram) → Type 0
 AreInjectedPrograms script programs = (i program version : ℕ) (handler : HandlerId) (l : Planned) → slice_get script.events i ≡ Some l → l.what ≡ what.Inject program handler version → IsInjectedProgram handler version (programs program)
@@ -50,21 +53,31 @@ OpenScriptsAreOpen = (d : Description) (meaning : Meaning) (clock : Clock) (scri
 abbrev pub RightScriptsPlanRightly : Type 0
 RightScriptsPlanRightly = (d : Description) (meaning : Meaning) (clock : Clock) (script : Script) (programs : ℕ → HeldProgram) → IsRightScript d script programs → IsRightPlan (world_of d meaning clock script programs)
 
+-- the image of every capsule has 1 to 22 fragments
+abbrev pub CapsulesHaveFewFragments : Type 0
+CapsulesHaveFewFragments = (c : CapsuleParts) → IsCapsule c → (1 ≤ count_of (image_of c)) × (count_of (image_of c) ≤ 22)
+
+-- no install is refused
+abbrev pub ScriptsInstallsAreNewer : Type 0
+ScriptsInstallsAreNewer = (d : Description) (meaning : Meaning) (clock : Clock) (script : Script) (programs : ℕ → HeldProgram) → IsRightScript d script programs → InstallsAreNewer (world_of d meaning clock script programs)
+
 abbrev pub InjectedAreVersions : Type 0
 InjectedAreVersions = (d : Description) (meaning : Meaning) (clock : Clock) (script : Script) (programs : ℕ → HeldProgram) (i : ℕ) (p : HeldProgram) → IsRightScript d script programs
     → InjectsAt (world_of d meaning clock script programs) i p → IsWorldVersion (world_of d meaning clock script programs) (version_of p)
 
--- some of the events `later` came by this time, and one of all that came then has the node's Install entry of the program
+-- some of the events `later` came by this time, one of all that came then has the node's Install entry of the program, and
+-- ever after the node holds this version or a newer one
 pub record InstalledBy (w : World) (p : HeldProgram) (b by : ℕ) (before later : List Moment) : Type 0 where
   pub newer : List Moment
   pub older : List Moment
   pub split : later ≡ newer ++ older
   pub in_time : last_time (older ++ before) ≤ by
   pub installed : WasInstalled w (older ++ before) b p.handler.0 p.version
+  pub ever : (last mid : List Moment) → newer ≡ last ++ mid → p.version ≤ held_version p.handler.0 ((state w (mid ++ (older ++ before))).nodes b).exchange
 
 -- In the world of a right script without loss or suppression let a program be injected on a node, and let b be d hops away.
 -- Where the run reached the time 3 * L * d later, and no newer one was injected and no node reset until then, b installed
--- it by then.
+-- it by then, and holds it or a newer one ever after.
 abbrev pub InjectedIsInstalled : Type 0
 InjectedIsInstalled = (d : Description) (meaning : Meaning) (clock : Clock) (script : Script) (programs : ℕ → HeldProgram) → IsRightScript d script programs → IsOpenScript script
     → (before later : List Moment) (m : Moment) (i b hops : ℕ) (p : HeldProgram)

@@ -3,7 +3,7 @@
 
 ghost use Rattle.world_rules.specs.World.{World};
 ghost use Rattle.hop_bound.specs.HopBound.{HopBound, IsRightPlan};
-ghost use Rattle.hop_bound.specs.Premises.{InjectedAreVersions, InjectedIsInstalled, OpenScriptsAreOpen, RightScriptsPlanRightly};
+ghost use Rattle.hop_bound.specs.Premises.{CapsulesHaveFewFragments, InjectedAreVersions, InjectedIsInstalled, OpenScriptsAreOpen, RightScriptsPlanRightly, ScriptsInstallsAreNewer};
 ghost use Rattle.hop_bound.specs.Spread.{HopsInTime, IsOpenWorld, SpreadsInTime};
 ghost use Rattle.world_images.specs.Newest.{IsWorldVersion, Version};
 
@@ -21,10 +21,15 @@ pub fn injected_versions_arrive()
 {}
 
 /// What the bound takes for granted holds in the world of every description with a right script and its programs, where the
-/// script has suppression off and no link that loses. There each node within reach has its Install entry in time.
+/// script has suppression off and no link that loses. There each node within reach has its Install entry in time,
+/// and holds this version or a newer one ever after. A right
+/// script is one that the reader accepts, with programs of its lines whose images are capsules': these have 1 to 22
+/// fragments, and whatever the losses, no install of such a script is refused.
 pub fn scripts_keep_the_bound()
     ensures lossless { OpenScriptsAreOpen }
     ensures plan { RightScriptsPlanRightly }
+    ensures fragments { CapsulesHaveFewFragments }
     ensures versions { InjectedAreVersions }
+    ensures newer { ScriptsInstallsAreNewer }
     ensures installed { InjectedIsInstalled }
 {}

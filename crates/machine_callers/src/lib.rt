@@ -6,4 +6,5 @@ pub mod code;
 pub mod examples;
 pub mod numbers;
 pub mod parts;
+pub mod queues;
 pub mod values;

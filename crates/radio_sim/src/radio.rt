@@ -76,6 +76,7 @@ impl Radio {
         requires { self.old.agenda.now ≤ time }
         ensures list { MatchResult result (λ _. self.new ≡ record self.old { agenda = scheduled self.old.agenda time event }) (λ _. self.new ≡ self.old) }
         ensures due { OnOk result (Adds self.old.agenda time event self.new.agenda) }
+        ensures now { self.new.agenda.now ≡ self.old.agenda.now }
     {
         self.queue.schedule(time, event)
     }
@@ -89,6 +90,7 @@ impl Radio {
         requires few { length self.old.air < 4000000000 }
         ensures sends { MatchResult result (λ _. self.new ≡ transmitted self.old (record { at = at; node = node; number = self.old.sent + 1 }) bytes.now) (λ _. self.new ≡ self.old) }
         ensures due { OnOk result (AddsAll self.old.agenda (at.time + self.old.delay) (delivered (record { at = at; node = node; number = self.old.sent + 1 }) bytes.now (wires_of self.old node)) self.new.agenda) }
+        ensures now { self.new.agenda.now ≡ self.old.agenda.now }
         ensures stands { OnOk result ((world : World) (senders : List ℕ) → IsEtherOf world senders self.old → IsEtherOf world (senders ++ node ∷ []) self.new) }
     {
         let sending = Sending {
@@ -173,6 +175,7 @@ fn send(
     ensures air { IfOk result (λ _. air.new ≡ air.old ++ sent_record sending bytes.now ∷ [] ++ losts sending wires.now) }
     ensures kept { IsFurther air.old air.new }
     ensures due { OnOk result (AddsAll queue.old (sending.at.time + delay) (delivered sending bytes.now wires.now) queue.new) }
+    ensures now { queue.new.now ≡ queue.old.now }
     ensures carried { OnOk result (carried.new.items ≡ []) }
 {
     air.push(Aired {

@@ -32,7 +32,7 @@ use Rattle.ts_checker.specs.Names.{function_from}
 use Rattle.ts_checker.specs.Checks.{checked_source, checked_block, checked_expr}
 use Rattle.ts_checker.specs.declared.fault.CheckFault.TheVariants.{NotInVm}
 use Rattle.ts_translation.specs.Translation.{number_code, script_size, script_need}
-use Rattle.generated_source.specs.Source.{first_sensor, sensor_term, head_of, assignment, source_with, source_of}
+use Rattle.generated_source.specs.Source.{first_sensor, sensor_term, source_head, assignment, source_with, source_of}
 use Rattle.sound_sources.specs.Sound.{IsSoundSource}
 use Rattle.sound_sources.proofs.NameLemmas.{IsOneName, name_is_one, same_bytes, sensor_name, IsSensor, found_sensor, last_of_two}
 use Rattle.sound_sources.proofs.CutLemmas.{target_place, operand_place, sensor_place, head_tokens, digit_tokens, call_tokens, text_with, digit_text, call_text, head_cut, digit_cut, call_cut}
@@ -140,15 +140,15 @@ call_sound d s f more v id small e one other found = record {
 parts_joined : (a s b c e rest : List ℕ) → (((((((a ++ s) ++ b) ++ s) ++ c) ++ s) ++ e) ++ rest) ≡ a ++ (s ++ (b ++ (s ++ (c ++ (s ++ (e ++ rest))))))
 parts_joined a s b c e rest = simp append_assoc
 
-head_is : (s rest : List ℕ) → head_of s ++ rest ≡ text_with s rest
+head_is : (s rest : List ℕ) → source_head s ++ rest ≡ text_with s rest
 head_is s rest = parts_joined (codes "shared ") s (codes "; ") (codes " = ") (codes " + ") rest
 
 text_of_call : (s f : List ℕ) (v : ℕ) → assignment s (Some f) v ≡ text_with s (call_text f v)
 text_of_call s f v =
-    append_assoc (head_of s) (f ++ codes "() + ") ((48 + v) ∷ codes ";") ∙ ap (λ r. head_of s ++ r) (append_assoc f (codes "() + ") ((48 + v) ∷ codes ";")) ∙ head_is s (call_text f v)
+    append_assoc (source_head s) (f ++ codes "() + ") ((48 + v) ∷ codes ";") ∙ ap (λ r. source_head s ++ r) (append_assoc f (codes "() + ") ((48 + v) ∷ codes ";")) ∙ head_is s (call_text f v)
 
 text_of_digit : (s : List ℕ) (v : ℕ) → assignment s None v ≡ text_with s (digit_text v)
-text_of_digit s v = ap (λ h. h ++ (48 + v) ∷ codes ";") (append-nil (head_of s)) ∙ head_is s (digit_text v)
+text_of_digit s v = ap (λ h. h ++ (48 + v) ∷ codes ";") (append-nil (source_head s)) ∙ head_is s (digit_text v)
 
 first_is_name : (shared : List (List ℕ)) (s : List ℕ) (more : List (List ℕ)) → shared ≡ s ∷ more → list_all is_name shared ≡ true → is_name s ≡ true
 first_is_name shared s more e all = (and_parts (is_name s) (list_all is_name more) (ap (list_all is_name) (sym e) ∙ all)).0

@@ -8,8 +8,8 @@ use Rattle.vm_desc.specs.declared.settings.TrickleSet.{TrickleSet}
 use Rattle.vm_desc.specs.Limits.{is_trickle}
 use Rattle.trickle_timer.specs.declared.timer.Fire.{Fire}
 use Rattle.trickle_timer.specs.declared.timer.Fire.TheVariants.{Send, Keep}
-use Rattle.trickle_timer.specs.Intervals.{Interval, Happening, Event, Consistent, Inconsistent, Reset, Again, Expired, Start, stream, word, interval, next_length, count, intervals_from, intervals, at_point}
-use Rattle.trickle_timer.specs.Timer.{Timer, begun, started_timer, counted, after, IsTimerOf, Continues, Decides}
+use Rattle.trickle_timer.specs.Intervals.{Interval, Happening, Event, Consistent, Inconsistent, Reset, Again, Expired, Start, stream, lcg_word, interval, next_length, count, intervals_from, intervals, at_point}
+use Rattle.trickle_timer.specs.Timer.{Timer, begun, started_timer, counted, after, IsTimerOf, TimerContinues, Decides}
 
 -- a step after n steps is step n + 1
 state_after_step : (w m p n s : ℕ) → next_state w m p (state_after w m p n s) ≡ state_after w m p (suc n) s
@@ -43,7 +43,7 @@ not_none_after i (Some l) new same left e = cc e
 not_none : (set : TrickleSet) (words : Lcg) (n : ℕ) (i : Interval) (later : List Happening) → intervals_from set words n i later ≡ [] → ⊥
 not_none set words n i [] e = cc e
 not_none set words n i (h ∷ later) e =
-    not_none_after i (next_length set i.length h.event) (λ l. intervals_from set words (n + 1) (interval l h.time (word words n)) later) (intervals_from set words n (record i { heard = count i.heard h.event }) later) (not_none set words n (record i { heard = count i.heard h.event }) later) e
+    not_none_after i (next_length set i.length h.event) (λ l. intervals_from set words (n + 1) (interval l h.time (lcg_word words n)) later) (intervals_from set words n (record i { heard = count i.heard h.event }) later) (not_none set words n (record i { heard = count i.heard h.event }) later) e
 
 -- what one happening more does to the intervals from the running one on
 abbrev Follows : TrickleSet → Lcg → ℕ → Interval → List Happening → Happening → Type 0
@@ -75,11 +75,11 @@ follows_new set words n i new later h (x ∷ xs) running follows e =
 follows_step : (set : TrickleSet) (words : Lcg) (n : ℕ) (i : Interval) (g : Happening) (later : List Happening) (h : Happening) (earlier : List Interval) (running : Interval) (next : Option ℕ)
     → ((new : Interval) → Follows set words (n + 1) new later h)
     → Follows set words n (record i { heard = count i.heard g.event }) later h
-    → option_map_or (λ l. i ∷ intervals_from set words (n + 1) (interval l g.time (word words n)) later) next (intervals_from set words n (record i { heard = count i.heard g.event }) later) ≡ earlier ++ running ∷ []
-    → option_map_or (λ l. i ∷ intervals_from set words (n + 1) (interval l g.time (word words n)) (later ++ h ∷ [])) next (intervals_from set words n (record i { heard = count i.heard g.event }) (later ++ h ∷ [])) ≡ earlier ++ intervals_from set words (n + length earlier) running (h ∷ [])
+    → option_map_or (λ l. i ∷ intervals_from set words (n + 1) (interval l g.time (lcg_word words n)) later) next (intervals_from set words n (record i { heard = count i.heard g.event }) later) ≡ earlier ++ running ∷ []
+    → option_map_or (λ l. i ∷ intervals_from set words (n + 1) (interval l g.time (lcg_word words n)) (later ++ h ∷ [])) next (intervals_from set words n (record i { heard = count i.heard g.event }) (later ++ h ∷ [])) ≡ earlier ++ intervals_from set words (n + length earlier) running (h ∷ [])
 follows_step set words n i g later h earlier running None new same e = same earlier running e
 follows_step set words n i g later h earlier running (Some l) new same e =
-    let begun = interval l g.time (word words n) in follows_new set words n i begun later h earlier running (new begun) e
+    let begun = interval l g.time (lcg_word words n) in follows_new set words n i begun later h earlier running (new begun) e
 
 -- the intervals of one happening more are those before the running one, and those from it on
 pub intervals_from-append : (set : TrickleSet) (words : Lcg) (n : ℕ) (i : Interval) (happened : List Happening) (h : Happening) (earlier : List Interval) (running : Interval)
@@ -93,7 +93,7 @@ pub IsTimerOf-start : (s : Start) → IsTimerOf s [] (started_timer s)
 unfolding state_after
 IsTimerOf-start s = record {
   earlier = [];
-  running = interval s.set.imin s.time (word (stream s.random s.node) 0);
+  running = interval s.set.imin s.time (lcg_word (stream s.random s.node) 0);
   all = refl;
   shown = refl;
 }
@@ -129,11 +129,11 @@ step_same s happened earlier running e all =
     }
 
 step_new : (s : Start) (happened : List Happening) (earlier : List Interval) (running : Interval) (l time : ℕ)
-    → (let words = stream s.random s.node in intervals s happened ≡ earlier ++ running ∷ interval l time (word words (1 + length earlier)) ∷ [])
+    → (let words = stream s.random s.node in intervals s happened ≡ earlier ++ running ∷ interval l time (lcg_word words (1 + length earlier)) ∷ [])
     → IsTimerOf s happened (let t = shown_timer s earlier running in begun t.set t.words l time)
 step_new s happened earlier running l time all =
     let words = stream s.random s.node in
-    let at = λ (n : ℕ). interval l time (word words n) in
+    let at = λ (n : ℕ). interval l time (lcg_word words n) in
     let n : 1 + length earlier ≡ length earlier + 1 = omega arith in
     let m : length (earlier ++ running ∷ []) ≡ length earlier + 1 = rw length-append refl in
     let apart : earlier ++ running ∷ at (length earlier + 1) ∷ [] ≡ (earlier ++ running ∷ []) ++ at (length earlier + 1) ∷ [] = sym (append_assoc earlier (running ∷ []) (at (length earlier + 1) ∷ [])) in
@@ -146,7 +146,7 @@ step_new s happened earlier running l time all =
     }
 
 step_shown : (s : Start) (happened : List Happening) (earlier : List Interval) (running : Interval) (h : Happening) (next : Option ℕ)
-    → (let words = stream s.random s.node in intervals s happened ≡ earlier ++ option_map_or (λ l. running ∷ interval l h.time (word words (1 + length earlier)) ∷ []) next (record running { heard = count running.heard h.event } ∷ []))
+    → (let words = stream s.random s.node in intervals s happened ≡ earlier ++ option_map_or (λ l. running ∷ interval l h.time (lcg_word words (1 + length earlier)) ∷ []) next (record running { heard = count running.heard h.event } ∷ []))
     → (let t = shown_timer s earlier running in IsTimerOf s happened (option_map_or (λ l. begun t.set t.words l h.time) next (record t { running = counted t.running h.event })))
 step_shown s happened earlier running h None all = step_same s happened earlier running h.event all
 step_shown s happened earlier running h (Some l) all = step_new s happened earlier running l h.time all
@@ -154,11 +154,11 @@ step_shown s happened earlier running h (Some l) all = step_new s happened earli
 pub IsTimerOf-after : (s : Start) (happened : List Happening) (t : Timer) (h : Happening) → IsTimerOf s happened t → IsTimerOf s (happened ++ h ∷ []) (after t h)
 IsTimerOf-after s happened t h held =
     let words = stream s.random s.node in
-    let all = intervals_from-append s.set words 1 (interval s.set.imin s.time (word words 0)) happened h held.earlier held.running held.all in
+    let all = intervals_from-append s.set words 1 (interval s.set.imin s.time (lcg_word words 0)) happened h held.earlier held.running held.all in
     let P : Timer → Type 0 = λ r. IsTimerOf s (happened ++ h ∷ []) (after r h) in
     subst P (sym held.shown) (step_shown s (happened ++ h ∷ []) held.earlier held.running h (next_length s.set held.running.length h.event) all)
 
-pub Continues-after : (old new : Timer) (h : Happening) → new ≡ after old h → Continues old new h
+pub Continues-after : (old new : Timer) (h : Happening) → new ≡ after old h → TimerContinues old new h
 Continues-after old new h e = record {
   next = e;
   stands = λ s happened held. let P : Timer → Type 0 = IsTimerOf s (happened ++ h ∷ []) in subst P (sym e) (IsTimerOf-after s happened old h held);

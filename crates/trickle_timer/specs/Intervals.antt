@@ -40,8 +40,8 @@ pub record Start : Type 0 where
 abbrev pub stream : ℕ → ℕ → Lcg
 stream random node = started 64 multiplier_64 random (increment_of 64 (2 * node))
 
-abbrev pub word : Lcg → ℕ → ℕ
-word words n = (pcg32 (advance 64 multiplier_64 n words)).0
+abbrev pub lcg_word : Lcg → ℕ → ℕ
+lcg_word words n = (pcg32 (advance 64 multiplier_64 n words)).0
 
 -- the interval of this length that begins at this time; its point is in its second half, where the word puts it
 abbrev pub interval : ℕ → ℕ → ℕ → Interval
@@ -72,7 +72,7 @@ abbrev pub intervals_from : TrickleSet → Lcg → ℕ → Interval → List Hap
 intervals_from set words n i [] = i ∷ []
 intervals_from set words n i (h ∷ later) =
     option_map_or
-    (λ length. i ∷ intervals_from set words (n + 1) (interval length h.time (word words n)) later)
+    (λ length. i ∷ intervals_from set words (n + 1) (interval length h.time (lcg_word words n)) later)
     (next_length set i.length h.event)
     (intervals_from set words n (record i { heard = count i.heard h.event }) later)
 
@@ -80,7 +80,7 @@ intervals_from set words n i (h ∷ later) =
 abbrev pub intervals : Start → List Happening → List Interval
 intervals s happened =
     let words = stream s.random s.node in
-    intervals_from s.set words 1 (interval s.set.imin s.time (word words 0)) happened
+    intervals_from s.set words 1 (interval s.set.imin s.time (lcg_word words 0)) happened
 
 -- what a node does at its interval's point: with suppression it is silent from k consistent packets on
 abbrev pub at_point : TrickleSet → Interval → Bool → Fire

@@ -52,7 +52,7 @@ pub record IsTimerOf (s : Start) (happened : List Happening) (t : Timer) : Type 
   }
 
 -- the new timer is the old one after the happening, and so it goes on to stand for all that happened
-pub record Continues (old new : Timer) (h : Happening) : Type 0 where
+pub record TimerContinues (old new : Timer) (h : Happening) : Type 0 where
   pub next : new ≡ after old h
   pub stands : (s : Start) (happened : List Happening) → IsTimerOf s happened old → IsTimerOf s (happened ++ h ∷ []) new
 
@@ -63,7 +63,7 @@ pub record Decides (t : Timer) (suppress : Bool) (fire : Fire) : Type 0 where
 
 -- what each timer keeps: its settings are in their ranges, its interval is between the shortest and the longest and
 -- begins within the first hour, and the point lies in the second half of the interval
-pub record IsRight (t : Timer) : Type 0 where
+pub record IsRightTimer (t : Timer) : Type 0 where
   pub settings : IsTrue (is_trickle t.set)
   pub least : t.set.imin ≤ t.running.length
   pub most : t.running.length ≤ longest t.set

@@ -31,7 +31,7 @@ pub struct Trickle {
 }
 
 impl Model for Trickle {
-    ghost use Rattle.trickle_timer.specs.Timer.{Timer, IsRight};
+    ghost use Rattle.trickle_timer.specs.Timer.{Timer, IsRightTimer};
 
     ghost Value = { Timer };
 
@@ -39,7 +39,7 @@ impl Model for Trickle {
 
     ghost view = { timer_of };
 
-    ghost invariant = { λ t. IsRight (timer_of t) };
+    ghost invariant = { λ t. IsRightTimer (timer_of t) };
 }
 
 /// Draws the point of an interval of this length that begins now.
@@ -55,7 +55,7 @@ fn draw(words: &mut Lcg64Xsh32, length: u32, now: u32) -> u32
 
 impl Trickle {
     ghost use Rattle.trickle_timer.specs.Intervals.{Start};
-    ghost use Rattle.trickle_timer.specs.Timer.{after, begun, started_timer, heard, Continues, IsTimerOf, IsRight, Decides};
+    ghost use Rattle.trickle_timer.specs.Timer.{after, begun, started_timer, heard, TimerContinues, IsTimerOf, IsRightTimer, Decides};
 
     /// The timer of a node: its first interval begins, with the shortest length. Each interval takes the next word of
     /// the generator that begins at `random`, in the stream `2 * node`.
@@ -84,7 +84,7 @@ impl Trickle {
         requires hour { now ≤ 3600000 }
         requires within { self.old.running.begin ≤ now }
         ensures begun { result ≡ (not consistent && nat_lt self.old.set.imin self.old.running.length) }
-        ensures next { Continues self.old self.new (record { event = heard consistent; time = now }) }
+        ensures next { TimerContinues self.old self.new (record { event = heard consistent; time = now }) }
     {
         if consistent {
             self.heard = self.heard.saturating_add(1);
@@ -99,7 +99,7 @@ impl Trickle {
         requires hour { now ≤ 3600000 }
         requires within { self.old.running.begin ≤ now }
         ensures begun { result ≡ nat_lt self.old.set.imin self.old.running.length }
-        ensures next { Continues self.old self.new (record { event = Reset; time = now }) }
+        ensures next { TimerContinues self.old self.new (record { event = Reset; time = now }) }
     {
         if self.length > self.set.imin {
             self.again(now);
@@ -126,7 +126,7 @@ impl Trickle {
     pub fn expire(&mut self, now: u32)
         requires hour { now ≤ 3600000 }
         requires end { now ≡ self.old.running.begin + self.old.running.length }
-        ensures next { Continues self.old self.new (record { event = Expired; time = now }) }
+        ensures next { TimerContinues self.old self.new (record { event = Expired; time = now }) }
     {
         let longest = self.set.longest();
         self.begin_with((2 * self.length).min(longest), now);
@@ -136,7 +136,7 @@ impl Trickle {
     pub fn again(&mut self, now: u32)
         requires hour { now ≤ 3600000 }
         requires within { self.old.running.begin ≤ now }
-        ensures next { Continues self.old self.new (record { event = Again; time = now }) }
+        ensures next { TimerContinues self.old self.new (record { event = Again; time = now }) }
     {
         self.begin_with(self.set.imin, now);
     }
@@ -144,7 +144,7 @@ impl Trickle {
     /// When the running interval began.
     pub fn begin(&self) -> u32
         ensures value { result ≡ self.now.running.begin }
-        ensures right { IsRight self.now }
+        ensures right { IsRightTimer self.now }
     {
         self.begin
     }
@@ -152,7 +152,7 @@ impl Trickle {
     /// The length of the running interval, in ms: it ends so long after its beginning.
     pub fn length(&self) -> u32
         ensures value { result ≡ self.now.running.length }
-        ensures right { IsRight self.now }
+        ensures right { IsRightTimer self.now }
     {
         self.length
     }
@@ -160,7 +160,7 @@ impl Trickle {
     /// The moment at which the node sends or is silent, in the second half of the running interval.
     pub fn point(&self) -> u32
         ensures value { result ≡ self.now.running.point }
-        ensures right { IsRight self.now }
+        ensures right { IsRightTimer self.now }
     {
         self.point
     }

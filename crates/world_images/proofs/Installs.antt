@@ -53,7 +53,7 @@ made-install : (w : World) (before : List Moment) (m : Moment) (p : HeldProgram)
     → DeedMakes w.clock w.machine (Installing p) (node_at w (state w before) m).reading (node_at w (state w before) m).pace come.1.makes.front
 made-install w before m p come is = subst (λ (d : Deed). DeedMakes w.clock w.machine d (node_at w (state w before) m).reading (node_at w (state w before) m).pace come.1.makes.front) is come.1.makes.by_first
 
-entry-of : (w : World) (before : List Moment) (m : Moment) (p : HeldProgram) → HaveCome w (m ∷ before) → (effect_at w (state w before) m).deed ≡ Installing p → TellsInstall m.told p
+pub entry-of : (w : World) (before : List Moment) (m : Moment) (p : HeldProgram) → HaveCome w (m ∷ before) → (effect_at w (state w before) m).deed ≡ Installing p → TellsInstall m.told p
 entry-of w before m p come is = record {
   front = Seen (made-install w before m p come is).seen ∷ [];
   rest = (made-install w before m p come is).rest ++ come.1.makes.rest;

@@ -6,3 +6,4 @@ pub mod Agree
 pub mod Installs
 pub mod Newest
 pub mod Lines
+pub mod Newer

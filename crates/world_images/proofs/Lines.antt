@@ -185,7 +185,7 @@ after-line w s y i j t timely lines next is a = elim (eqb_tells t y.time) [ inl 
           other (omega (arith, early, after, line_j.2, line_i.2)))
     ]
 
-later-lines : (w : World) (before later : List Moment) (y : Moment) (i j t : ℕ) → IsPlanTimely w → HaveCome w (later ++ (y ∷ before)) → y.cause ≡ event.Planned i → Among (event.Planned j) ((state w (later ++ (y ∷ before))).due t) → i < j
+pub later-lines : (w : World) (before later : List Moment) (y : Moment) (i j t : ℕ) → IsPlanTimely w → HaveCome w (later ++ (y ∷ before)) → y.cause ≡ event.Planned i → Among (event.Planned j) ((state w (later ++ (y ∷ before))).due t) → i < j
 later-lines w before [] y i j t timely come is a = after-line w (state w before) y i j t timely (run-lines w before) come.1.next is a
 later-lines w before (z ∷ later) y i j t timely come is a = later-lines w before later y i j t timely come.0 is (line-before w (state w (later ++ (y ∷ before))) z t j a)
 

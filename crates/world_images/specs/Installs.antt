@@ -1,12 +1,12 @@
 -- The installs of a node over a whole run, by the entries of its journal.
 use Rattle.std.specs.Prelude.{◌≡◌, ℕ, ◌<◌, ◌≤◌, List, ◌∷◌, ◌++◌}
 use Rattle.mate_journal.specs.Machine.{HeldProgram}
-use Rattle.mate_journal.specs.Journal.{Told, Installed}
+use Rattle.mate_journal.specs.Journal.{Told, Installed, held}
 use Rattle.capsule_exchange.specs.Happenings.{held_version}
 use Rattle.world_rules.specs.World.{World}
 use Rattle.world_rules.specs.Effect.{Installing, event_node}
-use Rattle.world_rules.specs.State.{Moment, effect_at, state}
-use Rattle.world_rules.specs.Run.{HaveCome}
+use Rattle.world_rules.specs.State.{Moment, node_at, effect_at, state}
+use Rattle.world_rules.specs.Run.{IsNext, HaveCome}
 
 -- one of the entries installs the program
 pub record TellsInstall (told : List Told) (p : HeldProgram) : Type 0 where
@@ -42,3 +42,12 @@ HeldNeverFalls w = (k h : ℕ) (before later : List Moment) → HaveCome w (late
 abbrev pub InstallsRise : World → Type 0
 InstallsRise w = (before later : List Moment) (x y : Moment) (p q : HeldProgram) → HaveCome w (x ∷ (later ++ (y ∷ before))) → event_node w x.cause ≡ event_node w y.cause
     → TellsInstall y.told p → TellsInstall x.told q → p.handler.0 ≡ q.handler.0 → p.version < q.version
+
+-- whatever event is the next one that is due, a program that it installs is newer than what its node holds: no install is refused
+abbrev pub InstallsAreNewer : World → Type 0
+InstallsAreNewer w = (before : List Moment) (m : Moment) (p : HeldProgram) → HaveCome w before → IsNext (state w before) m.time m.cause → (effect_at w (state w before) m).deed ≡ Installing p
+    → held (node_at w (state w before) m).reading p.handler < p.version
+
+-- and each event that installs a program has its Install entry
+abbrev pub InstallsAreTold : World → Type 0
+InstallsAreTold w = (before : List Moment) (m : Moment) (p : HeldProgram) → HaveCome w (m ∷ before) → (effect_at w (state w before) m).deed ≡ Installing p → TellsInstall m.told p

@@ -1,5 +1,5 @@
 -- What is installed was injected.
-use Rattle.std.specs.Prelude.{◌≡◌, ℕ, ◌≤◌, List, ◌∷◌, ◌++◌, Some, slice_get}
+use Rattle.std.specs.Prelude.{◌≡◌, ℕ, ◌<◌, ◌≤◌, List, ◌∷◌, ◌++◌, Some, slice_get}
 use Rattle.mate_journal.specs.Machine.{HeldProgram}
 use Rattle.world_rules.specs.Cause.{Cause}
 use Rattle.world_rules.specs.Cause as event
@@ -30,6 +30,14 @@ pub record WasInjected (w : World) (ms : List Moment) (h version : ℕ) (image :
 -- the lines of a handler inject one image for a version
 abbrev pub IsOneImage : World → Type 0
 IsOneImage w = (i j : ℕ) (p q : HeldProgram) → InjectsAt w i p → InjectsAt w j q → p.handler.0 ≡ q.handler.0 → p.version ≡ q.version → p.image.items ≡ q.image.items
+
+-- the versions that lines inject for a handler rise
+abbrev pub AreVersionsRising : World → Type 0
+AreVersionsRising w = (i j : ℕ) (p q : HeldProgram) → InjectsAt w i p → InjectsAt w j q → p.handler.0 ≡ q.handler.0 → i < j → p.version < q.version
+
+-- they are from 1 on
+abbrev pub AreVersionsPositive : World → Type 0
+AreVersionsPositive w = (i : ℕ) (p : HeldProgram) → InjectsAt w i p → 1 ≤ p.version
 
 -- each install is of a program that a line injected in the same or an earlier event
 abbrev pub InstallsInjected : World → Type 0

@@ -3,15 +3,22 @@
 
 ghost use Rattle.world_rules.specs.World.{World};
 ghost use Rattle.world_images.specs.Held.{HeldAgrees};
-ghost use Rattle.world_images.specs.Installs.{HeldNeverFalls, HeldWasInstalled, InstallsItsOwn, InstallsRise};
+ghost use Rattle.world_images.specs.Installs.{HeldNeverFalls, HeldWasInstalled, InstallsAreNewer, InstallsAreTold, InstallsItsOwn, InstallsRise};
 ghost use Rattle.world_images.specs.Lines.{IsPlanTimely, LinesInOrder};
-ghost use Rattle.world_images.specs.Versions.{InstallsAtMost, InstallsInjected, IsOneImage};
+ghost use Rattle.world_images.specs.Versions.{AreVersionsPositive, AreVersionsRising, InstallsAtMost, InstallsInjected, IsOneImage};
 
 /// Each install is of a program that a line injected in the same or an earlier event, image and all.
 pub fn installs_are_injected()
     ensures injected { (w : World) → IsOneImage w → InstallsInjected w }
     ensures most { (w : World) → IsOneImage w → InstallsAtMost w }
     ensures held { (w : World) → HeldAgrees w }
+{}
+
+/// No install is refused: whatever event comes next, what it installs is newer than what its node holds; and each event that
+/// installs a program has its Install entry.
+pub fn installs_are_taken()
+    ensures newer { (w : World) → IsOneImage w → IsPlanTimely w → AreVersionsRising w → AreVersionsPositive w → InstallsAreNewer w }
+    ensures told { (w : World) → InstallsAreTold w }
 {}
 
 /// The lines of a script have their events in their order.

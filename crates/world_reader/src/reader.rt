@@ -1,6 +1,6 @@
 //! The reader of the scripts of worlds.
 
-ghost use Rattle.std.specs.Prelude.{◌≡◌, ◌<◌, ◌≤◌, ◌^◌, ◌∷◌, codes, false, true, length, slice_index, slice_set, IfOk, IfErr, OnOk, option_map, replicate};
+ghost use Rattle.std.specs.Prelude.{◌≡◌, ◌<◌, ◌≤◌, ◌^◌, ◌∷◌, codes, false, true, length, IfOk, IfErr, OnOk, option_map, replicate};
 ghost use Rattle.world_reader.specs.declared.stage.Stage.TheVariants as stages;
 ghost use Rattle.script_reader.specs.Lines.{words_of};
 ghost use Rattle.script_reader.specs.Script.{Answers, Follows};
@@ -15,9 +15,10 @@ use crate::command::Command;
 use crate::refusal::Refusal;
 use crate::stage::Stage;
 use crate::world_words::{node_in, noise_in, sensor_in, time_in, values_in};
-use mate_num::{HandlerId, Items, NoMemory, Text};
+use mate_num::{Items, NoMemory, Text};
 use script_reader::{
-    Cause, Lines, Link, Planned, ScriptFault, Series, SeriesList, What, Words, World,
+    Cause, Lines, Link, Planned, ScriptFault, Series, SeriesList, What, Words, World, newest_of,
+    note_newest,
 };
 use std::alloc::Global;
 use vm_desc::Description;
@@ -615,16 +616,6 @@ fn no_places() -> [usize; 2048]
     [0; 2048]
 }
 
-// The newest version of a handler.
-fn newest_of(newest: &[u32; 8], handler: HandlerId) -> u32
-    ensures { result ≡ slice_index newest.now handler.0 }
-{
-    match newest.get(handler.0 as usize) {
-        Some(version) => *version,
-        None => 0,
-    }
-}
-
 // Notes the version of an injection.
 fn note_version(newest: &mut [u32; 8], what: &What)
     ensures { newest.new ≡ newest_with newest.old what.now }
@@ -635,15 +626,7 @@ fn note_version(newest: &mut [u32; 8], what: &What)
         ..
     } = what
     {
-        put(newest, handler.0 as usize, *version);
-    }
-}
-
-fn put(newest: &mut [u32; 8], place: usize, version: u32)
-    ensures { newest.new ≡ slice_set newest.old place version }
-{
-    if place < newest.len() {
-        newest[place] = version;
+        note_newest(newest, *handler, *version);
     }
 }
 

@@ -2,7 +2,7 @@ use Rattle.std.proofs.Common.{◌≡◌, ℕ, List, length, get_or, ap, ◌∙�
 use Rattle.std.specs.List.{refill}
 use Rattle.std.proofs.lemmas.List.Elements.{All-same}
 use Rattle.capsule_exchange.specs.declared.handler_state.HandlerState.{HandlerState}
-use Rattle.capsule_exchange.specs.Sound.{IsSound, AreSound}
+use Rattle.capsule_exchange.specs.Sound.{IsSoundState, AreSound}
 use Rattle.capsule_exchange.specs.Steps.{aimed, aimed_each}
 use Rattle.capsule_exchange.proofs.SoundLemmas.{changed_each, aimed_sound}
 use Rattle.capsule_exchange.proofs.exchange.Exchange.hear_vector.Goals as goal
@@ -14,7 +14,7 @@ aimed_sound_all states lent after versions told same known is sound =
 
 pub asks-requires-clause-sound : goal.asks-requires-clause-sound
 asks-requires-clause-sound c =
-    All-same IsSound c.as_slice-2.result.now (refill (length c.self.inside.handlers.items) c.self.inside.handlers.items c.aim_each.new.states) c.as_slice-2.ensures.value
+    All-same IsSoundState c.as_slice-2.result.now (refill (length c.self.inside.handlers.items) c.self.inside.handlers.items c.aim_each.new.states) c.as_slice-2.ensures.value
     (aimed_sound_all c.self.inside.handlers.items c.as_mut_slice.result.now c.aim_each.new.states c.args.versions.now.items c.as_slice.result.now c.as_mut_slice.ensures.value c.as_slice.ensures.value c.aim_each.ensures c.self.invariant)
 
 pub invariant_of-self : goal.invariant_of-self

@@ -4,7 +4,7 @@ use Rattle.std.proofs.lemmas.List.Elements.{All-same, All-map}
 use Rattle.std.proofs.lemmas.List.FromFn.{map-range_with_len_more}
 use Rattle.capsule_exchange.specs.declared.handler_state.HandlerState.{HandlerState}
 use Rattle.capsule_exchange.specs.Knowledge.{state_after}
-use Rattle.capsule_exchange.specs.Sound.{IsSound}
+use Rattle.capsule_exchange.specs.Sound.{IsSoundState}
 use Rattle.capsule_exchange.proofs.SoundLemmas.{no_state_sound}
 use Rattle.capsule_exchange.proofs.exchange.Exchange.new.Goals as goal
 
@@ -22,8 +22,8 @@ loop-preserved c =
 
 pub invariant_of-result : goal.invariant_of-result
 invariant_of-result c =
-    All-same IsSound c.loop.states.items (map (state_after []) (range_with_len 0 c.loop.counter)) c.loop.invariant.so_far
-    (All-map IsSound (state_after []) (range_with_len 0 c.loop.counter) (λ k d below. no_state_sound))
+    All-same IsSoundState c.loop.states.items (map (state_after []) (range_with_len 0 c.loop.counter)) c.loop.invariant.so_far
+    (All-map IsSoundState (state_after []) (range_with_len 0 c.loop.counter) (λ k d below. no_state_sound))
 
 pub returns : goal.returns
 returns c =

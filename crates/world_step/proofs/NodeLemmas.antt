@@ -1,0 +1,79 @@
+-- A node's calls behind a reserve.
+use Rattle.std.proofs.Common.{◌≡◌, ◌≤◌, List, ◌++◌, sym, ◌∙◌, ap, subst, arith, length, map, inl, inr}
+use Rattle.std.specs.Prelude.{ℤ}
+use Rattle.arrayvec.specs.ArrayVec.{ArrayVec}
+use Rattle.mate_num.specs.declared.id.HandlerId.{HandlerId}
+use Rattle.mate_journal.specs.Machine.{Machine}
+use Rattle.mate_journal.specs.NodeScript.{Occasion}
+use Rattle.node_calls.specs.Posting.{PostGives}
+use Rattle.node_calls.specs.declared.posting.PostAnswer.{PostAnswer}
+use Rattle.node_calls.specs.declared.posting.PostAnswer.TheVariants.{Posted, NoCode, AllBusy}
+use Rattle.mate_num.specs.declared.call.Stamp.{Stamp}
+use Rattle.mate_journal.specs.Log.{Log, IsSameLog}
+use Rattle.mate_journal.specs.Journal.{Told, Event, Reading, journal_of, nothing_heard, heard_all}
+use Rattle.mate_journal.specs.Pace.{Pace}
+use Rattle.mate_journal.specs.WellFormed.{NotBefore, start}
+use Rattle.mate_journal.specs.declared.entry.Stamped.{Stamped}
+use Rattle.journal_laws.specs.Growth.{last_stamp}
+use Rattle.journal_laws.proofs.Append.{journal_of-same}
+use Rattle.vm_desc.specs.declared.description.Description.{Description}
+use Rattle.node_invariant.specs.Meaning.{machine_in}
+use Rattle.node_invariant.specs.Keeps.{reading, event_at, Grows}
+use Rattle.node_core.specs.View.{NodeView, heard_of, HasPace, Tells, IsSameNode}
+use Rattle.world_step.specs.Motes.{IsTellable}
+
+pub tellable-same : (old mid : NodeView) (at : Stamp) → IsSameNode old mid → IsTellable old at → IsTellable mid at
+tellable-same old mid at same t =
+    let journals : journal_of mid.log ≡ journal_of old.log = journal_of-same old.log mid.log same.log in
+    let P : List Event → Type 0 = λ es. NotBefore (last_stamp start es) at in
+    let long = ap (λ es. length {A = Stamped} es) same.log.entries in
+    let few = t.few in
+    record { timely = record { after_last = subst P (sym journals) t.timely.after_last }; few = omega (arith, long, few) }
+
+pub heard-same : (old mid : NodeView) → IsSameNode old mid → heard_of mid ≡ heard_of old
+unfolding reading
+heard-same old mid same =
+    let R : Description → List Event → Reading = λ d es. heard_all (machine_in d) (nothing_heard (machine_in d)) es in
+    ap (λ (d : Description). R d (journal_of mid.log)) same.description ∙ ap (λ (es : List Event). R old.description es) (journal_of-same old.log mid.log same.log)
+
+pub grows-behind : (old mid new : Log) (at : Stamp) (told : List Told) → IsSameLog mid old → old.spare ≤ mid.spare → Grows mid new at told → Grows old new at told
+grows-behind old mid new at told same room g =
+    let long = ap (λ es. length {A = Stamped} es) same.entries in
+    let count = g.count in
+    let spare = g.spare in
+    record {
+      journal = g.journal ∙ ap (λ (es : List Event). es ++ map (event_at at) told) (journal_of-same old mid same);
+      count = omega (arith, long, count);
+      spare = omega (arith, room, spare);
+      timely = g.timely;
+    }
+
+-- what a call tells behind a reserve, it tells of the node before it
+pub tells-behind : (old mid new : NodeView) (at : Stamp) (Rule : Description → Reading → Pace → List Told → Pace → Type 0) → IsSameNode old mid → ((p : Pace) → HasPace old p → HasPace mid p)
+    → Tells mid new at (Rule mid.description (heard_of mid)) → Tells old new at (Rule old.description (heard_of old))
+tells-behind old mid new at Rule same paces t = record {
+  told = t.told;
+  description = t.description ∙ same.description;
+  grows = grows-behind old.log mid.log new.log at t.told same.log same.room t.grows;
+  paces = λ p has.
+      let x = t.paces p (paces p has) in
+      let P : Description → Type 0 = λ d. Rule d (heard_of mid) p t.told x.0 in
+      let Q : Reading → Type 0 = λ r. Rule old.description r p t.told x.0 in
+      (x.0, subst Q (heard-same old mid same) (subst P same.description x.1), x.2);
+}
+
+-- what meets one rule meets another
+pub tells-by : (old new : NodeView) (at : Stamp) (Rule Other : Pace → List Told → Pace → Type 0) → ((p : Pace) (told : List Told) (q : Pace) → Rule p told q → Other p told q)
+    → Tells old new at Rule → Tells old new at Other
+tells-by old new at Rule Other goes t = record {
+  told = t.told;
+  description = t.description;
+  grows = t.grows;
+  paces = λ p has. let x = t.paces p has in (x.0, goes p t.told x.0 x.1, x.2);
+}
+
+-- what a post answers is an occasion
+pub occasion-given : (m : Machine) (r : Reading) (h : HandlerId) (payload : ArrayVec ℤ) (answer : PostAnswer) (told : List Told) → PostGives m r h payload answer told → Occasion m r h payload told
+occasion-given m r h payload (Posted inv) told x = inr (inr x.1)
+occasion-given m r h payload NoCode told x = inl x
+occasion-given m r h payload AllBusy told x = inr (inl x)

@@ -1,0 +1,19 @@
+use Rattle.std.proofs.Common.{refl}
+use Rattle.mate_journal.specs.NodeScript.{Resets}
+use Rattle.node_invariant.specs.Meaning.{machine_in, clock_of}
+use Rattle.node_core.specs.Calls.{Pacing}
+use Rattle.world_step.proofs.NodeLemmas.{tellable-same, tells-behind}
+use Rattle.world_step.proofs.mote.Mote.reset.Goals as goal
+
+pub reset-requires-clause-timely : goal.reset-requires-clause-timely
+reset-requires-clause-timely c = (tellable-same c.args.self.now.node c.reserve.new.self c.args.at c.in_ok-reserve.ensures.same c.requires.tellable).timely
+
+pub returns : goal.returns
+returns c = record {
+  tells = tells-behind c.args.self.now.node c.reserve.new.self c.reset.new.self c.args.at (λ d r. Pacing (Resets (clock_of d) (machine_in d) r)) c.in_ok-reserve.ensures.same c.in_ok-reserve.ensures.pace c.reset.ensures;
+  timer = c.again.ensures.next.next;
+  exchange = c.forget.ensures.learned;
+  pumps = refl;
+  calls = refl;
+  effect = c.resetting.ensures;
+}

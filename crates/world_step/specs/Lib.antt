@@ -1,0 +1,2 @@
+pub mod Motes
+pub mod Answering

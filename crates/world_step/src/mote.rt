@@ -1,0 +1,194 @@
+//! A node of a world with its timer, its exchange and its calls, and what events do to it.
+
+ghost use Rattle.std.specs.Prelude.{◌≡◌, ◌+◌, ◌<◌, ◌≤◌, ℕ, true, List, length, OnOk, IfOk, ◌⊎◌};
+ghost use Rattle.mate_journal.specs.NodeScript.{Occasion, Answers, ShowsOnce};
+ghost use Rattle.node_invariant.specs.Meaning.{machine_in, clock_of};
+ghost use Rattle.node_calls.specs.Calls.{NobodyWaits};
+ghost use Rattle.node_core.specs.View.{heard_of};
+ghost use Rattle.node_core.specs.Calls.{Pacing};
+ghost use Rattle.trickle_timer.specs.Intervals.{at_point, Expired};
+ghost use Rattle.capsule_exchange.specs.Happenings.{held_versions, Happening};
+ghost use Rattle.capsule_exchange.specs.Knowledge.{knowledge};
+ghost use Rattle.arrayvec.specs.ArrayVec.{ArrayVec};
+ghost use Rattle.packet_codec.specs.Packet.{IsRight};
+ghost use Rattle.packet_codec.specs.declared.packet.Packet.TheVariants.{Vector};
+ghost use Rattle.world_step.specs.Motes.{BeginsMote, IsTellable, TellsAlone, ResetsMote, InstallsImage, LeavesImage, PumpsMote, HearsVector, plain_effect, at_fire, timed, counted_timer, begins_counted};
+
+use crate::effect::Effect;
+use capsule_exchange::Exchange;
+use mate_journal::Air;
+use mate_num::{ContextId, HandlerId, Image, NoMemory, Payload, Stamp};
+use node_core::Node;
+use packet_codec::Packet;
+use std::alloc::Global;
+use trickle_timer::{Fire, Trickle};
+use vm_desc::Description;
+use world_calls::Calls;
+
+/// A node of a world.
+#[derive(Drop)]
+pub struct Mote {
+    pub node: Node,
+    pub timer: Trickle,
+    pub exchange: Exchange,
+    /// Whether a pump is due.
+    pub pumps: bool,
+    pub calls: Calls,
+}
+
+impl Mote {
+    /// A node at the start of a world whose random streams begin at `random`.
+    pub fn new(alloc: Global, desc: &Description, random: u64, node: u8) -> Result<Mote, NoMemory>
+        requires { node < 64 }
+        ensures { IfOk result (BeginsMote desc.now random node) }
+    {
+        Ok(Mote {
+            node: Node::new(alloc, desc)?,
+            timer: Trickle::start(desc.trickle, random, node, 0),
+            exchange: Exchange::new(desc.handlers.len() as u8),
+            pumps: false,
+            calls: Calls::new(desc, random, node),
+        })
+    }
+
+    /// The handler is posted.
+    pub fn post(&mut self, handler: HandlerId, payload: &Payload, at: Stamp) -> Result<(), NoMemory>
+        requires handler { handler.0 < length self.old.node.description.handlers.items }
+        requires tellable { IsTellable self.old.node at }
+        ensures { OnOk result (TellsAlone at (Pacing (λ _. Occasion (machine_in self.old.node.description) (heard_of self.old.node) handler payload.now)) self.old self.new) }
+    {
+        self.node.reserve(2)?;
+        let _ = self.node.post(handler, payload, at);
+        Ok(())
+    }
+
+    /// The store is seen.
+    pub fn show(&mut self, at: Stamp) -> Result<(), NoMemory>
+        requires { IsTellable self.old.node at }
+        ensures { OnOk result (TellsAlone at (Pacing (ShowsOnce (clock_of self.old.node.description) (machine_in self.old.node.description) (heard_of self.old.node))) self.old self.new) }
+    {
+        self.node.reserve(1)?;
+        self.node.seen(at);
+        Ok(())
+    }
+
+    /// The call that the context waits with is answered. Where none waits nothing is done.
+    pub fn answer(&mut self, ctx: ContextId, value: i16, at: Stamp) -> Result<(), NoMemory>
+        requires context { ctx.0 < 16 }
+        requires tellable { IsTellable self.old.node at }
+        ensures { OnOk result (NobodyWaits (heard_of self.old.node) ctx ⊎ TellsAlone at (Pacing (λ _. Answers (heard_of self.old.node) ctx value)) self.old self.new) }
+    {
+        self.node.reserve(1)?;
+        match self.node.answer(ctx, value, at) {
+            Ok(()) => Ok(()),
+            Err(_) => Ok(()),
+        }
+    }
+
+    /// The node is reset: its exchange forgets what it collected and owed, and its shortest interval begins.
+    pub fn reset(&mut self, at: Stamp) -> Result<Effect, NoMemory>
+        requires tellable { IsTellable self.old.node at }
+        requires hour { at.time ≤ 3600000 }
+        requires within { self.old.timer.running.begin ≤ at.time }
+        ensures { IfOk result (ResetsMote at self.old self.new) }
+    {
+        self.node.reserve(2)?;
+        self.node.reset(at);
+        self.exchange.forget();
+        self.timer.again(at.time);
+        self.pumps = false;
+        Ok(Effect::resetting())
+    }
+
+    /// The image is installed for the handler, as this version. One that isn't newer than what is held, or that the node
+    /// refuses, does nothing.
+    pub fn install(
+        &mut self,
+        handler: HandlerId,
+        version: u32,
+        image: &Image,
+        at: Stamp,
+    ) -> Result<Effect, NoMemory>
+        requires handler { handler.0 < length self.old.exchange.handlers }
+        requires tellable { IsTellable self.old.node at }
+        requires hour { at.time ≤ 3600000 }
+        requires within { self.old.timer.running.begin ≤ at.time }
+        ensures { IfOk result (λ r. InstallsImage at handler version image.now.items self.old self.new r ⊎ LeavesImage handler version image.now.items self.old self.new r) }
+    {
+        self.node.reserve(4)?;
+        if version <= self.exchange.held(handler) || image.is_empty() {
+            return Ok(Effect::none());
+        }
+        match self.node.install(image.as_slice(), at) {
+            Ok(()) => {
+                self.exchange.installed(handler, version, image);
+                Ok(Effect::installing(self.timer.reset(at.time)))
+            }
+            Err(_) => Ok(Effect::none()),
+        }
+    }
+
+    /// The point of the node's interval: it sends its versions, or is silent.
+    pub fn fire(&mut self, suppress: bool) -> Effect
+        ensures same { self.new ≡ self.old }
+        ensures effect { (n : ℕ) (hs : List Happening) → self.old.exchange ≡ knowledge n hs → result ≡ at_fire (held_versions n hs) (at_point self.old.timer.set self.old.timer.running suppress) }
+    {
+        match self.timer.fire(suppress) {
+            Fire::Send => Effect::sending(self.exchange.vector()),
+            Fire::Keep => Effect::noted(Air::Keep),
+        }
+    }
+
+    /// The end of the node's interval: the next one begins.
+    pub fn expire(&mut self, now: u32) -> Effect
+        requires hour { now ≤ 3600000 }
+        requires end { now ≡ self.old.timer.running.begin + self.old.timer.running.length }
+        ensures timer { self.new ≡ record self.old { timer = timed self.old.timer now Expired } }
+        ensures effect { result ≡ record plain_effect { begins = true } }
+    {
+        self.timer.expire(now);
+        Effect::beginning(true)
+    }
+
+    /// The node sends the next fragment that it owes.
+    pub fn pump(&mut self) -> Effect
+        ensures { (n : ℕ) (hs : List Happening) → self.old.exchange ≡ knowledge n hs → PumpsMote n hs self.old self.new result }
+    {
+        self.pumps = false;
+        match self.exchange.pump() {
+            Some(packet) => Effect::sending(packet),
+            None => Effect::none(),
+        }
+    }
+
+    /// The node hears a Vector: it counts for the timer, and is answered with requests.
+    pub fn hear_vector(&mut self, packet: &Packet, at: Stamp) -> Effect
+        requires right { IsRight (length self.old.exchange.handlers) packet.now }
+        requires hour { at.time ≤ 3600000 }
+        requires within { self.old.timer.running.begin ≤ at.time }
+        ensures { (n : ℕ) (hs : List Happening) (versions : ArrayVec ℕ) → self.old.exchange ≡ knowledge n hs → packet.now ≡ Vector versions → HearsVector at versions.items n hs self.old self.new result }
+    {
+        let heard = self.exchange.hear(packet);
+        let begins = self.count(heard.consistent, at.time);
+        Effect {
+            first: None,
+            begins,
+            cuts: false,
+            resets: false,
+            sends: heard.asks,
+        }
+    }
+
+    /// A Vector that is consistent or not counts for the timer. True exactly where an interval begins.
+    fn count(&mut self, consistent: Option<bool>, now: u32) -> bool
+        requires hour { now ≤ 3600000 }
+        requires within { self.old.timer.running.begin ≤ now }
+        ensures timer { self.new ≡ record self.old { timer = counted_timer self.old.timer now consistent } }
+        ensures begins { result ≡ begins_counted self.old.timer consistent }
+    {
+        match consistent {
+            Some(consistent) => self.timer.hear(consistent, now),
+            None => false,
+        }
+    }
+}
