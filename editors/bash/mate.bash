@@ -10,7 +10,7 @@ _mate() {
         return
     fi
     case ${#words[@]}:${words[0]-} in
-        0:*) mapfile -t COMPREPLY < <(compgen -W 'node table compile check' -- "$word") ;;
+        0:*) mapfile -t COMPREPLY < <(compgen -W 'node table compile check expand' -- "$word") ;;
         # the machine: its file, or the built-in one
         1:node | 1:table | 1:compile | 1:check)
             mapfile -t COMPREPLY < <(compgen -W builtin -- "$word"; compgen -f -X '!*.toml' -- "$word"; compgen -d -- "$word") ;;
@@ -23,7 +23,7 @@ _mate() {
                     on && sub(/^ *name *= *"/, "") { sub(/".*/, ""); print }' "${words[1]}" 2>/dev/null)" -- "$word")
             fi ;;
         3:compile) mapfile -t COMPREPLY < <(compgen -W 1 -- "$word") ;;
-        4:compile) mapfile -t COMPREPLY < <(compgen -f -X '!*.ts' -- "$word"; compgen -d -- "$word") ;;
+        4:compile | 1:expand) mapfile -t COMPREPLY < <(compgen -f -X '!*.ts' -- "$word"; compgen -d -- "$word") ;;
         2:node | 2:check) mapfile -t COMPREPLY < <(compgen -f -- "$word") ;;
     esac
 }
