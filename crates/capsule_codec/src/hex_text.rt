@@ -57,8 +57,8 @@ pub fn from_hex(text: &[u8]) -> Result<Image, HexFault>
     Ok(image)
 }
 
-// Writes the bytes that the digits spell.
-fn read_digits(digits: &[u8], bytes: &mut [u8])
+/// Writes the bytes that the digits spell, two digits for each.
+pub fn read_digits(digits: &[u8], bytes: &mut [u8])
     requires hex { IsTrue (is_hex digits.now) }
     requires room { length digits.now ≡ 2 * length bytes.old }
     ensures { bytes.new ≡ bytes_of_digits digits.now }

@@ -12,5 +12,5 @@ pub use capsule::Capsule;
 pub use decoding::{CapsuleFault, decode};
 pub use encoding::encode;
 pub use fragments::{Piece, count, fragment};
-pub use hex_text::{HexFault, from_hex, to_hex};
+pub use hex_text::{HexFault, from_hex, read_digits, to_hex};
 pub use laws::{one_image, pieces_make_the_image};

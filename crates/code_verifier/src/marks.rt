@@ -4,8 +4,10 @@ ghost use Rattle.std.specs.Prelude.{◌≡◌, ◌<◌, length};
 ghost use Rattle.mate_code.specs.Verification.{given, mark, first_marks, depth_at};
 ghost use Rattle.code_verifier.specs.Marks.{mark_in, marks_in};
 
+use mate_num::CODE_MAX;
+
 /// A mark for each place, and one for the place after the longest code.
-pub const MARKS: usize = 1_041;
+pub const MARKS: usize = CODE_MAX + 1;
 
 /// The depths that were given to a place.
 #[derive(Clone, Copy)]

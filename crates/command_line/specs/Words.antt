@@ -25,12 +25,12 @@ abbrev pub other_words : Rule
 other_words = record (new_rule (codes "args")) { action = Some Append; range = Some (record { start_inclusive = 0; end_inclusive = usize_max }) }
 
 -- a command with nothing in it, whose words don't begin with the program's name
-abbrev pub bare : App
-bare = record { top = record ((new_app (codes "mate")).top) { no_binary_name = true }; subs = [] }
+abbrev pub bare_app : App
+bare_app = record { top = record ((new_app (codes "mate")).top) { no_binary_name = true }; subs = [] }
 
 -- the one command: two flags, a required word, and any number of words
 abbrev pub mate_command : App
-mate_command = with_rule (with_rule (with_rule (with_rule bare (flag (codes "brief"))) (flag (codes "fold"))) command_word) other_words
+mate_command = with_rule (with_rule (with_rule (with_rule bare_app (flag (codes "brief"))) (flag (codes "fold"))) command_word) other_words
 
 -- the rule takes the words: no error may come
 abbrev pub AreTaken : List Text → Type 0

@@ -4,12 +4,9 @@ ghost use Rattle.std.specs.Prelude.{◌≡◌, ◌<◌, ◌≤◌, ◌↔◌, []
 ghost use Rattle.context_sched.specs.Ready.{holds, without, AreContexts, Changes};
 
 use circular_buffer::HeapCircularBuffer;
-use mate_num::{ContextId, NoMemory};
+use mate_num::{CONTEXTS_MAX, ContextId, NoMemory};
 use std::alloc::Global;
 use std::marker::Model;
-
-/// The most contexts that a node has.
-const ROOM: usize = 16;
 
 /// The ready contexts, none twice. Contracts see the list of them, from the next turn on.
 #[derive(Drop)]
@@ -20,13 +17,14 @@ pub struct Ring {
 impl Model for Ring {
     ghost use Rattle.std.specs.Prelude.{◌≡◌, List};
     ghost use Rattle.mate_num.specs.declared.id.ContextId.{ContextId};
+    ghost use Rattle.mate_num.specs.declared.bounds.TheConstants.{CONTEXTS_MAX};
     ghost use Rattle.context_sched.specs.Ready.{AreContexts};
 
     ghost Value = { List ContextId };
 
     ghost view = { λ r. r.ready.items };
 
-    ghost invariant = { λ r. AreContexts r.ready.items × (r.ready.capacity ≡ 16) };
+    ghost invariant = { λ r. AreContexts r.ready.items × (r.ready.capacity ≡ CONTEXTS_MAX) };
 }
 
 impl Ring {
@@ -34,14 +32,14 @@ impl Ring {
     pub fn new(alloc: Global) -> Result<Ring, NoMemory>
         ensures { IfOk result (λ ring. ring ≡ []) }
     {
-        let ready = HeapCircularBuffer::with_capacity(alloc, ROOM)?;
+        let ready = HeapCircularBuffer::with_capacity(alloc, CONTEXTS_MAX)?;
         Ok(Ring { ready })
     }
 
     /// How many contexts are ready: at most 16.
     pub fn len(&self) -> usize
         ensures count { result ≡ length self.now }
-        ensures room { result ≤ 16 }
+        ensures room { result ≤ CONTEXTS_MAX }
         ensures contexts { AreContexts self.now }
     {
         self.ready.len()
@@ -69,7 +67,7 @@ impl Ring {
 
     /// Puts `ctx` last.
     pub fn ready(&mut self, ctx: ContextId)
-        requires context { ctx.0 < 16 }
+        requires context { ctx.0 < CONTEXTS_MAX }
         requires absent { holds self.old ctx ≡ false }
         ensures last { self.new ≡ self.old ++ ctx ∷ [] }
         ensures held { Changes self.old self.new ctx true }
@@ -80,7 +78,7 @@ impl Ring {
     /// Takes the first context; None exactly where none is ready.
     pub fn next(&mut self) -> Option<ContextId>
         ensures first { MatchOption result ((self.old ≡ []) × (self.new ≡ [])) (λ ctx. self.old ≡ ctx ∷ self.new) }
-        ensures context { IfSome result (λ ctx. ctx.0 < 16) }
+        ensures context { IfSome result (λ ctx. ctx.0 < CONTEXTS_MAX) }
         ensures held { IfSome result (λ ctx. IsTrue (holds self.old ctx) × Changes self.old self.new ctx false) }
     {
         self.ready.pop_front()

@@ -6,21 +6,21 @@ use Rattle.std.proofs.lemmas.Grind.{get_or_default_zero}
 use Rattle.std.proofs.lemmas.List.Sums.{sum_by-set, get_or-le-sum_by}
 use Rattle.event_queue.specs.declared.chains.Head.{Head}
 use Rattle.std.specs.Prelude.{Some, slice_get, replicate}
-use Rattle.event_queue.specs.Links.{Places, no_head, head_of, follow, place_at, listed, behind, list_of, list_at, places_of, lengths, IsLinked, IsRight, Lacks, Unlinks, Appends, Moves, Grows}
+use Rattle.event_queue.specs.Links.{Places, no_head, head_of, follow, place_at, tabled, places_behind, list_of, list_at, seen_places, lengths, IsLinked, AreLinks, IsOutside, Unlinks, LinksLast, MovesFirst, MakesRoom}
 
-pub listed_cong : (n : ℕ) (f g : ℕ → ℕ) → ((p : ℕ) → p < n → f p ≡ g p) → listed n f ≡ listed n g
-listed_cong zero f g same = refl
-listed_cong (suc n) f g same =
-    ap (λ (x : ℕ). x ∷ listed n (λ p. f (suc p))) (same 0 (omega arith))
-    ∙ ap (λ (xs : List ℕ). g 0 ∷ xs) (listed_cong n (λ p. f (suc p)) (λ p. g (suc p)) (λ p low. same (suc p) (omega (arith, low))))
+pub tabled_cong : (n : ℕ) (f g : ℕ → ℕ) → ((p : ℕ) → p < n → f p ≡ g p) → tabled n f ≡ tabled n g
+tabled_cong zero f g same = refl
+tabled_cong (suc n) f g same =
+    ap (λ (x : ℕ). x ∷ tabled n (λ p. f (suc p))) (same 0 (omega arith))
+    ∙ ap (λ (xs : List ℕ). g 0 ∷ xs) (tabled_cong n (λ p. f (suc p)) (λ p. g (suc p)) (λ p low. same (suc p) (omega (arith, low))))
 
-pub listed_push : (n : ℕ) (f : ℕ → ℕ) → listed (suc n) f ≡ listed n f ++ f n ∷ []
-listed_push zero f = refl
-listed_push (suc n) f = ap (λ (xs : List ℕ). f 0 ∷ xs) (listed_push n (λ p. f (suc p)))
+pub tabled_push : (n : ℕ) (f : ℕ → ℕ) → tabled (suc n) f ≡ tabled n f ++ f n ∷ []
+tabled_push zero f = refl
+tabled_push (suc n) f = ap (λ (xs : List ℕ). f 0 ∷ xs) (tabled_push n (λ p. f (suc p)))
 
-pub Lacks-listed : (n : ℕ) (f : ℕ → ℕ) (place : ℕ) → ((p : ℕ) → p < n → f p ≢ place) → Lacks place (listed n f)
-Lacks-listed zero f place other = tt
-Lacks-listed (suc n) f place other = (other 0 (omega arith), Lacks-listed n (λ p. f (suc p)) place (λ p low. other (suc p) (omega (arith, low))))
+pub IsOutside-tabled : (n : ℕ) (f : ℕ → ℕ) (place : ℕ) → ((p : ℕ) → p < n → f p ≢ place) → IsOutside place (tabled n f)
+IsOutside-tabled zero f place other = tt
+IsOutside-tabled (suc n) f place other = (other 0 (omega arith), IsOutside-tabled n (λ p. f (suc p)) place (λ p low. other (suc p) (omega (arith, low))))
 
 follow_last : (next : List ℕ) (n place : ℕ) → follow next (suc n) place ≡ get_or next (follow next n place) 0
 follow_last next zero place = refl
@@ -97,10 +97,10 @@ unlinks next old list new linked within short =
         | inl a ↦ (let both = linked.apart s (suc p) list 0 a.1 (let e = short.len in omega (arith, e)) (a.2 ∙ same) in let e : suc p ≡ 0 = both.1 in absurd (omega (arith, e)))
         | inr a ↦ (let both = linked.apart s p list 0 a.1 (let e = short.len in omega (arith, e)) (a.2 ∙ same) in absurd (a.0 both.0))
       ];
-      first = ap (λ (n : ℕ). listed n (place_at next old list)) short.len
-          ∙ ap (λ (i : ℕ). (head_of old list).first ∷ listed new.len (λ p. follow next p i)) (sym short.first)
-          ∙ ap (λ (h : Head). (head_of old list).first ∷ listed h.len (λ p. follow next p h.first)) (sym is);
-      others = λ s n. ap (λ (h : Head). listed h.len (λ p. follow next p h.first)) (get_or-set_other old list s new no_head n);
+      first = ap (λ (n : ℕ). tabled n (place_at next old list)) short.len
+          ∙ ap (λ (i : ℕ). (head_of old list).first ∷ tabled new.len (λ p. follow next p i)) (sym short.first)
+          ∙ ap (λ (h : Head). (head_of old list).first ∷ tabled h.len (λ p. follow next p h.first)) (sym is);
+      others = λ s n. ap (λ (h : Head). tabled h.len (λ p. follow next p h.first)) (get_or-set_other old list s new no_head n);
       lists = length-set old list new;
       counted = let e = sum_by-set (λ (h : Head). h.len) old list new no_head within in omega (arith, e, short.len);
     }
@@ -129,7 +129,7 @@ old_or_new next old next' new list place joins s p low = elim (cases_eq s list) 
 ]
 
 pub appends : (next : List ℕ) (old : List Head) (next' : List ℕ) (new : List Head) (list place : ℕ) → IsLinked next old → place < length next
-    → ((s p : ℕ) → p < (head_of old s).len → place_at next old s p ≢ place) → Joins next old next' new list place → Appends next old next' new list place
+    → ((s p : ℕ) → p < (head_of old s).len → place_at next old s p ≢ place) → Joins next old next' new list place → LinksLast next old next' new list place
 appends next old next' new list place linked below alone joins =
     let is_new : (s p : ℕ) → s ≡ list → p ≡ (head_of old s).len → place_at next' new s p ≡ place =
     λ s p e same. ap (place_at next' new s) same ∙ ap (λ (k : ℕ). place_at next' new k (head_of old k).len) e ∙ joins.joined in
@@ -162,10 +162,10 @@ appends next old next' new list place linked below alone joins =
               joins.lasts s n ∙ linked.ends s p len_is ∙ sym (joins.kept s p (omega (arith, len_is))))
         ];
       };
-      joined = ap (λ (n : ℕ). listed n (place_at next' new list)) joins.longer ∙ listed_push (head_of old list).len (place_at next' new list)
-          ∙ ap (λ (xs : List ℕ). xs ++ place_at next' new list (head_of old list).len ∷ []) (listed_cong (head_of old list).len (place_at next' new list) (place_at next old list) (joins.kept list))
+      joined = ap (λ (n : ℕ). tabled n (place_at next' new list)) joins.longer ∙ tabled_push (head_of old list).len (place_at next' new list)
+          ∙ ap (λ (xs : List ℕ). xs ++ place_at next' new list (head_of old list).len ∷ []) (tabled_cong (head_of old list).len (place_at next' new list) (place_at next old list) (joins.kept list))
           ∙ ap (λ (i : ℕ). list_of next old list ++ i ∷ []) joins.joined;
-      others = λ s n. ap (λ (k : ℕ). listed k (place_at next' new s)) (joins.others s n) ∙ listed_cong (head_of old s).len (place_at next' new s) (place_at next old s) (joins.kept s);
+      others = λ s n. ap (λ (k : ℕ). tabled k (place_at next' new s)) (joins.others s n) ∙ tabled_cong (head_of old s).len (place_at next' new s) (place_at next old s) (joins.kept s);
       total = joins.total;
       lists = joins.lists;
       counted = joins.counted;
@@ -227,10 +227,10 @@ joins_more next old list place m new linked within some new_is =
     }
 
 -- the lists that clauses see
-pub list_at-places_of : (next : List ℕ) (heads : List Head) (s : ℕ) → list_at (places_of next heads) s ≡ list_of next heads s
-list_at-places_of next [] s = refl
-list_at-places_of next (h ∷ hs) zero = refl
-list_at-places_of next (h ∷ hs) (suc s) = list_at-places_of next hs s
+pub list_at-seen_places : (next : List ℕ) (heads : List Head) (s : ℕ) → list_at (seen_places next heads) s ≡ list_of next heads s
+list_at-seen_places next [] s = refl
+list_at-seen_places next (h ∷ hs) zero = refl
+list_at-seen_places next (h ∷ hs) (suc s) = list_at-seen_places next hs s
 
 -- a place of a new number is in no list
 pub alone_new : (next : List ℕ) (heads : List Head) → IsLinked next heads → (s p : ℕ) → p < (head_of heads s).len → place_at next heads s p ≢ length next
@@ -261,7 +261,7 @@ unlinks_read next heads list head link linked within some read link_read =
 
 pub appends_first : (next : List ℕ) (heads : List Head) (list place : ℕ) (tail : Head) → IsLinked next heads → list < length heads → place < length next
     → ((s p : ℕ) → p < (head_of heads s).len → place_at next heads s p ≢ place) → tail ≡ get_or heads list tail → tail.len ≡ 0
-    → Appends next heads next (set heads list (record { first = place; last = place; len = 1 })) list place
+    → LinksLast next heads next (set heads list (record { first = place; last = place; len = 1 })) list place
 appends_first next heads list place tail linked within below alone read empty =
     let is : tail ≡ head_of heads list = head_read heads list tail within read in
     let new : Head = record { first = place; last = place; len = 1 } in
@@ -279,7 +279,7 @@ last_below next heads list tail linked within read some =
 
 pub appends_more : (next : List ℕ) (heads : List Head) (list place : ℕ) (tail : Head) → IsLinked next heads → list < length heads → place < length next
     → ((s p : ℕ) → p < (head_of heads s).len → place_at next heads s p ≢ place) → tail ≡ get_or heads list tail → tail.len ≢ 0
-    → Appends next heads (set next tail.last place) (set heads list (record { first = tail.first; last = place; len = tail.len + 1 })) list place
+    → LinksLast next heads (set next tail.last place) (set heads list (record { first = tail.first; last = place; len = tail.len + 1 })) list place
 appends_more next heads list place tail linked within below alone read some =
     let is : tail ≡ head_of heads list = head_read heads list tail within read in
     let len_is : tail.len ≡ (head_of heads list).len = ap (λ (h : Head). h.len) is in
@@ -288,7 +288,7 @@ appends_more next heads list place tail linked within below alone read some =
     let new : Head = record { first = tail.first; last = place; len = tail.len + 1 } in
     let joins : Joins next heads (set next (head_of heads list).last place) (set heads list new) list place =
     joins_more next heads list place m new linked within long (ap (λ (h : Head). record { first = h.first; last = place; len = h.len + 1 }) is) in
-    subst (λ (h : Head). Appends next heads (set next h.last place) (set heads list new) list place) (sym is)
+    subst (λ (h : Head). LinksLast next heads (set next h.last place) (set heads list new) list place) (sym is)
     (appends next heads (set next (head_of heads list).last place) (set heads list new) list place linked below alone joins)
 
 -- a new last link changes no list, where it leads as a missing one does
@@ -303,7 +303,7 @@ follow-push next (suc n) place = ap (follow (next ++ 0 ∷ []) n) (get_or-zero n
     get_or-zero (x ∷ xs) (suc i) = get_or-zero xs i
 
 list_of-push : (next : List ℕ) (heads : List Head) (s : ℕ) → list_of (next ++ 0 ∷ []) heads s ≡ list_of next heads s
-list_of-push next heads s = listed_cong (head_of heads s).len (place_at (next ++ 0 ∷ []) heads s) (place_at next heads s) (λ p low. follow-push next p (head_of heads s).first)
+list_of-push next heads s = tabled_cong (head_of heads s).len (place_at (next ++ 0 ∷ []) heads s) (place_at next heads s) (λ p low. follow-push next p (head_of heads s).first)
 
 pub linked-push : (next : List ℕ) (heads : List Head) → IsLinked next heads → IsLinked (next ++ 0 ∷ []) heads
 linked-push next heads linked =
@@ -322,58 +322,58 @@ alone-push next heads place linked is s p low same =
     omega (arith, less, e, same, is)
 
 -- the list that clauses see is the one that the links make
-seen : (next : List ℕ) (heads : List Head) (c : Places) (s : ℕ) → places_of next heads ≡ c → list_at c s ≡ list_of next heads s
-seen next heads c s view = ap (λ (d : Places). list_at d s) (sym view) ∙ list_at-places_of next heads s
+seen : (next : List ℕ) (heads : List Head) (c : Places) (s : ℕ) → seen_places next heads ≡ c → list_at c s ≡ list_of next heads s
+seen next heads c s view = ap (λ (d : Places). list_at d s) (sym view) ∙ list_at-seen_places next heads s
 
-pub grows : (next : List ℕ) (heads : List Head) (c : Places) (next' : List ℕ) (new : List Head) (list place : ℕ) → places_of next heads ≡ c → place ≡ length next
-    → Appends (next ++ 0 ∷ []) heads next' new list place → Grows c (places_of next' new) list
+pub grows : (next : List ℕ) (heads : List Head) (c : Places) (next' : List ℕ) (new : List Head) (list place : ℕ) → seen_places next heads ≡ c → place ≡ length next
+    → LinksLast (next ++ 0 ∷ []) heads next' new list place → MakesRoom c (seen_places next' new) list
 grows next heads c next' new list place view is put =
     let total : length next ≡ c.total = ap (λ (d : Places). d.total) view in
     let long : length (next ++ 0 ∷ []) ≡ length next + 1 = length-append next (0 ∷ []) in
     record {
-      joined = list_at-places_of next' new list ∙ put.joined ∙ ap (λ (xs : List ℕ). xs ++ place ∷ []) (list_of-push next heads list ∙ sym (seen next heads c list view))
+      joined = list_at-seen_places next' new list ∙ put.joined ∙ ap (λ (xs : List ℕ). xs ++ place ∷ []) (list_of-push next heads list ∙ sym (seen next heads c list view))
           ∙ ap (λ (i : ℕ). list_at c list ++ i ∷ []) (is ∙ total);
-      others = λ s n. list_at-places_of next' new s ∙ put.others s n ∙ list_of-push next heads s ∙ sym (seen next heads c s view);
+      others = λ s n. list_at-seen_places next' new s ∙ put.others s n ∙ list_of-push next heads s ∙ sym (seen next heads c s view);
       total = let e = put.total in omega (arith, e, long, total);
-      lists = length-map new (behind next') ∙ put.lists ∙ sym (length-map heads (behind next)) ∙ ap (λ (d : Places). length d.lists) view;
+      lists = length-map new (places_behind next') ∙ put.lists ∙ sym (length-map heads (places_behind next)) ∙ ap (λ (d : Places). length d.lists) view;
     }
 
-pub moves : (next : List ℕ) (heads mid : List Head) (c : Places) (next' : List ℕ) (new : List Head) (from to place : ℕ) → places_of next heads ≡ c → from ≢ to
-    → Unlinks next heads mid from place → Appends next mid next' new to place → Moves c (places_of next' new) from to place
+pub moves : (next : List ℕ) (heads mid : List Head) (c : Places) (next' : List ℕ) (new : List Head) (from to place : ℕ) → seen_places next heads ≡ c → from ≢ to
+    → Unlinks next heads mid from place → LinksLast next mid next' new to place → MovesFirst c (seen_places next' new) from to place
 moves next heads mid c next' new from to place view other out put =
     let old_at : (s : ℕ) → list_at c s ≡ list_of next heads s = λ s. seen next heads c s view in
-    let new_at : (s : ℕ) → list_at (places_of next' new) s ≡ list_of next' new s = list_at-places_of next' new in
-    let lacks : (s : ℕ) → Lacks place (list_of next mid s) = λ s. Lacks-listed (head_of mid s).len (place_at next mid s) place (out.alone s) in
+    let new_at : (s : ℕ) → list_at (seen_places next' new) s ≡ list_of next' new s = list_at-seen_places next' new in
+    let lacks : (s : ℕ) → IsOutside place (list_of next mid s) = λ s. IsOutside-tabled (head_of mid s).len (place_at next mid s) place (out.alone s) in
     let back : (to ≢ from) = λ e. other (sym e) in
     let total : length next ≡ c.total = ap (λ (d : Places). d.total) view in
     record {
       first = old_at from ∙ out.first ∙ ap (λ (xs : List ℕ). place ∷ xs) (sym (put.others from other) ∙ sym (new_at from));
       joined = new_at to ∙ put.joined ∙ ap (λ (xs : List ℕ). xs ++ place ∷ []) (out.others to back ∙ sym (old_at to));
       others = λ s n m. new_at s ∙ put.others s m ∙ out.others s n ∙ sym (old_at s);
-      alone = λ s m. subst (Lacks place) (sym (put.others s m) ∙ sym (new_at s)) (lacks s);
-      fresh = subst (Lacks place) (out.others to back ∙ sym (old_at to)) (lacks to);
+      alone = λ s m. subst (IsOutside place) (sym (put.others s m) ∙ sym (new_at s)) (lacks s);
+      fresh = subst (IsOutside place) (out.others to back ∙ sym (old_at to)) (lacks to);
       below = let less = out.below in omega (arith, less, total);
       total = put.total ∙ total;
-      lists = length-map new (behind next') ∙ put.lists ∙ out.lists ∙ sym (length-map heads (behind next)) ∙ ap (λ (d : Places). length d.lists) view;
+      lists = length-map new (places_behind next') ∙ put.lists ∙ out.lists ∙ sym (length-map heads (places_behind next)) ∙ ap (λ (d : Places). length d.lists) view;
     }
 
-pub first_seen : (next : List ℕ) (heads : List Head) (c : Places) (list : ℕ) (head : Head) → places_of next heads ≡ c → list < length heads → head ≡ get_or heads list head → head.len ≢ 0 → Some head.first ≡ slice_get (list_at c list) 0
+pub first_seen : (next : List ℕ) (heads : List Head) (c : Places) (list : ℕ) (head : Head) → seen_places next heads ≡ c → list < length heads → head ≡ get_or heads list head → head.len ≢ 0 → Some head.first ≡ slice_get (list_at c list) 0
 first_seen next heads c list head view within read some =
     let is : head ≡ head_of heads list = head_read heads list head within read in
     let m : ℕ = head.len - 1 in
     let long : head.len ≡ suc m = omega (arith, some) in
-    let front : slice_get (behind next head) 0 ≡ Some head.first = ap (λ (n : ℕ). slice_get (listed n (λ p. follow next p head.first)) 0) long in
-    sym front ∙ ap (λ (h : Head). slice_get (behind next h) 0) is ∙ ap (λ (xs : List ℕ). slice_get xs 0) (sym (seen next heads c list view))
+    let front : slice_get (places_behind next head) 0 ≡ Some head.first = ap (λ (n : ℕ). slice_get (tabled n (λ p. follow next p head.first)) 0) long in
+    sym front ∙ ap (λ (h : Head). slice_get (places_behind next h) 0) is ∙ ap (λ (xs : List ℕ). slice_get xs 0) (sym (seen next heads c list view))
 
-pub none_seen : (next : List ℕ) (n s : ℕ) → list_at (places_of next (replicate n no_head)) s ≡ []
+pub none_seen : (next : List ℕ) (n s : ℕ) → list_at (seen_places next (replicate n no_head)) s ≡ []
 none_seen next zero s = refl
 none_seen next (suc n) zero = refl
 none_seen next (suc n) (suc s) = none_seen next n s
 
-pub lists_seen : (next : List ℕ) (heads : List Head) (c : Places) → places_of next heads ≡ c → length c.lists ≡ length heads
-lists_seen next heads c view = ap (λ (d : Places). length d.lists) (sym view) ∙ length-map heads (behind next)
+pub lists_seen : (next : List ℕ) (heads : List Head) (c : Places) → seen_places next heads ≡ c → length c.lists ≡ length heads
+lists_seen next heads c view = ap (λ (d : Places). length d.lists) (sym view) ∙ length-map heads (places_behind next)
 
-pub first_below_total : (next : List ℕ) (heads : List Head) (c : Places) (list : ℕ) (head : Head) → places_of next heads ≡ c → IsLinked next heads → list < length heads → head ≡ get_or heads list head → head.len ≢ 0 → head.first < c.total
+pub first_below_total : (next : List ℕ) (heads : List Head) (c : Places) (list : ℕ) (head : Head) → seen_places next heads ≡ c → IsLinked next heads → list < length heads → head ≡ get_or heads list head → head.len ≢ 0 → head.first < c.total
 first_below_total next heads c list head view linked within read some =
     let is : head ≡ head_of heads list = head_read heads list head within read in
     let len_is : head.len ≡ (head_of heads list).len = ap (λ (h : Head). h.len) is in
@@ -390,7 +390,7 @@ none_other heads list within all s below other =
     let same : (head_of rest s).len ≡ (head_of heads s).len = ap (λ (h : Head). h.len) (get_or-set_other heads list s no_head no_head other) in
     omega (arith, sum, least, same, all)
 
-pub others_seen : (next : List ℕ) (heads : List Head) (c : Places) (list : ℕ) (head : Head) → places_of next heads ≡ c → IsRight next heads → list < length heads → head ≡ get_or heads list head → head.len ≡ length next → (s : ℕ) → s ≢ list → list_at c s ≡ []
+pub others_seen : (next : List ℕ) (heads : List Head) (c : Places) (list : ℕ) (head : Head) → seen_places next heads ≡ c → AreLinks next heads → list < length heads → head ≡ get_or heads list head → head.len ≡ length next → (s : ℕ) → s ≢ list → list_at c s ≡ []
 others_seen next heads c list head view right within read all s other =
     let len_is : head.len ≡ (head_of heads list).len = ap (λ (h : Head). h.len) (head_read heads list head within read) in
     let counted = right.counted in
@@ -398,13 +398,13 @@ others_seen next heads c list head view right within read all s other =
       | inl below ↦ none_other heads list within (omega (arith, len_is, all, counted)) s below other
       | inr past ↦ ap (λ (h : Head). h.len) (get_or_past heads s no_head past)
     ] in
-    seen next heads c s view ∙ ap (λ (n : ℕ). listed n (place_at next heads s)) none
+    seen next heads c s view ∙ ap (λ (n : ℕ). tabled n (place_at next heads s)) none
 
-length-listed : (n : ℕ) (f : ℕ → ℕ) → length (listed n f) ≡ n
-length-listed zero f = refl
-length-listed (suc n) f = ap suc (length-listed n (λ p. f (suc p)))
+length-tabled : (n : ℕ) (f : ℕ → ℕ) → length (tabled n f) ≡ n
+length-tabled zero f = refl
+length-tabled (suc n) f = ap suc (length-tabled n (λ p. f (suc p)))
 
-pub length_seen : (next : List ℕ) (heads : List Head) (c : Places) (list : ℕ) (head : Head) → places_of next heads ≡ c → list < length heads → head ≡ get_or heads list head → head.len ≡ length (list_at c list)
+pub length_seen : (next : List ℕ) (heads : List Head) (c : Places) (list : ℕ) (head : Head) → seen_places next heads ≡ c → list < length heads → head ≡ get_or heads list head → head.len ≡ length (list_at c list)
 length_seen next heads c list head view within read =
     let is : head ≡ head_of heads list = head_read heads list head within read in
-    ap (λ (h : Head). h.len) is ∙ sym (length-listed (head_of heads list).len (place_at next heads list)) ∙ ap (λ (xs : List ℕ). length xs) (sym (seen next heads c list view))
+    ap (λ (h : Head). h.len) is ∙ sym (length-tabled (head_of heads list).len (place_at next heads list)) ∙ ap (λ (xs : List ℕ). length xs) (sym (seen next heads c list view))

@@ -5,7 +5,7 @@ use Rattle.std.proofs.lemmas.Bool.{cases_lt, cases_eq, le-leb, lt-leb, false≢t
 use Rattle.event_queue.specs.declared.queue.Timed.{Timed}
 use Rattle.event_queue.specs.declared.wheel.Wheel.{Wheel}
 use Rattle.event_queue.specs.Group.{is_in}
-use Rattle.event_queue.specs.Wheel.{due, IsWheel, Puts, PutsAll, Keeps, Takes, Turns, Cancels, SeeksNone, SeeksFirst, Seeks}
+use Rattle.event_queue.specs.Wheel.{due, IsWheel, PutsLast, PutsAll, KeepsView, TakesFirst, Turns, Cancels, SeeksNone, SeeksFirst, Seeks}
 use Rattle.event_queue.specs.Agenda.{Agenda, inserted, scheduled, scheduled_all, is_other, due_at, Adds, AddsAll, Comes}
 use Rattle.event_queue.specs.View.{in_order, agenda_of, IsRightQueue}
 use Rattle.event_queue.proofs.WheelLemmas.{keeps_dropped}
@@ -34,7 +34,7 @@ late {T} q time item after =
     let choice : Bool → Agenda T = λ b. if b then record q { items = inserted (record { time = time; item = item }) q.items } else q in
     ap choice (sym (lt-leb time q.until after))
 
-pub schedules : {T : Type 0} (group : T → Option ℕ) (until : ℕ) (w v : Wheel T) (q : Agenda T) (time : ℕ) (item : T) → agenda_of group until w ≡ q → time ≤ until → Puts group w time item v → agenda_of group until v ≡ scheduled q time item
+pub schedules : {T : Type 0} (group : T → Option ℕ) (until : ℕ) (w v : Wheel T) (q : Agenda T) (time : ℕ) (item : T) → agenda_of group until w ≡ q → time ≤ until → PutsLast group w time item v → agenda_of group until v ≡ scheduled q time item
 schedules {T} group until w v q time item view in_time put =
     let a : Agenda T = agenda_of group until w in
     let with_now : ℕ → Agenda T = λ n. record { until = until; now = n; items = in_order (due group v) (suc until) } in
@@ -43,15 +43,15 @@ schedules {T} group until w v q time item view in_time put =
     ap with_now put.at ∙ ap with_items (in_order_put (due group w) (due group v) time item (suc until) (omega (arith, in_time)) put.last put.others)
     ∙ ap choice (sym (le-leb time until in_time)) ∙ ap (λ (b : Agenda T). scheduled b time item) view
 
-pub right_put : {T : Type 0} (group : T → Option ℕ) (until : ℕ) (w v : Wheel T) (time : ℕ) (item : T) → IsRightQueue group until w → time ≤ until → Puts group w time item v → IsRightQueue group until v
+pub right_put : {T : Type 0} (group : T → Option ℕ) (until : ℕ) (w v : Wheel T) (time : ℕ) (item : T) → IsRightQueue group until w → time ≤ until → PutsLast group w time item v → IsRightQueue group until v
 right_put group until w v time item right in_time put =
     let at = put.at in let ahead = right.ahead in
     record { right = put.right; below = right.below; ahead = omega (arith, at, ahead); none_after = λ t after. put.others t (λ same. omega (arith, same, after, in_time)) ∙ right.none_after t after }
 
-pub keeps_agenda : {T : Type 0} (group : T → Option ℕ) (until : ℕ) (w v : Wheel T) (q : Agenda T) → agenda_of group until w ≡ q → Keeps group w v → agenda_of group until v ≡ q
+pub keeps_agenda : {T : Type 0} (group : T → Option ℕ) (until : ℕ) (w v : Wheel T) (q : Agenda T) → agenda_of group until w ≡ q → KeepsView group w v → agenda_of group until v ≡ q
 keeps_agenda group until w v q view kept = same_agenda group until w v kept.at kept.same ∙ view
 
-pub right_keeps : {T : Type 0} (group : T → Option ℕ) (until : ℕ) (w v : Wheel T) → IsRightQueue group until w → Keeps group w v → IsRightQueue group until v
+pub right_keeps : {T : Type 0} (group : T → Option ℕ) (until : ℕ) (w v : Wheel T) → IsRightQueue group until w → KeepsView group w v → IsRightQueue group until v
 right_keeps group until w v right kept =
     let at = kept.at in let ahead = right.ahead in
     record { right = kept.right; below = right.below; ahead = omega (arith, at, ahead); none_after = λ t after. kept.same t ∙ right.none_after t after }
@@ -83,13 +83,13 @@ pub sought_start : {T : Type 0} (group : T → Option ℕ) (until : ℕ) (w : Wh
 sought_start group until w right ahead = record { right = right; from = omega arith; to = ahead; same = λ t. refl }
 
 -- a ms on, after nothing was taken
-pub sought_more : {T : Type 0} (group : T → Option ℕ) (until : ℕ) (old w u v : Wheel T) (item : Option T) → Sought group until old w → Takes group w item u → item ≡ None → u.at < until → Turns group u (u.at + 1) v → Sought group until old v
+pub sought_more : {T : Type 0} (group : T → Option ℕ) (until : ℕ) (old w u v : Wheel T) (item : Option T) → Sought group until old w → TakesFirst group w item u → item ≡ None → u.at < until → Turns group u (u.at + 1) v → Sought group until old v
 sought_more group until old w u v item so_far takes nothing low turned =
     let kept = keeps_dropped group w u item takes nothing in
     let at = takes.at in let next = turned.at in let from = so_far.from in
     record { right = turned.right; from = omega (arith, at, next, from); to = omega (arith, next, low); same = λ t. turned.same t ∙ kept.same t ∙ so_far.same t }
 
-pub found : {T : Type 0} (group : T → Option ℕ) (until : ℕ) (old w v : Wheel T) (item : Option T) → Sought group until old w → Takes group w item v → is_some item ≡ true → Seeks group until old item v
+pub found : {T : Type 0} (group : T → Option ℕ) (until : ℕ) (old w v : Wheel T) (item : Option T) → Sought group until old w → TakesFirst group w item v → is_some item ≡ true → Seeks group until old item v
 found group until old w v None so_far takes some = absurd (false≢true some)
 found {T} group until old w v (Some x) so_far takes some =
     let at = takes.at in let from = so_far.from in let to = so_far.to in
@@ -102,7 +102,7 @@ found {T} group until old w v (Some x) so_far takes some =
       others = λ t other. takes.others t (λ same. other (same ∙ sym at)) ∙ so_far.same t;
     }
 
-pub sought_none : {T : Type 0} (group : T → Option ℕ) (until : ℕ) (old w v : Wheel T) (item : Option T) → Sought group until old w → Takes group w item v → IfNone item (due group w w.at ≡ []) → item ≡ None → until ≤ v.at → SeeksNone group until old v
+pub sought_none : {T : Type 0} (group : T → Option ℕ) (until : ℕ) (old w v : Wheel T) (item : Option T) → Sought group until old w → TakesFirst group w item v → IfNone item (due group w w.at ≡ []) → item ≡ None → until ≤ v.at → SeeksNone group until old v
 sought_none {T} group until old w v item so_far takes none_here nothing past =
     let at = takes.at in let from = so_far.from in let to = so_far.to in
     let kept = keeps_dropped group w v item takes nothing in
@@ -162,11 +162,11 @@ right_back group until w u v right sought turned =
     record { right = turned.right; below = right.below; ahead = omega (arith, at, ahead); none_after = λ t after. turned.same t ∙ sought.same t ∙ right.none_after t after }
 
 pub scheduled_or_kept : {T A E : Type 0} (group : T → Option ℕ) (until : ℕ) (w v : Wheel T) (q : Agenda T) (time : ℕ) (item : T) (r : Result A E) → agenda_of group until w ≡ q → time ≤ until
-    → MatchResult r (λ x. Puts group w time item v) (λ x. Keeps group w v) → MatchResult r (λ x. agenda_of group until v ≡ scheduled q time item) (λ x. agenda_of group until v ≡ q)
+    → MatchResult r (λ x. PutsLast group w time item v) (λ x. KeepsView group w v) → MatchResult r (λ x. agenda_of group until v ≡ scheduled q time item) (λ x. agenda_of group until v ≡ q)
 scheduled_or_kept group until w v q time item (Ok x) view in_time done = schedules group until w v q time item view in_time done
 scheduled_or_kept group until w v q time item (Err e) view in_time done = keeps_agenda group until w v q view done
 
-pub adds : {T : Type 0} (group : T → Option ℕ) (until : ℕ) (w v : Wheel T) (q : Agenda T) (time : ℕ) (item : T) → agenda_of group until w ≡ q → time ≤ until → Puts group w time item v → Adds q time item (agenda_of group until v)
+pub adds : {T : Type 0} (group : T → Option ℕ) (until : ℕ) (w v : Wheel T) (q : Agenda T) (time : ℕ) (item : T) → agenda_of group until w ≡ q → time ≤ until → PutsLast group w time item v → Adds q time item (agenda_of group until v)
 adds {T} group until w v q time item view in_time put =
     let was : (t : ℕ) → t < suc until → due_at t q.items ≡ due group w t = λ t low. ap (λ (a : Agenda T). due_at t a.items) (sym view) ∙ due_at-in_order (due group w) (suc until) t low in
     record {
@@ -181,7 +181,7 @@ pub late_adds : {T : Type 0} (q : Agenda T) (time : ℕ) (item : T) → q.until 
 late_adds q time item after = record { last = λ early. absurd (omega (arith, early, after)); others = λ t other. refl }
 
 pub adds_on_ok : {T A E : Type 0} (group : T → Option ℕ) (until : ℕ) (w v : Wheel T) (q : Agenda T) (time : ℕ) (item : T) (r : Result A E) → agenda_of group until w ≡ q → time ≤ until
-    → MatchResult r (λ x. Puts group w time item v) (λ x. Keeps group w v) → OnOk r (Adds q time item (agenda_of group until v))
+    → MatchResult r (λ x. PutsLast group w time item v) (λ x. KeepsView group w v) → OnOk r (Adds q time item (agenda_of group until v))
 adds_on_ok group until w v q time item (Ok x) view in_time done = adds group until w v q time item view in_time done
 adds_on_ok group until w v q time item (Err e) view in_time done = tt
 
@@ -212,7 +212,7 @@ pub late_adds_all : {T : Type 0} (q : Agenda T) (time : ℕ) (items : List T) �
 late_adds_all q time items after = record { last = λ early. absurd (omega (arith, early, after)); others = λ t other. refl }
 
 -- what was kept before shows the same
-pub puts_all_after : {T : Type 0} (group : T → Option ℕ) (u w v : Wheel T) (time : ℕ) (items : List T) → Keeps group u w → PutsAll group w time items v → PutsAll group u time items v
+pub puts_all_after : {T : Type 0} (group : T → Option ℕ) (u w v : Wheel T) (time : ℕ) (items : List T) → KeepsView group u w → PutsAll group w time items v → PutsAll group u time items v
 puts_all_after {T} group u w v time items kept put = record {
   right = put.right;
   at = put.at ∙ kept.at;
@@ -221,6 +221,6 @@ puts_all_after {T} group u w v time items kept put = record {
 }
 
 pub put_now : {T A E : Type 0} (group : T → Option ℕ) (until : ℕ) (w v : Wheel T) (q : Agenda T) (time : ℕ) (item : T) (r : Result A E) → agenda_of group until w ≡ q
-    → MatchResult r (λ x. Puts group w time item v) (λ x. Keeps group w v) → v.at ≡ q.now
+    → MatchResult r (λ x. PutsLast group w time item v) (λ x. KeepsView group w v) → v.at ≡ q.now
 put_now {T} group until w v q time item (Ok x) view done = done.at ∙ ap (λ (a : Agenda T). a.now) view
 put_now {T} group until w v q time item (Err e) view done = done.at ∙ ap (λ (a : Agenda T). a.now) view

@@ -8,8 +8,8 @@ use Rattle.std.proofs.lemmas.List.{length-set, length-append, append-nil}
 use Rattle.std.proofs.lemmas.List.Elements.{filter_map-append, All-set, All-push}
 use Rattle.event_queue.specs.declared.wheel.Entry.{Entry}
 use Rattle.event_queue.specs.declared.wheel.Wheel.{Wheel}
-use Rattle.event_queue.specs.Links.{Places, list_at, Lacks, Moves, Grows}
-use Rattle.event_queue.specs.Wheel.{is_current, live_item, live, live_entry, timed_entry, items_at, items_timed, near, far, list_for, near_due, far_due, due, IsPastItem, IsTurning, IsWheel, Puts, PutsAll, Keeps, Takes, Turns}
+use Rattle.event_queue.specs.Links.{Places, list_at, IsOutside, MovesFirst, MakesRoom}
+use Rattle.event_queue.specs.Wheel.{is_current, live_item, live, live_entry, timed_entry, items_at, items_timed, near, far, list_for, near_due, far_due, due, IsPastItem, IsTurning, IsWheel, PutsLast, PutsAll, KeepsView, TakesFirst, Turns}
 
 -- lists of places, by what waits there
 
@@ -17,13 +17,13 @@ filter_map_cong : {X : Type 0} (f g : ℕ → Option X) (ps : List ℕ) → ((p 
 filter_map_cong f g [] same = refl
 filter_map_cong {X} f g (p ∷ ps) same = ap (λ (o : Option X). cons_option o (filter_map f ps)) (same p) ∙ ap (λ (xs : List X). cons_option (g p) xs) (filter_map_cong f g ps same)
 
-filter_map_lacks : {X : Type 0} (f g : ℕ → Option X) (place : ℕ) (ps : List ℕ) → Lacks place ps → ((p : ℕ) → p ≢ place → f p ≡ g p) → filter_map f ps ≡ filter_map g ps
+filter_map_lacks : {X : Type 0} (f g : ℕ → Option X) (place : ℕ) (ps : List ℕ) → IsOutside place ps → ((p : ℕ) → p ≢ place → f p ≡ g p) → filter_map f ps ≡ filter_map g ps
 filter_map_lacks f g place [] lacks same = refl
 filter_map_lacks {X} f g place (p ∷ ps) lacks same =
     ap (λ (o : Option X). cons_option o (filter_map f ps)) (same p lacks.0) ∙ ap (λ (xs : List X). cons_option (g p) xs) (filter_map_lacks f g place ps lacks.1 same)
 
 -- a place more at the end
-filter_map_last : {X : Type 0} (f g : ℕ → Option X) (place : ℕ) (ps : List ℕ) → Lacks place ps → ((p : ℕ) → p ≢ place → f p ≡ g p) → filter_map f (ps ++ place ∷ []) ≡ filter_map g ps ++ cons_option (f place) []
+filter_map_last : {X : Type 0} (f g : ℕ → Option X) (place : ℕ) (ps : List ℕ) → IsOutside place ps → ((p : ℕ) → p ≢ place → f p ≡ g p) → filter_map f (ps ++ place ∷ []) ≡ filter_map g ps ++ cons_option (f place) []
 filter_map_last {X} f g place ps lacks same =
     filter_map-append f ps (place ∷ []) ∙ ap (λ (xs : List X). xs ++ cons_option (f place) []) (filter_map_lacks f g place ps lacks same)
 
@@ -102,7 +102,7 @@ same_slots : {T : Type 0} (group : T → Option ℕ) (w v : Wheel T) → IsWheel
     → ((s : ℕ) → s ≢ 0 → list_at v.chains s ≡ list_at w.chains s)
     → ((p : ℕ) → live_entry group w.generations (slice_get v.entries.items p) ≡ live_entry group w.generations (slice_get w.entries.items p))
     → ((offset p : ℕ) → timed_entry group w.generations offset (slice_get v.entries.items p) ≡ timed_entry group w.generations offset (slice_get w.entries.items p))
-    → All (λ (e : Entry T). IsPastItem group w.generations e.generation e.item) v.entries.items → Keeps group w v
+    → All (λ (e : Entry T). IsPastItem group w.generations e.generation e.item) v.entries.items → KeepsView group w v
 same_slots {T} group w v right at generations lists room slots lives timeds timely =
     let same : (t : ℕ) → due group v t ≡ due group w t = λ t.
     same_due group w v t (ap (λ (k : ℕ). k / 2048) at)
@@ -121,7 +121,7 @@ same_slots {T} group w v right at generations lists room slots lives timeds time
     }
 
 -- nothing changed
-pub keeps_all : {T : Type 0} (group : T → Option ℕ) (w v : Wheel T) → IsWheel group w → v.at ≡ w.at → v.generations ≡ w.generations → v.chains ≡ w.chains → v.entries.items ≡ w.entries.items → Keeps group w v
+pub keeps_all : {T : Type 0} (group : T → Option ℕ) (w v : Wheel T) → IsWheel group w → v.at ≡ w.at → v.generations ≡ w.generations → v.chains ≡ w.chains → v.entries.items ≡ w.entries.items → KeepsView group w v
 keeps_all {T} group w v right at generations chains entries =
     let room = right.turning.room in
     let total : v.chains.total ≡ w.chains.total = ap (λ (c : Places). c.total) chains in
@@ -133,7 +133,7 @@ keeps_all {T} group w v right at generations chains entries =
 
 -- a further entry, at which nothing waits
 pub keeps_blank : {T : Type 0} (group : T → Option ℕ) (w v : Wheel T) → IsWheel group w → v.at ≡ w.at → v.generations ≡ w.generations → v.chains ≡ w.chains
-    → v.entries.items ≡ w.entries.items ++ record { time = 0; generation = 0; item = None } ∷ [] → Keeps group w v
+    → v.entries.items ≡ w.entries.items ++ record { time = 0; generation = 0; item = None } ∷ [] → KeepsView group w v
 unfolding blank
 keeps_blank {T} group w v right at generations chains entries =
     let room = right.turning.room in
@@ -146,7 +146,7 @@ keeps_blank {T} group w v right at generations chains entries =
     (All-push (λ (e : Entry T). IsPastItem group w.generations e.generation e.item) w.entries.items blank right.turning.timely tt))
 
 -- a free place came
-pub keeps_grown : {T : Type 0} (group : T → Option ℕ) (w v : Wheel T) → IsWheel group w → w.chains.total < length w.entries.items → v.at ≡ w.at → v.generations ≡ w.generations → Grows w.chains v.chains 0 → v.entries.items ≡ w.entries.items → Keeps group w v
+pub keeps_grown : {T : Type 0} (group : T → Option ℕ) (w v : Wheel T) → IsWheel group w → w.chains.total < length w.entries.items → v.at ≡ w.at → v.generations ≡ w.generations → MakesRoom w.chains v.chains 0 → v.entries.items ≡ w.entries.items → KeepsView group w v
 keeps_grown {T} group w v right free at generations grows entries =
     let total = grows.total in
     let long : length v.entries.items ≡ length w.entries.items = ap (λ (es : List (Entry T)). length es) entries in
@@ -156,7 +156,7 @@ keeps_grown {T} group w v right free at generations grows entries =
     (subst (λ (es : List (Entry T)). All (λ (e : Entry T). IsPastItem group w.generations e.generation e.item) es) (sym entries) right.turning.timely)
 
 -- one after the other
-pub keeps_both : {T : Type 0} (group : T → Option ℕ) (u v w : Wheel T) → Keeps group u v → Keeps group v w → Keeps group u w
+pub keeps_both : {T : Type 0} (group : T → Option ℕ) (u v w : Wheel T) → KeepsView group u v → KeepsView group v w → KeepsView group u w
 keeps_both group u v w a b = record { right = b.right; at = b.at ∙ a.at; same = λ t. b.same t ∙ a.same t }
 
 -- which list that is
@@ -178,27 +178,27 @@ timed_other group generations e offset other = elim (eqb_tells (e.time % 2048) o
 
 -- what a place, filled again, shows
 pub record Fills {T : Type 0} (w v : Wheel T) (list place : ℕ) (e : Entry T) : Type 0 where
-  pub moves : Moves w.chains v.chains 0 list place
+  pub moves : MovesFirst w.chains v.chains 0 list place
   pub at : v.at ≡ w.at
   pub generations : v.generations ≡ w.generations
   pub entries : v.entries.items ≡ set w.entries.items place e
 
 -- places of lists that the place isn't in show what they showed
-pub unmoved_near : {T : Type 0} (group : T → Option ℕ) (w v : Wheel T) (place : ℕ) (e : Entry T) (ps : List ℕ) → v.generations ≡ w.generations → v.entries.items ≡ set w.entries.items place e → Lacks place ps
+pub unmoved_near : {T : Type 0} (group : T → Option ℕ) (w v : Wheel T) (place : ℕ) (e : Entry T) (ps : List ℕ) → v.generations ≡ w.generations → v.entries.items ≡ set w.entries.items place e → IsOutside place ps
     → items_at group v.generations v.entries.items ps ≡ items_at group w.generations w.entries.items ps
 unmoved_near {T} group w v place e ps generations entries lacks =
     ap (λ (gs : List ℕ). items_at group gs v.entries.items ps) generations ∙ ap (λ (es : List (Entry T)). items_at group w.generations es ps) entries
     ∙ filter_map_lacks (λ p. live_entry group w.generations (slice_get (set w.entries.items place e) p)) (λ p. live_entry group w.generations (slice_get w.entries.items p)) place ps lacks
     (λ p n. ap (live_entry group w.generations) (slice_get_set_other w.entries.items place p e n))
 
-pub unmoved_far : {T : Type 0} (group : T → Option ℕ) (w v : Wheel T) (place : ℕ) (e : Entry T) (offset : ℕ) (ps : List ℕ) → v.generations ≡ w.generations → v.entries.items ≡ set w.entries.items place e → Lacks place ps
+pub unmoved_far : {T : Type 0} (group : T → Option ℕ) (w v : Wheel T) (place : ℕ) (e : Entry T) (offset : ℕ) (ps : List ℕ) → v.generations ≡ w.generations → v.entries.items ≡ set w.entries.items place e → IsOutside place ps
     → items_timed group v.generations v.entries.items offset ps ≡ items_timed group w.generations w.entries.items offset ps
 unmoved_far {T} group w v place e offset ps generations entries lacks =
     ap (λ (gs : List ℕ). items_timed group gs v.entries.items offset ps) generations ∙ ap (λ (es : List (Entry T)). items_timed group w.generations es offset ps) entries
     ∙ filter_map_lacks (λ p. timed_entry group w.generations offset (slice_get (set w.entries.items place e) p)) (λ p. timed_entry group w.generations offset (slice_get w.entries.items p)) place ps lacks
     (λ p n. ap (timed_entry group w.generations offset) (slice_get_set_other w.entries.items place p e n))
 
-last_near : {T : Type 0} (group : T → Option ℕ) (w v : Wheel T) (place : ℕ) (e : Entry T) (ps : List ℕ) → v.generations ≡ w.generations → v.entries.items ≡ set w.entries.items place e → place < length w.entries.items → Lacks place ps
+last_near : {T : Type 0} (group : T → Option ℕ) (w v : Wheel T) (place : ℕ) (e : Entry T) (ps : List ℕ) → v.generations ≡ w.generations → v.entries.items ≡ set w.entries.items place e → place < length w.entries.items → IsOutside place ps
     → items_at group v.generations v.entries.items (ps ++ place ∷ []) ≡ items_at group w.generations w.entries.items ps ++ cons_option (live group w.generations e) []
 last_near {T} group w v place e ps generations entries within lacks =
     ap (λ (gs : List ℕ). items_at group gs v.entries.items (ps ++ place ∷ [])) generations ∙ ap (λ (es : List (Entry T)). items_at group w.generations es (ps ++ place ∷ [])) entries
@@ -206,7 +206,7 @@ last_near {T} group w v place e ps generations entries within lacks =
     (λ p n. ap (live_entry group w.generations) (slice_get_set_other w.entries.items place p e n))
     ∙ ap (λ (o : Option (Entry T)). items_at group w.generations w.entries.items ps ++ cons_option (live_entry group w.generations o) []) (slice_get_set_same w.entries.items place e within)
 
-last_far : {T : Type 0} (group : T → Option ℕ) (w v : Wheel T) (place : ℕ) (e : Entry T) (offset : ℕ) (ps : List ℕ) → v.generations ≡ w.generations → v.entries.items ≡ set w.entries.items place e → place < length w.entries.items → Lacks place ps
+last_far : {T : Type 0} (group : T → Option ℕ) (w v : Wheel T) (place : ℕ) (e : Entry T) (offset : ℕ) (ps : List ℕ) → v.generations ≡ w.generations → v.entries.items ≡ set w.entries.items place e → place < length w.entries.items → IsOutside place ps
     → items_timed group v.generations v.entries.items offset (ps ++ place ∷ []) ≡ items_timed group w.generations w.entries.items offset ps ++ cons_option (timed_entry group w.generations offset (Some e)) []
 last_far {T} group w v place e offset ps generations entries within lacks =
     ap (λ (gs : List ℕ). items_timed group gs v.entries.items offset (ps ++ place ∷ [])) generations ∙ ap (λ (es : List (Entry T)). items_timed group w.generations es offset (ps ++ place ∷ [])) entries
@@ -216,7 +216,7 @@ last_far {T} group w v place e offset ps generations entries within lacks =
 
 -- an item put last at its time
 pub puts : {T : Type 0} (group : T → Option ℕ) (w v : Wheel T) (list place time : ℕ) (e : Entry T) (item : T) → IsWheel group w → w.at ≤ time → list ≡ list_for w.at time → Fills w v list place e
-    → e.time ≡ time → live group w.generations e ≡ Some item → IsPastItem group w.generations e.generation e.item → Puts group w time item v
+    → e.time ≡ time → live group w.generations e ≡ Some item → IsPastItem group w.generations e.generation e.item → PutsLast group w time item v
 puts {T} group w v list place time e item right ahead list_is fills time_is live_is timely =
     let below : place < length w.entries.items = (let low = fills.moves.below in let room = right.turning.room in omega (arith, low, room)) in
     let block : v.at / 2048 ≡ w.at / 2048 = ap (λ (k : ℕ). k / 2048) fills.at in
@@ -284,7 +284,7 @@ live_now {T} group generations generation item o is current =
     ap choice now
 
 -- a wheel that was kept before
-pub puts_after : {T : Type 0} (group : T → Option ℕ) (u w v : Wheel T) (time : ℕ) (item : T) → Keeps group u w → Puts group w time item v → Puts group u time item v
+pub puts_after : {T : Type 0} (group : T → Option ℕ) (u w v : Wheel T) (time : ℕ) (item : T) → KeepsView group u w → PutsLast group w time item v → PutsLast group u time item v
 puts_after {T} group u w v time item kept put = record {
   right = put.right;
   at = put.at ∙ kept.at;
@@ -303,8 +303,8 @@ cons_option-append None xs ys = refl
 cons_option-append (Some x) xs ys = refl
 
 -- the first place of the wheel's time, emptied
-pub pops : {T : Type 0} (group : T → Option ℕ) (w v : Wheel T) (place : ℕ) (e : Entry T) (item : Option T) → IsWheel group w → Moves w.chains v.chains (near w.at) 0 place → v.at ≡ w.at → v.generations ≡ w.generations
-    → v.entries.items ≡ set w.entries.items place (record { time = e.time; generation = e.generation; item = None }) → slice_get w.entries.items place ≡ Some e → item ≡ live group w.generations e → Takes group w item v
+pub pops : {T : Type 0} (group : T → Option ℕ) (w v : Wheel T) (place : ℕ) (e : Entry T) (item : Option T) → IsWheel group w → MovesFirst w.chains v.chains (near w.at) 0 place → v.at ≡ w.at → v.generations ≡ w.generations
+    → v.entries.items ≡ set w.entries.items place (record { time = e.time; generation = e.generation; item = None }) → slice_get w.entries.items place ≡ Some e → item ≡ live group w.generations e → TakesFirst group w item v
 pops {T} group w v place e item right moved at generations entries was live_is =
     let empty : Entry T = record { time = e.time; generation = e.generation; item = None } in
     let block : v.at / 2048 ≡ w.at / 2048 = ap (λ (k : ℕ). k / 2048) at in
@@ -360,7 +360,7 @@ none_first (x ∷ xs) none_there = absurd (some_none x none_there)
     some_none y same = let one : 1 ≡ 0 = ap is_there same in omega (arith, one)
 
 -- what was dropped was cancelled
-pub keeps_dropped : {T : Type 0} (group : T → Option ℕ) (w v : Wheel T) (item : Option T) → Takes group w item v → item ≡ None → Keeps group w v
+pub keeps_dropped : {T : Type 0} (group : T → Option ℕ) (w v : Wheel T) (item : Option T) → TakesFirst group w item v → item ≡ None → KeepsView group w v
 keeps_dropped {T} group w v item takes none = record {
   right = takes.right;
   at = takes.at;
@@ -370,7 +370,7 @@ keeps_dropped {T} group w v item takes none = record {
   ];
 }
 
-pub takes_after : {T : Type 0} (group : T → Option ℕ) (u w v : Wheel T) (item : Option T) → Keeps group u w → Takes group w item v → Takes group u item v
+pub takes_after : {T : Type 0} (group : T → Option ℕ) (u w v : Wheel T) (item : Option T) → KeepsView group u w → TakesFirst group w item v → TakesFirst group u item v
 takes_after {T} group u w v item kept takes = record {
   right = takes.right;
   at = takes.at ∙ kept.at;
@@ -378,10 +378,10 @@ takes_after {T} group u w v item kept takes = record {
   others = λ t other. takes.others t (λ same. other (same ∙ kept.at)) ∙ kept.same t;
 }
 
-pub takes_none : {T : Type 0} (group : T → Option ℕ) (u w : Wheel T) → Keeps group u w → Takes group u None w
+pub takes_none : {T : Type 0} (group : T → Option ℕ) (u w : Wheel T) → KeepsView group u w → TakesFirst group u None w
 takes_none group u w kept = record { right = kept.right; at = kept.at; first = sym (kept.same u.at); others = λ t other. kept.same t }
 
-pub keeps_start : {T : Type 0} (group : T → Option ℕ) (w : Wheel T) → IsWheel group w → Keeps group w w
+pub keeps_start : {T : Type 0} (group : T → Option ℕ) (w : Wheel T) → IsWheel group w → KeepsView group w w
 keeps_start group w right = record { right = right; at = refl; same = λ t. refl }
 
 -- nothing waits in the slot of the wheel's time
@@ -483,7 +483,7 @@ spreads_start group w turning = record { turning = turning; at = refl; same = λ
 
 -- one place goes from the far slot to a near one
 moved_due : {T : Type 0} (group : T → Option ℕ) (w v : Wheel T) (place : ℕ) (e : Entry T) → v.at ≡ w.at → v.generations ≡ w.generations → v.entries.items ≡ w.entries.items
-    → Moves w.chains v.chains (far w.at) (near e.time) place → slice_get w.entries.items place ≡ Some e → (t : ℕ) → due group v t ≡ due group w t
+    → MovesFirst w.chains v.chains (far w.at) (near e.time) place → slice_get w.entries.items place ≡ Some e → (t : ℕ) → due group v t ≡ due group w t
 moved_due {T} group w v place e at generations entries moved was t =
     let block : v.at / 2048 ≡ w.at / 2048 = ap (λ (k : ℕ). k / 2048) at in
     let near_is : near_due group v t ≡ items_at group w.generations w.entries.items (list_at v.chains (near t)) =
@@ -523,7 +523,7 @@ moved_due {T} group w v place e at generations entries moved was t =
     ]
 
 pub spreads_more : {T : Type 0} (group : T → Option ℕ) (u w v : Wheel T) (place : ℕ) (e : Entry T) → Spreads group u w → v.at ≡ w.at → v.generations ≡ w.generations → v.entries.items ≡ w.entries.items
-    → Moves w.chains v.chains (far w.at) (near e.time) place → slice_get w.entries.items place ≡ Some e → Spreads group u v
+    → MovesFirst w.chains v.chains (far w.at) (near e.time) place → slice_get w.entries.items place ≡ Some e → Spreads group u v
 spreads_more {T} group u w v place e so_far at generations entries moved was =
     let turning = so_far.turning in
     let same : (t : ℕ) → due group v t ≡ due group w t = moved_due group w v place e at generations entries moved was in
@@ -597,7 +597,7 @@ pub record PutsSome {T : Type 0} (group : T → Option ℕ) (old : Wheel T) (tim
 pub puts_start : {T : Type 0} (group : T → Option ℕ) (w : Wheel T) (time : ℕ) (items : List T) → IsWheel group w → PutsSome group w time items w items
 puts_start group w time items right = record { front = []; parts = refl; puts = puts_none group w time right }
 
-pub puts_more : {T : Type 0} (group : T → Option ℕ) (u w v : Wheel T) (time : ℕ) (items before rest : List T) (item : T) → PutsSome group u time items w before → before ≡ item ∷ rest → Puts group w time item v → PutsSome group u time items v rest
+pub puts_more : {T : Type 0} (group : T → Option ℕ) (u w v : Wheel T) (time : ℕ) (items before rest : List T) (item : T) → PutsSome group u time items w before → before ≡ item ∷ rest → PutsLast group w time item v → PutsSome group u time items v rest
 puts_more {T} group u w v time items before rest item so_far first put =
     let puts = so_far.puts in
     record {

@@ -27,19 +27,19 @@ abbrev pub place_at : List ℕ → List Head → ℕ → ℕ → ℕ
 place_at next heads s p = follow next p (head_of heads s).first
 
 -- the first n values of a function
-abbrev pub listed : ℕ → (ℕ → ℕ) → List ℕ
-listed zero f = []
-listed (suc n) f = f 0 ∷ listed n (λ p. f (suc p))
+abbrev pub tabled : ℕ → (ℕ → ℕ) → List ℕ
+tabled zero f = []
+tabled (suc n) f = f 0 ∷ tabled n (λ p. f (suc p))
 
 -- the places from a head on
-abbrev pub behind : List ℕ → Head → List ℕ
-behind next head = listed head.len (λ p. follow next p head.first)
+abbrev pub places_behind : List ℕ → Head → List ℕ
+places_behind next head = tabled head.len (λ p. follow next p head.first)
 
 abbrev pub list_of : List ℕ → List Head → ℕ → List ℕ
-list_of next heads s = behind next (head_of heads s)
+list_of next heads s = places_behind next (head_of heads s)
 
-abbrev pub places_of : List ℕ → List Head → Places
-places_of next heads = record { total = length next; lists = map (behind next) heads }
+abbrev pub seen_places : List ℕ → List Head → Places
+seen_places next heads = record { total = length next; lists = map (places_behind next) heads }
 
 -- each list has places that no other position of a list has, and knows its last one
 pub record IsLinked (next : List ℕ) (heads : List Head) : Type 0 where
@@ -52,15 +52,15 @@ abbrev pub lengths : List Head → ℕ
 lengths heads = sum_by (λ h. h.len) heads
 
 -- each place is in a list
-pub record IsRight (next : List ℕ) (heads : List Head) : Type 0 where
+pub record AreLinks (next : List ℕ) (heads : List Head) : Type 0 where
   pub linked : IsLinked next heads
   pub counted : lengths heads ≡ length next
   pub few : length next + 1 < 2 ^ 32
 
 -- the place isn't in the list
-abbrev pub Lacks : ℕ → List ℕ → Type 0
-Lacks place [] = Unit {0}
-Lacks place (q ∷ qs) = (q ≢ place) × Lacks place qs
+abbrev pub IsOutside : ℕ → List ℕ → Type 0
+IsOutside place [] = Unit {0}
+IsOutside place (q ∷ qs) = (q ≢ place) × IsOutside place qs
 
 -- the first place of a list was taken out, and is in no list
 pub record Unlinks (next : List ℕ) (old new : List Head) (list place : ℕ) : Type 0 where
@@ -73,7 +73,7 @@ pub record Unlinks (next : List ℕ) (old new : List Head) (list place : ℕ) : 
   pub counted : lengths new + 1 ≡ lengths old
 
 -- a place was put last into a list
-pub record Appends (next : List ℕ) (old : List Head) (next' : List ℕ) (new : List Head) (list place : ℕ) : Type 0 where
+pub record LinksLast (next : List ℕ) (old : List Head) (next' : List ℕ) (new : List Head) (list place : ℕ) : Type 0 where
   pub linked : IsLinked next' new
   pub joined : list_of next' new list ≡ list_of next old list ++ place ∷ []
   pub others : (s : ℕ) → s ≢ list → list_of next' new s ≡ list_of next old s
@@ -82,18 +82,18 @@ pub record Appends (next : List ℕ) (old : List Head) (next' : List ℕ) (new :
   pub counted : lengths new ≡ lengths old + 1
 
 -- the first place of a list went to the end of another one, and is in no third
-pub record Moves (old new : Places) (from to place : ℕ) : Type 0 where
+pub record MovesFirst (old new : Places) (from to place : ℕ) : Type 0 where
   pub first : list_at old from ≡ place ∷ list_at new from
   pub joined : list_at new to ≡ list_at old to ++ place ∷ []
   pub others : (s : ℕ) → s ≢ from → s ≢ to → list_at new s ≡ list_at old s
-  pub alone : (s : ℕ) → s ≢ to → Lacks place (list_at new s)
-  pub fresh : Lacks place (list_at old to)
+  pub alone : (s : ℕ) → s ≢ to → IsOutside place (list_at new s)
+  pub fresh : IsOutside place (list_at old to)
   pub below : place < old.total
   pub total : new.total ≡ old.total
   pub lists : length new.lists ≡ length old.lists
 
 -- a new place is in the list alone
-pub record Grows (old new : Places) (list : ℕ) : Type 0 where
+pub record MakesRoom (old new : Places) (list : ℕ) : Type 0 where
   pub joined : list_at new list ≡ list_at old list ++ old.total ∷ []
   pub others : (s : ℕ) → s ≢ list → list_at new s ≡ list_at old s
   pub total : new.total ≡ old.total + 1

@@ -81,7 +81,7 @@ abbrev pub IsSameDue : {T : Type 0} → (T → Option ℕ) → Wheel T → Wheel
 IsSameDue group old new = (t : ℕ) → due group new t ≡ due group old t
 
 -- a wheel has an item more, last at its time
-pub record Puts {T : Type 0} (group : T → Option ℕ) (old : Wheel T) (time : ℕ) (item : T) (new : Wheel T) : Type 0 where
+pub record PutsLast {T : Type 0} (group : T → Option ℕ) (old : Wheel T) (time : ℕ) (item : T) (new : Wheel T) : Type 0 where
   pub right : IsWheel group new
   pub at : new.at ≡ old.at
   pub last : due group new time ≡ due group old time ++ item ∷ []
@@ -95,13 +95,13 @@ pub record PutsAll {T : Type 0} (group : T → Option ℕ) (old : Wheel T) (time
   pub others : (t : ℕ) → t ≢ time → due group new t ≡ due group old t
 
 -- nothing changed
-pub record Keeps {T : Type 0} (group : T → Option ℕ) (old new : Wheel T) : Type 0 where
+pub record KeepsView {T : Type 0} (group : T → Option ℕ) (old new : Wheel T) : Type 0 where
   pub right : IsWheel group new
   pub at : new.at ≡ old.at
   pub same : IsSameDue group old new
 
 -- the first item of the wheel's time was taken, or something cancelled was dropped
-pub record Takes {T : Type 0} (group : T → Option ℕ) (old : Wheel T) (item : Option T) (new : Wheel T) : Type 0 where
+pub record TakesFirst {T : Type 0} (group : T → Option ℕ) (old : Wheel T) (item : Option T) (new : Wheel T) : Type 0 where
   pub right : IsWheel group new
   pub at : new.at ≡ old.at
   pub first : due group old old.at ≡ cons_option item (due group new old.at)

@@ -3,7 +3,7 @@
 
 ghost use Rattle.std.specs.Prelude.{◌≡◌, ◌≢◌, ◌+◌, ◌^◌, ◌<◌, ℕ, [], ◌∷◌, length, slice_get, IfSome, IfOk, IsTrue, MatchResult};
 ghost use Rattle.std.specs.List.{sum_by};
-ghost use Rattle.event_queue.specs.Links.{IsLinked, IsRight, head_of, place_at, lengths, list_at, places_of, Unlinks, Appends, Moves, Grows};
+ghost use Rattle.event_queue.specs.Links.{IsLinked, AreLinks, head_of, place_at, lengths, list_at, seen_places, Unlinks, LinksLast, MovesFirst, MakesRoom};
 
 use mate_num::NoMemory;
 use std::alloc::Global;
@@ -32,13 +32,13 @@ pub struct Chains {
 }
 
 impl Model for Chains {
-    ghost use Rattle.event_queue.specs.Links.{Places, IsRight, places_of};
+    ghost use Rattle.event_queue.specs.Links.{Places, AreLinks, seen_places};
 
     ghost Value = { Places };
 
-    ghost view = { λ c. places_of c.next.items c.heads.items };
+    ghost view = { λ c. seen_places c.next.items c.heads.items };
 
-    ghost invariant = { λ c. IsRight c.next.items c.heads.items };
+    ghost invariant = { λ c. AreLinks c.next.items c.heads.items };
 }
 
 /// Takes out the first place of a list.
@@ -64,7 +64,7 @@ fn append(next: &mut Vec<u32>, heads: &mut Vec<Head>, list: usize, place: u32)
     requires below { place < length next.old.items }
     requires alone { (s p : ℕ) → p < (head_of heads.old.items s).len → place_at next.old.items heads.old.items s p ≢ place }
     requires room { lengths heads.old.items + 1 < 2 ^ 32 }
-    ensures { Appends next.old.items heads.old.items next.new.items heads.new.items list place }
+    ensures { LinksLast next.old.items heads.old.items next.new.items heads.new.items list place }
 {
     let end = heads[list];
     if end.len == 0 {
@@ -137,7 +137,7 @@ impl Chains {
     /// are 4,294,967,294 places.
     pub fn grow(&mut self, list: usize) -> Result<(), NoMemory>
         requires { list < length self.old.lists }
-        ensures { MatchResult result (λ _. Grows self.old self.new list) (λ _. self.new ≡ self.old) }
+        ensures { MatchResult result (λ _. MakesRoom self.old self.new list) (λ _. self.new ≡ self.old) }
     {
         if self.next.len() >= (u32::MAX - 1) as usize {
             return Err(NoMemory);
@@ -154,7 +154,7 @@ impl Chains {
         requires to { to < length self.old.lists }
         requires apart { from ≢ to }
         requires some { list_at self.old from ≢ [] }
-        ensures { Moves self.old self.new from to result }
+        ensures { MovesFirst self.old self.new from to result }
     {
         let place = unlink(&self.next, &mut self.heads, from);
         append(&mut self.next, &mut self.heads, to, place);

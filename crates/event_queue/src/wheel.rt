@@ -4,7 +4,7 @@
 
 ghost use Rattle.std.specs.Prelude.{◌≡◌, ◌≢◌, ◌+◌, ◌/◌, ◌%◌, ◌<◌, ◌≤◌, ℕ, [], true, length, map, IfSome, IfNone, IsTrue, MatchResult, OnOk, IfOk};
 ghost use Rattle.event_queue.specs.Links.{list_at};
-ghost use Rattle.event_queue.specs.Wheel.{is_current, live_item, list_for, IsPast, due, near, far, IsWheel, IsTurning, Puts, PutsAll, Keeps, Takes, Turns, Cancels, cleared, cleared_item};
+ghost use Rattle.event_queue.specs.Wheel.{is_current, live_item, list_for, IsPast, due, near, far, IsWheel, IsTurning, PutsLast, PutsAll, KeepsView, TakesFirst, Turns, Cancels, cleared, cleared_item};
 
 use crate::chains::Chains;
 use crate::group::{GROUPS, Grouped};
@@ -124,7 +124,7 @@ impl<T: Grouped> Wheel<T> {
     /// Makes sure that there is an entry for a further place.
     fn add_entry(&mut self) -> Result<(), NoMemory>
         requires { IsWheel T.group_of self.old }
-        ensures keeps { Keeps T.group_of self.old self.new }
+        ensures keeps { KeepsView T.group_of self.old self.new }
         ensures same { self.new.generations ≡ self.old.generations }
         ensures chains { self.new.chains ≡ self.old.chains }
         ensures room { OnOk result (self.new.chains.total < length self.new.entries.items) }
@@ -143,7 +143,7 @@ impl<T: Grouped> Wheel<T> {
     /// Makes sure that there is a free place.
     fn reserve(&mut self) -> Result<(), NoMemory>
         requires { IsWheel T.group_of self.old }
-        ensures keeps { Keeps T.group_of self.old self.new }
+        ensures keeps { KeepsView T.group_of self.old self.new }
         ensures same { self.new.generations ≡ self.old.generations }
         ensures free { OnOk result (list_at self.new.chains 0 ≢ []) }
     {
@@ -158,7 +158,7 @@ impl<T: Grouped> Wheel<T> {
     /// Makes sure that there are so many free places.
     pub fn reserve_all(&mut self, count: usize) -> Result<(), NoMemory>
         requires { IsWheel T.group_of self.old }
-        ensures keeps { Keeps T.group_of self.old self.new }
+        ensures keeps { KeepsView T.group_of self.old self.new }
         ensures free { OnOk result (count ≤ length (list_at self.new.chains 0)) }
     {
         while self.chains.len(FREE) < count {
@@ -174,7 +174,7 @@ impl<T: Grouped> Wheel<T> {
         requires free { list_at self.old.chains 0 ≢ [] }
         requires ahead { self.old.at ≤ time }
         requires below { time < 4194304 }
-        ensures puts { Puts T.group_of self.old time item self.new }
+        ensures puts { PutsLast T.group_of self.old time item self.new }
         ensures free { length (list_at self.old.chains 0) ≡ length (list_at self.new.chains 0) + 1 }
     {
         let generation = generation_of(&self.generations, item.group());
@@ -191,7 +191,7 @@ impl<T: Grouped> Wheel<T> {
         requires right { IsWheel T.group_of self.old }
         requires ahead { self.old.at ≤ time }
         requires below { time < 4194304 }
-        ensures { MatchResult result (λ _. Puts T.group_of self.old time item self.new) (λ _. Keeps T.group_of self.old self.new) }
+        ensures { MatchResult result (λ _. PutsLast T.group_of self.old time item self.new) (λ _. KeepsView T.group_of self.old self.new) }
     {
         self.reserve()?;
         self.put_free(time, item);
@@ -216,7 +216,7 @@ impl<T: Grouped> Wheel<T> {
     fn pop(&mut self) -> Option<T>
         requires right { IsWheel T.group_of self.old }
         requires some { list_at self.old.chains (near self.old.at) ≢ [] }
-        ensures takes { Takes T.group_of self.old result self.new }
+        ensures takes { TakesFirst T.group_of self.old result self.new }
         ensures fewer { length (list_at self.new.chains (near self.old.at)) < length (list_at self.old.chains (near self.old.at)) }
     {
         let place = self.chains.move_first(near_list(self.at), FREE);
@@ -237,7 +237,7 @@ impl<T: Grouped> Wheel<T> {
     /// Takes the first item of the time at which the wheel stands.
     pub fn take_first(&mut self) -> Option<T>
         requires { IsWheel T.group_of self.old }
-        ensures takes { Takes T.group_of self.old result self.new }
+        ensures takes { TakesFirst T.group_of self.old result self.new }
         ensures none { IfNone result (due T.group_of self.old self.old.at ≡ []) }
     {
         while self.chains.first(near_list(self.at)).is_some() {

@@ -1,5 +1,6 @@
 -- The lock sets that contexts wait for or hold, and the rule by which a waiter is started.
 use Rattle.std.specs.Prelude.{◌≡◌, ◌≢◌, ◌≤◌, ◌<◌, ◌⊎◌, ℕ, List, [], ◌∷◌, ◌++◌, Bool, ◌==◌, Option, None, Some, if◌then◌else◌, count_by, Contains}
+use Rattle.mate_num.specs.declared.bounds.TheConstants.{CONTEXTS_MAX}
 use Rattle.mate_num.specs.declared.id.ContextId.{ContextId}
 use Rattle.mate_num.specs.declared.lock_set.LockSet.{LockSet}
 use Rattle.mate_num.specs.Uses.{Conflicts, IsCompatible}
@@ -37,7 +38,7 @@ blocked_of ahead (c ∷ cs) ctx = if is_of ctx c then Some (against c.set ahead)
 -- the contexts are below 16, and each has one claim at most
 pub record AreOnce (claims : List Claim) : Type 0 where
   pub once : (ctx : ContextId) → count_by (is_of ctx) claims ≤ 1
-  pub within : (ctx : ContextId) → 0 < count_by (is_of ctx) claims → ctx.0 < 16
+  pub within : (ctx : ContextId) → 0 < count_by (is_of ctx) claims → ctx.0 < CONTEXTS_MAX
 
 -- a claim of a started context or of an earlier waiter conflicts with c
 pub record IsClaimHeldBack (started earlier : List Claim) (c : Claim) : Type 0 where

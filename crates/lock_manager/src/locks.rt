@@ -7,7 +7,7 @@ use crate::claim::{Claim, Waiter};
 use crate::conflict::{count, count_waiting, lower};
 use crate::search::{first_free, number_of, place_of};
 use arrayvec::ArrayVec;
-use mate_num::{ContextId, LockSet};
+use mate_num::{CONTEXTS_MAX, ContextId, LockSet};
 use std::marker::Model;
 
 /// The locks of a node. Each lock is held by one writer or by any number of readers, and a context takes all
@@ -15,8 +15,8 @@ use std::marker::Model;
 /// the started contexts.
 #[derive(Drop)]
 pub struct Locks {
-    waiting: ArrayVec<Waiter, 16>,
-    started: ArrayVec<Claim, 16>,
+    waiting: ArrayVec<Waiter, CONTEXTS_MAX>,
+    started: ArrayVec<Claim, CONTEXTS_MAX>,
 }
 
 impl Model for Locks {
@@ -66,7 +66,7 @@ impl Locks {
 
     /// `ctx` waits for `set`, behind all that wait.
     pub fn enqueue(&mut self, ctx: ContextId, set: LockSet)
-        requires context { ctx.0 < 16 }
+        requires context { ctx.0 < CONTEXTS_MAX }
         requires not_waiting { IsNone (set_of self.old.waiting ctx) }
         requires not_started { IsNone (set_of self.old.started ctx) }
         ensures { Enqueues self.old self.new ctx set }

@@ -5,3 +5,4 @@ pub mod Store
 pub mod Names
 pub mod Uses
 pub mod Locks
+pub mod Shapes

@@ -11,6 +11,12 @@ pub const BUFFERS_MAX: usize = 8;
 /// The greatest number of devices.
 pub const DEVICES_MAX: usize = 8;
 
+/// The greatest number of handlers.
+pub const HANDLERS_MAX: usize = 8;
+
+/// The greatest number of contexts of all handlers together.
+pub const CONTEXTS_MAX: usize = 16;
+
 /// How many private variables an invocation has.
 pub const PRIVATES: usize = 8;
 

@@ -1,6 +1,7 @@
 //! Answers to the calls that a node's invocations wait with.
 
 ghost use Rattle.std.specs.Prelude.{◌≡◌, ◌<◌, ◌≤◌, MatchResult};
+ghost use Rattle.mate_num.specs.declared.bounds.TheConstants.{CONTEXTS_MAX};
 ghost use Rattle.mate_journal.specs.NodeScript.{Answers};
 ghost use Rattle.node_invariant.specs.Keeps.{reading, IsTimely};
 ghost use Rattle.node_grants.specs.Starting.{Rests};
@@ -25,7 +26,7 @@ pub fn answer_in(
     requires rests { Rests description.now parts.old }
     requires timely { IsTimely at parts.old.log }
     requires room { 1 ≤ parts.old.log.spare }
-    requires context { ctx.0 < 16 }
+    requires context { ctx.0 < CONTEXTS_MAX }
     ensures { MatchResult result
         (λ _. RestsAgain description.now parts.old parts.new at (Answers (reading description.now parts.old.log) ctx value))
         (λ _. NobodyWaits (reading description.now parts.old.log) ctx × (parts.new ≡ parts.old)) }

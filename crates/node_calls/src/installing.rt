@@ -17,7 +17,7 @@ use capsule_codec::{CapsuleFault, decode};
 use code_verifier::{VerifyFault, verify};
 use lock_inference::locks;
 use mate_code::Table;
-use mate_num::{HandlerId, Image, Payload, Stamp};
+use mate_num::{HANDLERS_MAX, HandlerId, Image, Payload, Stamp};
 use node_contexts::Held;
 use node_invariant::Parts;
 use vm_desc::{Description, HandlerKind, shape};
@@ -84,9 +84,9 @@ fn read_program(description: &Description, bytes: &[u8]) -> Result<Installable, 
     })
 }
 
-/// The programs of the handlers have eight places.
-fn places_are_eight(programs: &[Option<Held>; 8])
-    ensures { length programs.now ≡ 8 }
+/// The programs of the handlers have one place each.
+fn programs_have_places(programs: &[Option<Held>; HANDLERS_MAX])
+    ensures { length programs.now ≡ HANDLERS_MAX }
 {
     let _ = programs[7].is_some();
 }
@@ -102,7 +102,7 @@ fn begin(description: &Description, parts: &mut Parts, program: Installable, at:
     requires handler { program.handler.0 < length description.now.handlers.items }
     ensures { RestsAgain description.now parts.old parts.new at (λ told. told ≡ Installed (program_of program.handler program.held) ∷ []) }
 {
-    places_are_eight(&parts.handlers.programs);
+    programs_have_places(&parts.handlers.programs);
     parts.log.push_install(
         at,
         program.handler,

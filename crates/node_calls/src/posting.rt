@@ -1,6 +1,7 @@
 //! Events for a handler: each becomes an invocation, or is dropped.
 
 ghost use Rattle.std.specs.Prelude.{◌≡◌, ◌+◌, ◌<◌, ◌≤◌, length, MatchOption};
+ghost use Rattle.mate_num.specs.declared.bounds.TheConstants.{CONTEXTS_MAX};
 ghost use Rattle.node_contexts.specs.At.{at as at_context};
 ghost use Rattle.node_invariant.specs.Keeps.{reading, IsTimely};
 ghost use Rattle.node_invariant.specs.Meaning.{machine_in};
@@ -31,7 +32,7 @@ pub enum PostAnswer {
 fn contexts_of(description: &Description, handler: HandlerId) -> u8
     requires { handler.0 < length description.now.handlers.items }
     ensures count { result ≡ (machine_in description.now).contexts handler }
-    ensures within { (machine_in description.now).first_context handler + result ≤ 16 }
+    ensures within { (machine_in description.now).first_context handler + result ≤ CONTEXTS_MAX }
 {
     description.handlers.as_slice()[usize::from(handler.0)].contexts
 }

@@ -145,7 +145,7 @@ HasTurn-from held old before after c n ran s now x place mid same_place is is_he
 
 -- after the answer no call is left in the context, and the others are as they were
 pub taken-call : (old new : List (Option Asked)) (c : ContextId) (r : Result FunId NotWaiting) → MatchResult r (λ fun. IsOf (call_at old c) fun) (λ _. call_at old c ≡ None)
-    → OnOk r (calls.Becomes old new c None) → OnErr r (new ≡ old) → (call_at new c ≡ None) × ((k : ContextId) → k.0 ≢ c.0 → call_at new k ≡ call_at old k)
+    → OnOk r (calls.CallBecomes old new c None) → OnErr r (new ≡ old) → (call_at new c ≡ None) × ((k : ContextId) → k.0 ≢ c.0 → call_at new k ≡ call_at old k)
 taken-call old new c (Ok fun) was ok err = (ok.here, ok.others)
 taken-call old new c (Err e) was ok err = (ap (λ (l : List (Option Asked)). call_at l c) err ∙ was, λ k other. ap (λ (l : List (Option Asked)). call_at l k) err)
 

@@ -1,5 +1,6 @@
 -- What stands at a context: its invocation, its locks, whether it is ready, and the call that it waits with.
 use Rattle.std.specs.Prelude.{◌≡◌, ◌≢◌, ◌<◌, ℕ, [], ◌∷◌, ◌++◌, Bool, true, false, List, Option, Some, None, IsSome, slice_index_or}
+use Rattle.mate_num.specs.declared.bounds.TheConstants.{CONTEXTS_MAX}
 use Rattle.mate_num.specs.declared.id.ContextId.{ContextId}
 use Rattle.mate_num.specs.declared.lock_set.LockSet.{LockSet}
 use Rattle.lock_manager.specs.Claims.{set_of, no_claims, Grants, Releases}
@@ -85,7 +86,7 @@ pub record GivesWay (old new : Contexts) (c : ContextId) : Type 0 where
 
 -- the context waits for the answer to a call
 pub record IsAsking (s : Contexts) (c : ContextId) : Type 0 where
-  pub small : c.0 < 16
+  pub small : c.0 < CONTEXTS_MAX
   pub asks : IsSome (at s c).call
 
 -- no invocation does

@@ -10,14 +10,14 @@ ghost use Rattle.context_sched.specs.Ready.{without, AreContexts};
 use crate::seat::Seat;
 use context_sched::Ring;
 use lock_manager::Locks;
-use mate_num::{ContextId, FunId, LockSet, NoMemory, Payload};
+use mate_num::{CONTEXTS_MAX, ContextId, FunId, LockSet, NoMemory, Payload};
 use split_phase::Pending;
 use std::alloc::Global;
 
 /// The contexts of a node.
 #[derive(Drop)]
 pub struct Contexts {
-    pub seats: [Option<Seat>; 16],
+    pub seats: [Option<Seat>; CONTEXTS_MAX],
     pub locks: Locks,
     pub ring: Ring,
     pub pending: Pending,
@@ -41,7 +41,7 @@ impl Contexts {
 
     /// Whether no invocation has the context.
     pub fn is_idle(&self, ctx: ContextId) -> bool
-        requires { ctx.0 < 16 }
+        requires { ctx.0 < CONTEXTS_MAX }
         ensures { MatchBool result ((at self.now ctx).seat ≡ None) (IsSome (at self.now ctx).seat) }
     {
         self.seats[usize::from(ctx.0)].is_none()
@@ -49,7 +49,7 @@ impl Contexts {
 
     /// The invocation in the context.
     pub fn seat(&self, ctx: ContextId) -> Option<&Seat>
-        requires { ctx.0 < 16 }
+        requires { ctx.0 < CONTEXTS_MAX }
         ensures { option_copied result ≡ (at self.now ctx).seat }
     {
         self.seats[usize::from(ctx.0)].as_ref()
@@ -57,7 +57,7 @@ impl Contexts {
 
     /// An invocation takes the idle context, and waits for its locks.
     pub fn post(&mut self, ctx: ContextId, seat: Seat, set: LockSet)
-        requires context { ctx.0 < 16 }
+        requires context { ctx.0 < CONTEXTS_MAX }
         requires free { at self.old ctx ≡ idle }
         ensures becomes { Becomes self.old self.new ctx (queued seat set) }
         ensures locks { Enqueues self.old.locks self.new.locks ctx set }
@@ -72,7 +72,7 @@ impl Contexts {
     pub fn grant(&mut self) -> Option<ContextId>
         requires { CanStart self.old }
         ensures granted { MatchOption result (GrantsNone self.old.locks self.new.locks × (self.new ≡ self.old)) (Starts self.old self.new) }
-        ensures small { IfSome result (λ ctx. ctx.0 < 16) }
+        ensures small { IfSome result (λ ctx. ctx.0 < CONTEXTS_MAX) }
         ensures once { AreOnce (self.old.locks.started ++ self.old.locks.waiting) }
     {
         let ctx = self.locks.grant()?;
@@ -82,7 +82,7 @@ impl Contexts {
 
     /// The ready invocation of the context waits for the answer to a call.
     pub fn ask(&mut self, ctx: ContextId, fun: FunId, args: Payload)
-        requires context { ctx.0 < 16 }
+        requires context { ctx.0 < CONTEXTS_MAX }
         requires free { (at self.old ctx).call ≡ None }
         ensures { Asks self.old self.new ctx (fun, args) }
     {
@@ -93,7 +93,7 @@ impl Contexts {
     /// The function that the invocation of the context called and a copy of the arguments; None exactly where it doesn't
     /// wait for an answer.
     pub fn asked(&self, ctx: ContextId) -> Option<(FunId, Payload)>
-        requires { ctx.0 < 16 }
+        requires { ctx.0 < CONTEXTS_MAX }
         ensures { result ≡ (at self.now ctx).call }
     {
         self.pending.asked(ctx)
@@ -101,7 +101,7 @@ impl Contexts {
 
     /// The ready invocation of the context is over: the context is idle.
     pub fn finish(&mut self, ctx: ContextId)
-        requires context { ctx.0 < 16 }
+        requires context { ctx.0 < CONTEXTS_MAX }
         requires started { IsSome (at self.old ctx).holds }
         ensures { Ends self.old self.new ctx }
     {
@@ -122,7 +122,7 @@ impl Contexts {
         ensures { MatchOption result (IsNoneAsking self.now) (IsAsking self.now) }
     {
         let _last = self.seats[15].is_none();
-        for place in 0..16 {
+        for place in 0..CONTEXTS_MAX as u8 {
             if self.asked(ContextId(place)).is_some() {
                 return Some(ContextId(place));
             }
@@ -133,7 +133,7 @@ impl Contexts {
     /// The ready context that has the next turn; None exactly where none is ready.
     pub fn first_ready(&self) -> Option<ContextId>
         ensures first { result ≡ slice_get self.now.ring 0 }
-        ensures small { IfSome result (λ ctx. ctx.0 < 16) }
+        ensures small { IfSome result (λ ctx. ctx.0 < CONTEXTS_MAX) }
         ensures contexts { AreContexts self.now.ring }
     {
         let _len = self.ring.len();
@@ -142,7 +142,7 @@ impl Contexts {
 
     /// The ready context has its next turn after all others.
     pub fn give_way(&mut self, last: ContextId)
-        requires small { last.0 < 16 }
+        requires small { last.0 < CONTEXTS_MAX }
         requires ready { (at self.old last).ready ≡ true }
         ensures { GivesWay self.old self.new last }
     {

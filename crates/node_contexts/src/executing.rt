@@ -1,6 +1,7 @@
 //! What the invocation in a context does: it executes instructions and takes answers.
 
 ghost use Rattle.std.specs.Prelude.{◌≡◌, ◌<◌, IsSome};
+ghost use Rattle.mate_num.specs.declared.bounds.TheConstants.{CONTEXTS_MAX};
 ghost use Rattle.node_contexts.specs.At.{at as at_context, IsPlaced};
 ghost use Rattle.node_contexts.specs.Programs.{held_at};
 ghost use Rattle.node_contexts.specs.Executing.{CanExecute, HasTurn, CanAnswer, IsAnswered};
@@ -13,7 +14,7 @@ use node_heap::Heap;
 
 /// The number of the invocation in the context.
 pub fn number(contexts: &Contexts, ctx: ContextId) -> u32
-    requires small { ctx.0 < 16 }
+    requires small { ctx.0 < CONTEXTS_MAX }
     requires taken { IsSome (at_context contexts.now ctx).seat }
     ensures { IsPlaced (at_context contexts.now ctx) result }
 {

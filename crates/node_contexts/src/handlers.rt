@@ -5,7 +5,7 @@ ghost use Rattle.std.specs.Option.{option_copied};
 ghost use Rattle.mate_num.specs.declared.id.HandlerId.{HandlerId as Handler};
 
 use code_verifier::Verified;
-use mate_num::{HandlerId, Image, LockSet};
+use mate_num::{HANDLERS_MAX, HandlerId, Image, LockSet};
 
 /// A program as it is installed: its version and image, its verified code, and the locks that it takes.
 #[derive(Drop)]
@@ -19,7 +19,7 @@ pub struct Held {
 /// The program of each handler.
 #[derive(Drop)]
 pub struct Handlers {
-    pub programs: [Option<Held>; 8],
+    pub programs: [Option<Held>; HANDLERS_MAX],
 }
 
 impl Handlers {
@@ -46,7 +46,7 @@ impl Handlers {
 
     /// The program is installed in place of what was.
     pub fn install(&mut self, handler: HandlerId, held: Held)
-        requires { handler.0 < 8 }
+        requires { handler.0 < HANDLERS_MAX }
         ensures { self.new.programs ≡ slice_set self.old.programs handler.0 (Some held) }
     {
         self.programs[usize::from(handler.0)] = Some(held);

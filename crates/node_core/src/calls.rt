@@ -1,6 +1,7 @@
 //! What a node is told from outside: events for its handlers, answers, capsules, resets.
 
 ghost use Rattle.std.specs.Prelude.{◌≡◌, ◌<◌, ◌≤◌, ◌∷◌, [], length, MatchResult};
+ghost use Rattle.mate_num.specs.declared.bounds.TheConstants.{CONTEXTS_MAX};
 ghost use Rattle.mate_journal.specs.Journal.{Void};
 ghost use Rattle.mate_journal.specs.NodeScript.{Answers, ShowsOnce, Resets};
 ghost use Rattle.node_invariant.specs.Meaning.{machine_in, clock_of};
@@ -37,7 +38,7 @@ impl Node {
     /// The invocation that waits in the context gets the answer to its call, and is ready, with its turn after all others.
     /// `NotWaiting` comes exactly where none waits there, and leaves the node as it was.
     pub fn answer(&mut self, ctx: ContextId, value: i16, at: Stamp) -> Result<(), NotWaiting>
-        requires context { ctx.0 < 16 }
+        requires context { ctx.0 < CONTEXTS_MAX }
         requires timely { IsTimely at self.old.log }
         requires room { 1 ≤ self.old.log.spare }
         ensures { MatchResult result

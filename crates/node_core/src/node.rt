@@ -1,7 +1,7 @@
 //! A node: its heap and contexts, what is installed for its handlers, and its log.
 
 ghost use Rattle.std.specs.Prelude.{◌≡◌, ◌<◌, ◌≤◌, ◌+◌, ◌*◌, MatchOption, MatchResult, IfOk, OnOk};
-ghost use Rattle.mate_num.specs.declared.bounds.TheConstants.{CODE_MAX};
+ghost use Rattle.mate_num.specs.declared.bounds.TheConstants.{CODE_MAX, CONTEXTS_MAX};
 ghost use Rattle.mate_journal.specs.Log.{IsEmpty};
 ghost use Rattle.mate_journal.specs.Journal.{held as held_version};
 ghost use Rattle.mate_journal.specs.Pace.{Pace, no_pace};
@@ -99,7 +99,7 @@ impl Node {
     /// The invocation in the context executes n instructions, or fewer where it asks or is over before. Answers how many.
     /// `NotReady` comes exactly where no ready invocation is in the context, and leaves the node as it was.
     pub fn step(&mut self, ctx: ContextId, n: u32, at: Stamp) -> Result<u32, NotReady>
-        requires context { ctx.0 < 16 }
+        requires context { ctx.0 < CONTEXTS_MAX }
         requires some { 0 < n }
         requires timely { IsTimely at self.old.log }
         requires room { 16 ≤ self.old.log.spare }
@@ -138,7 +138,7 @@ impl Node {
 
     /// The call that the invocation in the context waits with; None exactly where none waits there.
     pub fn asked(&self, ctx: ContextId) -> Option<Asked>
-        requires { ctx.0 < 16 }
+        requires { ctx.0 < CONTEXTS_MAX }
         ensures { MatchOption result (NobodyWaits (heard_of self.now) ctx) (IsAsked (heard_of self.now) ctx) }
     {
         let (fun, args) = self.parts.contexts.asked(ctx)?;

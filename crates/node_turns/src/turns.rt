@@ -1,6 +1,7 @@
 //! Turns, one after another.
 
 ghost use Rattle.std.specs.Prelude.{◌≡◌, ◌<◌, ◌≤◌, ◌+◌, true};
+ghost use Rattle.mate_num.specs.declared.bounds.TheConstants.{CONTEXTS_MAX};
 ghost use Rattle.node_contexts.specs.At.{at as at_context};
 ghost use Rattle.node_invariant.specs.Keeps.{IsTimely};
 ghost use Rattle.node_grants.specs.Totals.{owes, starts_left};
@@ -28,7 +29,7 @@ pub fn take_turn(
     requires rests { Rests description.now parts.old }
     requires timely { IsTimely at parts.old.log }
     requires room { starts_left parts.old.contexts + 1 ≤ parts.old.log.spare }
-    requires small { ctx.0 < 16 }
+    requires small { ctx.0 < CONTEXTS_MAX }
     requires ready { (at_context parts.old.contexts ctx).ready ≡ true }
     requires some { 0 < n }
     ensures { TakesTurn description.now parts.old parts.new at ctx n result }

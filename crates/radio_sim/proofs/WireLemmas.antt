@@ -4,8 +4,9 @@ use Rattle.std.specs.Prelude.{if◌then◌else◌, ◌==◌, Some, None}
 use Rattle.std.specs.List.{cons_option}
 use Rattle.std.proofs.lemmas.List.{append-nil, take_all, take_more}
 use Rattle.std.proofs.lemmas.List.Elements.{filter_map-append}
-use Rattle.rand_pcg.specs.Lcg.{Lcg, advance, next_state, state_after}
-use Rattle.rand_pcg.specs.Pcg.{multiplier_64, pcg32}
+use Rattle.rand_pcg.specs.Lcg.{Lcg}
+use Rattle.rand_pcg.specs.Pcg.{pcg32}
+use Rattle.trickle_timer.proofs.StreamLemmas.{advance_step, advance_none}
 use Rattle.arrayvec.specs.ArrayVec.{ArrayVec}
 use Rattle.mate_journal.specs.declared.air.Air.TheVariants as air
 use Rattle.mate_journal.specs.declared.air.Aired.{Aired}
@@ -16,23 +17,6 @@ use Rattle.radio_sim.specs.declared.wire.Wire.{Wire}
 use Rattle.radio_sim.specs.declared.wire.Sending.{Sending}
 use Rattle.radio_sim.specs.Sending.{IsFurther}
 use Rattle.radio_sim.specs.Wires.{link_stream, words_from, link_word, wire_after, leaving, turned, loses, lost_on, delivered_on, losts, delivered}
-
--- a step after n steps is step n + 1
-state_after_step : (w m p n s : ℕ) → next_state w m p (state_after w m p n s) ≡ state_after w m p (suc n) s
-unfolding state_after
-state_after_step w m p zero s = refl
-state_after_step w m p (suc n) s = state_after_step w m p n (next_state w m p s)
-
-advance_step : (n : ℕ) (g : Lcg) → (pcg32 (advance 64 multiplier_64 n g)).1 ≡ advance 64 multiplier_64 (n + 1) g
-advance_step n g =
-    let M = multiplier_64 in
-    let e : next_state 64 M g.increment (state_after 64 M g.increment n g.state) ≡ state_after 64 M g.increment (n + 1) g.state = rw add-one (state_after_step 64 M g.increment n g.state) in
-    let G : ℕ → Lcg = λ s. record { state = s; increment = g.increment } in
-    ap G e
-
-advance_none : (g : Lcg) → advance 64 multiplier_64 0 g ≡ g
-unfolding state_after
-advance_none g = refl
 
 -- a link before its first packet
 pub wire_made : (random position : ℕ) (l : Link) (words rest : Lcg) (word : ℕ) → words ≡ link_stream random position → word ≡ (pcg32 words).0 → rest ≡ (pcg32 words).1

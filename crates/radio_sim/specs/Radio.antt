@@ -44,7 +44,7 @@ pub record IsEtherOf (w : World) (senders : List ℕ) (e : Ether) : Type 0 where
   pub wires : (node : ℕ) → node < 256 → wires_of e node ≡ leaving w.random (packets node senders) node 0 w.links
 
 -- nothing waits and nothing was sent
-pub record Starts (w : World) (d : Description) (e : Ether) : Type 0 where
+pub record StartsRadio (w : World) (d : Description) (e : Ether) : Type 0 where
   pub agenda : e.agenda ≡ record { until = w.until; now = 0; items = [] }
   pub air : e.air ≡ []
   pub delay : e.delay ≡ d.radio.delay

@@ -51,12 +51,12 @@ impl Model for Radio {
 impl Radio {
     ghost use Rattle.std.specs.Prelude.{List};
     ghost use Rattle.script_reader.specs.declared.world.World.{World};
-    ghost use Rattle.radio_sim.specs.Radio.{Starts, wires_of, transmitted, IsEtherOf};
+    ghost use Rattle.radio_sim.specs.Radio.{StartsRadio, wires_of, transmitted, IsEtherOf};
 
     /// The radio of a world, in which nothing waits and nothing was sent.
     pub fn new(alloc: Global, world: &World, desc: &Description) -> Result<Radio, NoMemory>
         requires { IsRightWorld desc.now world.now }
-        ensures { IfOk result (λ radio. Starts world.now desc.now radio) }
+        ensures { IfOk result (λ radio. StartsRadio world.now desc.now radio) }
     {
         let wires = wires_of(alloc, world.random, world.links.as_slice())?;
         let queue = Queue::new(alloc, world.until)?;

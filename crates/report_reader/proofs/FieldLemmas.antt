@@ -1,10 +1,12 @@
 -- The fields of a line are written as they were read.
 use Rattle.std.proofs.Common.{◌≡◌, ℕ, zero, suc, ◌+◌, ◌*◌, ◌^◌, ◌<◌, ◌≤◌, nat_lt, Bool, true, false, not, ◌&&◌, ◌==◌, nat_le, cond, List, [], ◌∷◌, ◌++◌, length, map, Option, Some, None, refl, sym, ap, subst, ◌∙◌, arith, inl, inr}
 use Rattle.std.specs.Prelude.{ℤ}
-use Rattle.std.specs.List.{slice_get}
+use Rattle.std.specs.List.{slice_get, position}
 use Rattle.std.specs.Option.{option_map}
 use Rattle.std.specs.Fmt.{decimal, signed_decimal}
 use Rattle.std.specs.Str.{bytes_eq}
+use Rattle.std.proofs.lemmas.Bool.Decides.{nat_tests}
+use Rattle.std.proofs.lemmas.Grind.{common_steps}
 use Rattle.std.proofs.lemmas.Bool.{cases_Bool, cond-true, cond-false, and_parts}
 use Rattle.std.proofs.lemmas.Slice.Eq.{bytes_eq-Decides}
 use Rattle.arrayvec.specs.ArrayVec.{ArrayVec}
@@ -22,13 +24,14 @@ use Rattle.mate_journal.specs.declared.entry.DropCause.TheVariants as drop
 use Rattle.report_text.specs.Words.{drop_word, fault_word, handler_name, function_name}
 use Rattle.report_reader.specs.Words.{first, rest}
 use Rattle.report_reader.specs.Numbers.{below_of, values_after, value_of}
-use Rattle.report_reader.specs.Hex.{is_hex_word, bytes_of, hex_of}
+use Rattle.capsule_codec.specs.HexText.{bytes_of_digits}
+use Rattle.report_reader.specs.Hex.{is_hex_word, hex_of}
 use Rattle.report_reader.specs.Names as names
 use Rattle.report_reader.specs.Reading.{number_of, node_of, drop_of, fault_of, payload_of}
 use Rattle.report_reader.proofs.OptionLemmas.{steps, when_some}
 use Rattle.report_reader.proofs.NumberLemmas.{Tells, decimal-below_of, signed-value_of}
 use Rattle.report_reader.proofs.VerbLemmas.{named_among-word}
-use Rattle.report_reader.proofs.HexLemmas.{IsHex, hex_word, encode_lower-bytes_of}
+use Rattle.report_reader.proofs.HexLemmas.{IsHex, hex_word, encode_lower-bytes_of_digits}
 
 -- a value under a map
 pub record Maps {A B : Type 0} (f : A → B) (o : Option A) (b : B) : Type 0 where
@@ -57,20 +60,27 @@ pub record Place {A : Type 0} (name_of : A → List ℕ) (xs : List A) (word : L
   pub below : i < length xs
   pub is : option_map name_of (slice_get xs i) ≡ Some word
 
-place_of-name : {A : Type 0} (name_of : A → List ℕ) (xs : List A) (word : List ℕ) (i : ℕ) → names.place_of name_of xs word ≡ Some i → Place name_of xs word i
-place_of-name name_of [] word i h = absurd cc
-place_of-name {A} name_of (x ∷ xs) word i h =
+-- a name's place among items, one after another
+pub position-here : {A : Type 0} (p : A → Bool) (x : A) (xs : List A) → p x ≡ true → position p (x ∷ xs) ≡ Some 0
+position-here p x xs e = rw e (grind (arith, nat_tests))
+
+pub position-later : {A : Type 0} (p : A → Bool) (x : A) (xs : List A) → p x ≡ false → position p (x ∷ xs) ≡ option_map (λ n. n + 1) (position p xs)
+position-later p x xs e = rw e (grind (arith, nat_tests, common_steps))
+
+position-name : {A : Type 0} (name_of : A → List ℕ) (xs : List A) (word : List ℕ) (i : ℕ) → position (λ x. bytes_eq (name_of x) word) xs ≡ Some i → Place name_of xs word i
+position-name name_of [] word i h = absurd cc
+position-name {A} name_of (x ∷ xs) word i h =
     elim (cases_Bool (bytes_eq (name_of x) word)) [
       | inl here ↦
-          let e : Some 0 ≡ Some i = sym (cond-true (bytes_eq (name_of x) word) _ _ here) ∙ h in
+          let e : Some 0 ≡ Some i = sym (position-here (λ y. bytes_eq (name_of y) word) x xs here) ∙ h in
           let at : 0 ≡ i = cc in
           let this : Place name_of (x ∷ xs) word 0 = record { below = omega arith; is = ap Some ((bytes_eq-Decides (name_of x) word).0 here) } in
           let P : ℕ → Type 0 = λ n. Place name_of (x ∷ xs) word n in
           subst P at this
       | inr later ↦
-          let e : option_map (λ (n : ℕ). n + 1) (names.place_of name_of xs word) ≡ Some i = sym (cond-false (bytes_eq (name_of x) word) _ _ later) ∙ h in
-          let m = maps (λ (n : ℕ). n + 1) (names.place_of name_of xs word) i e in
-          let ih : Place name_of xs word m.value = place_of-name name_of xs word m.value m.was in
+          let e : option_map (λ (n : ℕ). n + 1) (position (λ x. bytes_eq (name_of x) word) xs) ≡ Some i = sym (position-later (λ y. bytes_eq (name_of y) word) x xs later) ∙ h in
+          let m = maps (λ (n : ℕ). n + 1) (position (λ x. bytes_eq (name_of x) word) xs) i e in
+          let ih : Place name_of xs word m.value = position-name name_of xs word m.value m.was in
           let at : suc m.value ≡ i = omega (arith, m.gives) in
           let this : Place name_of (x ∷ xs) word (suc m.value) = record { below = omega (arith, ih.below); is = ih.is } in
           let P : ℕ → Type 0 = λ n. Place name_of (x ∷ xs) word n in
@@ -87,8 +97,8 @@ pub record TellsHandler (d : Description) (w : List ℕ) (h : HandlerId) : Type 
 pub handler_of-name : (d : Description) (word : List ℕ) (h : HandlerId) → names.handler_of d word ≡ Some h → TellsHandler d word h
 unfolding names.handler_of
 handler_of-name d word h e =
-    let m = maps (λ (n : ℕ). let x : HandlerId = record { 0 = n } in x) (names.place_of names.handler_name d.handlers.items word) h e in
-    let at = place_of-name names.handler_name d.handlers.items word m.value m.was in
+    let m = maps (λ (n : ℕ). let x : HandlerId = record { 0 = n } in x) (position (λ x. bytes_eq (names.name_of_handler x) word) d.handlers.items) h e in
+    let at = position-name names.name_of_handler d.handlers.items word m.value m.was in
     let this : TellsHandler d word (record { 0 = m.value }) = record { word = sym (name_in _ word at.is); below = at.below } in
     let P : HandlerId → Type 0 = λ x. TellsHandler d word x in
     subst P m.gives this
@@ -100,8 +110,8 @@ pub record TellsFunction (d : Description) (w : List ℕ) (f : FunId) : Type 0 w
 pub function_of-name : (d : Description) (word : List ℕ) (f : FunId) → names.function_of d word ≡ Some f → TellsFunction d word f
 unfolding names.function_of
 function_of-name d word f e =
-    let m = maps (λ (n : ℕ). let x : FunId = record { 0 = n } in x) (names.place_of names.function_name d.functions.items word) f e in
-    let at = place_of-name names.function_name d.functions.items word m.value m.was in
+    let m = maps (λ (n : ℕ). let x : FunId = record { 0 = n } in x) (position (λ x. bytes_eq (names.name_of_function x) word) d.functions.items) f e in
+    let at = position-name names.name_of_function d.functions.items word m.value m.was in
     let this : TellsFunction d word (record { 0 = m.value }) = record { word = sym (name_in _ word at.is); below = at.below } in
     let P : FunId → Type 0 = λ x. TellsFunction d word x in
     subst P m.gives this
@@ -141,18 +151,18 @@ pub record TellsBytes (w bytes : List ℕ) : Type 0 where
   pub word : w ≡ encode_lower bytes
   pub some : 0 < length bytes
 
-bytes_some : (word : List ℕ) → is_hex_word word ≡ true → 0 < length (bytes_of word)
+bytes_some : (word : List ℕ) → is_hex_word word ≡ true → 0 < length (bytes_of_digits word)
 bytes_some word h =
-    let same = ap (λ (x : List ℕ). length x) (encode_lower-bytes_of word h) in
+    let same = ap (λ (x : List ℕ). length x) (encode_lower-bytes_of_digits word h) in
     let is : IsHex word = hex_word word h in
-    omega (arith, same, length-encode_with Rattle.hex.specs.Hex.lower_digits (bytes_of word), is.some)
+    omega (arith, same, length-encode_with Rattle.hex.specs.Hex.lower_digits (bytes_of_digits word), is.some)
 
 pub hex_of-word : (most : ℕ) (word : List ℕ) (v : ArrayVec ℕ) → hex_of most word ≡ Some v → TellsBytes word v.items
 hex_of-word most word v h =
-    let parts = when_some (is_hex_word word && nat_le (length word) (2 * most)) (Some (let x : ArrayVec ℕ = record { items = bytes_of word } in x)) v h in
+    let parts = when_some (is_hex_word word && nat_le (length word) (2 * most)) (Some (let x : ArrayVec ℕ = record { items = bytes_of_digits word } in x)) v h in
     let known = (and_parts (is_hex_word word) _ parts.0).0 in
-    let this : TellsBytes word (bytes_of word) = record { word = sym (encode_lower-bytes_of word known); some = bytes_some word known } in
-    let same : bytes_of word ≡ v.items = ap (λ (o : Option (ArrayVec ℕ)). elim o [ Some x ↦ x.items | None ↦ [] ]) parts.1 in
+    let this : TellsBytes word (bytes_of_digits word) = record { word = sym (encode_lower-bytes_of_digits word known); some = bytes_some word known } in
+    let same : bytes_of_digits word ≡ v.items = ap (λ (o : Option (ArrayVec ℕ)). elim o [ Some x ↦ x.items | None ↦ [] ]) parts.1 in
     let P : List ℕ → Type 0 = λ bytes. TellsBytes word bytes in
     subst P same this
 

@@ -1,16 +1,18 @@
 -- Hexadecimal words are read as they are written.
 use Rattle.std.proofs.Common.{◌≡◌, ℕ, zero, suc, ◌+◌, ◌*◌, ◌/◌, ◌%◌, ◌<◌, ◌==◌, nat_lt, Bool, true, false, not, ◌&&◌, ◌||◌, List, [], ◌∷◌, length, slice_index, Option, Some, None, Result, Ok, Err, is_some, unwrap_or, refl, sym, ap, subst, ◌∙◌, arith, inl, inr}
-use Rattle.std.specs.Prelude.{MatchResult, All}
+use Rattle.std.specs.Prelude.{All}
+use Rattle.std.specs.Char.{is_ascii_hexdigit}
 use Rattle.std.specs.List.{list_all}
 use Rattle.std.specs.Result.{result_unwrap_or}
-use Rattle.std.proofs.lemmas.Bool.{and_parts, ltb-true, eqb-true, cases_lt}
+use Rattle.std.proofs.lemmas.Bool.{and_parts, and_from, ltb-true, eqb-true, eq-eqb, cases_lt}
 use Rattle.std.proofs.lemmas.Bool.Decides.{nat_tests}
 use Rattle.std.proofs.lemmas.List.Elements.{All-nil, All-cons}
-use Rattle.hex.specs.Hex.{decode_of, decode_pairs, decode_sized, encode_lower, encode_with, lower_digits, hex_digit_value, pair_value}
+use Rattle.hex.specs.Hex.{decode_of, decode_pairs, encode_lower, encode_with, lower_digits, hex_digit_value, pair_value}
 use Rattle.hex.specs.declared.error.FromHexError.{FromHexError}
-use Rattle.hex.proofs.HexLemmas.{decode_of-even, decode_sized-twice}
+use Rattle.hex.proofs.HexLemmas.{decode_of-even}
 use Rattle.hex.proofs.Pairs.{cons_byte, decode_pairs-ok_pair}
-use Rattle.report_reader.specs.Hex.{is_lower_digit, is_hex_word, bytes_of}
+use Rattle.capsule_codec.specs.HexText.{is_hex, bytes_of_digits}
+use Rattle.report_reader.specs.Hex.{is_lower_digit, is_hex_word}
 
 -- ---- one digit
 
@@ -104,6 +106,13 @@ pairs i (a ∷ b ∷ s) even h =
 
 -- ---- words
 
+-- what passes a test passes a weaker one
+pub list_all-weaker : {A : Type 0} (p q : A → Bool) (imp : (x : A) → p x ≡ true → q x ≡ true) (xs : List A) → list_all p xs ≡ true → list_all q xs ≡ true
+list_all-weaker p q imp [] h = refl
+list_all-weaker p q imp (x ∷ xs) h =
+    let parts = and_parts (p x) (list_all p xs) h in
+    and_from (q x) (list_all q xs) (imp x parts.0) (list_all-weaker p q imp xs parts.1)
+
 pub record IsHex (w : List ℕ) : Type 0 where
   pub some : 0 < length w
   pub even : length w % 2 ≡ 0
@@ -118,32 +127,24 @@ hex_word w h =
 unwrapped : (r : Result (List ℕ) FromHexError) (bytes : List ℕ) → r ≡ Ok bytes → result_unwrap_or r [] ≡ bytes
 unwrapped r bytes h = ap (λ (x : Result (List ℕ) FromHexError). result_unwrap_or x []) h
 
--- the bytes of a word decode, and are written as the word
-pub decode_of-word : (w : List ℕ) → is_hex_word w ≡ true → decode_of w ≡ Ok (bytes_of w)
-decode_of-word w h =
-    let is : IsHex w = hex_word w h in
-    let found : Pairs 0 w = pairs 0 w is.even is.digits in
-    let e : decode_of w ≡ Ok found.bytes = decode_of-even w is.even ∙ found.reads in
-    e ∙ ap Ok (sym (unwrapped (decode_of w) found.bytes e))
+-- they are digits of either case
+ascii-digit : (c : ℕ) → is_lower_digit c ≡ true → is_ascii_hexdigit c ≡ true
+ascii-digit c h = grind (arith, nat_tests)
 
-pub encode_lower-bytes_of : (w : List ℕ) → is_hex_word w ≡ true → encode_lower (bytes_of w) ≡ w
-encode_lower-bytes_of w h =
+pub digits_of_word : (w : List ℕ) → is_hex_word w ≡ true → is_hex w ≡ true
+digits_of_word w h =
+    let is : IsHex w = hex_word w h in
+    and_from (length w % 2 == 0) (list_all is_ascii_hexdigit w) (eq-eqb _ _ is.even) (list_all-weaker is_lower_digit is_ascii_hexdigit ascii-digit w is.digits)
+
+-- the bytes of a word are written as the word
+pub encode_lower-bytes_of_digits : (w : List ℕ) → is_hex_word w ≡ true → encode_lower (bytes_of_digits w) ≡ w
+encode_lower-bytes_of_digits w h =
     let is : IsHex w = hex_word w h in
     let found : Pairs 0 w = pairs 0 w is.even is.digits in
     ap encode_lower (unwrapped (decode_of w) found.bytes (decode_of-even w is.even ∙ found.reads)) ∙ found.writes
 
-pub small-bytes_of : (w : List ℕ) → is_hex_word w ≡ true → All (λ (b : ℕ). b < 256) (bytes_of w)
-small-bytes_of w h =
+pub small-bytes_of_digits : (w : List ℕ) → is_hex_word w ≡ true → All (λ (b : ℕ). b < 256) (bytes_of_digits w)
+small-bytes_of_digits w h =
     let is : IsHex w = hex_word w h in
     let found : Pairs 0 w = pairs 0 w is.even is.digits in
     subst (All (λ (b : ℕ). b < 256)) (sym (unwrapped (decode_of w) found.bytes (decode_of-even w is.even ∙ found.reads))) found.small
-
-decodes_at : (read : Result (List ℕ) FromHexError) (bytes : List ℕ) (r : Result Unit FromHexError) (out : List ℕ) → read ≡ Ok bytes
-    → MatchResult read (λ bytes. (r ≡ Ok tt) × (out ≡ bytes)) (λ e. r ≡ Err e) → (r ≡ Ok tt) × (out ≡ bytes)
-decodes_at (Ok found) bytes r out same h = let e : found ≡ bytes = cc same in (h.0, h.1 ∙ e)
-decodes_at (Err fault) bytes r out same h = absurd cc
-
--- into room for as many bytes as the digits tell
-pub decodes : (w : List ℕ) (n : ℕ) (r : Result Unit FromHexError) (out : List ℕ) → is_hex_word w ≡ true → length w ≡ 2 * n
-    → MatchResult (decode_sized w n) (λ bytes. (r ≡ Ok tt) × (out ≡ bytes)) (λ e. r ≡ Err e) → (r ≡ Ok tt) × (out ≡ bytes_of w)
-decodes w n r out known twice h = decodes_at (decode_sized w n) (bytes_of w) r out (decode_sized-twice w n twice ∙ decode_of-word w known) h

@@ -28,7 +28,7 @@ use Rattle.report_reader.specs.Hex.{image_of, packet_of}
 use Rattle.report_reader.specs.Names.{handler_of, function_of, context_of}
 use Rattle.report_reader.specs.Stores.{store_of}
 use Rattle.report_reader.specs.Told.{told_words, line_words, IsRightTold, IsRight}
-use Rattle.report_reader.specs.Reading.{number_of, node_of, drop_of, fault_of, payload_of, post_of, dropped_of, ask_of, answer_of, faulted_of, installed_of, VoidVerb, ready, waiting, newer, void_word, void_by, void_of, started_of, halted_of, shown_of, interval_of, sent_of, lost_of, got_of, noise_of, told_by, told_of, line_with, line_in}
+use Rattle.report_reader.specs.Reading.{number_of, node_of, drop_of, fault_of, payload_of, post_of, dropped_of, ask_of, answer_of, faulted_of, installed_of, VoidVerb, ready, waiting, newer, void_word, void_by, void_of, started_of, halted_of, shown_of, interval_of, sent_of, lost_of, got_of, noise_told, told_by, told_of, line_with, line_in}
 use Rattle.report_reader.proofs.OptionLemmas.{steps}
 use Rattle.report_reader.proofs.NumberLemmas.{Tells, decimal-unsigned_of, signed-value_of}
 use Rattle.report_reader.proofs.VerbLemmas.{named_among-word, word-verb_of}
@@ -224,7 +224,7 @@ installed_read d ws t h =
     along d (told.Installed a.step b.step c.step) t (codes "install" ∷ ws) z.1
     (record { words = installed_words d a.step b.step c.step wc.some ∙ ap (λ (x : List (List ℕ)). joined (codes "install" ∷ x)) e; right = (wa.below, wc.some) })
 
-noise_read : (d : Description) (ws : List (List ℕ)) (t : Told) → noise_of ws ≡ Some t → Writes d t (codes "noise" ∷ ws)
+noise_read : (d : Description) (ws : List (List ℕ)) (t : Told) → noise_told ws ≡ Some t → Writes d t (codes "noise" ∷ ws)
 noise_read d ws t h =
     let a = steps _ (first packet_of ws) t h in
     let z = only_end (told.OnAir (air.Noise a.step)) t (rest ws) a.gives in

@@ -1,5 +1,6 @@
 -- Numbers and values are read as they are written.
 use Rattle.std.proofs.Common.{◌≡◌, ℕ, zero, suc, ◌^◌, ◌<◌, ◌≤◌, ◌==◌, nat_lt, true, false, not, ◌||◌, List, [], ◌∷◌, length, get_or, Option, Some, Result, Ok, Err, sym, ap, subst, ◌∙◌, arith, rules, inl, inr}
+use Rattle.std.specs.Char.{is_ascii_digit}
 use Rattle.std.specs.Prelude.{ℤ, pos, negsuc}
 use Rattle.std.specs.List.{list_all}
 use Rattle.std.specs.Result.{result_ok, OkIff}
@@ -12,15 +13,15 @@ use Rattle.std.proofs.lemmas.Str.Parse.{IsNumeralModel, numerals_by_value, parse
 use Rattle.std.proofs.lemmas.Fmt.{digits_decimal, digits_value-decimal, decimal-digits_value, decimal_nonempty, first_decimal, decimal_digit, IsAscii-from_digits}
 use Rattle.std.proofs.lemmas.Bool.{and_parts, and_from, lt-ltb, le-ltb, eqb-true, cond-true, cond-false, cases_Bool, cases_lt}
 use Rattle.std.proofs.lemmas.Bool.Decides.{nat_tests}
-use Rattle.report_reader.specs.Numbers.{is_digit, is_numeral, below_limit, unsigned_of, below_of, negative, positive, value_of}
+use Rattle.report_reader.specs.Numbers.{is_plain_numeral, below_limit, unsigned_of, below_of, negative, positive, value_of}
 use Rattle.report_reader.proofs.OptionLemmas.{steps, when_some, below_some}
 
-own : IsNumeralModel (λ ds. list_all is_digit ds ≡ true) (digits_value 10)
+own : IsNumeralModel (λ ds. list_all is_ascii_digit ds ≡ true) (digits_value 10)
 own = numerals_by_value _ (search rules)
 
 -- digits, at least one, and only one where the first is `0`
 pub record IsPlain (w : List ℕ) : Type 0 where
-  pub digits : list_all is_digit w ≡ true
+  pub digits : list_all is_ascii_digit w ≡ true
   pub some : 0 < length w
   pub lead : get_or w 0 0 ≡ 48 → length w ≡ 1
 
@@ -30,19 +31,19 @@ lead_of b n h e = grind (arith, nat_tests)
 of_lead : (b n : ℕ) → (b ≡ 48 → suc n ≡ 1) → (not (b == 48) || n == 0) ≡ true
 of_lead b n h = grind (arith, nat_tests)
 
-pub plain : (w : List ℕ) → is_numeral w ≡ true → IsPlain w
+pub plain : (w : List ℕ) → is_plain_numeral w ≡ true → IsPlain w
 plain [] h = absurd cc
 plain (b ∷ bs) h =
-    let parts = and_parts (list_all is_digit (b ∷ bs)) (not (b == 48) || length bs == 0) h in
+    let parts = and_parts (list_all is_ascii_digit (b ∷ bs)) (not (b == 48) || length bs == 0) h in
     record { digits = parts.0; some = omega arith; lead = λ e. (let z : length bs ≡ 0 = lead_of b (length bs) parts.1 e in omega arith) }
 
-plain-is_numeral : (w : List ℕ) → IsPlain w → is_numeral w ≡ true
-plain-is_numeral [] p = absurd (omega (arith, p.some))
-plain-is_numeral (b ∷ bs) p = and_from (list_all is_digit (b ∷ bs)) (not (b == 48) || length bs == 0) p.digits (of_lead b (length bs) p.lead)
+plain-is_plain_numeral : (w : List ℕ) → IsPlain w → is_plain_numeral w ≡ true
+plain-is_plain_numeral [] p = absurd (omega (arith, p.some))
+plain-is_plain_numeral (b ∷ bs) p = and_from (list_all is_ascii_digit (b ∷ bs)) (not (b == 48) || length bs == 0) p.digits (of_lead b (length bs) p.lead)
 
 -- a numeral is a text
-pub is_numeral-IsUtf8 : (w : List ℕ) → is_numeral w ≡ true → IsUtf8 w
-is_numeral-IsUtf8 w h = IsUtf8-from_ascii w (IsAscii-from_digits w (own.to w (plain w h).digits))
+pub is_plain_numeral-IsUtf8 : (w : List ℕ) → is_plain_numeral w ≡ true → IsUtf8 w
+is_plain_numeral-IsUtf8 w h = IsUtf8-from_ascii w (IsAscii-from_digits w (own.to w (plain w h).digits))
 
 -- what the parser of numbers gives
 parsed_as : {E : Type 0} (w : List ℕ) (r : Result ℕ E) → OkIff r ((0 < length w) × (digits_value 10 w < 2 ^ 64)) (digits_value 10 w) → 0 < length w
@@ -54,10 +55,10 @@ parsed_as w (Err e) h some =
       | inr high ↦ sym (cond-false (nat_lt (digits_value 10 w) (2 ^ 64)) _ _ (le-ltb _ _ high))
     ]
 
-pub parses : {E : Type 0} (w : List ℕ) (r : Result ℕ E) (o : Option ℕ) → is_numeral w ≡ true → ParsesUnsigned 64 10 w r → o ≡ result_ok r → o ≡ unsigned_of w
+pub parses : {E : Type 0} (w : List ℕ) (r : Result ℕ E) (o : Option ℕ) → is_plain_numeral w ≡ true → ParsesUnsigned 64 10 w r → o ≡ result_ok r → o ≡ unsigned_of w
 parses w r o h p e =
     let is : IsPlain w = plain w h in
-    e ∙ parsed_as w r (parse_digits own 64 w r p is.digits) is.some ∙ sym (cond-true (is_numeral w) _ _ h)
+    e ∙ parsed_as w r (parse_digits own 64 w r p is.digits) is.some ∙ sym (cond-true (is_plain_numeral w) _ _ h)
 
 -- ---- numbers
 
@@ -73,12 +74,12 @@ plain-decimal n h = record { digits = digits_decimal own n h; some = decimal_non
 
 pub unsigned_of-decimal : (n : ℕ) → n < 2 ^ 64 → unsigned_of (decimal n) ≡ Some n
 unsigned_of-decimal n h =
-    cond-true (is_numeral (decimal n)) _ _ (plain-is_numeral (decimal n) (plain-decimal n h)) ∙ ap (below_limit (2 ^ 64)) (digits_value-decimal own n h)
+    cond-true (is_plain_numeral (decimal n)) _ _ (plain-is_plain_numeral (decimal n) (plain-decimal n h)) ∙ ap (below_limit (2 ^ 64)) (digits_value-decimal own n h)
     ∙ cond-true (nat_lt n (2 ^ 64)) _ _ (lt-ltb _ _ h)
 
 pub decimal-unsigned_of : (w : List ℕ) (n : ℕ) → unsigned_of w ≡ Some n → decimal n ≡ w
 decimal-unsigned_of w n h =
-    let numeral = when_some (is_numeral w) (below_limit (2 ^ 64) (digits_value 10 w)) n h in
+    let numeral = when_some (is_plain_numeral w) (below_limit (2 ^ 64) (digits_value 10 w)) n h in
     let below = below_some (digits_value 10 w) (2 ^ 64) n numeral.1 in
     let is : IsPlain w = plain w numeral.0 in
     ap decimal (sym below.1) ∙ decimal-digits_value own w is.digits is.some is.lead below.0
@@ -105,8 +106,8 @@ abbrev pub IsValue : ℤ → Type 0
 IsValue (pos n) = n < 32768
 IsValue (negsuc n) = n < 32768
 
-digit_not_minus : (b : ℕ) (bs : List ℕ) → list_all is_digit (b ∷ bs) ≡ true → (b == 45) ≡ false
-digit_not_minus b bs h = let here : is_digit b ≡ true = (and_parts (is_digit b) (list_all is_digit bs) h).0 in grind (arith, nat_tests, and_parts)
+digit_not_minus : (b : ℕ) (bs : List ℕ) → list_all is_ascii_digit (b ∷ bs) ≡ true → (b == 45) ≡ false
+digit_not_minus b bs h = let here : is_ascii_digit b ≡ true = (and_parts (is_ascii_digit b) (list_all is_ascii_digit bs) h).0 in grind (arith, nat_tests, and_parts)
 
 value_of-digits : (w : List ℕ) (n : ℕ) → IsPlain w → unsigned_of w ≡ Some n → n < 32768 → value_of w ≡ Some (pos n)
 value_of-digits [] n p e h = absurd (omega (arith, p.some))

@@ -23,14 +23,15 @@ use Rattle.report_reader.specs.declared.verb.Verb.TheVariants as verb
 use Rattle.report_reader.specs.Words.{words_of, first, rest, reads, only_at_end}
 use Rattle.report_reader.specs.Numbers.{below_limit, unsigned_of, below_of, negative, positive, value_of, values_after}
 use Rattle.report_reader.specs.Verbs.{verb_of, named_among}
-use Rattle.report_reader.specs.Hex.{is_hex_word, bytes_of, hex_of, image_of, packet_of}
+use Rattle.capsule_codec.specs.HexText.{bytes_of_digits}
+use Rattle.report_reader.specs.Hex.{is_hex_word, hex_of, image_of, packet_of}
 use Rattle.report_reader.specs.Names.{handler_of, function_of, context_of}
 use Rattle.report_reader.specs.Stores.{after, closed, shared_value, shared_after, item, items_after, opened, buffer_of, buffers_after, store_with, store_of}
 use Rattle.report_reader.specs.Told.{IsByteList, AreValues, HasToldRanges, HasRanges}
 use Rattle.report_reader.specs.Reading.{number_of, node_of, drop_of, fault_of, payload_of, post_of, dropped_of, ask_of, VoidVerb, ready, waiting, newer, void_word, void_by, told_by, told_of, line_with, line_in}
 use Rattle.report_reader.proofs.OptionLemmas.{steps, when_some, below_some}
 use Rattle.report_reader.proofs.NumberLemmas.{decimal-below_of}
-use Rattle.report_reader.proofs.HexLemmas.{encode_lower-bytes_of, small-bytes_of}
+use Rattle.report_reader.proofs.HexLemmas.{encode_lower-bytes_of_digits, small-bytes_of_digits}
 use Rattle.report_reader.proofs.FieldLemmas.{maps}
 use Rattle.report_reader.proofs.StoreLemmas.{only_end}
 
@@ -45,7 +46,7 @@ small-number ws n h = first-told number_of (λ m. m < 2 ^ 32) (λ w m e. (decima
 
 small-unsigned : (w : List ℕ) (n : ℕ) → unsigned_of w ≡ Some n → n < 2 ^ 64
 small-unsigned w n h =
-    let numeral = when_some (Rattle.report_reader.specs.Numbers.is_numeral w) (below_limit (2 ^ 64) (Rattle.std.specs.Str.Parse.digits_value 10 w)) n h in
+    let numeral = when_some (Rattle.report_reader.specs.Numbers.is_plain_numeral w) (below_limit (2 ^ 64) (Rattle.std.specs.Str.Parse.digits_value 10 w)) n h in
     let below = below_some (Rattle.std.specs.Str.Parse.digits_value 10 w) (2 ^ 64) n numeral.1 in
     let P : ℕ → Type 0 = λ m. m < 2 ^ 64 in subst P below.1 below.0
 
@@ -105,12 +106,12 @@ pub record AreBytes (most : ℕ) (bytes : List ℕ) : Type 0 where
 
 hex-bytes : (most : ℕ) (w : List ℕ) (v : ArrayVec ℕ) → hex_of most w ≡ Some v → AreBytes most v.items
 hex-bytes most w v h =
-    let parts = when_some (is_hex_word w && nat_le (length w) (2 * most)) (Some (let x : ArrayVec ℕ = record { items = bytes_of w } in x)) v h in
+    let parts = when_some (is_hex_word w && nat_le (length w) (2 * most)) (Some (let x : ArrayVec ℕ = record { items = bytes_of_digits w } in x)) v h in
     let tests = and_parts (is_hex_word w) (nat_le (length w) (2 * most)) parts.0 in
-    let same = ap (λ (x : List ℕ). length x) (encode_lower-bytes_of w tests.0) in
+    let same = ap (λ (x : List ℕ). length x) (encode_lower-bytes_of_digits w tests.0) in
     let few : length w ≤ 2 * most = leb-true (length w) (2 * most) tests.1 in
-    let this : AreBytes most (bytes_of w) = record { few = omega (arith, same, few, length-encode_with lower_digits (bytes_of w)); list = small-bytes_of w tests.0 } in
-    let is : bytes_of w ≡ v.items = ap (λ (o : Option (ArrayVec ℕ)). elim o [ Some x ↦ x.items | None ↦ [] ]) parts.1 in
+    let this : AreBytes most (bytes_of_digits w) = record { few = omega (arith, same, few, length-encode_with lower_digits (bytes_of_digits w)); list = small-bytes_of_digits w tests.0 } in
+    let is : bytes_of_digits w ≡ v.items = ap (λ (o : Option (ArrayVec ℕ)). elim o [ Some x ↦ x.items | None ↦ [] ]) parts.1 in
     subst (AreBytes most) is this
 
 -- ---- stores
@@ -238,7 +239,7 @@ installed d ws t h =
     let bytes = first-told image_of (λ (v : ArrayVec ℕ). AreBytes 1056 v.items) (λ w v e. hex-bytes 1056 w v e) (rest (rest ws)) c.step c.was in
     along (told.Installed a.step b.step c.step) t z.1 (small-number (rest ws) b.step b.was, bytes.few, bytes.list)
 
-noise : (ws : List (List ℕ)) (t : Told) → Rattle.report_reader.specs.Reading.noise_of ws ≡ Some t → HasToldRanges t
+noise : (ws : List (List ℕ)) (t : Told) → Rattle.report_reader.specs.Reading.noise_told ws ≡ Some t → HasToldRanges t
 noise ws t h =
     let a = steps _ (first packet_of ws) t h in
     let z = only_end (told.OnAir (air.Noise a.step)) t (rest ws) a.gives in

@@ -16,7 +16,7 @@ use Rattle.report_text.specs.Words.{values, word, spaced, shared_word, buffer_wo
 use Rattle.report_reader.specs.Words.{first, rest, only_at_end}
 use Rattle.report_reader.specs.Numbers.{value_of}
 use Rattle.report_reader.specs.Stores.{after, closed, shared_value, shared_after, item, items_after, opened, buffer_of, buffers_after, store_with, store_of}
-use Rattle.report_reader.specs.Told.{IsStoreOf}
+use Rattle.mate_journal.specs.Tidy.{IsStoreOf}
 use Rattle.report_reader.proofs.OptionLemmas.{steps, when_some}
 use Rattle.report_reader.proofs.NumberLemmas.{signed-value_of}
 use Rattle.report_reader.proofs.FieldLemmas.{maps, next}

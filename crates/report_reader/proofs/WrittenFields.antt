@@ -2,7 +2,7 @@
 use Rattle.std.proofs.Common.{◌≡◌, ℕ, zero, suc, ◌+◌, ◌*◌, ◌%◌, ◌^◌, ◌<◌, ◌≤◌, ◌==◌, nat_lt, nat_le, Bool, true, false, not, ◌&&◌, ◌||◌, cond, List, [], ◌∷◌, ◌++◌, length, map, get_or, Option, Some, None, Result, Ok, Err, refl, sym, ap, subst, ◌∙◌, arith, inl, inr, append-nil, append_assoc, IsTrue}
 use Rattle.std.specs.Prelude.{ℤ, All, FitsSigned}
 use Rattle.std.specs.Int.{w16}
-use Rattle.std.specs.List.{list_all, slice_get}
+use Rattle.std.specs.List.{list_all, slice_get, position}
 use Rattle.std.specs.Option.{option_and_then, option_map}
 use Rattle.std.specs.Result.{result_unwrap_or}
 use Rattle.std.specs.Fmt.{decimal, signed_decimal}
@@ -19,7 +19,8 @@ use Rattle.mate_num.specs.declared.call.FaultKind.TheVariants as fault
 use Rattle.mate_num.specs.declared.id.HandlerId.{HandlerId}
 use Rattle.mate_num.specs.declared.id.FunId.{FunId}
 use Rattle.mate_num.specs.declared.id.ContextId.{ContextId}
-use Rattle.vm_desc.specs.Limits.{is_handler, is_function, is_kind, is_device, args_of, first_of_two}
+use Rattle.mate_num.specs.Shapes.{is_device}
+use Rattle.vm_desc.specs.Limits.{is_handler, is_function, is_kind, args_of, first_of_two}
 use Rattle.vm_desc.specs.Names.{is_name, between, stands_in, repeat_after, first_repeat}
 use Rattle.vm_desc.specs.Whole.{context_count}
 use Rattle.vm_desc.specs.declared.description.Description.{Description}
@@ -31,8 +32,10 @@ use Rattle.mate_journal.specs.declared.entry.DropCause.TheVariants as drop
 use Rattle.report_text.specs.Words.{drop_word, fault_word, handler_name, function_name, name_of}
 use Rattle.report_reader.specs.Words.{reads}
 use Rattle.report_reader.specs.Numbers.{value_of, values_after}
-use Rattle.report_reader.specs.Hex.{is_lower_digit, is_hex_word, bytes_of, hex_of}
+use Rattle.capsule_codec.specs.HexText.{bytes_of_digits}
+use Rattle.report_reader.specs.Hex.{is_lower_digit, is_hex_word, hex_of}
 use Rattle.report_reader.specs.Names as names
+use Rattle.report_reader.proofs.FieldLemmas.{position-here, position-later}
 use Rattle.report_reader.specs.Reading.{number_of, node_of, drop_of, fault_of, payload_of}
 use Rattle.report_reader.specs.Told.{IsByteList, AreValues}
 use Rattle.report_reader.proofs.NumberLemmas.{value_of-signed, below_of-decimal}
@@ -110,13 +113,13 @@ name-among name P (x ∷ xs) zero word all h = let e : name x ≡ word = cc h in
 name-among name P (x ∷ xs) (suc i) word all h = name-among name P xs i word (All-tail P (name x) (map name xs) all) h
 
 -- each name is found at its place
-place_of-named : {A : Type 0} (name : A → List ℕ) (xs : List A) (seen : List (List ℕ)) (i : ℕ) (word : List ℕ) → repeat_after seen (map name xs) ≡ None
-    → option_map name (slice_get xs i) ≡ Some word → names.place_of name xs word ≡ Some i
-place_of-named name [] seen i word once h = absurd cc
-place_of-named name (x ∷ xs) seen zero word once h =
+position-named : {A : Type 0} (name : A → List ℕ) (xs : List A) (seen : List (List ℕ)) (i : ℕ) (word : List ℕ) → repeat_after seen (map name xs) ≡ None
+    → option_map name (slice_get xs i) ≡ Some word → position (λ x. bytes_eq (name x) word) xs ≡ Some i
+position-named name [] seen i word once h = absurd cc
+position-named name (x ∷ xs) seen zero word once h =
     let e : name x ≡ word = cc h in
-    cond-true (bytes_eq (name x) word) (Some 0) _ ((bytes_eq-Decides (name x) word).1 e)
-place_of-named name (x ∷ xs) seen (suc i) word once h =
+    position-here (λ y. bytes_eq (name y) word) x xs ((bytes_eq-Decides (name x) word).1 e)
+position-named name (x ∷ xs) seen (suc i) word once h =
     let n = name x in
     elim (cases_Bool (stands_in seen n)) [
       | inl twice ↦ let e : Some n ≡ None = sym (cond-true (stands_in seen n) (Some n) (repeat_after (seen ++ n ∷ []) (map name xs)) twice) ∙ once in absurd cc
@@ -125,11 +128,11 @@ place_of-named name (x ∷ xs) seen (suc i) word once h =
           sym (cond-false (stands_in seen n) (Some n) (repeat_after (seen ++ n ∷ []) (map name xs)) first_time) ∙ once in
           let others = other_names (seen ++ n ∷ []) (map name xs) n more (stands-last seen n) in
           let other : n ≡ word → ⊥ = name-among name (λ (m : List ℕ). n ≡ m → ⊥) xs i word others h in
-          let ih : names.place_of name xs word ≡ Some i = place_of-named name xs (seen ++ n ∷ []) i word more h in
+          let ih : position (λ x. bytes_eq (name x) word) xs ≡ Some i = position-named name xs (seen ++ n ∷ []) i word more h in
           let at : i + 1 ≡ suc i = omega arith in
           elim (cases_Bool (bytes_eq n word)) [
             | inl same ↦ absurd (other ((bytes_eq-Decides n word).0 same))
-            | inr differs ↦ cond-false (bytes_eq n word) (Some 0) _ differs ∙ ap (option_map (λ (k : ℕ). k + 1)) ih ∙ ap Some at
+            | inr differs ↦ position-later (λ y. bytes_eq (name y) word) x xs differs ∙ ap (option_map (λ (k : ℕ). k + 1)) ih ∙ ap Some at
           ]
     ]
 
@@ -139,13 +142,13 @@ none-first (Some n) b h = absurd cc
 
 -- no handler's name stands twice, and no function's
 record Once (d : Description) : Type 0 where
-  handlers : repeat_after [] (map names.handler_name d.handlers.items) ≡ None
-  functions : repeat_after [] (map names.function_name d.functions.items) ≡ None
+  handlers : repeat_after [] (map names.name_of_handler d.handlers.items) ≡ None
+  functions : repeat_after [] (map names.name_of_function d.functions.items) ≡ None
 
 once_each : (d : Description) → Once d
 once_each d =
-    let handlers : Option (List ℕ) = first_repeat (map names.handler_name d.handlers.items) in
-    let functions : Option (List ℕ) = first_repeat (map names.function_name d.functions.items) in
+    let handlers : Option (List ℕ) = first_repeat (map names.name_of_handler d.handlers.items) in
+    let functions : Option (List ℕ) = first_repeat (map names.name_of_function d.functions.items) in
     let devices : Option (List ℕ) = first_repeat d.devices.items in
     let variables : Option (List ℕ) = first_repeat (d.shared.items ++ d.buffers.items) in
     let a = none-first variables (first_of_two devices (first_of_two handlers functions)) (items_of d).distinct in
@@ -172,11 +175,11 @@ word-in o word h = ap name_of h
 pub reads-handler : (d : Description) (h : HandlerId) → h.0 < length d.handlers.items → Reads (names.handler_of d) (handler_name d h) h
 reads-handler d h below =
     let items = items_of d in
-    let n : Named names.handler_name d.handlers.items h.0 =
-    named-at names.handler_name is_handler (λ x e. handler-name x e) d.handlers.items h.0 items.each_handler below in
+    let n : Named names.name_of_handler d.handlers.items h.0 =
+    named-at names.name_of_handler is_handler (λ x e. handler-name x e) d.handlers.items h.0 items.each_handler below in
     let once = (once_each d).handlers in
     let word : handler_name d h ≡ n.word = word-in _ n.word n.is in
-    let found : names.place_of names.handler_name d.handlers.items n.word ≡ Some h.0 = place_of-named names.handler_name d.handlers.items [] h.0 n.word once n.is in
+    let found : position (λ x. bytes_eq (names.name_of_handler x) n.word) d.handlers.items ≡ Some h.0 = position-named names.name_of_handler d.handlers.items [] h.0 n.word once n.is in
     record {
       told = ap (names.handler_of d) word ∙ ap (option_map (λ (k : ℕ). let x : HandlerId = record { 0 = k } in x)) found;
       written = ap is_written word ∙ n.written;
@@ -185,11 +188,11 @@ reads-handler d h below =
 pub reads-function : (d : Description) (f : FunId) → f.0 < length d.functions.items → Reads (names.function_of d) (function_name d f) f
 reads-function d f below =
     let items = items_of d in
-    let n : Named names.function_name d.functions.items f.0 =
-    named-at names.function_name (is_function (length d.devices.items)) (λ x e. function-name (length d.devices.items) x e) d.functions.items f.0 items.each_function below in
+    let n : Named names.name_of_function d.functions.items f.0 =
+    named-at names.name_of_function (is_function (length d.devices.items)) (λ x e. function-name (length d.devices.items) x e) d.functions.items f.0 items.each_function below in
     let once = (once_each d).functions in
     let word : function_name d f ≡ n.word = word-in _ n.word n.is in
-    let found : names.place_of names.function_name d.functions.items n.word ≡ Some f.0 = place_of-named names.function_name d.functions.items [] f.0 n.word once n.is in
+    let found : position (λ x. bytes_eq (names.name_of_function x) n.word) d.functions.items ≡ Some f.0 = position-named names.name_of_function d.functions.items [] f.0 n.word once n.is in
     record {
       told = ap (names.function_of d) word ∙ ap (option_map (λ (k : ℕ). let x : FunId = record { 0 = k } in x)) found;
       written = ap is_written word ∙ n.written;
@@ -228,10 +231,10 @@ reads-bytes most v some fits list =
     let n : length w ≡ 2 * length v.items = length-encode_with lower_digits v.items in
     let is : is_hex_word w ≡ true = hex-word v.items some bytes in
     let few : nat_le (length w) (2 * most) ≡ true = le-leb (length w) (2 * most) (omega (arith, n, fits)) in
-    let back : bytes_of w ≡ v.items = ap (λ (r : Result (List ℕ) FromHexError). result_unwrap_or r []) (decode_of-encode_lower v.items bytes) in
+    let back : bytes_of_digits w ≡ v.items = ap (λ (r : Result (List ℕ) FromHexError). result_unwrap_or r []) (decode_of-encode_lower v.items bytes) in
     record {
       told =
-          cond-true (is_hex_word w && nat_le (length w) (2 * most)) (Some (let x : ArrayVec ℕ = record { items = bytes_of w } in x)) None (and_from (is_hex_word w) _ is few)
+          cond-true (is_hex_word w && nat_le (length w) (2 * most)) (Some (let x : ArrayVec ℕ = record { items = bytes_of_digits w } in x)) None (and_from (is_hex_word w) _ is few)
           ∙ ap (λ (bs : List ℕ). Some (let x : ArrayVec ℕ = record { items = bs } in x)) back;
       written = written-encode v.items bytes;
     }

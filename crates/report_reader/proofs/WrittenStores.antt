@@ -21,7 +21,8 @@ use Rattle.report_text.specs.Words.{store_words}
 use Rattle.report_reader.specs.Words.{only_at_end}
 use Rattle.report_reader.specs.Numbers.{value_of}
 use Rattle.report_reader.specs.Stores.{after, closed, shared_value, shared_after, item, items_after, opened, buffer_of, buffers_after, store_with, store_of}
-use Rattle.report_reader.specs.Told.{IsStoreOf, AreValues}
+use Rattle.mate_journal.specs.Tidy.{IsStoreOf}
+use Rattle.report_reader.specs.Told.{AreValues}
 use Rattle.report_reader.proofs.NumberLemmas.{IsValue}
 use Rattle.report_reader.proofs.WrittenWords.{is_above, is_written, in_value, in_value-signed, signed-some, IsValue-fits, name-written, list_all-both}
 use Rattle.report_reader.proofs.WrittenFields.{reads-value}

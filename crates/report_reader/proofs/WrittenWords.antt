@@ -1,5 +1,6 @@
 -- Written words have no space and no LF in them, so a line is split into its words again.
 use Rattle.std.proofs.Common.{◌≡◌, ℕ, zero, suc, ◌/◌, ◌%◌, ◌^◌, ◌<◌, ◌==◌, nat_lt, nat_le, Bool, true, false, not, ◌&&◌, ◌||◌, List, [], ◌∷◌, ◌++◌, length, slice_index, get_or, refl, ap, subst, ◌∙◌, arith, inl, inr, append-nil}
+use Rattle.std.specs.Char.{is_ascii_digit}
 use Rattle.std.specs.Prelude.{ℤ, pos, negsuc, All, FitsSigned}
 use Rattle.std.specs.Int.{w16}
 use Rattle.std.specs.List.{list_all}
@@ -13,10 +14,10 @@ use Rattle.hex.specs.Hex.{encode_lower, encode_with, lower_digits, IsBytes}
 use Rattle.vm_desc.specs.Names.{is_name, has_form, begins_name, continues_name}
 use Rattle.report_text.specs.Words.{word}
 use Rattle.report_reader.specs.Words.{words_of}
-use Rattle.report_reader.specs.Numbers.{is_digit}
 use Rattle.report_reader.specs.Hex.{is_lower_digit}
 use Rattle.report_reader.specs.Told.{IsByteList}
 use Rattle.report_reader.proofs.NumberLemmas.{plain-decimal, IsValue}
+use Rattle.report_reader.proofs.HexLemmas.{list_all-weaker}
 use Rattle.report_reader.proofs.StoreLemmas.{joined}
 
 -- a byte above the space
@@ -27,12 +28,6 @@ abbrev pub is_written : List ℕ → Bool
 is_written w = list_all is_above w
 
 -- ---- tests on each byte
-
-pub list_all-weaker : {A : Type 0} (p q : A → Bool) (imp : (x : A) → p x ≡ true → q x ≡ true) (xs : List A) → list_all p xs ≡ true → list_all q xs ≡ true
-list_all-weaker p q imp [] h = refl
-list_all-weaker p q imp (x ∷ xs) h =
-    let parts = and_parts (p x) (list_all p xs) h in
-    and_from (q x) (list_all q xs) (imp x parts.0) (list_all-weaker p q imp xs parts.1)
 
 pub list_all-both : {A : Type 0} (p : A → Bool) (xs ys : List A) → list_all p xs ≡ true → list_all p ys ≡ true → list_all p (xs ++ ys) ≡ true
 list_all-both p [] ys h k = k
@@ -78,22 +73,22 @@ line-in_line w ws h k = list_all-both in_line w (joined ws) (list_all-weaker is_
 
 -- ---- numbers and values
 
-digit-above : (b : ℕ) → is_digit b ≡ true → is_above b ≡ true
+digit-above : (b : ℕ) → is_ascii_digit b ≡ true → is_above b ≡ true
 digit-above b h = grind (arith, nat_tests, and_parts)
 
 pub written-decimal : (n : ℕ) → n < 2 ^ 64 → is_written (decimal n) ≡ true
-written-decimal n h = list_all-weaker is_digit is_above digit-above (decimal n) (plain-decimal n h).digits
+written-decimal n h = list_all-weaker is_ascii_digit is_above digit-above (decimal n) (plain-decimal n h).digits
 
 -- a digit or `-`
 abbrev pub in_value : ℕ → Bool
-in_value b = is_digit b || b == 45
+in_value b = is_ascii_digit b || b == 45
 
-digit-in_value : (b : ℕ) → is_digit b ≡ true → in_value b ≡ true
+digit-in_value : (b : ℕ) → is_ascii_digit b ≡ true → in_value b ≡ true
 digit-in_value b h = ap (λ (x : Bool). x || b == 45) h
 
 pub in_value-signed : (v : ℤ) → IsValue v → list_all in_value (signed_decimal v) ≡ true
-in_value-signed (pos n) h = list_all-weaker is_digit in_value digit-in_value (decimal n) (plain-decimal n (omega arith)).digits
-in_value-signed (negsuc n) h = list_all-weaker is_digit in_value digit-in_value (decimal (suc n)) (plain-decimal (suc n) (omega arith)).digits
+in_value-signed (pos n) h = list_all-weaker is_ascii_digit in_value digit-in_value (decimal n) (plain-decimal n (omega arith)).digits
+in_value-signed (negsuc n) h = list_all-weaker is_ascii_digit in_value digit-in_value (decimal (suc n)) (plain-decimal (suc n) (omega arith)).digits
 
 pub signed-some : (v : ℤ) → IsValue v → 0 < length (signed_decimal v)
 signed-some (pos n) h = (plain-decimal n (omega arith)).some

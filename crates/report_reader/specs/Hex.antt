@@ -1,9 +1,8 @@
 -- Bytes as words of hexadecimal digits in lower case.
-use Rattle.std.specs.Prelude.{ℕ, ◌*◌, ◌%◌, ◌==◌, nat_le, Bool, not, ◌&&◌, ◌||◌, if◌then◌else◌, List, [], length, Option, None, Some}
+use Rattle.std.specs.Prelude.{ℕ, ◌*◌, ◌%◌, ◌==◌, nat_le, Bool, not, ◌&&◌, ◌||◌, if◌then◌else◌, List, length, Option, None, Some}
 use Rattle.std.specs.List.{list_all}
-use Rattle.std.specs.Result.{result_unwrap_or}
 use Rattle.arrayvec.specs.ArrayVec.{ArrayVec}
-use Rattle.hex.specs.Hex.{decode_of}
+use Rattle.capsule_codec.specs.HexText.{bytes_of_digits}
 use Rattle.mate_num.specs.declared.bounds.TheConstants.{IMAGE_MAX}
 
 abbrev pub is_lower_digit : ℕ → Bool
@@ -13,12 +12,9 @@ is_lower_digit b = (nat_le 48 b && nat_le b 57) || (nat_le 97 b && nat_le b 102)
 abbrev pub is_hex_word : List ℕ → Bool
 is_hex_word word = (not (length word == 0) && length word % 2 == 0) && list_all is_lower_digit word
 
-abbrev pub bytes_of : List ℕ → List ℕ
-bytes_of word = result_unwrap_or (decode_of word) []
-
 -- the bytes, at most so many, that a word tells
 abbrev pub hex_of : ℕ → List ℕ → Option (ArrayVec ℕ)
-hex_of most word = if is_hex_word word && nat_le (length word) (2 * most) then Some (record { items = bytes_of word }) else None
+hex_of most word = if is_hex_word word && nat_le (length word) (2 * most) then Some (record { items = bytes_of_digits word }) else None
 
 -- the image, and the packet, that a word tells
 abbrev pub image_of : List ℕ → Option (ArrayVec ℕ)

@@ -1,23 +1,21 @@
 -- What numbers and values are written as, and what a word tells as one.
 use Rattle.std.specs.Prelude.{ℕ, zero, suc, ◌^◌, ◌==◌, nat_lt, nat_le, Bool, false, not, ◌&&◌, ◌||◌, if◌then◌else◌, List, [], ◌∷◌, ◌++◌, length, ℤ, pos, negsuc, Option, None, Some}
+use Rattle.std.specs.Char.{is_ascii_digit}
 use Rattle.std.specs.List.{list_all}
 use Rattle.std.specs.Option.{option_and_then}
 use Rattle.std.specs.Str.Parse.{digits_value}
 
-abbrev pub is_digit : ℕ → Bool
-is_digit b = nat_le 48 b && nat_le b 57
-
 -- one digit, or more that do not begin with `0`
-abbrev pub is_numeral : List ℕ → Bool
-is_numeral [] = false
-is_numeral (b ∷ bs) = list_all is_digit (b ∷ bs) && (not (b == 48) || length bs == 0)
+abbrev pub is_plain_numeral : List ℕ → Bool
+is_plain_numeral [] = false
+is_plain_numeral (b ∷ bs) = list_all is_ascii_digit (b ∷ bs) && (not (b == 48) || length bs == 0)
 
 abbrev pub below_limit : ℕ → ℕ → Option ℕ
 below_limit limit n = if nat_lt n limit then Some n else None
 
 -- the number, below 2^64, that a word tells
 abbrev pub unsigned_of : List ℕ → Option ℕ
-unsigned_of word = if is_numeral word then below_limit (2 ^ 64) (digits_value 10 word) else None
+unsigned_of word = if is_plain_numeral word then below_limit (2 ^ 64) (digits_value 10 word) else None
 
 -- the number below a limit that a word tells
 abbrev pub below_of : ℕ → List ℕ → Option ℕ

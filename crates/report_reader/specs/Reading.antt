@@ -105,8 +105,8 @@ lost_of = reads number_of (λ n. reads node_of (λ to. only_at_end (told.OnAir (
 abbrev pub got_of : List (List ℕ) → Option Told
 got_of = reads number_of (λ n. reads node_of (λ from. only_at_end (told.OnAir (air.Got n from))))
 
-abbrev pub noise_of : List (List ℕ) → Option Told
-noise_of = reads packet_of (λ bytes. only_at_end (told.OnAir (air.Noise bytes)))
+abbrev pub noise_told : List (List ℕ) → Option Told
+noise_told = reads packet_of (λ bytes. only_at_end (told.OnAir (air.Noise bytes)))
 
 -- by the verb, and the words behind it
 abbrev pub told_by : Description → Verb → List (List ℕ) → Option Told
@@ -126,7 +126,7 @@ told_by d verb.Keep = only_at_end (told.OnAir air.Keep)
 told_by d verb.Sent = sent_of
 told_by d verb.Lost = lost_of
 told_by d verb.Got = got_of
-told_by d verb.Noise = noise_of
+told_by d verb.Noise = noise_told
 
 unfoldable pub told_of : Description → List (List ℕ) → Option Told
 told_of d = reads verb_of (told_by d)

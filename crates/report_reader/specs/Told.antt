@@ -6,6 +6,7 @@ use Rattle.mate_num.specs.declared.store.Store.{Store}
 use Rattle.vm_desc.specs.declared.description.Description.{Description}
 use Rattle.vm_desc.specs.Whole.{context_count}
 use Rattle.mate_journal.specs.Log.{Log}
+use Rattle.mate_journal.specs.Tidy.{IsStoreOf}
 use Rattle.mate_journal.specs.declared.air.Air.{Air}
 use Rattle.mate_journal.specs.declared.air.Air.TheVariants as air
 use Rattle.mate_journal.specs.declared.entry.Entry.{Entry}
@@ -60,11 +61,6 @@ IsRightAir (air.Sent n bytes) = 0 < length bytes.items
 IsRightAir (air.Lost n to) = to < 64
 IsRightAir (air.Got n from) = from < 64
 IsRightAir (air.Noise bytes) = 0 < length bytes.items
-
--- each variable and each buffer of the description
-pub record IsStoreOf (d : Description) (s : Store) : Type 0 where
-  pub shared : length s.shared.items ≡ length d.shared.items
-  pub buffers : length s.buffers.items ≡ length d.buffers.items
 
 abbrev pub IsRightTold : Description → Told → Type 0
 IsRightTold d (told.OnAir a) = IsRightAir a

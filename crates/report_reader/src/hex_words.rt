@@ -1,9 +1,10 @@
 //! Images and packets, as words of hexadecimal digits.
 
-ghost use Rattle.std.specs.Prelude.{◌≡◌, ◌*◌, true, length};
+ghost use Rattle.std.specs.Prelude.{◌≡◌};
 ghost use Rattle.std.specs.List.{list_all};
-ghost use Rattle.report_reader.specs.Hex.{is_lower_digit, is_hex_word, bytes_of, image_of, packet_of};
+ghost use Rattle.report_reader.specs.Hex.{is_lower_digit, is_hex_word, image_of, packet_of};
 
+use capsule_codec::read_digits;
 use mate_num::{IMAGE_MAX, Image, PacketBytes};
 
 const PACKET_MAX: usize = 64;
@@ -27,18 +28,8 @@ fn are_lower_digits(bytes: &[u8]) -> bool
     bytes.iter().all(|byte| is_lower_digit(*byte))
 }
 
-/// Writes the bytes that a word tells.
-fn read_digits(word: &[u8], bytes: &mut [u8])
-    requires hex { is_hex_word word.now ≡ true }
-    requires room { length word.now ≡ 2 * length bytes.old }
-    ensures { bytes.new ≡ bytes_of word.now }
-{
-    let Ok(()) = hex::decode_to_slice(word, bytes) else {
-        unreachable!()
-    };
-}
-
 /// The image that a word tells: 1 to `IMAGE_MAX` bytes.
+#[tactic(auto, using(crate::proofs::HexLemmas::digits_of_word))]
 pub fn image_of(word: &[u8]) -> Option<Image>
     ensures { result ≡ image_of word.now }
 {
@@ -55,6 +46,7 @@ pub fn image_of(word: &[u8]) -> Option<Image>
 }
 
 /// The packet that a word tells: 1 to 64 bytes.
+#[tactic(auto, using(crate::proofs::HexLemmas::digits_of_word))]
 pub fn packet_of(word: &[u8]) -> Option<PacketBytes>
     ensures { result ≡ packet_of word.now }
 {

@@ -5,7 +5,7 @@ ghost use Rattle.report_reader.specs.Words.{first, rest, only_at_end};
 ghost use Rattle.report_reader.specs.Told.{line_words, IsRight, HasRanges};
 ghost use Rattle.report_reader.specs.declared.line.Line.{Line};
 ghost use Rattle.report_reader.specs.Verbs.{verb_of};
-ghost use Rattle.report_reader.specs.Reading.{started_of, halted_of, shown_of, interval_of, told_by, told_of, line_of_words, line_in, post_of, dropped_of, ask_of, answer_of, faulted_of, installed_of, void_of, not_newer_of, sent_of, lost_of, got_of, noise_of};
+ghost use Rattle.report_reader.specs.Reading.{started_of, halted_of, shown_of, interval_of, told_by, told_of, line_of_words, line_in, post_of, dropped_of, ask_of, answer_of, faulted_of, installed_of, void_of, not_newer_of, sent_of, lost_of, got_of, noise_told};
 
 use crate::fields::{
     next_context, next_drop, next_event, next_fault, next_function, next_handler, next_image,
@@ -276,7 +276,7 @@ fn got(words: &mut Words) -> Option<Told>
 }
 
 fn noise(words: &mut Words) -> Option<Told>
-    ensures { result ≡ noise_of words.old }
+    ensures { result ≡ noise_told words.old }
 {
     let bytes = next_packet(words)?;
     at_end(words, Told::OnAir(Air::Noise { bytes }))

@@ -1,34 +1,30 @@
 //! Handlers, functions and contexts, as a report names them.
 
 ghost use Rattle.std.specs.Prelude.{◌≡◌, ◌<◌, length, IfSome};
-ghost use Rattle.report_reader.specs.Names.{place_of, handler_name, function_name, handler_of, function_of, context_of};
+ghost use Rattle.std.specs.List.{position};
+ghost use Rattle.std.specs.Str.{bytes_eq};
+ghost use Rattle.report_reader.specs.Names.{name_of_handler, name_of_function, handler_of, function_of, context_of};
 
 use crate::numbers::below;
 use mate_num::{ContextId, FunId, HandlerId};
 use vm_desc::{Description, Function, Handler};
 
 fn handler_place(handlers: &[Handler], word: &[u8]) -> Option<usize>
-    ensures value { result ≡ place_of handler_name handlers.now word.now }
+    ensures value { result ≡ position (λ h. bytes_eq (name_of_handler h) word.now) handlers.now }
     ensures within { IfSome result (λ place. place < length handlers.now) }
 {
-    for (place, handler) in handlers.iter().enumerate() {
-        if handler.name.as_bytes() == word {
-            return Some(place);
-        }
-    }
-    None
+    handlers
+        .iter()
+        .position(|handler| handler.name.as_bytes() == word)
 }
 
 fn function_place(functions: &[Function], word: &[u8]) -> Option<usize>
-    ensures value { result ≡ place_of function_name functions.now word.now }
+    ensures value { result ≡ position (λ f. bytes_eq (name_of_function f) word.now) functions.now }
     ensures within { IfSome result (λ place. place < length functions.now) }
 {
-    for (place, function) in functions.iter().enumerate() {
-        if function.name.as_bytes() == word {
-            return Some(place);
-        }
-    }
-    None
+    functions
+        .iter()
+        .position(|function| function.name.as_bytes() == word)
 }
 
 /// The handler of that name.

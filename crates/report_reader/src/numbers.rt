@@ -2,23 +2,18 @@
 
 ghost use Rattle.std.specs.Prelude.{◌≡◌, ◌<◌, true, IfSome};
 ghost use Rattle.std.specs.List.{list_all};
-ghost use Rattle.report_reader.specs.Numbers.{is_digit, is_numeral, unsigned_of, below_of, negative, positive, value_of};
-
-fn is_digit(byte: u8) -> bool
-    ensures { result ≡ is_digit byte }
-{
-    b'0' <= byte && byte <= b'9'
-}
+ghost use Rattle.std.specs.Char.{is_ascii_digit};
+ghost use Rattle.report_reader.specs.Numbers.{is_plain_numeral, unsigned_of, below_of, negative, positive, value_of};
 
 fn are_digits(bytes: &[u8]) -> bool
-    ensures { result ≡ list_all is_digit bytes.now }
+    ensures { result ≡ list_all is_ascii_digit bytes.now }
 {
-    bytes.iter().all(|byte| is_digit(*byte))
+    bytes.iter().all(|byte| byte.is_ascii_digit())
 }
 
 /// Whether the word is one digit, or more that do not begin with `0`.
-fn is_numeral(word: &[u8]) -> bool
-    ensures { result ≡ is_numeral word.now }
+fn is_plain_numeral(word: &[u8]) -> bool
+    ensures { result ≡ is_plain_numeral word.now }
 {
     match word {
         [] => false,
@@ -30,7 +25,7 @@ fn is_numeral(word: &[u8]) -> bool
 pub fn unsigned(word: &[u8]) -> Option<u64>
     ensures { result ≡ unsigned_of word.now }
 {
-    if !is_numeral(word) {
+    if !is_plain_numeral(word) {
         return None;
     }
     let Ok(text) = str::from_utf8(word) else {
@@ -40,7 +35,7 @@ pub fn unsigned(word: &[u8]) -> Option<u64>
 }
 
 fn parsed(text: &str) -> Option<u64>
-    requires { is_numeral text.now ≡ true }
+    requires { is_plain_numeral text.now ≡ true }
     ensures { result ≡ unsigned_of text.now }
 {
     text.parse::<u64>().ok()

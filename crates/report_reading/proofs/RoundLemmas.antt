@@ -135,8 +135,7 @@ right-air n (air.Noise bytes) h r = r
 
 right-told : (d : Description) (l : Log) (x : Entry) → IsEntryInRange d x → IsNamed l x → HasFullImages l → All (IsStoreOf d) l.stores → reader.IsRightTold d (told_by_entry l x)
 right-told d l (entry.Install h version image) r n full stores = (r, full.full image (record { items = [] }) n)
-right-told d l (entry.Seen store) r n full stores =
-    let s = stores store (record { shared = record { items = [] }; buffers = record { items = [] } }) n in record { shared = s.shared; buffers = s.buffers }
+right-told d l (entry.Seen store) r n full stores = stores store (record { shared = record { items = [] }; buffers = record { items = [] } }) n
 right-told d l (entry.Post n h c payload) r x full stores = r
 right-told d l (entry.Dropped h cause) r x full stores = r
 right-told d l (entry.Start n) r x full stores = tt

@@ -10,7 +10,7 @@ use Rattle.std.proofs.lemmas.List.{append-nil, take_more, take_all}
 use Rattle.std.proofs.lemmas.List.{length-append}
 use Rattle.arrayvec.specs.ArrayVec.{ArrayVec}
 use Rattle.mate_num.specs.declared.bounds.TheConstants.{IMAGE_MAX}
-use Rattle.slip_gateway.specs.Stream.{is_end_byte, with_byte, unescaped, whole_frame, framed, frame_of, rest_behind, rest, frames_behind, frames}
+use Rattle.slip_gateway.specs.Stream.{is_end_byte, with_byte, unescaped, whole_frame, framed, frame_of, rest_behind, unfinished, frames_behind, frames}
 use Rattle.slip_gateway.specs.Fed.{fresh_slip, is_nil, is_fresh_in, is_fresh, added, replaced, pushed_in, pushed, frame_given, frame_left, unescaped_in, framed_behind, IsBehind, HasFed}
 use Rattle.slip_gateway.proofs.StreamLemmas.{rest_behind-append, frames_behind-append, rest-append, frames-append}
 use Rattle.slip_gateway.specs.declared.frames.Frame.{Frame}
@@ -214,20 +214,20 @@ ends_next piece i within =
 pub HasFed-more : (old new : Slip) (before after : List Frame) (fed piece : List ℕ) → HasRead old new before after piece → HasFed old fed → HasFed new (fed ++ piece)
 HasFed-more old new before after fed piece read h =
     let P : List ℕ → Type 0 = λ p. IsBehind new p in
-    record { behind = subst P (sym (rest-append fed piece)) (read.reads (rest fed) h.behind).0 }
+    record { behind = subst P (sym (rest-append fed piece)) (read.reads (unfinished fed) h.behind).0 }
 
 pub appends_closed : (old new : Slip) (before after : List Frame) (fed piece : List ℕ) → HasRead old new before after piece → HasFed old fed
-    → after ≡ before ++ frames_behind (rest fed) piece
-appends_closed old new before after fed piece read h = (read.reads (rest fed) h.behind).1
+    → after ≡ before ++ frames_behind (unfinished fed) piece
+appends_closed old new before after fed piece read h = (read.reads (unfinished fed) h.behind).1
 
 pub holds_frames : (old new : Slip) (before after : List Frame) (fed piece : List ℕ) → HasRead old new before after piece → HasFed old fed
     → before ≡ frames fed → after ≡ frames (fed ++ piece)
 holds_frames old new before after fed piece read h e =
-    appends_closed old new before after fed piece read h ∙ ap (λ (xs : List Frame). xs ++ frames_behind (rest fed) piece) e ∙ sym (frames-append fed piece)
+    appends_closed old new before after fed piece read h ∙ ap (λ (xs : List Frame). xs ++ frames_behind (unfinished fed) piece) e ∙ sym (frames-append fed piece)
 
 begun_iff : (p : List ℕ) (t : Bool) → t ≡ not (is_nil p) → IsTrue t ↔ (p ≢ [])
 begun_iff [] t e = (λ h. absurd (cc), λ ne. absurd (ne refl))
 begun_iff (b ∷ bs) t e = (λ h. λ f. absurd (cc), λ ne. e)
 
-pub unfinished_iff : (s : Slip) (fed : List ℕ) (t : Bool) → t ≡ not (is_fresh s) → HasFed s fed → IsTrue t ↔ (rest fed ≢ [])
-unfinished_iff s fed t e h = begun_iff (rest fed) t (e ∙ ap not h.behind.starts)
+pub unfinished_iff : (s : Slip) (fed : List ℕ) (t : Bool) → t ≡ not (is_fresh s) → HasFed s fed → IsTrue t ↔ (unfinished fed ≢ [])
+unfinished_iff s fed t e h = begun_iff (unfinished fed) t (e ∙ ap not h.behind.starts)

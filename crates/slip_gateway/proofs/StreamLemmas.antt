@@ -4,7 +4,7 @@ use Rattle.std.specs.Prelude.{if◌then◌else◌}
 use Rattle.std.specs.List.{flat_map}
 use Rattle.std.proofs.lemmas.Grind.{flat_map-append}
 use Rattle.slip_gateway.specs.declared.frames.Frame.{Frame}
-use Rattle.slip_gateway.specs.Stream.{is_end_byte, closed_pieces, rest_behind, frame_of, frames_behind, frames, rest}
+use Rattle.slip_gateway.specs.Stream.{is_end_byte, closed_pieces, rest_behind, frame_of, frames_behind, frames, unfinished}
 
 closed-append : (begun xs ys : List ℕ) → closed_pieces begun (xs ++ ys) ≡ closed_pieces begun xs ++ closed_pieces (rest_behind begun xs) ys
 closed-append begun [] ys = refl
@@ -31,8 +31,8 @@ frames_behind-append begun xs ys =
     ap (λ (ps : List (List ℕ)). flat_map frame_of ps) (closed-append begun xs ys)
     ∙ flat_map-append frame_of (closed_pieces begun xs) (closed_pieces (rest_behind begun xs) ys)
 
-pub frames-append : (first second : List ℕ) → frames (first ++ second) ≡ frames first ++ frames_behind (rest first) second
+pub frames-append : (first second : List ℕ) → frames (first ++ second) ≡ frames first ++ frames_behind (unfinished first) second
 frames-append first second = frames_behind-append [] first second
 
-pub rest-append : (first second : List ℕ) → rest (first ++ second) ≡ rest_behind (rest first) second
+pub rest-append : (first second : List ℕ) → unfinished (first ++ second) ≡ rest_behind (unfinished first) second
 rest-append first second = rest_behind-append [] first second

@@ -1,7 +1,7 @@
 -- What the reader keeps of the bytes that it was given.
 use Rattle.std.specs.Prelude.{◌≡◌, ℕ, Bool, true, false, ◌==◌, nat_le, if◌then◌else◌, List, [], ◌∷◌, ◌++◌, length, Option, Some, None}
 use Rattle.mate_num.specs.declared.bounds.TheConstants.{IMAGE_MAX}
-use Rattle.slip_gateway.specs.Stream.{unescaped, whole_frame, framed, rest}
+use Rattle.slip_gateway.specs.Stream.{unescaped, whole_frame, framed, unfinished}
 use Rattle.slip_gateway.specs.declared.frames.Frame.{Frame}
 use Rattle.slip_gateway.specs.declared.frames.Frame.TheVariants as frame
 use Rattle.slip_gateway.specs.declared.slip.Slip.{Slip}
@@ -73,4 +73,4 @@ pub record IsBehind (s : Slip) (begun : List ℕ) : Type 0 where
 
 -- the reader was given these bytes, in whatever pieces
 pub record HasFed (s : Slip) (fed : List ℕ) : Type 0 where
-  pub behind : IsBehind s (rest fed)
+  pub behind : IsBehind s (unfinished fed)

@@ -54,5 +54,5 @@ frames_behind begun bytes = flat_map frame_of (closed_pieces begun bytes)
 abbrev pub frames : List ℕ → List Frame
 frames bytes = frames_behind [] bytes
 
-abbrev pub rest : List ℕ → List ℕ
-rest bytes = rest_behind [] bytes
+abbrev pub unfinished : List ℕ → List ℕ
+unfinished bytes = rest_behind [] bytes

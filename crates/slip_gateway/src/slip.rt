@@ -3,7 +3,7 @@
 ghost use Rattle.std.specs.Prelude.{◌≡◌, ◌≢◌, ◌+◌, ◌≤◌, List, ℕ, [], ◌∷◌, ◌++◌, OnOk, OnErr, IsTrue, ◌↔◌, count_by, vec_len, vec_capacity, length};
 ghost use Rattle.mate_num.specs.declared.bounds.TheConstants.{IMAGE_MAX};
 ghost use Rattle.slip_gateway.specs.Fed.{fresh_slip, is_fresh, added, replaced, pushed, frame_left, IsBehind, HasFed};
-ghost use Rattle.slip_gateway.specs.Stream.{is_end_byte, rest_behind, rest, frames_behind, frames};
+ghost use Rattle.slip_gateway.specs.Stream.{is_end_byte, rest_behind, unfinished, frames_behind, frames};
 
 use crate::frames::{Frame, Frames};
 use mate_num::{Image, NoMemory};
@@ -45,8 +45,8 @@ pub struct Slip {
 /// The law by which a stream may be cut anywhere: the frames of two parts, one behind the other, are those of the first,
 /// and then those that the second one closes behind what the first one left.
 pub fn frames_compose()
-    ensures frames { (first second : List ℕ) → frames (first ++ second) ≡ frames first ++ frames_behind (rest first) second }
-    ensures rest { (first second : List ℕ) → rest (first ++ second) ≡ rest_behind (rest first) second }
+    ensures frames { (first second : List ℕ) → frames (first ++ second) ≡ frames first ++ frames_behind (unfinished first) second }
+    ensures rest { (first second : List ℕ) → unfinished (first ++ second) ≡ rest_behind (unfinished first) second }
 {}
 
 // How many frames a piece closes at most.
@@ -73,7 +73,7 @@ impl Slip {
     /// they were: room for one frame for each `END` is taken first.
     pub fn feed(&mut self, piece: &[u8], into: &mut Frames) -> Result<(), NoMemory>
         ensures fed { OnOk result ((fed : List ℕ) → HasFed self.old fed → HasFed self.new (fed ++ piece.now)) }
-        ensures appends { OnOk result ((fed : List ℕ) → HasFed self.old fed → into.new ≡ into.old ++ frames_behind (rest fed) piece.now) }
+        ensures appends { OnOk result ((fed : List ℕ) → HasFed self.old fed → into.new ≡ into.old ++ frames_behind (unfinished fed) piece.now) }
 
         // However the bytes are cut, it holds the frames of all of them.
         ensures holds { OnOk result ((fed : List ℕ) → HasFed self.old fed → into.old ≡ frames fed → into.new ≡ frames (fed ++ piece.now)) }
@@ -87,7 +87,7 @@ impl Slip {
 
     /// Whether bytes stand behind the last `END`.
     pub fn unfinished(&self) -> bool
-        ensures { (fed : List ℕ) → HasFed self.now fed → (IsTrue result ↔ (rest fed ≢ [])) }
+        ensures { (fed : List ℕ) → HasFed self.now fed → (IsTrue result ↔ (unfinished fed ≢ [])) }
     {
         !self.is_fresh()
     }

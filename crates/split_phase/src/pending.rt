@@ -1,9 +1,9 @@
 //! The pending call of each context.
 
 ghost use Rattle.std.specs.Prelude.{◌≡◌, ◌<◌, MatchResult, OnOk, OnErr};
-ghost use Rattle.split_phase.specs.Calls.{call_at, AreNone, IsOf, Becomes};
+ghost use Rattle.split_phase.specs.Calls.{call_at, AreNone, IsOf, CallBecomes};
 
-use mate_num::{ContextId, FunId, Payload, copy_of};
+use mate_num::{CONTEXTS_MAX, ContextId, FunId, Payload, copy_of};
 use std::marker::Model;
 
 /// The context waits for no answer.
@@ -14,7 +14,7 @@ pub struct NotWaiting;
 /// that it called and the call's arguments, or None.
 #[derive(Drop)]
 pub struct Pending {
-    calls: [Option<(FunId, Payload)>; 16],
+    calls: [Option<(FunId, Payload)>; CONTEXTS_MAX],
 }
 
 impl Model for Pending {
@@ -38,9 +38,9 @@ impl Pending {
 
     /// The call of `fun` with `args` begins: `ctx` waits for its answer.
     pub fn ask(&mut self, ctx: ContextId, fun: FunId, args: Payload)
-        requires context { ctx.0 < 16 }
+        requires context { ctx.0 < CONTEXTS_MAX }
         requires free { call_at self.old ctx ≡ None }
-        ensures { Becomes self.old self.new ctx (Some (fun, args)) }
+        ensures { CallBecomes self.old self.new ctx (Some (fun, args)) }
     {
         self.calls[ctx.0 as usize] = Some((fun, args));
     }
@@ -48,9 +48,9 @@ impl Pending {
     /// The answer to the call of `ctx` has come: it gives the function that was called, and `ctx` waits no more.
     /// `NotWaiting` comes exactly where it doesn't wait.
     pub fn answer(&mut self, ctx: ContextId) -> Result<FunId, NotWaiting>
-        requires { ctx.0 < 16 }
+        requires { ctx.0 < CONTEXTS_MAX }
         ensures answered { MatchResult result (λ fun. IsOf (call_at self.old ctx) fun) (λ _. call_at self.old ctx ≡ None) }
-        ensures ok { OnOk result (Becomes self.old self.new ctx None) }
+        ensures ok { OnOk result (CallBecomes self.old self.new ctx None) }
         ensures err { OnErr result (self.new ≡ self.old) }
     {
         match self.calls[ctx.0 as usize].take() {
@@ -61,7 +61,7 @@ impl Pending {
 
     /// The function that `ctx` called and a copy of the arguments; None exactly where it doesn't wait.
     pub fn asked(&self, ctx: ContextId) -> Option<(FunId, Payload)>
-        requires { ctx.0 < 16 }
+        requires { ctx.0 < CONTEXTS_MAX }
         ensures { result ≡ call_at self.now ctx }
     {
         match &self.calls[ctx.0 as usize] {

@@ -2,27 +2,15 @@
 use Rattle.std.proofs.Common.{◌≡◌, ℕ, zero, suc, ◌+◌, ◌≤◌, min, List, [], ◌∷◌, ◌++◌, length, Option, None, Some, Bool, IsTrue, ◌&&◌, refl, sym, ◌∙◌, ap, subst, arith, rules, append_assoc, add-one, length-append}
 use Rattle.std.specs.Prelude.{nat_le, if◌then◌else◌}
 use Rattle.std.specs.Option.{option_map_or}
-use Rattle.rand_pcg.specs.Lcg.{Lcg, advance, next_state, state_after}
-use Rattle.rand_pcg.specs.Pcg.{multiplier_64, pcg32}
+use Rattle.rand_pcg.specs.Lcg.{Lcg, advance, state_after}
+use Rattle.rand_pcg.specs.Pcg.{multiplier_64}
+use Rattle.trickle_timer.proofs.StreamLemmas.{advance_step}
 use Rattle.vm_desc.specs.declared.settings.TrickleSet.{TrickleSet}
 use Rattle.vm_desc.specs.Limits.{is_trickle}
 use Rattle.trickle_timer.specs.declared.timer.Fire.{Fire}
 use Rattle.trickle_timer.specs.declared.timer.Fire.TheVariants.{Send, Keep}
 use Rattle.trickle_timer.specs.Intervals.{Interval, Happening, Event, Consistent, Inconsistent, Reset, Again, Expired, Start, stream, lcg_word, interval, next_length, count, intervals_from, intervals, at_point}
 use Rattle.trickle_timer.specs.Timer.{Timer, begun, started_timer, counted, after, IsTimerOf, TimerContinues, Decides}
-
--- a step after n steps is step n + 1
-state_after_step : (w m p n s : ℕ) → next_state w m p (state_after w m p n s) ≡ state_after w m p (suc n) s
-unfolding state_after
-state_after_step w m p zero s = refl
-state_after_step w m p (suc n) s = state_after_step w m p n (next_state w m p s)
-
-advance_step : (n : ℕ) (g : Lcg) → (pcg32 (advance 64 multiplier_64 n g)).1 ≡ advance 64 multiplier_64 (n + 1) g
-advance_step n g =
-    let M = multiplier_64 in
-    let e : next_state 64 M g.increment (state_after 64 M g.increment n g.state) ≡ state_after 64 M g.increment (n + 1) g.state = rw add-one (state_after_step 64 M g.increment n g.state) in
-    let G : ℕ → Lcg = λ s. record { state = s; increment = g.increment } in
-    ap G e
 
 -- a list that ends with an item isn't empty
 no_end : (xs : List Interval) (x : Interval) → [] ≡ xs ++ x ∷ [] → ⊥

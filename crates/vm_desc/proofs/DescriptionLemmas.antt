@@ -7,13 +7,14 @@ use Rattle.std.proofs.lemmas.List.{length-map}
 use Rattle.std.proofs.lemmas.List.Sums.{sum_by-cons, sum_by-take-le, sum_by_more, sum_by_more_le}
 use Rattle.std.specs.List.{list_all}
 use Rattle.mate_num.specs.declared.shape.Shape.{Shape}
-use Rattle.vm_desc.specs.Limits.{Parts, is_valid, are_handlers, are_functions, are_variables, is_handler, is_function, is_device, is_trickle, is_radio, round_time, longest, duplicate_of, context_sum, args_of}
+use Rattle.mate_num.specs.Shapes.{is_device, is_fun_shape, is_shape}
+use Rattle.vm_desc.specs.Limits.{Parts, is_valid, are_handlers, are_functions, are_variables, is_handler, is_function, is_trickle, is_radio, round_time, longest, duplicate_of, context_sum, args_of}
 use Rattle.vm_desc.specs.Names.{between}
 use Rattle.vm_desc.specs.Contexts.{first_context, handler_of}
 use Rattle.std.proofs.Math.Bool.{Bool-set}
 use Rattle.vm_desc.specs.Whole.{described, parts_of, context_count}
 use Rattle.vm_desc.specs.Bounds.{HasBounds, HasItems}
-use Rattle.vm_desc.specs.Shapes.{shape_of, is_shape, fun_shape, is_fun_shape, is_send}
+use Rattle.vm_desc.specs.Shapes.{shape_of, fun_shape, is_send}
 use Rattle.vm_desc.specs.declared.description.Description.{Description}
 use Rattle.vm_desc.specs.declared.function.Function.{Function}
 use Rattle.vm_desc.specs.declared.function.FunKind.{FunKind}
@@ -118,14 +119,12 @@ fun_shape-limits devices (f ∷ fs) few h =
     let this : is_fun_shape (fun_shape f) ≡ true = rw (args_fit f.kind args, device_fits devices f.device few device) refl in
     rw (this, fun_shape-limits devices fs few more) refl
 
-all_limits : (shared buffers functions : ℕ) (each : Bool) → shared ≤ 16 → buffers ≤ 8 → functions ≤ 32 → each ≡ true
-    → (((nat_le shared 16 && nat_le buffers 8) && nat_le functions 32) && each) ≡ true
-all_limits shared buffers functions each a b c e = rw (le-leb shared 16 a, le-leb buffers 8 b, le-leb functions 32 c, e) refl
+all_limits : (shared buffers : ℕ) (each : Bool) → shared ≤ 16 → buffers ≤ 8 → each ≡ true → (nat_le shared 16 && nat_le buffers 8 && each) ≡ true
+all_limits shared buffers each a b e = rw (le-leb shared 16 a, le-leb buffers 8 b, e) refl
 
 limits_of_parts : (d : Description) → HasBounds d → HasItems d → IsTrue (is_shape (shape_of d))
 limits_of_parts d b i =
-    all_limits (length d.shared.items) (length d.buffers.items) (length (map fun_shape d.functions.items)) (list_all is_fun_shape (map fun_shape d.functions.items))
-    b.shared_high b.buffers_high (rw length-map b.functions_high)
+    all_limits (length d.shared.items) (length d.buffers.items) (list_all is_fun_shape (map fun_shape d.functions.items)) b.shared_high b.buffers_high
     (fun_shape-limits (length d.devices.items) d.functions.items b.devices_high i.each_function)
 
 -- the shape of a description keeps the limits of shapes

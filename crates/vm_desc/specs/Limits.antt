@@ -1,5 +1,5 @@
 -- What a description holds, and its lengths, ranges and rules.
-use Rattle.std.specs.Prelude.{ℕ, List, length, map, Bool, true, ◌&&◌, ◌+◌, ◌*◌, ◌%◌, ◌^◌, ◌==◌, nat_le, nat_lt, Option, Some, None, is_none, ◌++◌, sum_by}
+use Rattle.std.specs.Prelude.{ℕ, List, length, map, Bool, true, ◌&&◌, ◌+◌, ◌*◌, ◌%◌, ◌^◌, ◌==◌, nat_le, Option, Some, None, is_none, ◌++◌, sum_by}
 use Rattle.std.specs.List.{list_all}
 use Rattle.vm_desc.specs.Names.{between, is_name, first_repeat}
 use Rattle.vm_desc.specs.declared.handler.Handler.{Handler}
@@ -10,7 +10,7 @@ use Rattle.vm_desc.specs.declared.function.FunKind.{FunKind}
 use Rattle.vm_desc.specs.declared.function.FunKind.TheVariants.{Sense, Act, Send, Id, Rand, Clock}
 use Rattle.vm_desc.specs.declared.settings.TrickleSet.{TrickleSet}
 use Rattle.vm_desc.specs.declared.settings.RadioSet.{RadioSet}
-use Rattle.mate_num.specs.declared.id.DeviceId.{DeviceId}
+use Rattle.mate_num.specs.Shapes.{is_device}
 
 -- the parts of a description, each list as a list
 pub record Parts : Type 0 where
@@ -43,11 +43,6 @@ args_of Send = 0
 args_of Id = 0
 args_of Rand = 0
 args_of Clock = 0
-
--- the number, where there is one, is below the number of devices
-abbrev pub is_device : ℕ → Option DeviceId → Bool
-is_device devices None = true
-is_device devices (Some d) = nat_lt d.0 devices
 
 abbrev pub is_function : ℕ → Function → Bool
 is_function devices f = ((is_name f.name && nat_le (args_of f.kind) 4) && is_device devices f.device) && between 1 60000 f.latency

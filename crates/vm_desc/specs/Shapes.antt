@@ -1,9 +1,8 @@
--- The shape of a description, and what every such shape meets.
-use Rattle.std.specs.Prelude.{length, map, Bool, true, false, not, ◌&&◌, ◌||◌, ◌==◌, nat_le}
-use Rattle.std.specs.List.{list_all}
+-- The shape of a description.
+use Rattle.std.specs.Prelude.{length, map, Bool, true, false}
 use Rattle.mate_num.specs.declared.shape.FunShape.{FunShape}
 use Rattle.mate_num.specs.declared.shape.Shape.{Shape}
-use Rattle.vm_desc.specs.Limits.{args_of, is_device}
+use Rattle.vm_desc.specs.Limits.{args_of}
 use Rattle.vm_desc.specs.declared.function.Function.{Function}
 use Rattle.vm_desc.specs.declared.function.FunKind.{FunKind}
 use Rattle.vm_desc.specs.declared.function.FunKind.TheVariants.{Sense, Act, Send, Id, Rand, Clock}
@@ -29,11 +28,3 @@ shape_of d = record {
   buffers = length d.buffers.items;
   functions = record { items = map fun_shape d.functions.items };
 }
-
--- at most 4 values, none where a buffer is sent, and a device below 8
-abbrev pub is_fun_shape : FunShape → Bool
-is_fun_shape f = (nat_le f.args 4 && (not f.send || f.args == 0)) && is_device 8 f.device
-
--- at most 16 shared variables, 8 buffers and 32 functions
-abbrev pub is_shape : Shape → Bool
-is_shape s = ((nat_le s.shared 16 && nat_le s.buffers 8) && nat_le (length s.functions.items) 32) && list_all is_fun_shape s.functions.items

@@ -5,18 +5,18 @@ use Rattle.toml.specs.Data.{as_array}
 use Rattle.toml.specs.View.{view, items_view, array_view}
 use Rattle.toml.proofs.Views.{view-Array}
 use Rattle.toml.specs.declared.value.Value.{Value, Array}
-use Rattle.vm_reader.specs.Fields.{list_at, count_of}
+use Rattle.vm_reader.specs.Fields.{list_up_to, item_count}
 use Rattle.vm_desc.specs.declared.key.Key.{Key}
 use Rattle.vm_desc.specs.declared.fault.DescFault.TheVariants.{OverLimit}
 
-pub count_of-view : (vs : List Value) → count_of (items_view vs) ≡ length vs
-count_of-view [] = refl
-count_of-view (v ∷ vs) = ap suc (count_of-view vs)
+pub item_count-view : (vs : List Value) → item_count (items_view vs) ≡ length vs
+item_count-view [] = refl
+item_count-view (v ∷ vs) = ap suc (item_count-view vs)
 
 pub list_at-long : (key : Key) (most : ℕ) (v : Vec Value Global) (value : Value) → value ≡ Array v → most < length v.items
-    → list_at key most (as_array (view value)) ≡ Err (OverLimit key)
-list_at-long key most v value same long = rw (same, view-Array, count_of-view, lt-ltb most (length v.items) long) refl
+    → list_up_to key most (as_array (view value)) ≡ Err (OverLimit key)
+list_at-long key most v value same long = rw (same, view-Array, item_count-view, lt-ltb most (length v.items) long) refl
 
 pub list_at-short : (key : Key) (most : ℕ) (v : Vec Value Global) (value : Value) → value ≡ Array v → length v.items ≤ most
-    → list_at key most (as_array (view value)) ≡ Ok (array_view v)
-list_at-short key most v value same short = rw (same, view-Array, count_of-view, le-ltb most (length v.items) short) refl
+    → list_up_to key most (as_array (view value)) ≡ Ok (array_view v)
+list_at-short key most v value same short = rw (same, view-Array, item_count-view, le-ltb most (length v.items) short) refl

@@ -50,24 +50,24 @@ abbrev pub name : Data → Option (List ℕ)
 name d = option_and_then name_of (as_str d)
 
 -- how many items
-abbrev pub count_of : Items → ℕ
-count_of no_items = 0
-count_of (item d ds) = suc (count_of ds)
+abbrev pub item_count : Items → ℕ
+item_count no_items = 0
+item_count (item d ds) = suc (item_count ds)
 
 -- the items as names, where all are names
-abbrev pub names_of : Items → Option (List (List ℕ))
-names_of no_items = Some []
-names_of (item d ds) = option_and_then (λ x. option_map (λ xs. x ∷ xs) (names_of ds)) (name d)
+abbrev pub all_names : Items → Option (List (List ℕ))
+all_names no_items = Some []
+all_names (item d ds) = option_and_then (λ x. option_map (λ xs. x ∷ xs) (all_names ds)) (name d)
 
 -- a list of at most so many items
-abbrev pub list_at : Key → ℕ → Option Items → Result Items DescFault
-list_at key most None = Err (BadField key)
-list_at key most (Some ds) = if nat_lt most (count_of ds) then Err (OverLimit key) else Ok ds
+abbrev pub list_up_to : Key → ℕ → Option Items → Result Items DescFault
+list_up_to key most None = Err (BadField key)
+list_up_to key most (Some ds) = if nat_lt most (item_count ds) then Err (OverLimit key) else Ok ds
 
 -- a list of at most so many names; none where the key is absent
 abbrev pub names : Key → ℕ → Option Data → Result (List (List ℕ)) DescFault
 names key most None = Ok []
-names key most (Some d) = list_at key most (as_array d) >>= (λ ds. taken key (names_of ds))
+names key most (Some d) = list_up_to key most (as_array d) >>= (λ ds. taken key (all_names ds))
 
 -- all items are tables
 abbrev pub are_tables : Items → Bool
@@ -81,7 +81,7 @@ tables_in (item d ds) = option_map_or (λ ms. ms ∷ tables_in ds) (as_table d) 
 
 -- a list of at most so many items, all of them tables
 abbrev pub tables : Key → ℕ → Data → Result (List Members) DescFault
-tables key most d = list_at key most (as_array d) >>= (λ ds. allowed key (are_tables ds) >>= (λ _. Ok (tables_in ds)))
+tables key most d = list_up_to key most (as_array d) >>= (λ ds. allowed key (are_tables ds) >>= (λ _. Ok (tables_in ds)))
 
 -- what each table reads as, in order
 abbrev pub each : {A : Type 0} → (Members → Result A DescFault) → List Members → Result (List A) DescFault
@@ -98,9 +98,9 @@ abbrev pub member_of : List ℕ → Option Members → Option Data
 member_of word table = option_and_then (get_member word) table
 
 -- a key that is to be absent
-abbrev pub without : {A : Type 0} → Key → A → Option Data → Result A DescFault
-without key x None = Ok x
-without key x (Some d) = Err (BadField key)
+abbrev pub absent : {A : Type 0} → Key → A → Option Data → Result A DescFault
+absent key x None = Ok x
+absent key x (Some d) = Err (BadField key)
 
 -- a text that is one of some words
 abbrev pub word_as : {A : Type 0} → (List ℕ → Option A) → Data → Option A

@@ -5,8 +5,8 @@ use Rattle.vm_desc.specs.Names.{is_name}
 use Rattle.vm_reader.specs.Reading as reading
 use Rattle.vm_reader.specs.declared.opening.Opening.{Opening}
 
-abbrev pub opening_of : Opening → reading.Opening
-opening_of o = record {
+abbrev pub seen_opening : Opening → reading.Opening
+seen_opening o = record {
   vm_id = o.vm_id;
   shared = o.shared.items;
   buffers = o.buffers.items;

@@ -1,5 +1,6 @@
 -- Which keys stand where in a description.
 use Rattle.std.specs.Prelude.{ℕ, List, [], ◌∷◌, codes, Bool, true, ◌&&◌, if◌then◌else◌, Option, Some, None, is_some, unwrap_or}
+use Rattle.std.specs.Option.{option_or}
 use Rattle.std.specs.Str.{bytes_eq}
 use Rattle.toml.specs.Data.{Data, string, integer, float, boolean, datetime, array, table, Items, no_items, item, Members, no_members, member}
 use Rattle.vm_desc.specs.Names.{stands_in}
@@ -7,32 +8,36 @@ use Rattle.vm_reader.specs.declared.known.Place.{Place}
 use Rattle.vm_reader.specs.declared.known.Place.TheVariants as place
 
 -- the keys that stand in one table
-abbrev pub words_of : Place → List (List ℕ)
-words_of place.Document =
+abbrev pub known_words : Place → List (List ℕ)
+known_words place.Document =
     codes "vm" ∷ codes "shared" ∷ codes "buffers" ∷ codes "devices" ∷ codes "turns" ∷ codes "quantum" ∷ []
-words_of place.Handler = codes "name" ∷ codes "kind" ∷ codes "contexts" ∷ codes "period" ∷ []
-words_of place.Function = codes "name" ∷ codes "kind" ∷ codes "args" ∷ codes "device" ∷ codes "latency" ∷ []
-words_of place.Trickle = codes "imin" ∷ codes "doublings" ∷ codes "k" ∷ []
-words_of place.Radio = codes "delay" ∷ codes "gap" ∷ []
-words_of place.Value = []
+known_words place.Handler = codes "name" ∷ codes "kind" ∷ codes "contexts" ∷ codes "period" ∷ []
+known_words place.Function = codes "name" ∷ codes "kind" ∷ codes "args" ∷ codes "device" ∷ codes "latency" ∷ []
+known_words place.Trickle = codes "imin" ∷ codes "doublings" ∷ codes "k" ∷ []
+known_words place.Radio = codes "delay" ∷ codes "gap" ∷ []
+known_words place.Value = []
 
 -- a value that holds no keys stands under such a key
-abbrev pub value_at : Place → List ℕ → Option Place
-value_at p word = if stands_in (words_of p) word then Some place.Value else None
+abbrev pub value_place : Place → List ℕ → Option Place
+value_place p word = if stands_in (known_words p) word then Some place.Value else None
 
--- the place of what stands under a key, and nothing for a key that isn't known there
-abbrev pub below : Place → List ℕ → Option Place
-below place.Document word =
+-- a table, or tables, of a document stand under such a key
+abbrev pub table_below : Place → List ℕ → Option Place
+table_below place.Document word =
     if bytes_eq word (codes "handler") then Some place.Handler
     else if bytes_eq word (codes "function") then Some place.Function
     else if bytes_eq word (codes "trickle") then Some place.Trickle
     else if bytes_eq word (codes "radio") then Some place.Radio
-    else value_at place.Document word
-below place.Handler word = value_at place.Handler word
-below place.Function word = value_at place.Function word
-below place.Trickle word = value_at place.Trickle word
-below place.Radio word = value_at place.Radio word
-below place.Value word = None
+    else None
+table_below place.Handler word = None
+table_below place.Function word = None
+table_below place.Trickle word = None
+table_below place.Radio word = None
+table_below place.Value word = None
+
+-- the place of what stands under a key, and nothing for a key that isn't known there
+abbrev pub known_below : Place → List ℕ → Option Place
+known_below p word = option_or (table_below p word) (value_place p word)
 
 -- each key inside, at any depth and through lists, is known where it stands
 abbrev mutual
@@ -51,4 +56,4 @@ abbrev mutual
 
   pub members_have_known : Place → Members → Bool
   members_have_known p no_members = true
-  members_have_known p (member k d ms) = (is_some (below p k) && has_known (unwrap_or (below p k) place.Value) d) && members_have_known p ms
+  members_have_known p (member k d ms) = (is_some (known_below p k) && has_known (unwrap_or (known_below p k) place.Value) d) && members_have_known p ms

@@ -1,12 +1,13 @@
 -- The description that a text gives, key by key; where a rule is broken, the first refusal. Each line of a list below
 -- reads one key: its name in refusals, its range, its default where it has one, and its place in the text.
 use Rattle.std.specs.Prelude.{ℕ, List, [], ◌∷◌, ◌+◌, ◌*◌, ◌%◌, ◌^◌, ◌==◌, length, codes, nat_lt, nat_le, if◌then◌else◌, Option, Some, None, option_map, option_and_then, Result, Ok, Err}
+use Rattle.std.specs.List.{position}
 use Rattle.std.specs.Str.{bytes_eq}
 use Rattle.toml.specs.Data.{Data, Members, as_str, get_member}
 use Rattle.mate_num.specs.declared.id.DeviceId.{DeviceId}
 use Rattle.vm_desc.specs.Limits.{Parts, duplicate_of, round_time, longest}
 use Rattle.vm_desc.specs.Rules.{few_contexts, no_repeat, in_time}
-use Rattle.vm_reader.specs.Fields.{◌>>=◌, taken, field, number, name, names, tables, each, section, member_of, allowed, without, word_as}
+use Rattle.vm_reader.specs.Fields.{◌>>=◌, taken, field, number, name, names, tables, each, section, member_of, allowed, absent, word_as}
 use Rattle.vm_desc.specs.declared.key.Key.TheVariants as key
 use Rattle.vm_desc.specs.declared.fault.DescFault.{DescFault}
 use Rattle.vm_desc.specs.declared.handler.Handler.{Handler}
@@ -29,10 +30,10 @@ handler_kind word =
 
 -- a timer has a period, and no other kind has one
 abbrev pub with_period : HandlerKind → Option Data → Result HandlerKind DescFault
-with_period Plain value = without key.HandlerPeriod Plain value
+with_period Plain value = absent key.HandlerPeriod Plain value
 with_period (Timer unset) value = field key.HandlerPeriod (number 1 3600000) None value >>= (λ period. Ok (Timer period))
-with_period Receive value = without key.HandlerPeriod Receive value
-with_period Once value = without key.HandlerPeriod Once value
+with_period Receive value = absent key.HandlerPeriod Receive value
+with_period Once value = absent key.HandlerPeriod Once value
 
 -- a handler's keys
 unfoldable pub handler_at : Members → Result Handler DescFault
@@ -64,21 +65,16 @@ fun_kind word =
 
 -- an actuator may have arguments, and no other kind may
 abbrev pub with_args : FunKind → Option Data → Result FunKind DescFault
-with_args Sense value = without key.FunctionArgs Sense value
+with_args Sense value = absent key.FunctionArgs Sense value
 with_args (Act unset) value = field key.FunctionArgs (number 0 4) (Some 0) value >>= (λ args. Ok (Act args))
-with_args Send value = without key.FunctionArgs Send value
-with_args Id value = without key.FunctionArgs Id value
-with_args Rand value = without key.FunctionArgs Rand value
-with_args Clock value = without key.FunctionArgs Clock value
-
--- the first place of a name in a list
-abbrev pub place_of : List ℕ → List (List ℕ) → Option ℕ
-place_of text [] = None
-place_of text (x ∷ xs) = if bytes_eq text x then Some 0 else option_map (λ n. n + 1) (place_of text xs)
+with_args Send value = absent key.FunctionArgs Send value
+with_args Id value = absent key.FunctionArgs Id value
+with_args Rand value = absent key.FunctionArgs Rand value
+with_args Clock value = absent key.FunctionArgs Clock value
 
 -- one of the devices, by its name
 abbrev pub device : List (List ℕ) → Data → Option (Option DeviceId)
-device devices d = option_map (λ n. Some (record { 0 = n })) (option_and_then (λ text. place_of text devices) (as_str d))
+device devices d = option_map (λ n. Some (record { 0 = n })) (option_and_then (λ text. position (bytes_eq text) devices) (as_str d))
 
 -- a function's keys
 unfoldable pub function_at : List (List ℕ) → Members → Result Function DescFault
@@ -112,9 +108,16 @@ radio_at t = do
   gap ← field key.RadioGap (number 1 10000) (Some 50) (member_of (codes "gap") t)
   Ok (record { delay = delay; gap = gap })
 
+-- both settings, whose tables may be absent
+unfoldable pub trickle_of : Members → Result TrickleSet DescFault
+trickle_of doc = section key.TrickleImin (get_member (codes "trickle") doc) >>= trickle_at
+
+unfoldable pub radio_of : Members → Result RadioSet DescFault
+radio_of doc = section key.RadioDelay (get_member (codes "radio") doc) >>= radio_at
+
 -- the rules on all parts together
-unfoldable pub whole : Parts → Result Parts DescFault
-whole p = do
+unfoldable pub ruled : Parts → Result Parts DescFault
+ruled p = do
   few ← few_contexts p.handlers
   distinct ← no_repeat (duplicate_of p)
   timely ← in_time (round_time (length p.handlers) p.radio) (longest p.trickle)
@@ -144,11 +147,9 @@ unfoldable pub from_handlers_at : Opening → Members → Result Parts DescFault
 from_handlers_at o doc = do
   handlers ← handlers_at (get_member (codes "handler") doc)
   functions ← functions_at o.devices (get_member (codes "function") doc)
-  trickle_table ← section key.TrickleImin (get_member (codes "trickle") doc)
-  trickle ← trickle_at trickle_table
-  radio_table ← section key.RadioDelay (get_member (codes "radio") doc)
-  radio ← radio_at radio_table
-  whole (record {
+  trickle ← trickle_of doc
+  radio ← radio_of doc
+  ruled (record {
     vm_id = o.vm_id;
     handlers = handlers;
     functions = functions;

@@ -6,7 +6,7 @@ ghost use Rattle.std.specs.Option.{ForSome};
 ghost use Rattle.toml.specs.Data.{get_member, as_array};
 ghost use Rattle.toml.specs.View.{view, array_view, table_view};
 ghost use Rattle.vm_desc.specs.Names.{is_name};
-ghost use Rattle.vm_reader.specs.Fields.{GivesField, field, taken, number, name, names_of, names, list_at, section, member_of, allowed, seen, seen_table};
+ghost use Rattle.vm_reader.specs.Fields.{GivesField, field, taken, number, name, all_names, names, list_up_to, section, member_of, allowed, seen, seen_table};
 
 use arrayvec::ArrayVec;
 use mate_num::Name;
@@ -114,7 +114,7 @@ pub fn names<const N: usize>(
 
 fn names_in<const N: usize>(key: Key, items: &Array) -> Result<ArrayVec<Name, N>, DescFault>
     requires { length items.now.items ≤ N }
-    ensures value { GivesField (λ v. v.items) result (taken key (names_of (array_view items.now))) }
+    ensures value { GivesField (λ v. v.items) result (taken key (all_names (array_view items.now))) }
     ensures few { IfOk result (λ v. length v.items ≤ N) }
     ensures form { IfOk result (λ v. IsTrue (list_all is_name v.items)) }
 {
@@ -130,7 +130,7 @@ fn names_in<const N: usize>(key: Key, items: &Array) -> Result<ArrayVec<Name, N>
 
 /// The list in `value`, of at most `most` items.
 pub fn list_at<'a>(key: Key, most: usize, value: &'a Value) -> Result<&'a Array, DescFault>
-    ensures value { GivesField (λ v. array_view v.now) result (list_at key most (as_array (view value.now))) }
+    ensures value { GivesField (λ v. array_view v.now) result (list_up_to key most (as_array (view value.now))) }
     ensures few { IfOk result (λ v. length v.now.items ≤ most) }
 {
     let Value::Array(items) = value else {

@@ -8,7 +8,7 @@ use toml::value::Array;
 use toml::{Table, Value};
 
 /// A place in a description's text.
-#[derive(Clone, Copy, PartialEq, Eq, Debug)]
+#[derive(Clone, Copy)]
 pub enum Place {
     Document,
     Handler,
@@ -21,29 +21,37 @@ pub enum Place {
 
 impl Place {
     ghost use Rattle.vm_desc.specs.Names.{stands_in};
-    ghost use Rattle.vm_reader.specs.Places.{words_of, below};
+    ghost use Rattle.vm_reader.specs.Places.{known_words, table_below, known_below};
 
     /// The place of what stands under `word`; None where no description has that key here.
     pub fn below(self, word: &str) -> Option<Place>
-        ensures { result ≡ below self word.now }
+        ensures { result ≡ known_below self word.now }
     {
-        if self == Place::Document && word == "handler" {
-            Some(Place::Handler)
-        } else if self == Place::Document && word == "function" {
-            Some(Place::Function)
-        } else if self == Place::Document && word == "trickle" {
-            Some(Place::Trickle)
-        } else if self == Place::Document && word == "radio" {
-            Some(Place::Radio)
-        } else if self.has_value(word) {
-            Some(Place::Value)
-        } else {
-            None
+        match self.table(word) {
+            Some(table) => Some(table),
+            None if self.has_value(word) => Some(Place::Value),
+            None => None,
+        }
+    }
+
+    // The place of a table that stands under `word`.
+    fn table(self, word: &str) -> Option<Place>
+        ensures { result ≡ table_below self word.now }
+    {
+        let Place::Document = self else {
+            return None;
+        };
+        match word {
+            "handler" => Some(Place::Handler),
+            "function" => Some(Place::Function),
+            "trickle" => Some(Place::Trickle),
+            "radio" => Some(Place::Radio),
+            _ => None,
         }
     }
 
     fn has_value(self, word: &str) -> bool
-        ensures { result ≡ stands_in (words_of self) word.now }
+        ensures { result ≡ stands_in (known_words self) word.now }
     {
         match self {
             Place::Document => matches!(

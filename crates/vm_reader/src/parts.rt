@@ -1,11 +1,13 @@
 //! The handlers, functions and settings that a description's tables give.
 
 ghost use Rattle.std.specs.Prelude.{◌≡◌, ◌≤◌, ◌<◌, ◌*◌, ◌^◌, Some, None, true, length, IfOk, IfSome, IsTrue};
-ghost use Rattle.std.specs.List.{list_all};
+ghost use Rattle.std.specs.List.{list_all, position};
+ghost use Rattle.std.specs.Str.{bytes_eq};
 ghost use Rattle.toml.specs.View.{view, array_view, table_view};
-ghost use Rattle.vm_desc.specs.Limits.{is_kind, is_handler, args_of, is_device, is_function, is_trickle, is_radio};
+ghost use Rattle.mate_num.specs.Shapes.{is_device};
+ghost use Rattle.vm_desc.specs.Limits.{is_kind, is_handler, args_of, is_function, is_trickle, is_radio};
 ghost use Rattle.vm_reader.specs.Fields.{GivesField, field, word_as, each, seen, seen_table, tables, tables_in, are_tables};
-ghost use Rattle.vm_reader.specs.Reading.{handler_kind, with_period, handler_at, handlers_at, fun_kind, with_args, place_of, device, function_at, functions_at, trickle_at, radio_at};
+ghost use Rattle.vm_reader.specs.Reading.{handler_kind, with_period, handler_at, handlers_at, fun_kind, with_args, device, function_at, functions_at, trickle_at, radio_at};
 
 use crate::fields::{allowed, at, list_at, name, number, taken, within};
 use arrayvec::ArrayVec;
@@ -242,15 +244,10 @@ fn device(devices: &[Name], value: Option<&Value>) -> Result<Option<DeviceId>, D
 }
 
 fn place_of(text: &str, names: &[Name]) -> Option<usize>
-    ensures value { result ≡ place_of text.now names.now }
+    ensures value { result ≡ position (bytes_eq text.now) names.now }
     ensures within { IfSome result (λ n. n < length names.now) }
 {
-    for (place, name) in names.iter().enumerate() {
-        if text == name.as_str() {
-            return Some(place);
-        }
-    }
-    None
+    names.iter().position(|name| text == name.as_str())
 }
 
 /// The settings of the Trickle timer in `table`.

@@ -1,11 +1,12 @@
 //! The description in a text.
 
-ghost use Rattle.std.specs.Prelude.{◌≡◌, IfOk};
+ghost use Rattle.std.specs.Prelude.{◌≡◌, IfOk, IsTrue};
 ghost use Rattle.toml.specs.View.{table_view};
 ghost use Rattle.vm_reader.specs.Fields.{GivesField};
+ghost use Rattle.vm_desc.specs.Limits.{is_trickle, is_radio};
 ghost use Rattle.vm_desc.specs.Whole.{parts_of};
-ghost use Rattle.vm_reader.specs.Reading.{opening_at, from_handlers_at, description_at};
-ghost use Rattle.vm_reader.specs.Openings.{opening_of, IsOpening};
+ghost use Rattle.vm_reader.specs.Reading.{opening_at, trickle_of, radio_of, from_handlers_at, description_at};
+ghost use Rattle.vm_reader.specs.Openings.{seen_opening, IsOpening};
 ghost use Rattle.vm_reader.specs.Text.{ReadsDescription, description_of};
 
 use crate::fields::{at, names, number, section};
@@ -15,7 +16,7 @@ use crate::parts::{functions_in, handlers_in, radio_in, trickle_in};
 use std::alloc::Global;
 use toml::Table;
 use vm_desc::rules::{few_contexts, in_time, no_repeat};
-use vm_desc::{DescFault, Description, Key};
+use vm_desc::{DescFault, Description, Key, RadioSet, TrickleSet};
 
 /// The description in `bytes`, a TOML document. `DescFault` says when each refusal comes; of
 /// several the first in its order is given, and `NoMemory` may come in place of any answer.
@@ -44,7 +45,7 @@ fn description(document: &Table) -> Result<Description, DescFault>
 
 #[tactic(auto, unfolding(crate::specs::Reading::opening_at))]
 fn opening(document: &Table) -> Result<Opening, DescFault>
-    ensures value { GivesField opening_of result (opening_at (table_view document.now)) }
+    ensures value { GivesField seen_opening result (opening_at (table_view document.now)) }
     ensures rules { IfOk result IsOpening }
 {
     let vm_id = number(Key::Vm, 0, u32::MAX, None, at(document, "vm"))?;
@@ -69,10 +70,26 @@ fn opening(document: &Table) -> Result<Opening, DescFault>
     })
 }
 
-#[tactic(auto, unfolding(crate::specs::Reading::from_handlers_at, crate::specs::Reading::whole))]
+#[tactic(auto, unfolding(crate::specs::Reading::trickle_of))]
+fn trickle_of(document: &Table) -> Result<TrickleSet, DescFault>
+    ensures value { result ≡ trickle_of (table_view document.now) }
+    ensures rules { IfOk result (λ t. IsTrue (is_trickle t)) }
+{
+    trickle_in(section(Key::TrickleImin, at(document, "trickle"))?)
+}
+
+#[tactic(auto, unfolding(crate::specs::Reading::radio_of))]
+fn radio_of(document: &Table) -> Result<RadioSet, DescFault>
+    ensures value { result ≡ radio_of (table_view document.now) }
+    ensures rules { IfOk result (λ r. IsTrue (is_radio r)) }
+{
+    radio_in(section(Key::RadioDelay, at(document, "radio"))?)
+}
+
+#[tactic(auto, unfolding(crate::specs::Reading::from_handlers_at, crate::specs::Reading::ruled))]
 fn from_handlers(opening: Opening, document: &Table) -> Result<Description, DescFault>
     requires { IsOpening opening }
-    ensures { GivesField parts_of result (from_handlers_at (opening_of opening) (table_view document.now)) }
+    ensures { GivesField parts_of result (from_handlers_at (seen_opening opening) (table_view document.now)) }
 {
     let Opening {
         vm_id,
@@ -84,8 +101,8 @@ fn from_handlers(opening: Opening, document: &Table) -> Result<Description, Desc
     } = opening;
     let handlers = handlers_in(at(document, "handler"))?;
     let functions = functions_in(&devices, at(document, "function"))?;
-    let trickle = trickle_in(section(Key::TrickleImin, at(document, "trickle"))?)?;
-    let radio = radio_in(section(Key::RadioDelay, at(document, "radio"))?)?;
+    let trickle = trickle_of(document)?;
+    let radio = radio_of(document)?;
     few_contexts(&handlers)?;
     no_repeat(&shared, &buffers, &devices, &handlers, &functions)?;
     in_time(handlers.len(), trickle, radio)?;

@@ -8,8 +8,9 @@ use Rattle.std.proofs.lemmas.Option.{slice_get-get_or}
 use Rattle.std.specs.Option.{option_map_or}
 use Rattle.std.proofs.lemmas.List.{get_or-set_same, get_or-set_other, length-set}
 use Rattle.std.proofs.lemmas.List.Sums.{sum_by_push}
-use Rattle.rand_pcg.specs.Lcg.{Lcg, started, increment_of, advance, next_state, state_after}
+use Rattle.rand_pcg.specs.Lcg.{Lcg, started, increment_of, advance}
 use Rattle.rand_pcg.specs.Pcg.{multiplier_64, pcg32}
+use Rattle.trickle_timer.proofs.StreamLemmas.{advance_step, advance_none}
 use Rattle.mate_num.specs.declared.id.FunId.{FunId}
 use Rattle.script_reader.specs.declared.world.Series.{Series}
 use Rattle.vm_desc.specs.declared.function.Function.{Function}
@@ -43,23 +44,6 @@ series-past (y ∷ xs) (suc i) node fun x below is other =
 
 -- ---- a call more
 
--- a step of a stream after n steps is step n + 1
-state_after_step : (w m p n s : ℕ) → next_state w m p (state_after w m p n s) ≡ state_after w m p (suc n) s
-unfolding state_after
-state_after_step w m p zero s = refl
-state_after_step w m p (suc n) s = state_after_step w m p n (next_state w m p s)
-
-advance_more : (n : ℕ) (g : Lcg) → (pcg32 (advance 64 multiplier_64 n g)).1 ≡ advance 64 multiplier_64 (n + 1) g
-advance_more n g =
-    let M = multiplier_64 in
-    let e : next_state 64 M g.increment (state_after 64 M g.increment n g.state) ≡ state_after 64 M g.increment (n + 1) g.state = rw add-one (state_after_step 64 M g.increment n g.state) in
-    let G : ℕ → Lcg = λ s. record { state = s; increment = g.increment } in
-    ap G e
-
-advance_none : (g : Lcg) → advance 64 multiplier_64 0 g ≡ g
-unfolding state_after
-advance_none g = refl
-
 -- the answer is the value by the kind
 pub answer-value : (w : World) (node : ℕ) (called : List FunId) (f : FunId) (time : ℕ) (k : FunKind) → called_kind w f ≡ k
     → answer_at w node called f time ≡ value_by (w.series node f.0) (count_by (λ g. g.0 == f.0) called) node (stream_word w (2 * node + 1) (words_taken w called)) time k
@@ -79,7 +63,7 @@ words-past kind.Sense g n = ap (λ (m : ℕ). advance 64 multiplier_64 m g) (ome
 words-past (kind.Act args) g n = ap (λ (m : ℕ). advance 64 multiplier_64 m g) (omega arith)
 words-past kind.Send g n = ap (λ (m : ℕ). advance 64 multiplier_64 m g) (omega arith)
 words-past kind.Id g n = ap (λ (m : ℕ). advance 64 multiplier_64 m g) (omega arith)
-words-past kind.Rand g n = advance_more n g
+words-past kind.Rand g n = advance_step n g
 words-past kind.Clock g n = ap (λ (m : ℕ). advance 64 multiplier_64 m g) (omega arith)
 
 times_called-more : (called : List FunId) (f : FunId) (k : ℕ) → k ≡ f.0 → times_called (called ++ f ∷ []) k ≡ min (times_called called k + 1) (2 ^ 64 - 1)

@@ -25,11 +25,11 @@ ring nodes = chain (nodes - 1) ++ both_ways 0 (nodes - 1) 200
 
 -- ---- events
 
-abbrev pub planned : ℕ → ℕ → What → Planned
-planned time node what = record { time = time; node = node; what = what }
+abbrev pub planned_line : ℕ → ℕ → What → Planned
+planned_line time node what = record { time = time; node = node; what = what }
 
 abbrev pub injected : ℕ → ℕ → ℕ → ℕ → ℕ → Planned
-injected time node program handler version = planned time node (what.Inject program (record { 0 = handler }) version)
+injected time node program handler version = planned_line time node (what.Inject program (record { 0 = handler }) version)
 
 -- version 1 of a handler; and version 2, whose programs come behind those of all versions 1
 abbrev pub first_injection : ℕ → ℕ → Planned
@@ -41,7 +41,7 @@ second_injection handlers nodes h = injected (300000 + 1000 * h) ((11 * h + 3) %
 -- post number j
 abbrev pub posting : ℕ → ℕ → ℕ → ℕ → Planned
 posting number handlers nodes j =
-    planned (2000 * j) ((number % nodes + 13 * j) % nodes) (what.Post (record { 0 = j % handlers }) (record { items = pos (j % 100) ∷ [] }))
+    planned_line (2000 * j) ((number % nodes + 13 * j) % nodes) (what.Post (record { 0 = j % handlers }) (record { items = pos (j % 100) ∷ [] }))
 
 -- all injections by handler, and then so many posts by number
 abbrev pub unsorted : ℕ → ℕ → ℕ → ℕ → List Planned

@@ -26,7 +26,7 @@ use Rattle.script_reader.specs.Script.{Answers}
 use Rattle.script_reader.proofs.StepLemmas.{length-with_file, files_grow}
 use Rattle.world_reader.specs.declared.stage.Stage.{Stage}
 use Rattle.world_reader.specs.declared.stage.Stage.TheVariants as stage
-use Rattle.world_reader.specs.WorldScript.{WorldSaid, SaysNodes, SaysRandom, SaysUntil, SaysSuppress, SaysLink, SaysSeries, SaysPlanned, WorldProgress, is_linked, is_free, turned, links_of, is_of_pair, with_series, newest_with, with_told, no_world, world_at_end}
+use Rattle.world_reader.specs.WorldScript.{WorldSaid, SaysNodes, SaysRandom, SaysUntil, SaysSuppress, SaysLink, SaysSeries, SaysPlanned, WorldProgress, is_linked, is_free, turned_back, links_of, is_of_pair, with_series, newest_with, with_told, no_world, world_at_end}
 use Rattle.world_reader.specs.WorldReader.{HasNoLists, IsBare, IsNotedAt, KeepsWorld, IsRightEvent, IsRightTold, HasPlace}
 
 -- ---- lists
@@ -79,7 +79,7 @@ one_link nodes links l old right none = record {
   pairs = all_pairs_push AreOtherLinks links l old.pairs (λ i d h. others_of l.from l.to links none i d h);
 }
 
-turned_right : (nodes : ℕ) (l : Link) → IsRightLink nodes l → IsRightLink nodes (turned l)
+turned_right : (nodes : ℕ) (l : Link) → IsRightLink nodes l → IsRightLink nodes (turned_back l)
 turned_right nodes l r = record { from_high = r.to_high; to_high = r.from_high; apart = λ e. r.apart (sym e); loss_high = r.loss_high }
 
 linked_back : (from to : ℕ) (links : List Link) (l : Link) → is_linked from to links ≡ false → (l.from ≡ from → ⊥) → is_linked from to (links ++ l ∷ []) ≡ false
@@ -104,7 +104,7 @@ more_links nodes links l true old right free =
     let first : AreRightLinks nodes (links ++ l ∷ []) = one_link nodes links l old right (not_true _ parts.0) in
     let back : is_linked l.to l.from (links ++ l ∷ []) ≡ false = linked_back l.to l.from links l (nor_right true (is_linked l.to l.from links) parts.1 refl) right.apart in
     let P : List Link → Type 0 = λ ls. AreRightLinks nodes ls in
-    subst P (append_assoc links (l ∷ []) (turned l ∷ [])) (one_link nodes (links ++ l ∷ []) (turned l) first (turned_right nodes l right) back)
+    subst P (append_assoc links (l ∷ []) (turned_back l ∷ [])) (one_link nodes (links ++ l ∷ []) (turned_back l) first (turned_right nodes l right) back)
 
 -- ---- series
 

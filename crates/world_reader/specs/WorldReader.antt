@@ -18,10 +18,10 @@ use Rattle.world_reader.specs.declared.reader.Reader.{Reader}
 use Rattle.world_reader.specs.WorldScript.{WorldSaid, SaysNodes, SaysRandom, SaysUntil, SaysSuppress, SaysLink, SaysSeries, SaysPlanned, WorldProgress, is_free, is_linked, is_of_pair}
 
 -- what a function returned, seen by view, and the words that it left are what the reading gives, where memory was not refused
-abbrev pub Tells : {X Y : Type 0} → (X → Y) → Reading Y → List (List ℕ) → Result X Refusal → List (List ℕ) → Type 0
-Tells view reading before (Ok x) after = reading before ≡ Ok (record { value = view x; rest = after })
-Tells view reading before (Err (refusal.Bad cause)) after = reading before ≡ Err cause
-Tells view reading before (Err refusal.NoMemory) after = ⊤
+abbrev pub ReadsScript : {X Y : Type 0} → (X → Y) → Reading Y → List (List ℕ) → Result X Refusal → List (List ℕ) → Type 0
+ReadsScript view reading before (Ok x) after = reading before ≡ Ok (record { value = view x; rest = after })
+ReadsScript view reading before (Err (refusal.Bad cause)) after = reading before ≡ Err cause
+ReadsScript view reading before (Err refusal.NoMemory) after = ⊤
 
 abbrev pub progress_of : Reader → WorldProgress
 progress_of r = record { stage = r.stage; world = r.world; time = r.time; newest = r.newest }

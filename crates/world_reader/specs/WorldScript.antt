@@ -132,18 +132,18 @@ an_event d p = do
 -- ---- a whole line
 
 -- where the first word is the one that has to come
-abbrev pub only : {A : Type 0} → List ℕ → List ℕ → Reading A → Reading A
-only verb wanted reading = if bytes_eq verb wanted then reading else found (Err Word)
+abbrev pub by_its_verb : {A : Type 0} → List ℕ → List ℕ → Reading A → Reading A
+by_its_verb verb wanted reading = if bytes_eq verb wanted then reading else found (Err Word)
 
 -- `nodes N`, `random S` and `until MS`
 unfoldable pub some_nodes : List ℕ → Reading ℕ
-some_nodes verb = only verb (codes "nodes") (a_number 1 64 Range)
+some_nodes verb = by_its_verb verb (codes "nodes") (a_number 1 64 Range)
 
 unfoldable pub a_random : List ℕ → Reading ℕ
-a_random verb = only verb (codes "random") (a_number 0 (2 ^ 64 - 1) Range)
+a_random verb = by_its_verb verb (codes "random") (a_number 0 (2 ^ 64 - 1) Range)
 
 unfoldable pub an_until : List ℕ → Reading ℕ
-an_until verb = only verb (codes "until") (a_number 1 3600000 Range)
+an_until verb = by_its_verb verb (codes "until") (a_number 1 3600000 Range)
 
 unfoldable pub a_setting : Description → WorldProgress → List ℕ → Reading WorldSaid
 a_setting d p verb =
@@ -151,7 +151,7 @@ a_setting d p verb =
     else if bytes_eq verb (codes "link") then a_link p.world false
     else if bytes_eq verb (codes "both") then a_link p.world true
     else if bytes_eq verb (codes "series") then a_series d p.world
-    else only verb (codes "at") (an_event d p)
+    else by_its_verb verb (codes "at") (an_event d p)
 
 -- what stands behind a line's first word
 abbrev pub behind_verb : Description → WorldProgress → Stage → List ℕ → Reading WorldSaid
@@ -159,7 +159,7 @@ behind_verb d p stage.Nodes verb = some_nodes verb >>= (λ nodes. give (SaysNode
 behind_verb d p stage.Random verb = a_random verb >>= (λ random. give (SaysRandom random))
 behind_verb d p stage.Until verb = an_until verb >>= (λ until. give (SaysUntil until))
 behind_verb d p stage.Settings verb = a_setting d p verb
-behind_verb d p stage.Events verb = only verb (codes "at") (an_event d p)
+behind_verb d p stage.Events verb = by_its_verb verb (codes "at") (an_event d p)
 
 unfoldable pub a_world_line : Description → WorldProgress → Reading WorldSaid
 a_world_line d p = do
@@ -170,11 +170,11 @@ a_world_line d p = do
 
 -- ---- the script
 
-abbrev pub turned : Link → Link
-turned l = record { from = l.to; to = l.from; loss = l.loss }
+abbrev pub turned_back : Link → Link
+turned_back l = record { from = l.to; to = l.from; loss = l.loss }
 
 abbrev pub links_of : Link → Bool → List Link
-links_of l both = if both then l ∷ turned l ∷ [] else l ∷ []
+links_of l both = if both then l ∷ turned_back l ∷ [] else l ∷ []
 
 abbrev pub is_of_pair : ℕ → ℕ → Series → Bool
 is_of_pair node fun s = (s.node == node) && (s.fun.0 == fun)

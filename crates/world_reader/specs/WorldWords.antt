@@ -59,10 +59,10 @@ if_noise d bytes =
     else Err Packet
 
 -- the bytes that the hexadecimal digits spell; more of them than an image has are too many as well
-abbrev pub noise_of : Description → Result (ArrayVec ℕ) HexFault → Result (ArrayVec ℕ) Cause
-noise_of d (Ok bytes) = if_noise d bytes.items
-noise_of d (Err BadHex) = Err Number
-noise_of d (Err TooLong) = Err Range
+abbrev pub noise_bytes : Description → Result (ArrayVec ℕ) HexFault → Result (ArrayVec ℕ) Cause
+noise_bytes d (Ok bytes) = if_noise d bytes.items
+noise_bytes d (Err BadHex) = Err Number
+noise_bytes d (Err TooLong) = Err Range
 
 unfoldable pub some_noise : Description → Reading (ArrayVec ℕ)
-some_noise d = a_word >>= (λ w. found (noise_of d (image_in w)))
+some_noise d = a_word >>= (λ w. found (noise_bytes d (image_in w)))

@@ -1,15 +1,14 @@
 //! The reader of the scripts of worlds.
 
-ghost use Rattle.std.specs.Prelude.{◌≡◌, ◌<◌, ◌≤◌, ◌^◌, ◌∷◌, codes, false, true, length, IfOk, IfErr, OnOk, option_map, replicate};
+ghost use Rattle.std.specs.Prelude.{◌≡◌, ◌<◌, ◌≤◌, ◌^◌, ◌∷◌, codes, false, true, length, IfOk, IfErr, OnOk, option_map, replicate, slice_index};
 ghost use Rattle.world_reader.specs.declared.stage.Stage.TheVariants as stages;
 ghost use Rattle.script_reader.specs.Lines.{words_of};
 ghost use Rattle.script_reader.specs.Script.{Answers, Follows};
 ghost use Rattle.script_reader.specs.Words.{Reads};
-ghost use Rattle.script_reader.specs.declared.world.What.TheVariants as whats;
-ghost use Rattle.script_reader.specs.World.{IsRightWorld, with_values};
+ghost use Rattle.script_reader.specs.World.{IsRightWorld, IsRightWhat, IfInjects, with_values};
 ghost use Rattle.script_reader.specs.NodeScript.{with_file};
-ghost use Rattle.world_reader.specs.WorldScript.{SaysLink, SaysSeries, SaysPlanned, some_nodes, a_random, an_until, switch_of, a_switch, is_free, is_linked, a_far_end, a_link, a_series, an_injection, a_posting, a_noise, at_node, behind_time, an_event, only, a_setting, behind_verb, a_world_line, newest_with, with_told, with_series, links_of, after_world_line, world_script_in, world_at_end, no_world};
-ghost use Rattle.world_reader.specs.WorldReader.{Tells, progress_of, said_of, IsRightTold, KeepsWorld, AreTables, HasPlace};
+ghost use Rattle.world_reader.specs.WorldScript.{SaysLink, SaysSeries, SaysPlanned, some_nodes, a_random, an_until, switch_of, a_switch, is_free, is_linked, a_far_end, a_link, a_series, an_injection, a_posting, a_noise, at_node, behind_time, an_event, by_its_verb, a_setting, behind_verb, a_world_line, newest_with, with_told, with_series, links_of, after_world_line, world_script_in, world_at_end, no_world};
+ghost use Rattle.world_reader.specs.WorldReader.{ReadsScript, progress_of, said_of, IsRightTold, KeepsWorld, AreTables, HasPlace};
 
 use crate::command::Command;
 use crate::refusal::Refusal;
@@ -120,7 +119,7 @@ impl Reader {
         requires keeps { KeepsWorld desc.now (progress_of self.now) }
         requires tables { AreTables self.now.linked self.now.places self.now.world }
         requires files { length self.now.world.files < 2 ^ 32 }
-        ensures value { Tells said_of (a_world_line desc.now (progress_of self.now)) (words_of words.old) result (words_of words.new) }
+        ensures value { ReadsScript said_of (a_world_line desc.now (progress_of self.now)) (words_of words.old) result (words_of words.new) }
         ensures right { IfOk result (λ c. IsRightTold desc.now (progress_of self.now) (said_of c)) }
     {
         let verb = words.word()?;
@@ -139,7 +138,7 @@ impl Reader {
         requires keeps { KeepsWorld desc.now (progress_of self.now) }
         requires tables { AreTables self.now.linked self.now.places self.now.world }
         requires files { length self.now.world.files < 2 ^ 32 }
-        ensures value { Tells said_of (behind_verb desc.now (progress_of self.now) self.now.stage verb.now) (words_of words.old) result (words_of words.new) }
+        ensures value { ReadsScript said_of (behind_verb desc.now (progress_of self.now) self.now.stage verb.now) (words_of words.old) result (words_of words.new) }
         ensures right { IfOk result (λ c. IsRightTold desc.now (progress_of self.now) (said_of c)) }
     {
         match self.stage {
@@ -163,7 +162,7 @@ impl Reader {
         requires tables { AreTables self.now.linked self.now.places self.now.world }
         requires files { length self.now.world.files < 2 ^ 32 }
         requires stage { self.now.stage ≡ stages.Settings }
-        ensures value { Tells said_of (a_setting desc.now (progress_of self.now) verb.now) (words_of words.old) result (words_of words.new) }
+        ensures value { ReadsScript said_of (a_setting desc.now (progress_of self.now) verb.now) (words_of words.old) result (words_of words.new) }
         ensures right { IfOk result (λ c. IsRightTold desc.now (progress_of self.now) (said_of c)) }
     {
         if verb == "suppress" {
@@ -248,7 +247,7 @@ impl Reader {
         requires tables { AreTables self.now.linked self.now.places self.now.world }
         requires files { length self.now.world.files < 2 ^ 32 }
         requires stage { self.now.stage ≡ stages.Settings }
-        ensures value { Tells said_of (a_series desc.now self.now.world) (words_of words.old) result (words_of words.new) }
+        ensures value { ReadsScript said_of (a_series desc.now self.now.world) (words_of words.old) result (words_of words.new) }
         ensures right { IfOk result (λ c. IsRightTold desc.now (progress_of self.now) (said_of c)) }
     {
         let node = node_in(self.world.nodes, words)?;
@@ -267,7 +266,7 @@ impl Reader {
         requires keeps { KeepsWorld desc.now (progress_of self.now) }
         requires tables { AreTables self.now.linked self.now.places self.now.world }
         requires files { length self.now.world.files < 2 ^ 32 }
-        ensures value { Reads said_of (only verb.now (codes "at") (an_event desc.now (progress_of self.now))) (words_of words.old) result (words_of words.new) }
+        ensures value { Reads said_of (by_its_verb verb.now (codes "at") (an_event desc.now (progress_of self.now))) (words_of words.old) result (words_of words.new) }
         ensures right { IfOk result (λ c. IsRightTold desc.now (progress_of self.now) (said_of c)) }
     {
         if verb == "at" {
@@ -312,9 +311,9 @@ impl Reader {
         } else if verb == "post" {
             self.posting(desc, time, words)
         } else if verb == "show" {
-            self.showing(desc, time, words)
+            self.at_node(desc, time, What::Show, words)
         } else if verb == "reset" {
-            self.resetting(desc, time, words)
+            self.at_node(desc, time, What::Reset, words)
         } else if verb == "noise" {
             self.noise(desc, time, words)
         } else {
@@ -401,42 +400,24 @@ impl Reader {
         })
     }
 
+    // What a node is to do that needs no further word.
     #[tactic(auto, unfolding(crate::specs::WorldScript::at_node))]
-    fn showing<'a>(
+    fn at_node<'a>(
         &self,
         desc: &Description,
         time: u32,
+        what: What,
         words: &mut Words<'a>,
     ) -> Result<Command<'a>, Cause>
         requires keeps { KeepsWorld desc.now (progress_of self.now) }
         requires low { self.now.time ≤ time }
         requires high { time ≤ self.now.world.until }
-        ensures value { Reads said_of (at_node self.now.world time whats.Show) (words_of words.old) result (words_of words.new) }
+        requires right { IsRightWhat desc.now (length self.now.world.files) what }
+        requires newer { IfInjects what (λ handler version. slice_index (progress_of self.now).newest handler.0 < version) }
+        ensures value { Reads said_of (at_node self.now.world time what) (words_of words.old) result (words_of words.new) }
         ensures right { IfOk result (λ c. IsRightTold desc.now (progress_of self.now) (said_of c)) }
     {
         let node = node_in(self.world.nodes, words)?;
-        let what = What::Show;
-        Ok(Command::Plan {
-            planned: Planned { time, node, what },
-            file: None,
-        })
-    }
-
-    #[tactic(auto, unfolding(crate::specs::WorldScript::at_node))]
-    fn resetting<'a>(
-        &self,
-        desc: &Description,
-        time: u32,
-        words: &mut Words<'a>,
-    ) -> Result<Command<'a>, Cause>
-        requires keeps { KeepsWorld desc.now (progress_of self.now) }
-        requires low { self.now.time ≤ time }
-        requires high { time ≤ self.now.world.until }
-        ensures value { Reads said_of (at_node self.now.world time whats.Reset) (words_of words.old) result (words_of words.new) }
-        ensures right { IfOk result (λ c. IsRightTold desc.now (progress_of self.now) (said_of c)) }
-    {
-        let node = node_in(self.world.nodes, words)?;
-        let what = What::Reset;
         Ok(Command::Plan {
             planned: Planned { time, node, what },
             file: None,

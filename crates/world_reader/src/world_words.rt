@@ -7,8 +7,8 @@ ghost use Rattle.packet_codec.specs.Reading.{is_noise};
 ghost use Rattle.script_reader.specs.Lines.{words_of};
 ghost use Rattle.script_reader.specs.Words.{Reads};
 ghost use Rattle.script_reader.specs.World.{IsRightNoise};
-ghost use Rattle.world_reader.specs.WorldWords.{a_node, a_time, not_back, if_senses, sensor_of, a_sensor, some_values, if_noise, noise_of, some_noise};
-ghost use Rattle.world_reader.specs.WorldReader.{Tells};
+ghost use Rattle.world_reader.specs.WorldWords.{a_node, a_time, not_back, if_senses, sensor_of, a_sensor, some_values, if_noise, noise_bytes, some_noise};
+ghost use Rattle.world_reader.specs.WorldReader.{ReadsScript};
 
 use crate::refusal::Refusal;
 use capsule_codec::{HexFault, from_hex};
@@ -89,7 +89,7 @@ fn if_senses(number: u8, kind: FunKind) -> Result<FunId, Cause>
 
 /// One value or more, to the end of the line.
 pub fn values_in(alloc: Global, words: &mut Words<'_>) -> Result<Values, Refusal>
-    ensures value { Tells (λ vs. vs) some_values (words_of words.old) result (words_of words.new) }
+    ensures value { ReadsScript (λ vs. vs) some_values (words_of words.old) result (words_of words.new) }
     ensures some { IfOk result (λ vs. 1 ≤ length vs) }
 {
     if words.is_done() {

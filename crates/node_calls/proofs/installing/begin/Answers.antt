@@ -7,7 +7,7 @@ use Rattle.node_calls.proofs.installing.begin.Goals as goal
 pub returns : goal.returns
 returns c =
     RestsAgain-begun c.args.description.now c.args.parts.now c.clear.new.parts c.push_install.new.self c.install.new.self c.args.at c.args.program.handler c.args.program.held c.requires.rests c.requires.timely c.requires.seen
-    c.requires.held c.requires.handler c.places_are_eight.ensures
+    c.requires.held c.requires.handler c.programs_have_places.ensures
     (record { entries = c.push_install.ensures.entries; images = c.push_install.ensures.images; stores = c.push_install.ensures.stores }) c.push_install.ensures.spare c.clear.ensures c.install.ensures
 
 pub push_install-requires-clause-count : goal.push_install-requires-clause-count

@@ -1,5 +1,5 @@
 use Rattle.std.proofs.Common.{◌≡◌, List, ℕ, length, subst, rules}
-use Rattle.event_queue.specs.Links.{Appends}
+use Rattle.event_queue.specs.Links.{LinksLast}
 use Rattle.event_queue.proofs.LinkLemmas.{linked-push, alone-push, grows}
 use Rattle.event_queue.proofs.chains.Chains.grow.Goals as goal
 
@@ -15,4 +15,4 @@ pub returns : goal.returns
 returns c =
     let is : c.len-place.result ≡ length c.self.inside.next.items = search rules in
     grows c.self.inside.next.items c.self.inside.heads.items _ _ _ _ _ c.self.view_is is
-    (subst (λ (xs : List ℕ). Appends xs c.self.inside.heads.items c.append.new.next.items c.append.new.heads.items c.args.list c.len-place.result) c.in_ok-push.ensures.items c.append.ensures)
+    (subst (λ (xs : List ℕ). LinksLast xs c.self.inside.heads.items c.append.new.next.items c.append.new.heads.items c.args.list c.len-place.result) c.in_ok-push.ensures.items c.append.ensures)

@@ -1,5 +1,5 @@
 use Rattle.std.proofs.Common.{◌≡◌, ◌<◌, ◌∙◌, sym, ap, ℕ, rules, arith, length, refl, subst}
-use Rattle.event_queue.specs.Links.{list_at, Moves}
+use Rattle.event_queue.specs.Links.{list_at, MovesFirst}
 use Rattle.event_queue.specs.Wheel.{far, near}
 use Rattle.event_queue.proofs.WheelLemmas.{first_moved, read_at, spreads_more, spreads_all}
 use Rattle.std.specs.Prelude.{Some, slice_get}
@@ -25,9 +25,9 @@ loop-place-preserved g c =
     let from : c.far_list-from.result ≡ far w.at = c.far_list-from.ensures.value ∙ ap far (sym so_far.at) in
     let there : slice_get (list_at w.chains c.far_list-from.result) 0 ≡ Some place = sym c.in-Some.ensures.value in
     let is : c.move_first.result ≡ place = first_moved (list_at w.chains c.far_list-from.result) _ place c.move_first.result there c.move_first.ensures.first in
-    let moved_1 = subst (λ (s : ℕ). Moves w.chains c.move_first.new.self s c.near_list-to.result c.move_first.result) from c.move_first.ensures in
-    let moved_2 = subst (λ (s : ℕ). Moves w.chains c.move_first.new.self (far w.at) s c.move_first.result) c.near_list-to.ensures.value moved_1 in
-    let moved = subst (λ (p : ℕ). Moves w.chains c.move_first.new.self (far w.at) (near e.time) p) is moved_2 in
+    let moved_1 = subst (λ (s : ℕ). MovesFirst w.chains c.move_first.new.self s c.near_list-to.result c.move_first.result) from c.move_first.ensures in
+    let moved_2 = subst (λ (s : ℕ). MovesFirst w.chains c.move_first.new.self (far w.at) s c.move_first.result) c.near_list-to.ensures.value moved_1 in
+    let moved = subst (λ (p : ℕ). MovesFirst w.chains c.move_first.new.self (far w.at) (near e.time) p) is moved_2 in
     spreads_more group c.args.self.now w _ place e so_far refl refl refl moved (read_at w.entries.items place e within c.index.ensures)
 
 pub returns : goal.returns
