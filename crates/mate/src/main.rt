@@ -9,9 +9,15 @@ use std::process::ExitCode;
 use std::rt::Env;
 use std::{env, io};
 
+/// How many bytes are written to the output at once.
+const OUT_BLOCK: usize = 65_536;
+
 fn main(rt: HostRuntime) -> ExitCode {
     let mut err = OsSink::new(rt.stderr());
-    let status = match (words(&rt), BufWriter::new(rt.alloc(), io::writer(&rt))) {
+    let status = match (
+        words(&rt),
+        BufWriter::with_capacity(rt.alloc(), OUT_BLOCK, io::writer(&rt)),
+    ) {
         (Ok(words), Ok(writer)) => {
             let mut files = OsFiles::new(rt.alloc(), &rt);
             let mut out = OsSink::new(writer);

@@ -21,7 +21,7 @@ abbrev pub document_text : Document → List ℕ
 document_text (document.Summary d r) = brief d r
 document_text (document.OpcodeTable d) = table_text d
 document_text (document.Capsule image) = encode_lower image.items ++ codes "\n"
-document_text (document.Listing d c v) = capsule_text d (capsule_parts c) v.code
+document_text (document.Listing d l) = capsule_text d (capsule_parts l.value.capsule) l.value.code.code
 document_text (document.Expansion s) = script_line (source_of s)
 
 -- it tells of a run that a full log ended
@@ -34,5 +34,5 @@ abbrev pub HasText : Document → Type 0
 HasText (document.Summary d r) = IsTidy d r
 HasText (document.OpcodeTable d) = ⊤
 HasText (document.Capsule image) = ⊤
-HasText (document.Listing d c v) = IsVerifiedFor d (capsule_parts c) v
+HasText (document.Listing d l) = IsVerifiedFor d (capsule_parts l.value.capsule) l.value.code
 HasText (document.Expansion s) = ⊤

@@ -16,7 +16,14 @@ use ts_printer::print;
 use ts_syntax::Script;
 use vm_desc::Description;
 
-/// What the text of a document is made from.
+/// A capsule of a machine, with its verified code.
+#[derive(Drop)]
+pub struct Listing {
+    pub capsule: Capsule,
+    pub code: Verified,
+}
+
+/// What the text of a document is made from. A listing is boxed: it is far larger than the others.
 #[derive(Drop)]
 pub enum Document {
     /// The summary of a report of this machine.
@@ -25,8 +32,8 @@ pub enum Document {
     OpcodeTable(Description),
     /// The image of a capsule, in hexadecimal digits.
     Capsule(Image),
-    /// The text of a capsule of this machine, with its verified code.
-    Listing(Description, Capsule, Verified),
+    /// The text of a capsule of this machine.
+    Listing(Description, Box<Listing>),
     /// The tokens of a plain script, in one line.
     Expansion(Script),
 }
@@ -44,7 +51,9 @@ impl Document {
             Document::Summary(desc, report) => report_text::brief(desc, report, out),
             Document::OpcodeTable(desc) => opcode_gen::print_table(desc, out),
             Document::Capsule(image) => write_image(image, out),
-            Document::Listing(desc, capsule, code) => print_capsule(desc, capsule, code, out),
+            Document::Listing(desc, listing) => {
+                print_capsule(desc, &listing.capsule, &listing.code, out)
+            }
             Document::Expansion(script) => write_script(script, out),
         }
     }
@@ -57,7 +66,7 @@ impl Document {
             Document::Summary(_, report) => !report.whole(),
             Document::OpcodeTable(_) => false,
             Document::Capsule(_) => false,
-            Document::Listing(_, _, _) => false,
+            Document::Listing(_, _) => false,
             Document::Expansion(_) => false,
         }
     }

@@ -66,6 +66,7 @@ fn output_of<F: Files>(alloc: Global, files: &mut F, words: &Vec<String>) -> Res
 }
 
 /// What a command is to write.
+#[inline(never)]
 fn task_output<F: Files>(alloc: Global, files: &mut F, task: Command<'_>) -> Result<Output, Refusal>
     ensures does { command (record { told = F.contents files.old; steady = F.steady files.old }) (task_held task.entry) result }
     ensures reads { ReadsFiles (F.contents files.old) (F.steady files.old) (F.faults files.old) (F.contents files.new) (F.steady files.new) (F.faults files.new) result }

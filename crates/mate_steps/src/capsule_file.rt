@@ -32,6 +32,7 @@ pub fn capsule_of<F: Files>(
 
 /// The capsule of the machine whose image the text spells in hexadecimal digits, with its verified code; or the first
 /// refusal: of the digits, then of the image, then of the code. It takes no memory.
+#[inline(never)]
 fn read_capsule(desc: &Description, text: &[u8]) -> Result<(Capsule, Verified), CapsuleCause>
     ensures { ReadsText desc.now text.now result }
 {

@@ -38,6 +38,7 @@ pub fn machine_of<F: Files>(
 }
 
 /// The machine that a file describes.
+#[inline(never)]
 fn machine_file<F: Files>(alloc: Global, files: &mut F, name: &str) -> Result<Description, Refusal>
     ensures does { machine_file (record { told = F.contents files.old; steady = F.steady files.old }) name.now result }
     ensures reads { ReadsFiles (F.contents files.old) (F.steady files.old) (F.faults files.old) (F.contents files.new) (F.steady files.new) (F.faults files.new) result }
@@ -47,6 +48,7 @@ fn machine_file<F: Files>(alloc: Global, files: &mut F, name: &str) -> Result<De
 }
 
 /// The machine that a text describes.
+#[inline(never)]
 fn machine_text(alloc: Global, bytes: &[u8]) -> Result<Description, Refusal>
     ensures { machine_text bytes.now result }
 {

@@ -32,6 +32,7 @@ pub fn source_of<F: Files>(
 }
 
 /// That of the bytes of the source `name`.
+#[inline(never)]
 fn compiled_bytes(
     alloc: Global,
     desc: &Description,
@@ -48,6 +49,7 @@ fn compiled_bytes(
 }
 
 /// The script that the bytes of the source `name` spell.
+#[inline(never)]
 pub fn accepted(
     alloc: Global,
     desc: &Description,
@@ -68,6 +70,7 @@ pub fn accepted(
 }
 
 /// The compiled script of the script of the source `name`.
+#[inline(never)]
 fn compiled(
     alloc: Global,
     desc: &Description,

@@ -1,9 +1,7 @@
 -- What the calls of a node make of a step.
-use Rattle.std.proofs.Common.{◌≡◌, ℕ, ℤ, List, [], ◌∷◌, Result, Ok, Err, refl, sym, ◌∙◌, ap, subst, inl, inr}
+use Rattle.std.proofs.Common.{◌≡◌, ℕ, List, [], ◌∷◌, Result, Ok, Err, refl, sym, ◌∙◌, ap, subst, inl, inr}
 use Rattle.std.specs.Prelude.{IsOk}
-use Rattle.arrayvec.specs.ArrayVec.{ArrayVec}
 use Rattle.mate_num.specs.declared.call.Stamp.{Stamp}
-use Rattle.mate_num.specs.declared.id.HandlerId.{HandlerId}
 use Rattle.capsule_codec.specs.Image.{CapsuleParts}
 use Rattle.capsule_codec.specs.Reading.{capsule_in}
 use Rattle.capsule_codec.specs.declared.decoding.CapsuleFault.{CapsuleFault}
@@ -16,29 +14,17 @@ use Rattle.vm_desc.specs.declared.description.Description.{Description}
 use Rattle.mate_journal.specs.declared.entry.VoidCause.{VoidCause}
 use Rattle.mate_journal.specs.declared.entry.VoidCause.TheVariants as void
 use Rattle.mate_journal.specs.declared.program.Program.{Program}
-use Rattle.mate_journal.specs.Machine.{Machine, HeldProgram}
+use Rattle.mate_journal.specs.Machine.{HeldProgram}
 use Rattle.mate_journal.specs.Journal.{Told, Void, Reading}
 use Rattle.mate_journal.specs.Pace.{Pace, paced_all}
-use Rattle.mate_journal.specs.NodeScript.{Install, Makes, Occasion, Installs, IsNotNewer}
+use Rattle.mate_journal.specs.NodeScript.{Install, Makes, Installs, IsNotNewer}
 use Rattle.node_invariant.specs.Meaning.{machine_in, clock_of}
-use Rattle.node_calls.specs.Posting.{PostGives}
-use Rattle.node_calls.specs.declared.posting.PostAnswer.{PostAnswer}
-use Rattle.node_calls.specs.declared.posting.PostAnswer.TheVariants.{Posted, NoCode, AllBusy}
 use Rattle.node_calls.specs.Installing.{IsRightCapsule, IsUnverified, program_by, InstallsBytes, IsNoNewer}
 use Rattle.node_core.specs.View.{NodeView, Tells}
+use Rattle.node_core.proofs.CallLemmas.{Tells-by}
 use Rattle.node_core.specs.Calls.{Pacing}
 use Rattle.node_programs.specs.Right.{IsRightProgram}
 use Rattle.node_programs.specs.Sources.{held_as}
-
--- what meets one rule meets another
-pub Tells-by : (old new : NodeView) (at : Stamp) (Rule Other : Pace → List Told → Pace → Type 0) → ((p : Pace) (told : List Told) (q : Pace) → Rule p told q → Other p told q)
-    → Tells old new at Rule → Tells old new at Other
-Tells-by old new at Rule Other goes t = record {
-  told = t.told;
-  description = t.description;
-  grows = t.grows;
-  paces = λ p has. let x = t.paces p has in (x.0, goes p t.told x.0 x.1, x.2);
-}
 
 -- a step that could do nothing
 pub Tells-void : (old mid new : NodeView) (at : Stamp) (cause : VoidCause) (Other : Pace → List Told → Pace → Type 0) → mid ≡ old
@@ -98,11 +84,3 @@ module _ (d : Description) (p : Program) (right : IsRightProgram d p) where
       let made : IsNotNewer r (program_by n.capsule p.image.items) (Void (void.NotNewer version) ∷ []) =
       record { older = n.older; made = ap (λ (v : ℕ). Void (void.NotNewer v) ∷ []) n.held_is } in
       (inr (subst P is made), refl)
-
--- ---- posts
-
--- what a post answers is an occasion
-pub Occasion-given : (m : Machine) (r : Reading) (h : HandlerId) (payload : ArrayVec ℤ) (answer : PostAnswer) (told : List Told) → PostGives m r h payload answer told → Occasion m r h payload told
-Occasion-given m r h payload (Posted inv) told x = inr (inr x.1)
-Occasion-given m r h payload NoCode told x = inl x
-Occasion-given m r h payload AllBusy told x = inr (inl x)

@@ -2,6 +2,7 @@
 #![tactic(auto)]
 
 mod events;
+mod heap_node;
 pub mod running;
 pub mod writing;
 

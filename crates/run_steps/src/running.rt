@@ -7,16 +7,15 @@ ghost use Rattle.node_core.specs.Journal.{KeepsJournal};
 ghost use Rattle.node_programs.specs.ScriptSteps.{AreProgramsOf};
 ghost use Rattle.run_steps.specs.Running.{RunGives};
 
-use crate::events::make_step;
+use crate::heap_node::HeapNode;
 use mate_journal::{Airs, NodeLogs, Programs, RECORDS_MAX, Report, RunFault};
 use mate_num::Stamp;
-use node_core::Node;
 use script_reader::Steps;
 use std::alloc::Global;
 use vm_desc::Description;
 
 /// No further event is begun on the node.
-pub(crate) fn is_full(node: &Node) -> bool
+pub(crate) fn is_full(node: &HeapNode) -> bool
     ensures { result ≡ nat_le records_max (length node.now.log.entries) }
 {
     node.log().entries().len() >= RECORDS_MAX
@@ -26,7 +25,7 @@ pub(crate) fn is_full(node: &Node) -> bool
 pub(crate) fn report_of(
     alloc: Global,
     logs: NodeLogs,
-    node: Node,
+    node: HeapNode,
     events: u64,
     whole: bool,
 ) -> Report
@@ -53,7 +52,7 @@ pub fn run_steps(
 {
     let _contexts = desc.contexts();
     let logs = NodeLogs::empty(alloc, 1)?;
-    let mut node = Node::new(alloc, desc)?;
+    let mut node = HeapNode::new(alloc, desc)?;
     let mut events = 0;
     let list = steps.steps();
     for step in list {
@@ -66,7 +65,7 @@ pub fn run_steps(
             event: events,
             time: 0,
         };
-        make_step(&mut node, step, programs, at);
+        node.make(step, programs, at);
     }
     node.reserve(1)?;
     let _log = node.log();

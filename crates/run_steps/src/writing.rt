@@ -9,12 +9,11 @@ ghost use Rattle.node_core.specs.Journal.{KeepsJournal};
 ghost use Rattle.node_programs.specs.ScriptSteps.{AreProgramsOf};
 ghost use Rattle.run_steps.specs.Writing.{RunsInto, IsStopped, IsOfOneNode, EndsInto};
 
-use crate::events::make_step;
+use crate::heap_node::HeapNode;
 use crate::running::{is_full, report_of};
 use mate_files::{Sink, SinkFault};
 use mate_journal::{Airs, IntoFault, NodeLogs, Programs, Report};
 use mate_num::Stamp;
-use node_core::Node;
 use report_text::{write_end, write_event};
 use script_reader::Steps;
 use std::alloc::Global;
@@ -40,7 +39,7 @@ fn stopped(fault: SinkFault, report: Report) -> IntoFault
 /// Writes the lines of the entries from a position on.
 fn write_new<S: Sink>(
     desc: &Description,
-    node: &Node,
+    node: &HeapNode,
     from: usize,
     out: &mut S,
 ) -> Result<(), SinkFault>
@@ -81,7 +80,7 @@ pub fn run_steps_into<S: Sink>(
     ensures later { S.faults out.old ≤ S.faults out.new }
 {
     let _contexts = desc.contexts();
-    let Ok(mut node) = Node::new(alloc, desc) else {
+    let Ok(mut node) = HeapNode::new(alloc, desc) else {
         return Err(IntoFault::NoMemory(nothing_run(alloc)));
     };
     let Ok(logs) = NodeLogs::empty(alloc, 1) else {
@@ -103,7 +102,7 @@ pub fn run_steps_into<S: Sink>(
             event: events,
             time: 0,
         };
-        make_step(&mut node, step, programs, at);
+        node.make(step, programs, at);
         if let Err(fault) = write_new(desc, &node, written, out) {
             return Err(stopped(fault, report_of(alloc, logs, node, events, false)));
         }

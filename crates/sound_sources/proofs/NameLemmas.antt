@@ -11,7 +11,8 @@ use Rattle.vm_desc.specs.declared.function.FunKind.{FunKind}
 use Rattle.vm_desc.specs.declared.function.FunKind.TheVariants as fun
 use Rattle.vm_desc.specs.Names as desc
 use Rattle.vm_desc.specs.Names.{between, continues_name, keywords, is_keyword, has_form, is_name, stands_in, repeat_after}
-use Rattle.vm_desc.specs.Limits.{is_function, first_of_two, args_of, is_device}
+use Rattle.mate_num.specs.Shapes.{is_device}
+use Rattle.vm_desc.specs.Limits.{is_function, first_of_two, args_of}
 use Rattle.ts_syntax.specs.declared.token.TokenKind.{TokenKind}
 use Rattle.ts_syntax.specs.declared.token.TokenKind.TheVariants as kind
 use Rattle.ts_syntax.specs.Text.{token_text}

@@ -1,5 +1,6 @@
 -- How a statement begins in a block, and where none does.
 use Rattle.std.proofs.Common.{◌≡◌, ◌<◌, ℕ, length, List, [], ◌∷◌, ◌++◌, map, Some, None, Err, refl, sym, ◌∙◌, ap, subst, arith, Option}
+use Rattle.std.proofs.lemmas.Option.{same_Some}
 use Rattle.ts_syntax.specs.declared.word.Word.{Word}
 use Rattle.ts_syntax.specs.declared.stmt.Step.{Step}
 use Rattle.ts_syntax.specs.declared.dialect.Dialect.{Dialect}
@@ -20,20 +21,17 @@ use Rattle.ts_statements.proofs.SimpleLemmas.{IsOther, lacks_first}
 
 -- ---- how a statement begins
 
-some_same : {A : Type 0} {a b : A} → Some a ≡ Some b → a ≡ b
-some_same e = cc
-
 opens_do : (d : Dialect) (ts : List Token) (o : Opening) (a : Acts) (f : Frame) → dialect_of f ≡ d → do_opening d ≡ Some o → run (kind.Do ∷ kinds ts) (noted_then ts) (block a f) ≡ reads ts (opened_by o a f)
 opens_do dialect.Plain ts o a f j e = cc
 opens_do dialect.Procedures ts o a f j e =
-    ap (λ z. going (step_do z a f) (run (kinds ts) (noted_then ts)) (kind.Do ∷ kinds ts)) j ∙ ap (λ z. reads ts (opened_by z a f)) (some_same e)
+    ap (λ z. going (step_do z a f) (run (kinds ts) (noted_then ts)) (kind.Do ∷ kinds ts)) j ∙ ap (λ z. reads ts (opened_by z a f)) (same_Some _ _ e)
 
 opens : (d : Dialect) (t : Token) (ts : List Token) (m : TokenKind) (o : Opening) (a : Acts) (f : Frame) → dialect_of f ≡ d → opening_of d t m ≡ Some o → run (m ∷ kinds ts) (note t m ts ++ noted_then ts) (block a f) ≡ reads ts (opened_by o a f)
-opens d t ts (kind.Name n) o a f j e = ap (λ z. reads ts (opened_by z a f)) (some_same e)
-opens d t ts kind.Clear o a f j e = ap (λ z. reads ts (opened_by z a f)) (some_same e)
-opens d t ts kind.If o a f j e = ap (λ z. reads ts (opened_by z a f)) (some_same e)
-opens d t ts kind.For o a f j e = ap (λ z. reads ts (opened_by z a f)) (some_same e)
-opens d t ts kind.While o a f j e = ap (λ z. reads ts (opened_by z a f)) (some_same e)
+opens d t ts (kind.Name n) o a f j e = ap (λ z. reads ts (opened_by z a f)) (same_Some _ _ e)
+opens d t ts kind.Clear o a f j e = ap (λ z. reads ts (opened_by z a f)) (same_Some _ _ e)
+opens d t ts kind.If o a f j e = ap (λ z. reads ts (opened_by z a f)) (same_Some _ _ e)
+opens d t ts kind.For o a f j e = ap (λ z. reads ts (opened_by z a f)) (same_Some _ _ e)
+opens d t ts kind.While o a f j e = ap (λ z. reads ts (opened_by z a f)) (same_Some _ _ e)
 opens d t ts kind.Do o a f j e = opens_do d ts o a f j e
 opens d t ts m o a f j e = cc
 

@@ -11,9 +11,8 @@ use Rattle.mate_num.specs.declared.id.BufId.{BufId}
 use Rattle.mate_num.specs.declared.id.DeviceId.{DeviceId}
 use Rattle.mate_num.specs.declared.shape.Shape.{Shape}
 use Rattle.mate_num.specs.declared.shape.FunShape.{FunShape}
-use Rattle.vm_desc.specs.Limits.{args_of, is_device as is_device_below}
+use Rattle.vm_desc.specs.Limits.{args_of}
 use Rattle.vm_desc.specs.Shapes.{shape_of, fun_shape, is_send}
-use Rattle.vm_desc.specs.Shapes.{is_shape as is_machine_shape, is_fun_shape}
 use Rattle.vm_desc.proofs.DescriptionLemmas.{shape_of-limits}
 use Rattle.vm_desc.specs.declared.description.Description.{Description}
 use Rattle.vm_desc.specs.declared.function.Function.{Function}
@@ -29,7 +28,8 @@ use Rattle.ts_syntax.specs.Tree as given
 use Rattle.ts_syntax.specs.Tree.{Tree, Trees, no_trees, tree_then, Act, Acts, no_acts, act_then, Source}
 use Rattle.ts_syntax.specs.Expression.{Expression, Arguments, no_arguments, argument}
 use Rattle.ts_syntax.specs.Statement.{Statement, Block, no_statements, statement}
-use Rattle.ts_syntax.specs.Right.{is_shape, is_device, is_function, is_variable, is_buffer, is_call, is_send as is_send_for, argument_count, is_right_expr, are_right, is_step, is_head, is_right_stmt, is_right_block, is_right}
+use Rattle.mate_num.specs.Shapes.{is_shape}
+use Rattle.ts_syntax.specs.Right.{is_variable, is_buffer, is_call, is_send as is_send_for, argument_count, is_right_expr, are_right, is_step, is_head, is_right_stmt, is_right_block, is_right}
 use Rattle.ts_checker.specs.declared.scope.Symbol.{Symbol}
 use Rattle.ts_checker.specs.declared.scope.Symbol.TheVariants.{Variable, Buffer}
 use Rattle.ts_checker.specs.declared.scope.Entry.{Entry}
@@ -337,25 +337,6 @@ mutual
       bind_keeps (IsRightStmt s) (IsRightBlock s) (checked_stmt n x) _ (stmt-right s n x right) (λ y hy.
       bind_keeps (IsRightBlock s) (IsRightBlock s) (checked_block n xs) _ (block-right s n xs right) (λ more hm. rw (hy, hm) refl))
 
--- a machine's shape is one that code and trees allow
-functions-right : (fs : List FunShape) → list_all is_fun_shape fs ≡ true → list_all is_function fs ≡ true
-functions-right [] h = refl
-functions-right (f ∷ fs) h =
-    let (here, more) = and_parts (is_fun_shape f) (list_all is_fun_shape fs) h in
-    both (is_function f) (list_all is_function fs) (one f here) (functions-right fs more) where
-      one : (f : FunShape) → is_fun_shape f ≡ true → is_function f ≡ true
-      one f h = fits f.device (and_parts (nat_le f.args 4 && (not f.send || f.args == 0)) (is_device_below 8 f.device) h) where
-        fits : (o : Option DeviceId) → ((nat_le f.args 4 && (not f.send || f.args == 0)) ≡ true) × (is_device_below 8 o ≡ true)
-            → ((nat_le f.args 4 && (not f.send || f.args == 0)) && is_device o) ≡ true
-        fits None h = both _ _ h.0 refl
-        fits (Some d) h = both _ _ h.0 h.1
-
-pub shape-right : (s : Shape) → is_machine_shape s ≡ true → is_shape s ≡ true
-shape-right s h =
-    let (limits, functions) = and_parts ((nat_le s.shared 16 && nat_le s.buffers 8) && nat_le (length s.functions.items) 32) (list_all is_fun_shape s.functions.items) h in
-    let (few, _) = and_parts (nat_le s.shared 16 && nat_le s.buffers 8) (nat_le (length s.functions.items) 32) limits in
-    both (nat_le s.shared 16 && nat_le s.buffers 8) (list_all is_function s.functions.items) few (functions-right s.functions.items functions)
-
 -- no names but the machine's are right for its shape
 none-right : (machine : Description) → AreRight (shape_of machine) (names_before machine)
 none-right machine = record { shape = refl; each = refl }
@@ -368,7 +349,7 @@ source-right machine source =
     (declare_all-right s (names_before machine) source.decls (none-right machine)) (λ n right.
     told (checked_block n source.body) (block-right s n source.body right)) where
       told : (r : Result Block CheckFault) → IfOk r (IsRightBlock (shape_of machine)) → IfOk r (λ b. is_right (shape_of machine) b ≡ true)
-      told (Ok b) h = both (is_shape (shape_of machine)) (is_right_block (shape_of machine) b) (shape-right (shape_of machine) (shape_of-limits machine (shape_of machine) refl)) h
+      told (Ok b) h = both (is_shape (shape_of machine)) (is_right_block (shape_of machine) b) (shape_of-limits machine (shape_of machine) refl) h
       told (Err e) h = tt
 
 pub checked-right : (machine : Description) (source : Source) (s : Shape) (b : Block) → s ≡ shape_of machine → checked_source machine source ≡ Ok b → is_right s b ≡ true

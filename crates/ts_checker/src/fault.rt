@@ -8,7 +8,7 @@ use std::fmt;
 /// Why a script is refused for a machine. Declarations come first, and then the statements, word by word
 /// from left to right; of several refusals the first is given. A place is the offset in bytes of a word's
 /// first byte in the source.
-#[derive(PartialEq, Eq, Debug, Drop)]
+#[derive(Debug, Drop)]
 pub enum CheckFault {
     /// The name at `place`, of a variable or a buffer, isn't declared; or it stands behind `do`, and a machine has no
     /// procedures.

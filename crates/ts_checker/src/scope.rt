@@ -10,7 +10,7 @@ use ts_syntax::{CVar, Decl, DeclKind, Word};
 use vm_desc::{Description, FunKind, Function};
 
 /// What a declared name stands for.
-#[derive(Clone, Copy, PartialEq, Eq, Debug)]
+#[derive(Clone, Copy)]
 pub enum Symbol {
     Variable(CVar),
     Buffer(BufId),

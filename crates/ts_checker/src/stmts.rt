@@ -1,7 +1,8 @@
 //! The checks of statements.
 
 ghost use Rattle.std.specs.Prelude.{◌≡◌};
-ghost use Rattle.ts_syntax.specs.Seen.{tree_of, act_of, acts_of};
+ghost use Rattle.ts_syntax.specs.Seen.{tree_of, trees_of, act_of, acts_of};
+ghost use Rattle.ts_syntax.specs.Tree as given;
 ghost use Rattle.ts_syntax.specs.TreeOf.{stmt_tree, block_tree};
 ghost use Rattle.ts_checker.specs.Refusal.{GivesChecked};
 ghost use Rattle.ts_checker.specs.Checks.{checked_step, checked_head, checked_stmt, checked_block};
@@ -11,7 +12,7 @@ use crate::exprs::{call, expression};
 use crate::fault::CheckFault;
 use crate::scope::Scope;
 use std::alloc::Global;
-use ts_syntax::{Block, CBlock, CForHead, CStmt, ForHead, Step, Stmt, Word};
+use ts_syntax::{Args, Block, CBlock, CForHead, CStmt, Expr, ForHead, Step, Stmt, Word};
 
 /// Checks the statements of a block.
 #[cycle(block)]
@@ -30,26 +31,12 @@ fn statement(alloc: Global, scope: &Scope, stmt: &Stmt) -> Result<CStmt, CheckFa
     ensures { GivesChecked stmt_tree result (checked_stmt (scope_names scope.now) (act_of stmt.now)) }
 {
     match stmt {
-        Stmt::Set(word, value) => {
-            let variable = scope.variable(word)?;
-            Ok(CStmt::Set(variable, expression(alloc, scope, true, value)?))
-        }
-        Stmt::SetItem(word, index, value) => {
-            let buffer = scope.buffer(word)?;
-            let index = expression(alloc, scope, true, index)?;
-            let value = expression(alloc, scope, true, value)?;
-            Ok(CStmt::SetItem(buffer, index, value))
-        }
-        Stmt::Append(word, value) => {
-            let buffer = scope.buffer(word)?;
-            Ok(CStmt::Append(buffer, expression(alloc, scope, true, value)?))
-        }
-        Stmt::Take(word, from) => {
-            let variable = scope.variable(word)?;
-            Ok(CStmt::Take(variable, scope.buffer(from)?))
-        }
-        Stmt::Clear(word) => Ok(CStmt::Clear(scope.buffer(word)?)),
-        Stmt::Do(word, args) => Ok(call(alloc, scope, true, word, args)?.into_stmt()),
+        Stmt::Set(word, value) => set_variable(alloc, scope, word, value),
+        Stmt::SetItem(word, index, value) => set_item(alloc, scope, word, index, value),
+        Stmt::Append(word, value) => append(alloc, scope, word, value),
+        Stmt::Take(word, from) => take_last(scope, word, from),
+        Stmt::Clear(word) => clear(scope, word),
+        Stmt::Do(word, args) => call_alone(alloc, scope, word, args),
         Stmt::If(test, body, other) => {
             let test = expression(alloc, scope, true, test)?;
             let body = block(alloc, scope, body)?;
@@ -71,6 +58,59 @@ fn statement(alloc: Global, scope: &Scope, stmt: &Stmt) -> Result<CStmt, CheckFa
         }
         Stmt::Run(word, _) => Err(no_procedure(word)),
     }
+}
+
+fn set_variable(
+    alloc: Global,
+    scope: &Scope,
+    word: &Word,
+    value: &Expr,
+) -> Result<CStmt, CheckFault>
+    ensures { GivesChecked stmt_tree result (checked_stmt (scope_names scope.now) (given.set word.now (tree_of value.now))) }
+{
+    let variable = scope.variable(word)?;
+    Ok(CStmt::Set(variable, expression(alloc, scope, true, value)?))
+}
+
+fn set_item(
+    alloc: Global,
+    scope: &Scope,
+    word: &Word,
+    index: &Expr,
+    value: &Expr,
+) -> Result<CStmt, CheckFault>
+    ensures { GivesChecked stmt_tree result (checked_stmt (scope_names scope.now) (given.set_item word.now (tree_of index.now) (tree_of value.now))) }
+{
+    let buffer = scope.buffer(word)?;
+    let index = expression(alloc, scope, true, index)?;
+    let value = expression(alloc, scope, true, value)?;
+    Ok(CStmt::SetItem(buffer, index, value))
+}
+
+fn append(alloc: Global, scope: &Scope, word: &Word, value: &Expr) -> Result<CStmt, CheckFault>
+    ensures { GivesChecked stmt_tree result (checked_stmt (scope_names scope.now) (given.append word.now (tree_of value.now))) }
+{
+    let buffer = scope.buffer(word)?;
+    Ok(CStmt::Append(buffer, expression(alloc, scope, true, value)?))
+}
+
+fn take_last(scope: &Scope, word: &Word, from: &Word) -> Result<CStmt, CheckFault>
+    ensures { GivesChecked stmt_tree result (checked_stmt (scope_names scope.now) (given.take_last word.now from.now)) }
+{
+    let variable = scope.variable(word)?;
+    Ok(CStmt::Take(variable, scope.buffer(from)?))
+}
+
+fn clear(scope: &Scope, word: &Word) -> Result<CStmt, CheckFault>
+    ensures { GivesChecked stmt_tree result (checked_stmt (scope_names scope.now) (given.clear word.now)) }
+{
+    Ok(CStmt::Clear(scope.buffer(word)?))
+}
+
+fn call_alone(alloc: Global, scope: &Scope, word: &Word, args: &Args) -> Result<CStmt, CheckFault>
+    ensures { GivesChecked stmt_tree result (checked_stmt (scope_names scope.now) (given.call_alone word.now (trees_of args.now))) }
+{
+    Ok(call(alloc, scope, true, word, args)?.into_stmt())
 }
 
 // A machine has no procedures.

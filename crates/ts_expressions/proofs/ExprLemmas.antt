@@ -1,5 +1,8 @@
 -- Reading expressions: the tokens that the states take, and where two states take the next token alike.
 use Rattle.std.proofs.Common.{◌≡◌, ℕ, List, [], ◌∷◌, ◌++◌, None, Result, Err, Bor, refl, sym, ◌∙◌, ap}
+use Rattle.std.specs.declared.alloc.Global.{Global}
+use Rattle.std.specs.declared.boxed.Box.{Box}
+use Rattle.ts_expressions.specs.Boxed.{boxed_tree}
 use Rattle.ts_syntax.specs.declared.word.Word.{Word}
 use Rattle.ts_syntax.specs.declared.token.Token.{Token}
 use Rattle.ts_syntax.specs.declared.token.TokenKind.{TokenKind}
@@ -28,9 +31,9 @@ comparison_due : (k : Inverse) (ts : List Token) → Lacks kind.Not ts → reads
 comparison_due k [] h = refl
 comparison_due k (t ∷ ts) h = alike_at t ts (want_inverse k) (want (inverse_due k)) (not_left k t.kind h) refl
 
-pub comparison_read : (ts : List Token) → Lacks kind.Not ts → (r : Result (Expr × Bor (List Token)) Halt) → Reads {X = Expr} {K = Inverse} ts (λ k. want (inverse_due k)) (λ e k. have_inverse (tree_of e) k) r → Reads {X = Expr} {K = Inverse} ts (λ k. want_inverse k) (λ e k. have_inverse (tree_of e) k) r
+pub comparison_read : (ts : List Token) → Lacks kind.Not ts → (r : Result (Box Expr Global × Bor (List Token)) Halt) → Reads {X = Box Expr Global} {K = Inverse} ts (λ k. want (inverse_due k)) (λ e k. have_inverse (boxed_tree e) k) r → Reads {X = Box Expr Global} {K = Inverse} ts (λ k. want_inverse k) (λ e k. have_inverse (boxed_tree e) k) r
 comparison_read ts l =
-    ends_as Expr Inverse Inverse ts ts (λ k. want (inverse_due k)) (λ e k. have_inverse (tree_of e) k) (λ k. want_inverse k) (λ e k. have_inverse (tree_of e) k) (λ k. k) (λ k. comparison_due k ts l) (λ x ms k. refl)
+    ends_as (Box Expr Global) Inverse Inverse ts ts (λ k. want (inverse_due k)) (λ e k. have_inverse (boxed_tree e) k) (λ k. want_inverse k) (λ e k. have_inverse (boxed_tree e) k) (λ k. k) (λ k. comparison_due k ts l) (λ x ms k. refl)
 
 -- `and`
 pub and_read : (e : Tree) (k : Conjunction) {ts rest : List Token} → Starts kind.And ts rest → reads ts (have_and e k) ≡ reads rest (want_inverse (in_and e k))
@@ -40,9 +43,9 @@ and_read e k s = sign_read kind.And s tt (have_and e k) (want_inverse (in_and e 
 pub call_read : (w : Word) (k : Operand) {ts rest : List Token} → Starts kind.Open ts rest → reads ts (named w k) ≡ reads rest (opened w k)
 call_read w k s = sign_read kind.Open s tt (named w k) (opened w k) (λ p. refl)
 
-pub call_halts : (w : Word) {ts rest : List Token} → Starts kind.Open ts rest → (r : Result (Expr × Bor (List Token)) Halt) (e : Halt) → IsErrAnd r (λ x. x ≡ e) → Reads {X = List Expr} {K = Caller} rest (λ k. called_open k) (λ es k. called k (trees_of es)) (Err e) → Reads {X = Expr} {K = Operand} ts (λ k. named w k) (λ d k. give k (tree_of d)) r
+pub call_halts : (w : Word) {ts rest : List Token} → Starts kind.Open ts rest → (r : Result (Box Expr Global × Bor (List Token)) Halt) (e : Halt) → IsErrAnd r (λ x. x ≡ e) → Reads {X = List Expr} {K = Caller} rest (λ k. called_open k) (λ es k. called k (trees_of es)) (Err e) → Reads {X = Box Expr Global} {K = Operand} ts (λ k. named w k) (λ d k. give k (boxed_tree d)) r
 call_halts w {ts} {rest} s =
-    halts (List Expr) Expr Caller Operand ts rest (λ k. called_open k) (λ es k. called k (trees_of es)) (λ k. named w k) (λ d k. give k (tree_of d)) (λ k. of_operand w k) (λ k. call_read w k s)
+    halts (List Expr) (Box Expr Global) Caller Operand ts rest (λ k. called_open k) (λ es k. called k (trees_of es)) (λ k. named w k) (λ d k. give k (boxed_tree d)) (λ k. of_operand w k) (λ k. call_read w k s)
 
 -- a variable
 variable_left : (w : Word) (k : Operand) (m : TokenKind) → (code_of m ≡ code_of kind.Open → ⊥) → (code_of m ≡ code_of kind.OpenBox → ⊥) → (p : ℕ) → step (named w k) m p ≡ step (give k (variable w)) m p
@@ -75,5 +78,5 @@ trees_pushed : (es : List Expr) (e : Expr) → trees_of (es ++ e ∷ []) ≡ wit
 trees_pushed [] e = refl
 trees_pushed (d ∷ es) e = ap (λ x. tree_then (tree_of d) x) (trees_pushed es e)
 
-pub trees_more : (es : List Expr) (e : Expr) {fs : List Expr} → fs ≡ es ++ e ∷ [] → trees_of fs ≡ with_tree (trees_of es) (tree_of e)
-trees_more es e h = ap trees_of h ∙ trees_pushed es e
+pub trees_more : (es : List Expr) (b : Box Expr Global) {e : Expr} {fs : List Expr} → fs ≡ es ++ e ∷ [] → e ≡ b.value → trees_of fs ≡ with_tree (trees_of es) (boxed_tree b)
+trees_more es b {e} h is = ap trees_of h ∙ trees_pushed es e ∙ ap (λ (x : Expr). with_tree (trees_of es) (tree_of x)) is

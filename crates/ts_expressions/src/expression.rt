@@ -3,10 +3,14 @@
 ghost use Rattle.std.specs.Prelude.{◌<◌, ◌≤◌, length, IfOk};
 ghost use Rattle.ts_machine.specs.Machine.{Operand, Product, Sum, Inverse, Conjunction, Whole, want, want_inverse, named, sized, size_opened, size_named, first_product, first_and, sum_due, inverse_due, expr_due, give, have_product, have_sum, have_inverse, have_and, have};
 ghost use Rattle.ts_machine.specs.Parsing.{Reads, Lacks, LacksOperator, product_sign, sum_sign, Caller, called_open, called};
+ghost use Rattle.ts_expressions.specs.Boxed.{boxed_tree};
 ghost use Rattle.ts_syntax.specs.Seen.{tree_of, trees_of};
 ghost use Rattle.ts_syntax.specs.declared.token.TokenKind.TheVariants as kind;
 
-use crate::node::{inverse, item, message_item, negative, paren, two};
+use crate::node::{
+    buffer_size, call, inverse, item, message_item, message_size, negative, number, paren, two,
+    variable,
+};
 use std::alloc::Global;
 use ts_machine::Halt;
 use ts_machine::expect::{
@@ -14,11 +18,24 @@ use ts_machine::expect::{
 };
 use ts_syntax::{Args, BinOp, Expr, Token, TokenKind, Word};
 
+/// What a part of the parser found, and the tokens behind it. It is boxed at once, so that what recurs needs little stack.
+type Found<'a> = Result<(Box<Expr>, &'a [Token]), Halt<'a>>;
+
 /// Reads an expression, with all the operators that follow its parts: it, and the tokens behind it, of which the first is
 /// no `or`. It stops at the first token that doesn't fit, or behind all tokens where they end too early.
-#[cycle(expr)]
 pub fn expr<'a>(alloc: Global, tokens: &'a [Token]) -> Result<(Expr, &'a [Token]), Halt<'a>>
     ensures reads { Reads {K = Whole} tokens.now (λ k. expr_due k) (λ e k. have (tree_of e) k) result }
+    ensures over { IfOk result (λ x. Lacks kind.Or x.1.now) }
+    ensures shorter { IfOk result (λ x. length x.1.now < length tokens.now) }
+{
+    let (found, rest) = disjunction(alloc, tokens)?;
+    Ok((Box::into_inner(found), rest))
+}
+
+/// Reads a chain of `or`.
+#[cycle(expr)]
+fn disjunction<'a>(alloc: Global, tokens: &'a [Token]) -> Found<'a>
+    ensures reads { Reads {K = Whole} tokens.now (λ k. expr_due k) (λ e k. have (boxed_tree e) k) result }
     ensures over { IfOk result (λ x. Lacks kind.Or x.1.now) }
     ensures shorter { IfOk result (λ x. length x.1.now < length tokens.now) }
 {
@@ -44,8 +61,8 @@ pub fn arguments<'a>(alloc: Global, tokens: &'a [Token]) -> Result<(Args, &'a [T
     }
     let mut rest = tokens;
     loop {
-        let (arg, behind) = expr(alloc, rest)?;
-        args.push(arg)?;
+        let (arg, behind) = disjunction(alloc, rest)?;
+        args.push(Box::into_inner(arg))?;
         let Some(next) = after(behind, &TokenKind::Comma) else {
             let behind = expect(behind, &TokenKind::Close)?;
             return Ok((args, behind));
@@ -56,8 +73,8 @@ pub fn arguments<'a>(alloc: Global, tokens: &'a [Token]) -> Result<(Args, &'a [T
 
 /// Reads a chain of `and`.
 #[cycle(expr)]
-fn conjunction<'a>(alloc: Global, tokens: &'a [Token]) -> Result<(Expr, &'a [Token]), Halt<'a>>
-    ensures reads { Reads {K = Conjunction} tokens.now (λ k. want_inverse (first_and k)) (λ e k. have_and (tree_of e) k) result }
+fn conjunction<'a>(alloc: Global, tokens: &'a [Token]) -> Found<'a>
+    ensures reads { Reads {K = Conjunction} tokens.now (λ k. want_inverse (first_and k)) (λ e k. have_and (boxed_tree e) k) result }
     ensures over { IfOk result (λ x. Lacks kind.And x.1.now) }
     ensures shorter { IfOk result (λ x. length x.1.now < length tokens.now) }
 {
@@ -72,8 +89,8 @@ fn conjunction<'a>(alloc: Global, tokens: &'a [Token]) -> Result<(Expr, &'a [Tok
 
 /// Reads a comparison, or `not` before one.
 #[cycle(expr)]
-fn inversion<'a>(alloc: Global, tokens: &'a [Token]) -> Result<(Expr, &'a [Token]), Halt<'a>>
-    ensures reads { Reads {K = Inverse} tokens.now (λ k. want_inverse k) (λ e k. have_inverse (tree_of e) k) result }
+fn inversion<'a>(alloc: Global, tokens: &'a [Token]) -> Found<'a>
+    ensures reads { Reads {K = Inverse} tokens.now (λ k. want_inverse k) (λ e k. have_inverse (boxed_tree e) k) result }
     ensures shorter { IfOk result (λ x. length x.1.now < length tokens.now) }
 {
     let Some(behind) = after(tokens, &TokenKind::Not) else {
@@ -85,8 +102,8 @@ fn inversion<'a>(alloc: Global, tokens: &'a [Token]) -> Result<(Expr, &'a [Token
 
 /// Reads a sum, or two with one sign of comparison between them.
 #[cycle(expr)]
-fn comparison<'a>(alloc: Global, tokens: &'a [Token]) -> Result<(Expr, &'a [Token]), Halt<'a>>
-    ensures reads { Reads {K = Inverse} tokens.now (λ k. want (inverse_due k)) (λ e k. have_inverse (tree_of e) k) result }
+fn comparison<'a>(alloc: Global, tokens: &'a [Token]) -> Found<'a>
+    ensures reads { Reads {K = Inverse} tokens.now (λ k. want (inverse_due k)) (λ e k. have_inverse (boxed_tree e) k) result }
     ensures shorter { IfOk result (λ x. length x.1.now < length tokens.now) }
 {
     let (left, rest) = sum(alloc, tokens)?;
@@ -99,8 +116,8 @@ fn comparison<'a>(alloc: Global, tokens: &'a [Token]) -> Result<(Expr, &'a [Toke
 
 /// Reads a chain of `+` and `-`.
 #[cycle(expr)]
-fn sum<'a>(alloc: Global, tokens: &'a [Token]) -> Result<(Expr, &'a [Token]), Halt<'a>>
-    ensures reads { Reads {K = Sum} tokens.now (λ k. want (sum_due k)) (λ e k. have_sum (tree_of e) k) result }
+fn sum<'a>(alloc: Global, tokens: &'a [Token]) -> Found<'a>
+    ensures reads { Reads {K = Sum} tokens.now (λ k. want (sum_due k)) (λ e k. have_sum (boxed_tree e) k) result }
     ensures over { IfOk result (λ x. LacksOperator sum_sign x.1.now) }
     ensures shorter { IfOk result (λ x. length x.1.now < length tokens.now) }
 {
@@ -115,8 +132,8 @@ fn sum<'a>(alloc: Global, tokens: &'a [Token]) -> Result<(Expr, &'a [Token]), Ha
 
 /// Reads a chain of `*`, `/` and `%`.
 #[cycle(expr)]
-fn product<'a>(alloc: Global, tokens: &'a [Token]) -> Result<(Expr, &'a [Token]), Halt<'a>>
-    ensures reads { Reads {K = Product} tokens.now (λ k. want (first_product k)) (λ e k. have_product (tree_of e) k) result }
+fn product<'a>(alloc: Global, tokens: &'a [Token]) -> Found<'a>
+    ensures reads { Reads {K = Product} tokens.now (λ k. want (first_product k)) (λ e k. have_product (boxed_tree e) k) result }
     ensures over { IfOk result (λ x. LacksOperator product_sign x.1.now) }
     ensures shorter { IfOk result (λ x. length x.1.now < length tokens.now) }
 {
@@ -131,8 +148,8 @@ fn product<'a>(alloc: Global, tokens: &'a [Token]) -> Result<(Expr, &'a [Token])
 
 /// Reads what binds tightest, or `-` before it.
 #[cycle(expr)]
-fn operand<'a>(alloc: Global, tokens: &'a [Token]) -> Result<(Expr, &'a [Token]), Halt<'a>>
-    ensures reads { Reads {K = Operand} tokens.now (λ k. want k) (λ e k. give k (tree_of e)) result }
+fn operand<'a>(alloc: Global, tokens: &'a [Token]) -> Found<'a>
+    ensures reads { Reads {K = Operand} tokens.now (λ k. want k) (λ e k. give k (boxed_tree e)) result }
     ensures shorter { IfOk result (λ x. length x.1.now < length tokens.now) }
 {
     let Some((first, rest)) = tokens.split_first() else {
@@ -143,7 +160,7 @@ fn operand<'a>(alloc: Global, tokens: &'a [Token]) -> Result<(Expr, &'a [Token])
             let (of, rest) = operand(alloc, rest)?;
             Ok((negative(alloc, of)?, rest))
         }
-        TokenKind::Num(value) => Ok((Expr::Num(*value), rest)),
+        TokenKind::Num(value) => Ok((number(alloc, *value)?, rest)),
         TokenKind::Name(name) => {
             let word = Word {
                 name: name.copy(),
@@ -151,15 +168,15 @@ fn operand<'a>(alloc: Global, tokens: &'a [Token]) -> Result<(Expr, &'a [Token])
             };
             behind_name(alloc, word, rest)
         }
-        TokenKind::Size => size(rest),
+        TokenKind::Size => size(alloc, rest),
         TokenKind::Msg => {
             let rest = expect(rest, &TokenKind::OpenBox)?;
-            let (index, rest) = expr(alloc, rest)?;
+            let (index, rest) = disjunction(alloc, rest)?;
             let rest = expect(rest, &TokenKind::CloseBox)?;
             Ok((message_item(alloc, index)?, rest))
         }
         TokenKind::Open => {
-            let (of, rest) = expr(alloc, rest)?;
+            let (of, rest) = disjunction(alloc, rest)?;
             let rest = expect(rest, &TokenKind::Close)?;
             Ok((paren(alloc, of)?, rest))
         }
@@ -169,45 +186,41 @@ fn operand<'a>(alloc: Global, tokens: &'a [Token]) -> Result<(Expr, &'a [Token])
 
 /// Reads on behind a name: a call, a buffer's item, or a variable where neither follows.
 #[cycle(expr)]
-fn behind_name<'a>(
-    alloc: Global,
-    word: Word,
-    tokens: &'a [Token],
-) -> Result<(Expr, &'a [Token]), Halt<'a>>
-    ensures reads { Reads {K = Operand} tokens.now (λ k. named word k) (λ e k. give k (tree_of e)) result }
+fn behind_name<'a>(alloc: Global, word: Word, tokens: &'a [Token]) -> Found<'a>
+    ensures reads { Reads {K = Operand} tokens.now (λ k. named word k) (λ e k. give k (boxed_tree e)) result }
     ensures shorter { IfOk result (λ x. length x.1.now ≤ length tokens.now) }
 {
     if let Some(rest) = after(tokens, &TokenKind::Open) {
         let (args, rest) = arguments(alloc, rest)?;
-        return Ok((Expr::Call(word, args), rest));
+        return Ok((call(alloc, word, args)?, rest));
     }
     if let Some(rest) = after(tokens, &TokenKind::OpenBox) {
-        let (index, rest) = expr(alloc, rest)?;
+        let (index, rest) = disjunction(alloc, rest)?;
         let rest = expect(rest, &TokenKind::CloseBox)?;
         return Ok((item(alloc, word, index)?, rest));
     }
-    Ok((Expr::Var(word), tokens))
+    Ok((variable(alloc, word)?, tokens))
 }
 
 /// Reads on behind `size`: a buffer's name or `msg`, in parentheses.
-fn size<'a>(tokens: &'a [Token]) -> Result<(Expr, &'a [Token]), Halt<'a>>
-    ensures reads { Reads {K = Operand} tokens.now (λ k. sized k) (λ e k. give k (tree_of e)) result }
+fn size<'a>(alloc: Global, tokens: &'a [Token]) -> Found<'a>
+    ensures reads { Reads {K = Operand} tokens.now (λ k. sized k) (λ e k. give k (boxed_tree e)) result }
     ensures shorter { IfOk result (λ x. length x.1.now < length tokens.now) }
 {
     let rest = expect(tokens, &TokenKind::Open)?;
-    let (of, rest) = size_of(rest)?;
+    let (of, rest) = size_of(alloc, rest)?;
     let rest = expect(rest, &TokenKind::Close)?;
     Ok((of, rest))
 }
 
 /// Reads what `size` is asked of: a buffer's name, or `msg`.
-fn size_of<'a>(tokens: &'a [Token]) -> Result<(Expr, &'a [Token]), Halt<'a>>
-    ensures reads { Reads {K = Operand} tokens.now (λ k. size_opened k) (λ e k. size_named (tree_of e) k) result }
+fn size_of<'a>(alloc: Global, tokens: &'a [Token]) -> Found<'a>
+    ensures reads { Reads {K = Operand} tokens.now (λ k. size_opened k) (λ e k. size_named (boxed_tree e) k) result }
     ensures shorter { IfOk result (λ x. length x.1.now < length tokens.now) }
 {
     if let Some(rest) = after(tokens, &TokenKind::Msg) {
-        return Ok((Expr::MsgSize, rest));
+        return Ok((message_size(alloc)?, rest));
     }
     let (word, rest) = name(tokens)?;
-    Ok((Expr::Size(word), rest))
+    Ok((buffer_size(alloc, word)?, rest))
 }

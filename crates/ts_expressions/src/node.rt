@@ -1,46 +1,92 @@
-//! The nodes of expressions, each made of its parts.
+//! The nodes of expressions, each made of its parts and boxed. They stay calls of their own: a node is large, and the parser
+//! that calls them recurs.
 
 ghost use Rattle.std.specs.Prelude.{◌≡◌, IfOk};
-ghost use Rattle.ts_syntax.specs.Tree.{negative, inverse, two, paren, item, message_item};
-ghost use Rattle.ts_syntax.specs.Seen.{tree_of};
+ghost use Rattle.ts_expressions.specs.Boxed.{boxed_tree};
+ghost use Rattle.ts_syntax.specs.Tree.{number, variable, size, message_size, call, negative, inverse, two, paren, item, message_item};
+ghost use Rattle.ts_syntax.specs.Seen.{trees_of};
 
-use std::alloc::{AllocFailed, Global};
-use ts_syntax::{BinOp, Expr, Word};
+use std::alloc::{AllocError, Global};
+use ts_syntax::{Args, BinOp, Expr, Word};
 
-pub fn negative(alloc: Global, of: Expr) -> Result<Expr, AllocFailed<Expr>>
-    ensures { IfOk result (λ e. tree_of e ≡ negative (tree_of of)) }
+#[inline(never)]
+pub fn number(alloc: Global, value: u16) -> Result<Box<Expr>, AllocError>
+    ensures { IfOk result (λ e. boxed_tree e ≡ number value) }
 {
-    Ok(Expr::Neg(Box::new(alloc, of)?))
+    Ok(Box::new(alloc, Expr::Num(value))?)
 }
 
-pub fn inverse(alloc: Global, of: Expr) -> Result<Expr, AllocFailed<Expr>>
-    ensures { IfOk result (λ e. tree_of e ≡ inverse (tree_of of)) }
+#[inline(never)]
+pub fn variable(alloc: Global, word: Word) -> Result<Box<Expr>, AllocError>
+    ensures { IfOk result (λ e. boxed_tree e ≡ variable word) }
 {
-    Ok(Expr::Not(Box::new(alloc, of)?))
+    Ok(Box::new(alloc, Expr::Var(word))?)
 }
 
-pub fn paren(alloc: Global, of: Expr) -> Result<Expr, AllocFailed<Expr>>
-    ensures { IfOk result (λ e. tree_of e ≡ paren (tree_of of)) }
+#[inline(never)]
+pub fn buffer_size(alloc: Global, buffer: Word) -> Result<Box<Expr>, AllocError>
+    ensures { IfOk result (λ e. boxed_tree e ≡ size buffer) }
 {
-    Ok(Expr::Paren(Box::new(alloc, of)?))
+    Ok(Box::new(alloc, Expr::Size(buffer))?)
 }
 
-pub fn item(alloc: Global, buffer: Word, index: Expr) -> Result<Expr, AllocFailed<Expr>>
-    ensures { IfOk result (λ e. tree_of e ≡ item buffer (tree_of index)) }
+#[inline(never)]
+pub fn message_size(alloc: Global) -> Result<Box<Expr>, AllocError>
+    ensures { IfOk result (λ e. boxed_tree e ≡ message_size) }
 {
-    Ok(Expr::Item(buffer, Box::new(alloc, index)?))
+    Ok(Box::new(alloc, Expr::MsgSize)?)
 }
 
-pub fn message_item(alloc: Global, index: Expr) -> Result<Expr, AllocFailed<Expr>>
-    ensures { IfOk result (λ e. tree_of e ≡ message_item (tree_of index)) }
+#[inline(never)]
+pub fn call(alloc: Global, function: Word, args: Args) -> Result<Box<Expr>, AllocError>
+    ensures { IfOk result (λ e. boxed_tree e ≡ call function (trees_of args)) }
 {
-    Ok(Expr::MsgItem(Box::new(alloc, index)?))
+    Ok(Box::new(alloc, Expr::Call(function, args))?)
 }
 
-pub fn two(alloc: Global, op: BinOp, left: Expr, right: Expr) -> Result<Expr, AllocFailed<Expr>>
-    ensures { IfOk result (λ e. tree_of e ≡ two op (tree_of left) (tree_of right)) }
+#[inline(never)]
+pub fn negative(alloc: Global, of: Box<Expr>) -> Result<Box<Expr>, AllocError>
+    ensures { IfOk result (λ e. boxed_tree e ≡ negative (boxed_tree of)) }
 {
-    let left = Box::new(alloc, left)?;
-    let right = Box::new(alloc, right)?;
-    Ok(Expr::Two(op, left, right))
+    Ok(Box::new(alloc, Expr::Neg(of))?)
+}
+
+#[inline(never)]
+pub fn inverse(alloc: Global, of: Box<Expr>) -> Result<Box<Expr>, AllocError>
+    ensures { IfOk result (λ e. boxed_tree e ≡ inverse (boxed_tree of)) }
+{
+    Ok(Box::new(alloc, Expr::Not(of))?)
+}
+
+#[inline(never)]
+pub fn paren(alloc: Global, of: Box<Expr>) -> Result<Box<Expr>, AllocError>
+    ensures { IfOk result (λ e. boxed_tree e ≡ paren (boxed_tree of)) }
+{
+    Ok(Box::new(alloc, Expr::Paren(of))?)
+}
+
+#[inline(never)]
+pub fn item(alloc: Global, buffer: Word, index: Box<Expr>) -> Result<Box<Expr>, AllocError>
+    ensures { IfOk result (λ e. boxed_tree e ≡ item buffer (boxed_tree index)) }
+{
+    Ok(Box::new(alloc, Expr::Item(buffer, index))?)
+}
+
+#[inline(never)]
+pub fn message_item(alloc: Global, index: Box<Expr>) -> Result<Box<Expr>, AllocError>
+    ensures { IfOk result (λ e. boxed_tree e ≡ message_item (boxed_tree index)) }
+{
+    Ok(Box::new(alloc, Expr::MsgItem(index))?)
+}
+
+#[inline(never)]
+pub fn two(
+    alloc: Global,
+    op: BinOp,
+    left: Box<Expr>,
+    right: Box<Expr>,
+) -> Result<Box<Expr>, AllocError>
+    ensures { IfOk result (λ e. boxed_tree e ≡ two op (boxed_tree left) (boxed_tree right)) }
+{
+    Ok(Box::new(alloc, Expr::Two(op, left, right))?)
 }

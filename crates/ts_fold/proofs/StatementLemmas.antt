@@ -11,7 +11,8 @@ use Rattle.mate_num.specs.declared.resource.Resource.{Resource}
 use Rattle.mate_num.specs.declared.shape.Shape.{Shape}
 use Rattle.mate_code.specs.Instr.{size_of}
 use Rattle.ts_syntax.specs.Expression.{Expression, Arguments, Num, Shared, Private, Item, Size, MsgItem, MsgSize, Call, SendBuf, Neg, Not, Two}
-use Rattle.ts_syntax.specs.Right.{is_shape, is_buffer, is_variable, is_call, argument_count, is_step, is_right_expr, are_right, is_head, is_right_stmt, is_right_block, is_right}
+use Rattle.mate_num.specs.Shapes.{is_shape}
+use Rattle.ts_syntax.specs.Right.{is_buffer, is_variable, is_call, argument_count, is_step, is_right_expr, are_right, is_head, is_right_stmt, is_right_block, is_right}
 use Rattle.ts_syntax.specs.Statement.{Statement, Block, no_statements, statement, block, Set, SetItem, Append, Take, Clear, Do, DoSend, If, IfElse, For, While}
 use Rattle.ts_syntax.specs.declared.checked_stmt.CVar.{CVar}
 use Rattle.ts_meaning.specs.State.{ScriptState, Evaluation, Done, Over, then_do, with_variable, buffer_changed, dropped, loop_does, choose, round_if, begun_state}

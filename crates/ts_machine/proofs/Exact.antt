@@ -1,5 +1,6 @@
 -- What the machine answers: a whole script, or the first token that doesn't fit.
 use Rattle.std.proofs.Common.{◌≡◌, ℕ, List, [], ◌∷◌, ◌++◌, Option, Some, None, Ok, Err, refl, sym, ◌∙◌, ap, subst, append_assoc, append-nil}
+use Rattle.std.proofs.lemmas.Option.{same_Some}
 use Rattle.ts_syntax.specs.declared.dialect.Dialect.{Dialect}
 use Rattle.ts_syntax.specs.declared.dialect.Dialect.TheVariants as dialect
 use Rattle.ts_syntax.specs.declared.token.TokenKind.{TokenKind}
@@ -43,9 +44,6 @@ record Finished (lang : Dialect) (q : State) (s : ProcedureSource) : Type 0 wher
   derived : IsDerivedIn lang s
   spells : procedure_source_spelled s ≡ past q
 
-some_same : {A : Type 0} {a b : A} → Some a ≡ Some b → a ≡ b
-some_same e = cc
-
 -- the script that the machine reads from a state on
 pub record Reads (lang : Dialect) (q : State) (ks : List TokenKind) (s : ProcedureSource) : Type 0 where
   pub derived : IsDerivedIn lang s
@@ -88,16 +86,16 @@ stuck_same a b e = cc
 module _ (lang : Dialect) where
   finished : (q : State) (s : ProcedureSource) → finish q ≡ Some s → Fine lang q → Finished lang q s
   finished (decls e ds) s i h =
-      subst (λ z. Finished lang (decls e ds) z) (some_same i)
+      subst (λ z. Finished lang (decls e ds) z) (same_Some _ _ i)
       (record { derived = record { decls = h.1; procs = no_procedures lang; body = tt }; spells = append-nil (decls_spelled ds) })
   finished (procedures ds ps) s i h =
-      subst (λ z. Finished lang (procedures ds ps) z) (some_same i)
+      subst (λ z. Finished lang (procedures ds ps) z) (same_Some _ _ i)
       (record { derived = record { decls = h.1; procs = subst (λ z. ProceduresIn z ps) (sym h.0) h.2; body = tt }; spells = ap (λ z. decls_spelled ds ++ z) (append-nil (procedures_spelled ps)) })
   finished (block a (top ds)) s i h =
-      subst (λ z. Finished lang (block a (top ds)) z) (some_same i)
+      subst (λ z. Finished lang (block a (top ds)) z) (same_Some _ _ i)
       (record { derived = record { decls = h.1.1; procs = no_procedures lang; body = h.0 }; spells = refl })
   finished (block a (main ds ps)) s i h =
-      subst (λ z. Finished lang (block a (main ds ps)) z) (some_same i)
+      subst (λ z. Finished lang (block a (main ds ps)) z) (same_Some _ _ i)
       (record { derived = record { decls = h.1.1; procs = subst (λ z. ProceduresIn z ps) (sym h.1.0) h.1.2; body = h.0 }; spells = sym (append_assoc (decls_spelled ds) (procedures_spelled ps) (acts_spelled a)) })
   finished q s i h = absurd (cc)
 

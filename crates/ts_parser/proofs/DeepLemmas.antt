@@ -1,5 +1,6 @@
 -- The first token that lies too deep, in the front of some tokens.
 use Rattle.std.proofs.Common.{◌≡◌, ℕ, suc, ◌+◌, ◌<◌, ◌≤◌, Bool, true, false, if◌then◌else◌, List, [], ◌∷◌, ◌++◌, length, Option, Some, None, refl, ◌∙◌, ap, arith}
+use Rattle.std.proofs.lemmas.Option.{same_Some}
 use Rattle.std.specs.Option.{option_map}
 use Rattle.ts_syntax.specs.declared.token.TokenKind.{TokenKind}
 use Rattle.ts_syntax.specs.Depth.{Depth, is_deep, after, deep_from, first_deep, shallow}
@@ -9,9 +10,6 @@ later o = option_map (λ i. i + 1) o
 
 abbrev seen : Bool → Option ℕ → Option ℕ
 seen b o = if b then Some 0 else later o
-
-pub some_same : {A : Type 0} {a b : A} → Some a ≡ Some b → a ≡ b
-some_same e = cc
 
 later_none : (o : Option ℕ) → later o ≡ None → o ≡ None
 later_none None e = refl
@@ -24,7 +22,7 @@ record Found (o : Option ℕ) (i : ℕ) : Type 0 where
 
 found : (o : Option ℕ) (i : ℕ) → later o ≡ Some i → Found o i
 found None i e = cc
-found (Some j) i e = record { at = j; is = refl; next = some_same e }
+found (Some j) i e = record { at = j; is = refl; next = same_Some _ _ e }
 
 -- nothing too deep in the whole, nothing in its front
 none_on : (b : Bool) (o r : Option ℕ) → seen b o ≡ None → (o ≡ None → r ≡ None) → seen b r ≡ None
@@ -40,7 +38,7 @@ none_in_front xs ys e = none_from shallow xs ys e
 
 -- none before the first
 before_on : (b : Bool) (o r : Option ℕ) (n i : ℕ) → seen b o ≡ Some i → suc n ≤ i → ((j : ℕ) → o ≡ Some j → n ≤ j → r ≡ None) → seen b r ≡ None
-before_on true o r n i e h s = let z : 0 ≡ i = some_same e in absurd (omega arith)
+before_on true o r n i e h s = let z : 0 ≡ i = same_Some _ _ e in absurd (omega arith)
 before_on false o r n i e h s =
     let f : Found o i = found o i e in
     let m : n ≤ f.at = omega (arith, f.next) in
@@ -72,7 +70,7 @@ same_in_front xs ys i e h = same_from shallow xs ys i e h
 
 -- the first stands among the tokens
 within_on : (b : Bool) (o : Option ℕ) (n i : ℕ) → seen b o ≡ Some i → ((j : ℕ) → o ≡ Some j → j < n) → i < suc n
-within_on true o n i e s = let z : 0 ≡ i = some_same e in omega arith
+within_on true o n i e s = let z : 0 ≡ i = same_Some _ _ e in omega arith
 within_on false o n i e s =
     let f : Found o i = found o i e in
     let m : f.at < n = s f.at f.is in

@@ -1,5 +1,6 @@
 -- Of tokens one thing is to be said, and one only.
 use Rattle.std.proofs.Common.{◌≡◌, ℕ, ◌<◌, List, [], ◌∷◌, ◌++◌, length, Option, Some, None, Ok, Err, refl, sym, ◌∙◌, ap, subst, append_assoc, append-nil, arith, length-append}
+use Rattle.std.proofs.lemmas.Option.{same_Some}
 use Rattle.ts_syntax.specs.declared.dialect.Dialect.{Dialect}
 use Rattle.ts_syntax.specs.declared.dialect.Dialect.TheVariants as dialect
 use Rattle.ts_syntax.specs.declared.token.Token.{Token}
@@ -14,7 +15,7 @@ use Rattle.ts_machine.specs.Parsing.{noted_then, reads}
 use Rattle.ts_parser.specs.Verdict.{Verdict, VerdictOf, spelled, unexpected, too_deep, IsSo, IsSoIn}
 use Rattle.ts_parser.proofs.AllPlaces.{all_taken}
 use Rattle.ts_machine.proofs.CompleteStmt.{source_read}
-use Rattle.ts_parser.proofs.DeepLemmas.{some_same, same_in_front, deep_within}
+use Rattle.ts_parser.proofs.DeepLemmas.{same_in_front, deep_within}
 use Rattle.ts_machine.proofs.Exact.{whole, left_same, script_in}
 use Rattle.ts_machine.proofs.MachineLemmas.{read_derived}
 use Rattle.ts_parser.proofs.OwnPlaces.{one_tree_in, spells_without, spells_plain, plain_part}
@@ -89,7 +90,7 @@ module _ (lang : Dialect) where
       by (later t more a b) = reaches ts u.front u.rest (length d.front) u.are d.deep (longer_same u.front d.front (t ∷ more) d.token a) u.within
 
   deep_once : (ts : List Token) (p q : ℕ) → IsTooDeepIn lang ts p → IsTooDeepIn lang ts q → p ≡ q
-  deep_once ts p q d e = by (order d.front (d.token ∷ d.rest) e.front (e.token ∷ e.rest) (sym d.are ∙ e.are)) (some_same (sym d.deep ∙ e.deep))
+  deep_once ts p q d e = by (order d.front (d.token ∷ d.rest) e.front (e.token ∷ e.rest) (sym d.are ∙ e.are)) (same_Some _ _ (sym d.deep ∙ e.deep))
     where
       by : Order d.front (d.token ∷ d.rest) e.front (e.token ∷ e.rest) → length d.front ≡ length e.front → p ≡ q
       by (same a b) l = d.stands ∙ ap (λ t. t.from) (heads_same d.token e.token d.rest e.rest b) ∙ sym e.stands

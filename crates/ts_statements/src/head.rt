@@ -15,6 +15,7 @@ use ts_machine::expect::{after, expect, name};
 use ts_syntax::{Expr, ForHead, Step, Token, TokenKind};
 
 /// Reads the head of a `for` behind that keyword.
+#[inline(never)]
 pub fn for_head<'a>(alloc: Global, tokens: &'a [Token]) -> Result<(ForHead, &'a [Token]), Halt<'a>>
     ensures reads { Reads {K = Acts × Frame} tokens.now (λ k. for_word k.0 k.1) (λ h k. head_read k h) result }
     ensures shorter { IfOk result (λ x. length x.1.now < length tokens.now) }

@@ -1,4 +1,4 @@
-//! Statements that hold no block.
+//! Statements that hold no block. They stay calls of their own: what calls them recurs, and they need more stack than it.
 
 ghost use Rattle.std.specs.Prelude.{◌<◌, length, IfOk, IfSome};
 ghost use Rattle.ts_machine.specs.Machine.{stmt_named, set_to, boxed, cleared, do_word};
@@ -13,6 +13,7 @@ use ts_machine::expect::{after, expect, name};
 use ts_syntax::{Expr, Stmt, Token, TokenKind, Word};
 
 /// Reads on behind the first name of a statement.
+#[inline(never)]
 pub fn behind_name<'a>(
     alloc: Global,
     word: Word,
@@ -93,6 +94,7 @@ fn value<'a>(alloc: Global, tokens: &'a [Token]) -> Result<(Expr, &'a [Token]), 
 }
 
 /// Reads on behind `clear`.
+#[inline(never)]
 pub fn clearing<'a>(tokens: &'a [Token]) -> Result<(Stmt, &'a [Token]), Halt<'a>>
     ensures reads { ReadsStmt tokens.now cleared result }
     ensures shorter { IfOk result (λ x. length x.1.now < length tokens.now) }
@@ -105,6 +107,7 @@ pub fn clearing<'a>(tokens: &'a [Token]) -> Result<(Stmt, &'a [Token]), Halt<'a>
 }
 
 /// Reads on behind `do`.
+#[inline(never)]
 pub fn running<'a>(alloc: Global, tokens: &'a [Token]) -> Result<(Stmt, &'a [Token]), Halt<'a>>
     ensures reads { ReadsStmt tokens.now do_word result }
     ensures shorter { IfOk result (λ x. length x.1.now < length tokens.now) }

@@ -1,29 +1,15 @@
 -- When a body is right for a shape: what the checks of a source leave true of its statements.
-use Rattle.std.specs.Prelude.{ℕ, zero, suc, ℤ, pos, negsuc, Bool, true, false, not, ◌&&◌, ◌||◌, ◌==◌, nat_lt, nat_le, Option, Some, None, slice_get}
-use Rattle.std.specs.List.{list_all}
+use Rattle.std.specs.Prelude.{ℕ, zero, suc, ℤ, pos, negsuc, Bool, true, false, not, ◌&&◌, ◌==◌, nat_lt, Option, Some, None, slice_get}
 use Rattle.mate_num.specs.declared.id.VarId.{VarId}
 use Rattle.mate_num.specs.declared.id.BufId.{BufId}
 use Rattle.mate_num.specs.declared.id.FunId.{FunId}
-use Rattle.mate_num.specs.declared.id.DeviceId.{DeviceId}
 use Rattle.mate_num.specs.declared.shape.Shape.{Shape}
 use Rattle.mate_num.specs.declared.shape.FunShape.{FunShape}
+use Rattle.mate_num.specs.Shapes.{is_shape}
 use Rattle.ts_syntax.specs.Expression.{Expression, Arguments, no_arguments, argument, Num, Shared, Private, Item, Size, MsgItem, MsgSize, Call, SendBuf, Neg, Not, Two}
 use Rattle.ts_syntax.specs.Statement.{Statement, Block, no_statements, statement, Set, SetItem, Append, Take, Clear, Do, DoSend, If, IfElse, For, While}
 use Rattle.ts_syntax.specs.declared.checked_stmt.CVar.{CVar}
 use Rattle.ts_syntax.specs.declared.checked_stmt.CVar.TheVariants as variable
-
--- a device, if there is one, is below 8
-abbrev pub is_device : Option DeviceId → Bool
-is_device None = true
-is_device (Some d) = nat_lt d.0 8
-
--- a function takes at most 4 arguments, and one that sends a buffer none
-abbrev pub is_function : FunShape → Bool
-is_function f = nat_le f.args 4 && (not f.send || f.args == 0) && is_device f.device
-
--- the shape is within a machine's limits
-abbrev pub is_shape : Shape → Bool
-is_shape s = nat_le s.shared 16 && nat_le s.buffers 8 && list_all is_function s.functions.items
 
 -- the names are in range
 abbrev pub is_shared : Shape → VarId → Bool

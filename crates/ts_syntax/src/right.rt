@@ -1,14 +1,13 @@
 //! The test that a body is right for a shape.
 
 ghost use Rattle.std.specs.Prelude.{◌≡◌, ◌&&◌};
-ghost use Rattle.std.specs.List.{list_all};
 ghost use Rattle.ts_syntax.specs.Expression.{arguments};
-ghost use Rattle.ts_syntax.specs.Right.{is_right as is_right_for, argument_count, is_shape, is_function, is_device, is_shared, is_buffer, is_variable, is_call, is_send, is_step, is_head, is_right_expr, are_right, is_right_stmt, is_right_block};
+ghost use Rattle.ts_syntax.specs.Right.{is_right as is_right_for, argument_count, is_shared, is_buffer, is_variable, is_call, is_send, is_step, is_head, is_right_expr, are_right, is_right_stmt, is_right_block};
 ghost use Rattle.ts_syntax.specs.TreeOf.{expr_tree, args_trees, stmt_tree, block_tree};
 
 use crate::checked_expr::{CArgs, CExpr};
 use crate::checked_stmt::{CBlock, CForHead, CStmt, CVar};
-use mate_num::{BufId, DeviceId, FunId, FunShape, Shape, VarId};
+use mate_num::{BufId, FunId, Shape, VarId};
 
 /// Whether a body is right for a shape: the shape is within the limits of a machine, each name is in
 /// range, each call has its function's arguments, no call stands in the limit of a `for`, and each step is
@@ -16,34 +15,7 @@ use mate_num::{BufId, DeviceId, FunId, FunShape, Shape, VarId};
 pub fn is_right(shape: &Shape, body: &CBlock) -> bool
     ensures { result ≡ is_right_for shape.now (block_tree body.now) }
 {
-    shape_is_right(shape) && block_is_right(shape, body)
-}
-
-fn shape_is_right(shape: &Shape) -> bool
-    ensures { result ≡ is_shape shape.now }
-{
-    shape.shared <= 16 && shape.buffers <= 8 && functions_are_right(shape.functions.as_slice())
-}
-
-fn functions_are_right(functions: &[FunShape]) -> bool
-    ensures { result ≡ list_all is_function functions.now }
-{
-    functions.iter().all(|f| function_is_right(f))
-}
-
-fn function_is_right(function: &FunShape) -> bool
-    ensures { result ≡ is_function function.now }
-{
-    function.args <= 4 && (!function.send || function.args == 0) && device_is_right(function.device)
-}
-
-fn device_is_right(device: Option<DeviceId>) -> bool
-    ensures { result ≡ is_device device }
-{
-    match device {
-        None => true,
-        Some(device) => device.0 < 8,
-    }
+    shape.is_right() && block_is_right(shape, body)
 }
 
 fn shared_is_right(shape: &Shape, variable: VarId) -> bool

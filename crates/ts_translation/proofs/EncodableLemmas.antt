@@ -18,7 +18,8 @@ use Rattle.mate_code.specs.Table.{Layout, table_of, IsInTable, AreInTable}
 use Rattle.mate_code.proofs.CodeLemmas.{length-code_bytes}
 use Rattle.ts_syntax.specs.Expression.{Expression, Arguments, no_arguments, argument, Num, Shared, Private, Item, Size, MsgItem, MsgSize, Call, SendBuf, Neg, Not, Two}
 use Rattle.ts_syntax.specs.Statement.{Statement, Block, no_statements, statement, Set, SetItem, Append, Take, Clear, Do, DoSend, If, IfElse, For, While}
-use Rattle.ts_syntax.specs.Right.{is_shape, is_buffer, is_variable, takes, sends, is_call, is_send, is_right_expr, are_right, is_step, is_head, is_right_stmt, is_right_block, is_right, argument_count}
+use Rattle.mate_num.specs.Shapes.{is_shape}
+use Rattle.ts_syntax.specs.Right.{is_buffer, is_variable, takes, sends, is_call, is_send, is_right_expr, are_right, is_step, is_head, is_right_stmt, is_right_block, is_right, argument_count}
 use Rattle.ts_syntax.specs.declared.bin_op.BinOp.{BinOp}
 use Rattle.ts_syntax.specs.declared.bin_op.BinOp.TheVariants as op
 use Rattle.ts_syntax.specs.declared.checked_stmt.CVar.{CVar}

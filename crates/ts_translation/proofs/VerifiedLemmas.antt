@@ -12,7 +12,8 @@ use Rattle.mate_code.specs.Verification.{Refusal, DepthMark, Blank, Depth, Marks
 use Rattle.mate_code.proofs.BytesVerificationLemmas.{placed-AreFrom}
 use Rattle.ts_syntax.specs.Expression.{Expression, Call, SendBuf}
 use Rattle.ts_syntax.specs.Statement.{Statement, Block, no_statements, statement, Set, SetItem, Append, Take, Clear, Do, DoSend, If, IfElse, For, While}
-use Rattle.ts_syntax.specs.Right.{is_shape, is_buffer, is_variable, is_right_expr, is_step, is_head, is_right_stmt, is_right_block, is_right}
+use Rattle.mate_num.specs.Shapes.{is_shape}
+use Rattle.ts_syntax.specs.Right.{is_buffer, is_variable, is_right_expr, is_step, is_head, is_right_stmt, is_right_block, is_right}
 use Rattle.ts_syntax.specs.declared.checked_stmt.CVar.{CVar}
 use Rattle.ts_syntax.specs.declared.checked_stmt.CVar.TheVariants as variable
 use Rattle.ts_translation.specs.Laws.{IsVerifiedScript}

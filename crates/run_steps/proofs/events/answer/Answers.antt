@@ -6,7 +6,8 @@ use Rattle.mate_journal.specs.NodeScript.{Answer as AnswerStep, Answers}
 use Rattle.node_core.specs.View.{heard_of}
 use Rattle.node_core.specs.Calls.{Pacing}
 use Rattle.run_steps.specs.Running.{MakesOn}
-use Rattle.run_steps.proofs.EventLemmas.{Tells-by, Tells-void}
+use Rattle.node_core.proofs.CallLemmas.{Tells-by}
+use Rattle.run_steps.proofs.EventLemmas.{Tells-void}
 use Rattle.run_steps.proofs.events.answer.Goals as goal
 
 pub returns-in-Ok : goal.returns-in-Ok

@@ -7,7 +7,8 @@ use Rattle.node_core.specs.View.{heard_of, Tells}
 use Rattle.node_core.specs.Calls.{Pacing}
 use Rattle.node_programs.specs.Sources.{held_as}
 use Rattle.run_steps.specs.Running.{MakesOn}
-use Rattle.run_steps.proofs.EventLemmas.{Tells-by, Tells-void, Makes-installed, Makes-not_newer}
+use Rattle.node_core.proofs.CallLemmas.{Tells-by}
+use Rattle.run_steps.proofs.EventLemmas.{Tells-void, Makes-installed, Makes-not_newer}
 use Rattle.run_steps.proofs.events.install.Goals as goal
 
 pub returns-in-Ok : goal.returns-in-Ok

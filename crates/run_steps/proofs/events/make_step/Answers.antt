@@ -10,7 +10,7 @@ use Rattle.node_core.specs.View.{heard_of, Tells}
 use Rattle.node_core.specs.Calls.{Pacing}
 use Rattle.node_programs.specs.ScriptSteps.{step_of}
 use Rattle.run_steps.specs.Running.{MakesOn}
-use Rattle.run_steps.proofs.EventLemmas.{Tells-by, Occasion-given}
+use Rattle.node_core.proofs.CallLemmas.{Tells-by, Occasion-given}
 use Rattle.run_steps.proofs.events.make_step.Goals as goal
 
 pub returns-in-Post : goal.returns-in-Post

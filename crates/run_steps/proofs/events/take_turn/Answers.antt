@@ -5,7 +5,8 @@ use Rattle.node_invariant.specs.Meaning.{machine_in, clock_of}
 use Rattle.node_core.specs.View.{heard_of}
 use Rattle.node_core.specs.Calls.{HasStepped}
 use Rattle.run_steps.specs.Running.{MakesOn}
-use Rattle.run_steps.proofs.EventLemmas.{Tells-by, Tells-void}
+use Rattle.node_core.proofs.CallLemmas.{Tells-by}
+use Rattle.run_steps.proofs.EventLemmas.{Tells-void}
 use Rattle.run_steps.proofs.events.take_turn.Goals as goal
 
 pub returns-in-Ok : goal.returns-in-Ok

@@ -19,8 +19,8 @@ returns-then-is_full c =
     (leb-true RECORDS_MAX (length c.loop-step.node.log.entries) (sym c.is_full.ensures ∙ c.if-is_full.true)))
     c.report_of.result c.report_of.ensures.is
 
-pub make_step-requires-clause-ready : goal.make_step-requires-clause-ready
-make_step-requires-clause-ready c =
+pub make-requires-clause-ready : goal.make-requires-clause-ready
+make-requires-clause-ready c =
     let i = c.loop-step.invariant in
     let same = c.in_ok-reserve.ensures.same in
     let run = HasRun-same c.args.desc.now c.args.programs.now (take c.loop-step.step-index c.steps-list.result.now) c.loop-step.node c.reserve.new.self same c.in_ok-reserve.ensures.pace i.run in
@@ -33,8 +33,8 @@ make_step-requires-clause-ready c =
       room = c.in_ok-reserve.ensures.room;
     }
 
-pub make_step-requires-clause-programs : goal.make_step-requires-clause-programs
-make_step-requires-clause-programs c =
+pub make-requires-clause-programs : goal.make-requires-clause-programs
+make-requires-clause-programs c =
     subst (λ (d : Description). AreRightPrograms d c.args.programs.now) (sym (c.in_ok-reserve.ensures.same.description ∙ c.loop-step.invariant.run.description)) c.requires.programs
 
 pub loop-step-preserved : goal.loop-step-preserved
@@ -46,8 +46,8 @@ loop-step-preserved c =
     let entries = ap (λ es. length {A = Stamped} es) same.log.entries in
     let count = i.count in
     record {
-      run = HasRun-step c.args.desc.now c.args.programs.now c.steps-list.result.now c.loop-step.step-index c.loop-step.events c.step-item.result c.reserve.new.self c.make_step.new.node run c.loop-step-test.true count
-          c.step-item.is (omega (arith, few, entries)) c.make_step.ensures;
+      run = HasRun-step c.args.desc.now c.args.programs.now c.steps-list.result.now c.loop-step.step-index c.loop-step.events c.step-item.result c.reserve.new.self c.make.new.self run c.loop-step-test.true count
+          c.step-item.is (omega (arith, few, entries)) c.make.ensures;
       count = omega (arith, count);
       one = i.one;
     }

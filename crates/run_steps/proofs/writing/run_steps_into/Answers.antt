@@ -58,8 +58,8 @@ returns-then-is_err-clause-gives g c =
     (stopped-behind d c.args.steps.now ps Cut (g.S.Sink.written c.args.out.now) (g.S.Sink.written c.loop-step.out) (g.S.Sink.written c.loop-step.out) mid.log c.loop-step.events c.loop-step.events report refl
     (lines-last d mid.log c.loop-step.events keeps (timely-at d ps list c.loop-step.step-index c.loop-step.events mid mid_run within i.count)) sent SentPart-nil))
 
-pub make_step-requires-clause-ready : goal.make_step-requires-clause-ready
-make_step-requires-clause-ready g c =
+pub make-requires-clause-ready : goal.make-requires-clause-ready
+make-requires-clause-ready g c =
     let i = c.loop-step.invariant in
     let same = c.reserve.ensures.same in
     let run = HasRun-same c.args.desc.now c.args.programs.now (take c.loop-step.step-index c.steps-list.result.now) c.loop-step.node c.reserve.new.self same c.reserve.ensures.pace i.run in
@@ -72,8 +72,8 @@ make_step-requires-clause-ready g c =
       room = ok-room c.reserve.result _ (sym c.is_err.ensures.value ∙ c.if-is_err.false) c.reserve.ensures.room;
     }
 
-pub make_step-requires-clause-programs : goal.make_step-requires-clause-programs
-make_step-requires-clause-programs g c =
+pub make-requires-clause-programs : goal.make-requires-clause-programs
+make-requires-clause-programs g c =
     subst (λ (d : Description). AreRightPrograms d c.args.programs.now) (sym (c.reserve.ensures.same.description ∙ c.loop-step.invariant.run.description)) c.requires.programs
 
 -- the sink failed within an event's lines
@@ -84,7 +84,7 @@ returns-in-Err-clause-gives g c =
     let ps = c.args.programs.now in
     let list = c.steps-list.result.now in
     let mid = c.reserve.new.self in
-    let new = c.make_step.new.node in
+    let new = c.make.new.self in
     let same = c.reserve.ensures.same in
     let below = c.loop-step-test.true in
     let count = i.count in
@@ -92,9 +92,9 @@ returns-in-Err-clause-gives g c =
     let few = leb-false RECORDS_MAX (length c.loop-step.node.log.entries) (sym c.is_full.ensures ∙ c.if-is_full.false) in
     let entries = ap (λ es. length {A = Stamped} es) same.log.entries in
     let mid_run = HasRun-same d ps (take c.loop-step.step-index list) c.loop-step.node mid same c.reserve.ensures.pace i.run in
-    let new_run = HasRun-step d ps list c.loop-step.step-index c.loop-step.events c.step-item.result mid new mid_run c.loop-step-test.true count c.step-item.is (omega (arith, few, entries)) c.make_step.ensures in
+    let new_run = HasRun-step d ps list c.loop-step.step-index c.loop-step.events c.step-item.result mid new mid_run c.loop-step-test.true count c.step-item.is (omega (arith, few, entries)) c.make.ensures in
     let written = event-written d ps list c.loop-step.step-index c.loop-step.events c.loop-step.written mid new _ mid_run (omega (arith, below)) count (keeps-by d mid mid_run.description c.log-before.ensures.keeps)
-    (keeps-by d new new_run.description c.write_new.ensures.keeps) c.make_step.ensures (omega (arith, position, entries)) in
+    (keeps-by d new new_run.description c.write_new.ensures.keeps) c.make.ensures (omega (arith, position, entries)) in
     let sent = subst (λ (bs : List ℕ). Sent (g.S.Sink.written c.args.out.now) (g.S.Sink.written c.loop-step.out) bs) (sym (lines-room d mid.log c.loop-step.node.log same.log)) i.sent in
     let report = reported d c.args.steps.now ps Cut list new (c.loop-step.events + 1) c.steps-list.ensures c.requires.programs new_run.description c.write_new.ensures.keeps
     (run-cut d ps list (c.loop-step.step-index + 1) (c.loop-step.events + 1) new new_run (omega (arith, below)) (omega (arith, count))) (report_with new.log (c.loop-step.events + 1) false) refl in
@@ -113,7 +113,7 @@ loop-step-preserved g c =
     let ps = c.args.programs.now in
     let list = c.steps-list.result.now in
     let mid = c.reserve.new.self in
-    let new = c.make_step.new.node in
+    let new = c.make.new.self in
     let same = c.reserve.ensures.same in
     let below = c.loop-step-test.true in
     let count = i.count in
@@ -121,9 +121,9 @@ loop-step-preserved g c =
     let few = leb-false RECORDS_MAX (length c.loop-step.node.log.entries) (sym c.is_full.ensures ∙ c.if-is_full.false) in
     let entries = ap (λ es. length {A = Stamped} es) same.log.entries in
     let mid_run = HasRun-same d ps (take c.loop-step.step-index list) c.loop-step.node mid same c.reserve.ensures.pace i.run in
-    let new_run = HasRun-step d ps list c.loop-step.step-index c.loop-step.events c.step-item.result mid new mid_run c.loop-step-test.true count c.step-item.is (omega (arith, few, entries)) c.make_step.ensures in
+    let new_run = HasRun-step d ps list c.loop-step.step-index c.loop-step.events c.step-item.result mid new mid_run c.loop-step-test.true count c.step-item.is (omega (arith, few, entries)) c.make.ensures in
     let written = event-written d ps list c.loop-step.step-index c.loop-step.events c.loop-step.written mid new _ mid_run (omega (arith, below)) count (keeps-by d mid mid_run.description c.log-before.ensures.keeps)
-    (keeps-by d new new_run.description c.write_new.ensures.keeps) c.make_step.ensures (omega (arith, position, entries)) in
+    (keeps-by d new new_run.description c.write_new.ensures.keeps) c.make.ensures (omega (arith, position, entries)) in
     let sent = subst (λ (bs : List ℕ). Sent (g.S.Sink.written c.args.out.now) (g.S.Sink.written c.loop-step.out) bs) (sym (lines-room d mid.log c.loop-step.node.log same.log)) i.sent in
     let later = i.later in
     let rose = c.in_default-write_new.ensures.writes.later in

@@ -1,8 +1,8 @@
 use Rattle.std.proofs.Common.{sym, ◌∙◌, ap, arith}
-use Rattle.ts_syntax.specs.Seen.{tree_of, trees_of}
+use Rattle.ts_expressions.specs.Boxed.{boxed_tree}
+use Rattle.ts_syntax.specs.Seen.{trees_of}
 use Rattle.ts_syntax.specs.Spelling.{kinds}
 use Rattle.ts_syntax.specs.declared.token.TokenKind.TheVariants as kind
-use Rattle.ts_syntax.proofs.SeenLemmas.{tree_variable, tree_call}
 use Rattle.ts_machine.specs.Machine.{first_and, in_and, in_inverse, expr_due, give, have_inverse, have_and}
 use Rattle.ts_machine.specs.Parsing.{reads, noted_then, of_operand, called, called_with}
 use Rattle.ts_machine.proofs.Turns.{inverse_is_read, inverse_is_first, inverse_is_next}
@@ -13,15 +13,15 @@ use Rattle.ts_expressions.proofs.expression.+expr.Goals as goal
 pub arguments-returns-in_default-after-clause-reads : goal.arguments-returns-in_default-after-clause-reads
 arguments-returns-in_default-after-clause-reads t c =
     λ k. c.loop-args.invariant.1 k ∙ c.in_ok-arg.ensures.reads (called_with k (trees_of c.loop-args.args))
-    ∙ arguments_closed k (trees_of c.loop-args.args) (tree_of c.in_ok-arg.arg) c.in_ok-behind.ensures
-    ∙ ap (λ x. reads c.in_ok-behind.behind.now (called k x)) (sym (trees_more c.loop-args.args c.in_ok-arg.arg c.in_ok-push.ensures))
+    ∙ arguments_closed k (trees_of c.loop-args.args) (boxed_tree c.in_ok-arg.arg) c.in_ok-behind.ensures
+    ∙ ap (λ x. reads c.in_ok-behind.behind.now (called k x)) (sym (trees_more c.loop-args.args c.in_ok-arg.arg c.in_ok-push.ensures c.into_inner.ensures))
 
 pub arguments-loop-args-preserved : goal.arguments-loop-args-preserved
 arguments-loop-args-preserved t c = (
   omega (arith, starts_shorter kind.Comma c.in-Some-after.ensures, c.in_ok-arg.ensures.shorter, c.loop-args.invariant.0),
   λ k. c.loop-args.invariant.1 k ∙ c.in_ok-arg.ensures.reads (called_with k (trees_of c.loop-args.args))
-      ∙ comma_read k (trees_of c.loop-args.args) (tree_of c.in_ok-arg.arg) c.in-Some-after.ensures
-      ∙ ap (λ x. reads c.in-Some-after.next.now (expr_due (called_with k x))) (sym (trees_more c.loop-args.args c.in_ok-arg.arg c.in_ok-push.ensures)),
+      ∙ comma_read k (trees_of c.loop-args.args) (boxed_tree c.in_ok-arg.arg) c.in-Some-after.ensures
+      ∙ ap (λ x. reads c.in-Some-after.next.now (expr_due (called_with k x))) (sym (trees_more c.loop-args.args c.in_ok-arg.arg c.in_ok-push.ensures c.into_inner.ensures)),
 )
 
 pub behind_name-returns-in_err-args-clause-reads : goal.behind_name-returns-in_err-args-clause-reads
@@ -31,24 +31,24 @@ behind_name-returns-in_err-args-clause-reads t c =
 pub behind_name-returns-in-Some-clause-reads : goal.behind_name-returns-in-Some-clause-reads
 behind_name-returns-in-Some-clause-reads t c =
     λ k. call_read c.args.word k c.in-Some.ensures ∙ c.in_ok-args.ensures.reads (of_operand c.args.word k)
-    ∙ ap (λ x. reads c.in_ok-args.rest.now (give k x)) (sym (tree_call c.args.word c.in_ok-args.args))
+    ∙ ap (λ x. reads c.in_ok-args.rest.now (give k x)) (sym c.in_ok-call.ensures)
 
 pub behind_name-returns-clause-reads : goal.behind_name-returns-clause-reads
 behind_name-returns-clause-reads t c =
     λ k. variable_read c.args.word k c.args.tokens.now c.in_default.ensures c.in_default-after.ensures
-    ∙ ap (λ x. reads c.args.tokens.now (give k x)) (sym (tree_variable c.args.word))
+    ∙ ap (λ x. reads c.args.tokens.now (give k x)) (sym c.in_ok-variable.ensures)
 
 pub conjunction-loop-behind-init : goal.conjunction-loop-behind-init
 conjunction-loop-behind-init t c = (
   c.in_ok-left.ensures.shorter,
-  λ k. c.in_ok-left.ensures.reads (first_and k) ∙ inverse_is_first (tree_of c.in_ok-left.left) k (kinds c.in_ok-left.rest.now) (noted_then c.in_ok-left.rest.now),
+  λ k. c.in_ok-left.ensures.reads (first_and k) ∙ inverse_is_first (boxed_tree c.in_ok-left.left) k (kinds c.in_ok-left.rest.now) (noted_then c.in_ok-left.rest.now),
 )
 
 pub conjunction-loop-behind-preserved : goal.conjunction-loop-behind-preserved
 conjunction-loop-behind-preserved t c = (
   omega (arith, starts_shorter kind.And c.in-Some.ensures, c.in_ok-right.ensures.shorter, c.loop-behind.invariant.0),
-  λ k. c.loop-behind.invariant.1 k ∙ and_read (tree_of c.loop-behind.left) k c.in-Some.ensures ∙ c.in_ok-right.ensures.reads (in_and (tree_of c.loop-behind.left) k)
-      ∙ inverse_is_next (tree_of c.loop-behind.left) (tree_of c.in_ok-right.right) k (kinds c.in_ok-right.then.now) (noted_then c.in_ok-right.then.now)
+  λ k. c.loop-behind.invariant.1 k ∙ and_read (boxed_tree c.loop-behind.left) k c.in-Some.ensures ∙ c.in_ok-right.ensures.reads (in_and (boxed_tree c.loop-behind.left) k)
+      ∙ inverse_is_next (boxed_tree c.loop-behind.left) (boxed_tree c.in_ok-right.right) k (kinds c.in_ok-right.then.now) (noted_then c.in_ok-right.then.now)
       ∙ ap (λ x. reads c.in_ok-right.then.now (have_and x k)) (sym c.in_ok-left-2.ensures),
 )
 
@@ -58,5 +58,5 @@ inversion-returns-in_default-clause-reads t c = comparison_read c.args.tokens.no
 pub inversion-returns-clause-reads : goal.inversion-returns-clause-reads
 inversion-returns-clause-reads t c =
     λ k. not_read k c.in-Some.ensures ∙ c.in_ok-of.ensures.reads (in_inverse k)
-    ∙ inverse_is_read (tree_of c.in_ok-of.of) k (kinds c.in_ok-of.rest.now) (noted_then c.in_ok-of.rest.now)
+    ∙ inverse_is_read (boxed_tree c.in_ok-of.of) k (kinds c.in_ok-of.rest.now) (noted_then c.in_ok-of.rest.now)
     ∙ ap (λ x. reads c.in_ok-of.rest.now (have_inverse x k)) (sym c.in_ok-inverse.ensures)

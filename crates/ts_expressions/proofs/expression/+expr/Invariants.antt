@@ -1,7 +1,8 @@
 use Rattle.std.proofs.Common.{◌<◌, ◌≤◌, length, ◌≡◌, ◌+◌, ◌*◌}
 use Rattle.ts_machine.specs.Machine.{Product, Sum, Conjunction, Whole, want, want_inverse, first_product, first_and, sum_due, expr_due, have_product, have_sum, have_and, have}
 use Rattle.ts_machine.specs.Parsing.{reads, Caller, called_open, called_with}
-use Rattle.ts_syntax.specs.Seen.{tree_of, trees_of}
+use Rattle.ts_expressions.specs.Boxed.{boxed_tree}
+use Rattle.ts_syntax.specs.Seen.{trees_of}
 use Rattle.ts_expressions.proofs.expression.+expr.Given as goal
 
 -- each part of an expression begins with a tighter part, or behind a token
@@ -26,8 +27,8 @@ decreases-inversion l = 8 * length l.tokens.now + 4
 abbrev pub decreases-conjunction : goal.decreases-conjunction
 decreases-conjunction l = 8 * length l.tokens.now + 5
 
-abbrev pub decreases-expr : goal.decreases-expr
-decreases-expr l = 8 * length l.tokens.now + 6
+abbrev pub decreases-disjunction : goal.decreases-disjunction
+decreases-disjunction l = 8 * length l.tokens.now + 6
 
 abbrev pub decreases-arguments : goal.decreases-arguments
 decreases-arguments l = 8 * length l.tokens.now + 7
@@ -35,31 +36,31 @@ decreases-arguments l = 8 * length l.tokens.now + 7
 -- a chain so far: it was read up to the rest
 abbrev pub invariant-product-loop-op : goal.invariant-product-loop-op
 invariant-product-loop-op l =
-    (length l.rest < length l.tokens) × ((k : Product) → reads l.tokens (want (first_product k)) ≡ reads l.rest (have_product (tree_of l.left) k))
+    (length l.rest < length l.tokens) × ((k : Product) → reads l.tokens (want (first_product k)) ≡ reads l.rest (have_product (boxed_tree l.left) k))
 
 abbrev pub decreases-product-loop-op : goal.decreases-product-loop-op
 decreases-product-loop-op l = length l.rest
 
 abbrev pub invariant-sum-loop-op : goal.invariant-sum-loop-op
 invariant-sum-loop-op l =
-    (length l.rest < length l.tokens) × ((k : Sum) → reads l.tokens (want (sum_due k)) ≡ reads l.rest (have_sum (tree_of l.left) k))
+    (length l.rest < length l.tokens) × ((k : Sum) → reads l.tokens (want (sum_due k)) ≡ reads l.rest (have_sum (boxed_tree l.left) k))
 
 abbrev pub decreases-sum-loop-op : goal.decreases-sum-loop-op
 decreases-sum-loop-op l = length l.rest
 
 abbrev pub invariant-conjunction-loop-behind : goal.invariant-conjunction-loop-behind
 invariant-conjunction-loop-behind l =
-    (length l.rest < length l.tokens) × ((k : Conjunction) → reads l.tokens (want_inverse (first_and k)) ≡ reads l.rest (have_and (tree_of l.left) k))
+    (length l.rest < length l.tokens) × ((k : Conjunction) → reads l.tokens (want_inverse (first_and k)) ≡ reads l.rest (have_and (boxed_tree l.left) k))
 
 abbrev pub decreases-conjunction-loop-behind : goal.decreases-conjunction-loop-behind
 decreases-conjunction-loop-behind l = length l.rest
 
-abbrev pub invariant-expr-loop-behind : goal.invariant-expr-loop-behind
-invariant-expr-loop-behind l =
-    (length l.rest < length l.tokens) × ((k : Whole) → reads l.tokens (expr_due k) ≡ reads l.rest (have (tree_of l.left) k))
+abbrev pub invariant-disjunction-loop-behind : goal.invariant-disjunction-loop-behind
+invariant-disjunction-loop-behind l =
+    (length l.rest < length l.tokens) × ((k : Whole) → reads l.tokens (expr_due k) ≡ reads l.rest (have (boxed_tree l.left) k))
 
-abbrev pub decreases-expr-loop-behind : goal.decreases-expr-loop-behind
-decreases-expr-loop-behind l = length l.rest
+abbrev pub decreases-disjunction-loop-behind : goal.decreases-disjunction-loop-behind
+decreases-disjunction-loop-behind l = length l.rest
 
 -- an argument is due behind those that were read
 abbrev pub invariant-arguments-loop-args : goal.invariant-arguments-loop-args

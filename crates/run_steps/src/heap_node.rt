@@ -1,0 +1,103 @@
+//! A node on the heap.
+
+ghost use Rattle.std.specs.Prelude.{◌≡◌, ◌<◌, ◌≤◌, length, IfOk, OnOk};
+ghost use Rattle.vm_desc.specs.Whole.{context_count};
+ghost use Rattle.mate_journal.specs.Log.{IsEmpty};
+ghost use Rattle.mate_journal.specs.NodeScript.{ShowsOnce};
+ghost use Rattle.mate_journal.specs.Pace.{Pace, no_pace};
+ghost use Rattle.node_invariant.specs.Meaning.{machine_in, clock_of};
+ghost use Rattle.node_invariant.specs.Keeps.{IsTimely};
+ghost use Rattle.script_reader.specs.Steps.{IsRightStep};
+ghost use Rattle.node_core.specs.Calls.{Pacing};
+ghost use Rattle.node_core.specs.Journal.{KeepsJournal};
+ghost use Rattle.node_core.specs.View.{heard_of, HasPace, IsSameNode, Tells};
+ghost use Rattle.node_programs.specs.Right.{AreRightPrograms};
+ghost use Rattle.node_programs.specs.ScriptSteps.{step_of};
+ghost use Rattle.run_steps.specs.Running.{IsReadyFor, MakesOn};
+
+use crate::events::make_step;
+use mate_journal::{NodeLog, Programs};
+use mate_num::{NoMemory, Stamp};
+use node_core::Node;
+use script_reader::Step;
+use std::alloc::Global;
+use std::marker::Model;
+use vm_desc::Description;
+
+/// A node on the heap: it is too large to be moved about on the stack. Contracts see the node.
+#[derive(Drop)]
+pub(crate) struct HeapNode {
+    node: Box<Node>,
+}
+
+impl Model for HeapNode {
+    ghost use Rattle.node_core.specs.View.{NodeView};
+
+    ghost Value = { NodeView };
+
+    ghost view = { λ held. held.node.value };
+}
+
+impl HeapNode {
+    /// A node as `Node::new` makes it.
+    #[inline(never)]
+    pub(crate) fn new(alloc: Global, desc: &Description) -> Result<HeapNode, NoMemory>
+        ensures { IfOk result (λ node. (node.description ≡ desc.now) × IsEmpty node.log × HasPace node no_pace) }
+    {
+        match Node::new(alloc, desc) {
+            Ok(node) => match Box::new(alloc, node) {
+                Ok(node) => Ok(HeapNode { node }),
+                Err(_) => Err(NoMemory),
+            },
+            Err(_) => Err(NoMemory),
+        }
+    }
+
+    /// Makes room for n more entries.
+    pub(crate) fn reserve(&mut self, n: usize) -> Result<(), NoMemory>
+        ensures same { IsSameNode self.old self.new }
+        ensures pace { (p : Pace) → HasPace self.old p → HasPace self.new p }
+        ensures room { OnOk result (n ≤ self.new.log.spare) }
+    {
+        self.node.reserve(n)
+    }
+
+    /// The step is one event, with this stamp.
+    pub(crate) fn make(&mut self, step: &Step, programs: &Programs, at: Stamp)
+        requires ready { IsReadyFor self.old at }
+        requires right { IsRightStep self.old.description (length programs.now) step.now }
+        requires programs { AreRightPrograms self.old.description programs.now }
+        requires contexts { context_count self.old.description ≤ 16 }
+        ensures { Tells self.old self.new at (MakesOn self.old (step_of programs.now step.now)) }
+    {
+        make_step(&mut self.node, step, programs, at);
+    }
+
+    /// The stores are shown as they are.
+    pub(crate) fn seen(&mut self, at: Stamp)
+        requires timely { IsTimely at self.old.log }
+        requires few { length self.old.log.entries < 4000000000 }
+        requires room { 1 ≤ self.old.log.spare }
+        ensures { Tells self.old self.new at (Pacing (ShowsOnce (clock_of self.old.description) (machine_in self.old.description) (heard_of self.old))) }
+    {
+        self.node.seen(at);
+    }
+
+    /// What happened on the node.
+    pub(crate) fn log(&self) -> &NodeLog
+        ensures same { result.now ≡ self.now.log }
+        ensures keeps { KeepsJournal self.now.description (machine_in self.now.description) self.now.log }
+    {
+        self.node.log()
+    }
+
+    /// The same, handed out.
+    #[inline(never)]
+    pub(crate) fn into_log(self) -> NodeLog
+        ensures same { result ≡ self.log }
+        ensures keeps { KeepsJournal self.description (machine_in self.description) self.log }
+    {
+        let HeapNode { node } = self;
+        Box::into_inner(node).into_log()
+    }
+}
