@@ -1,10 +1,11 @@
 //! The line of an entry.
 
-ghost use Rattle.std.specs.Prelude.{◌≡◌, ◌++◌, codes, slice_get};
+ghost use Rattle.std.specs.Prelude.{◌≡◌, ◌≤◌, ◌++◌, codes, length, slice_get};
 ghost use Rattle.mate_files.specs.Pen.{Prints};
 ghost use Rattle.report_text.specs.Words.{handler_name, function_name, number, value, values, word, drop_word, fault_word, image_word, image_of, seen_words, entry_words};
 ghost use Rattle.report_text.specs.Text.{entry_line};
 
+use crate::chunk::Chunk;
 use crate::store_words::store_words;
 use crate::words::{
     drop_word, fault_word, image_word, number, stamp_words, value, values, void_words, word,
@@ -100,10 +101,30 @@ fn entry_words<S: Sink>(
 
 /// A verb and the number of an invocation.
 fn invocation<S: Sink>(pen: &mut Pen, out: &mut S, verb: &str, inv: u32)
+    requires { length verb.now ≤ 16 }
     ensures { Prints (S.written out.old) (S.faults out.old) pen.old.result (S.written out.new) (S.faults out.new) pen.new.result (verb.now ++ number inv) }
 {
-    pen.text(out, verb);
-    number(pen, out, inv as u64);
+    let mut chunk = Chunk::new();
+    chunk.number(inv as u64);
+    chunk.byte(b' ');
+    chunk.text(verb.as_bytes());
+    pen.bytes(out, chunk.as_slice());
+}
+
+/// What a post has before its values.
+fn post_head<S: Sink>(pen: &mut Pen, out: &mut S, inv: u32, handler: &[u8], ctx: ContextId)
+    requires { length handler.now ≤ 16 }
+    ensures { Prints (S.written out.old) (S.faults out.old) pen.old.result (S.written out.new) (S.faults out.new) pen.new.result
+        (codes " post" ++ number inv ++ word handler.now ++ number ctx.0) }
+{
+    let mut chunk = Chunk::new();
+    chunk.number(ctx.0 as u64);
+    chunk.byte(b' ');
+    chunk.text(handler);
+    chunk.byte(b' ');
+    chunk.number(inv as u64);
+    chunk.text(b" post ");
+    pen.bytes(out, chunk.as_slice());
 }
 
 fn post_words<S: Sink>(
@@ -114,13 +135,11 @@ fn post_words<S: Sink>(
     ctx: ContextId,
     payload: &[i16],
 )
+    requires { length handler.now ≤ 16 }
     ensures { Prints (S.written out.old) (S.faults out.old) pen.old.result (S.written out.new) (S.faults out.new) pen.new.result
         (codes " post" ++ number inv ++ word handler.now ++ number ctx.0 ++ values payload.now) }
 {
-    pen.text(out, " post");
-    number(pen, out, inv as u64);
-    word(pen, out, handler);
-    number(pen, out, ctx.0 as u64);
+    post_head(pen, out, inv, handler, ctx);
     values(pen, out, payload);
 }
 
@@ -128,8 +147,7 @@ fn ask_words<S: Sink>(pen: &mut Pen, out: &mut S, inv: u32, function: &[u8], arg
     ensures { Prints (S.written out.old) (S.faults out.old) pen.old.result (S.written out.new) (S.faults out.new) pen.new.result
         (codes " ask" ++ number inv ++ word function.now ++ values args.now) }
 {
-    pen.text(out, " ask");
-    number(pen, out, inv as u64);
+    invocation(pen, out, " ask", inv);
     word(pen, out, function);
     values(pen, out, args);
 }
@@ -156,7 +174,8 @@ fn seen_words<S: Sink>(pen: &mut Pen, out: &mut S, desc: &Description, log: &Nod
 
 /// The name of a handler, and no bytes where the description has no such handler.
 pub fn handler_name(desc: &Description, handler: HandlerId) -> &[u8]
-    ensures { result.now ≡ handler_name desc.now handler }
+    ensures value { result.now ≡ handler_name desc.now handler }
+    ensures fits { length result.now ≤ 16 }
 {
     match desc.handlers.as_slice().get(handler.0 as usize) {
         Some(handler) => handler.name.as_bytes(),

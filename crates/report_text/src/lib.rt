@@ -2,6 +2,7 @@
 #![tactic(auto)]
 
 mod air_line;
+mod chunk;
 mod entry_line;
 pub mod laws;
 mod merge;

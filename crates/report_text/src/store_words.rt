@@ -1,10 +1,11 @@
 //! The words of a store, each after a space.
 
-ghost use Rattle.std.specs.Prelude.{◌≡◌, flat_map};
+ghost use Rattle.std.specs.Prelude.{◌≡◌, ◌++◌, codes, flat_map};
 ghost use Rattle.std.specs.List.{zip};
 ghost use Rattle.mate_files.specs.Pen.{Prints};
 ghost use Rattle.report_text.specs.Words.{shared_word, buffer_word, store_words};
 
+use crate::chunk::Chunk;
 use crate::words::spaced;
 use mate_files::{Pen, Sink};
 use mate_num::{Name, Payload, Store};
@@ -29,10 +30,12 @@ fn shared_words<S: Sink>(pen: &mut Pen, out: &mut S, names: &[Name], values: &[i
 fn shared_word<S: Sink>(pen: &mut Pen, out: &mut S, name: &Name, value: i16)
     ensures { Prints (S.written out.old) (S.faults out.old) pen.old.result (S.written out.new) (S.faults out.new) pen.new.result (shared_word (name.now, value)) }
 {
-    pen.text(out, " ");
-    pen.bytes(out, name.as_bytes());
-    pen.text(out, "=");
-    pen.signed(out, value);
+    let mut chunk = Chunk::new();
+    chunk.value(value);
+    chunk.byte(b'=');
+    chunk.text(name.as_bytes());
+    chunk.byte(b' ');
+    pen.bytes(out, chunk.as_slice());
 }
 
 fn buffer_words<S: Sink>(pen: &mut Pen, out: &mut S, names: &[Name], buffers: &[Payload])
@@ -46,9 +49,18 @@ fn buffer_words<S: Sink>(pen: &mut Pen, out: &mut S, names: &[Name], buffers: &[
 fn buffer_word<S: Sink>(pen: &mut Pen, out: &mut S, name: &Name, buffer: &Payload)
     ensures { Prints (S.written out.old) (S.faults out.old) pen.old.result (S.written out.new) (S.faults out.new) pen.new.result (buffer_word (name.now, buffer.now)) }
 {
-    pen.text(out, " ");
-    pen.bytes(out, name.as_bytes());
-    pen.text(out, "=[");
+    buffer_head(pen, out, name);
     spaced(pen, out, buffer.as_slice());
     pen.text(out, "]");
+}
+
+/// What a buffer has before its values.
+fn buffer_head<S: Sink>(pen: &mut Pen, out: &mut S, name: &Name)
+    ensures { Prints (S.written out.old) (S.faults out.old) pen.old.result (S.written out.new) (S.faults out.new) pen.new.result (codes " " ++ name.now ++ codes "=[") }
+{
+    let mut chunk = Chunk::new();
+    chunk.text(b"=[");
+    chunk.text(name.as_bytes());
+    chunk.byte(b' ');
+    pen.bytes(out, chunk.as_slice());
 }

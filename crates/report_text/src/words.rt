@@ -4,6 +4,7 @@ ghost use Rattle.std.specs.Prelude.{◌≡◌};
 ghost use Rattle.mate_files.specs.Pen.{Prints};
 ghost use Rattle.report_text.specs.Words.{number, value, word, values, spaced, drop_word, fault_word, void_words, image_word, stamp_words};
 
+use crate::chunk::Chunk;
 use mate_files::{Pen, Sink};
 use mate_journal::{DropCause, VoidCause};
 use mate_num::{FaultKind, Stamp};
@@ -12,16 +13,20 @@ use mate_num::{FaultKind, Stamp};
 pub fn number<S: Sink>(pen: &mut Pen, out: &mut S, n: u64)
     ensures { Prints (S.written out.old) (S.faults out.old) pen.old.result (S.written out.new) (S.faults out.new) pen.new.result (number n) }
 {
-    pen.text(out, " ");
-    pen.number(out, n);
+    let mut chunk = Chunk::new();
+    chunk.number(n);
+    chunk.byte(b' ');
+    pen.bytes(out, chunk.as_slice());
 }
 
 /// A space and a value.
 pub fn value<S: Sink>(pen: &mut Pen, out: &mut S, v: i16)
     ensures { Prints (S.written out.old) (S.faults out.old) pen.old.result (S.written out.new) (S.faults out.new) pen.new.result (value v) }
 {
-    pen.text(out, " ");
-    pen.signed(out, v);
+    let mut chunk = Chunk::new();
+    chunk.value(v);
+    chunk.byte(b' ');
+    pen.bytes(out, chunk.as_slice());
 }
 
 /// A space and a word.
@@ -103,7 +108,11 @@ pub fn image_word<S: Sink>(pen: &mut Pen, out: &mut S, image: &[u8])
 pub fn stamp_words<S: Sink>(pen: &mut Pen, out: &mut S, stamp: Stamp, node: u8)
     ensures { Prints (S.written out.old) (S.faults out.old) pen.old.result (S.written out.new) (S.faults out.new) pen.new.result (stamp_words stamp node) }
 {
-    pen.number(out, stamp.event);
-    number(pen, out, stamp.time as u64);
-    number(pen, out, node as u64);
+    let mut chunk = Chunk::new();
+    chunk.number(node as u64);
+    chunk.byte(b' ');
+    chunk.number(stamp.time as u64);
+    chunk.byte(b' ');
+    chunk.number(stamp.event);
+    pen.bytes(out, chunk.as_slice());
 }

@@ -45,6 +45,7 @@ pub fn programs_of<F: Files>(
 }
 
 /// Appends a program, if there is one.
+#[inline(never)]
 fn push(programs: &mut Programs, program: Option<Program>) -> Result<(), Refusal>
     ensures items { OnOk result (programs.new ≡ programs.old ++ option_to_list program) }
     ensures memory { IfErr result (λ r. r ≡ NoMemory) }
@@ -59,6 +60,7 @@ fn push(programs: &mut Programs, program: Option<Program>) -> Result<(), Refusal
 }
 
 /// The program that a step names, if it names one.
+#[inline(never)]
 fn step_program<F: Files>(
     alloc: Global,
     files: &mut F,
@@ -97,6 +99,7 @@ fn step_program<F: Files>(
 }
 
 /// The program of a source, for a handler as a version.
+#[inline(never)]
 fn installed<F: Files>(
     alloc: Global,
     files: &mut F,
@@ -128,6 +131,7 @@ fn installed<F: Files>(
 }
 
 /// The program of the capsule in a file.
+#[inline(never)]
 fn loaded<F: Files>(
     alloc: Global,
     files: &mut F,

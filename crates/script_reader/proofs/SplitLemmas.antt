@@ -1,10 +1,11 @@
 -- The first word and the first line of a text, and what is left behind them.
 use Rattle.std.proofs.Common.{◌≡◌, ℕ, ◌+◌, ◌<◌, ◌≤◌, Bool, true, false, ◌==◌, not, cond, List, [], ◌∷◌, length, take, drop, filter, zero, suc, ◌-◌, take_all, refl, sym, ◌∙◌, ap, one-add, arith}
+use Rattle.std.specs.Prelude.{nat_eq, slice_index_or}
 use Rattle.std.specs.List.{prefix_len, slice_split, onto_first}
 use Rattle.std.proofs.lemmas.List.Sums.{prefix_len-le-length}
 use Rattle.std.proofs.lemmas.List.Folds.{length-prefix_len}
 use Rattle.std.specs.Str.Lines.{lines, lines_of_parts, strip_carriage_return}
-use Rattle.script_reader.specs.Lines.{is_blank, is_some_part, words_of}
+use Rattle.script_reader.specs.Lines.{is_blank, is_some_part, words_of, is_skipped}
 
 -- how far no element is a separator
 abbrev pub front_len : (ℕ → Bool) → List ℕ → ℕ
@@ -141,3 +142,37 @@ line_is_last text (b ∷ line) [] front back none some =
 pub no_line : (text : List ℕ) → length text ≡ 0 → lines text ≡ []
 no_line [] none = refl
 no_line (byte ∷ bytes) none = absurd (omega arith)
+
+-- what the first byte behind the blanks tells of a line
+abbrev pub skipped_by_first : List ℕ → Bool
+skipped_by_first [] = true
+skipped_by_first (x ∷ xs) = x == 35
+
+by_first : (xs : List ℕ) → prefix_len is_blank xs ≡ 0 → is_skipped (words_of xs) ≡ skipped_by_first xs
+by_first [] none = refl
+by_first (x ∷ xs) none = by (is_blank x) refl none (slice_split is_blank xs) refl
+  where
+    by : (v : Bool) → is_blank x ≡ v → cond v (1 + prefix_len is_blank xs) 0 ≡ 0 → (parts : List (List ℕ)) → slice_split is_blank xs ≡ parts → is_skipped (words_of (x ∷ xs)) ≡ (x == 35)
+    by true e none parts p = absurd (omega arith)
+    by false e none [] p = rw (e, p) refl
+    by false e none (part ∷ parts) p = rw (e, p) refl
+
+by_blanks : (old from : List ℕ) → from ≡ drop (prefix_len is_blank old) old → is_skipped (words_of old) ≡ skipped_by_first from
+by_blanks old from cut =
+    ap is_skipped (sym (words_of-blanks old)) ∙ by_first (drop (prefix_len is_blank old) old) (blanks_none old) ∙ ap skipped_by_first (sym cut)
+
+-- a line of blanks is skipped
+pub blanks-skipped : (old from : List ℕ) → from ≡ drop (prefix_len is_blank old) old → length from < 1 → true ≡ is_skipped (words_of old)
+blanks-skipped old from cut few = sym (by_blanks old from cut ∙ none from few)
+  where
+    none : (xs : List ℕ) → length xs < 1 → skipped_by_first xs ≡ true
+    none [] h = refl
+    none (x ∷ xs) h = absurd (omega arith)
+
+-- another line is skipped as its first byte behind the blanks tells
+pub first-skipped : (old from : List ℕ) → from ≡ drop (prefix_len is_blank old) old → 1 ≤ length from → nat_eq (slice_index_or from 0 0) 35 ≡ is_skipped (words_of old)
+first-skipped old from cut some = sym (by_blanks old from cut ∙ one from some)
+  where
+    one : (xs : List ℕ) → 1 ≤ length xs → skipped_by_first xs ≡ nat_eq (slice_index_or xs 0 0) 35
+    one [] h = absurd (omega arith)
+    one (x ∷ xs) h = refl

@@ -122,7 +122,7 @@ fn line_in<'a>(
     ensures value { Reads said_of (a_line desc.now newest.now files) (words_of words.old) result (words_of words.new) }
     ensures right { IfOk result (λ said. IsRightSaid desc.now newest.now files (said_of said)) }
 {
-    let verb = words.word()?;
+    let verb = words.plain()?;
     match behind(desc, newest, files, verb, words) {
         Ok(said) => match words.finish() {
             Ok(()) => Ok(said),
@@ -138,33 +138,33 @@ fn behind<'a>(
     desc: &Description,
     newest: &[u32; 8],
     files: u32,
-    verb: &str,
+    verb: &[u8],
     words: &mut Words<'a>,
 ) -> Result<Said<'a>, Cause>
     ensures value { Reads said_of (behind desc.now newest.now files verb.now) (words_of words.old) result (words_of words.new) }
     ensures right { IfOk result (λ said. IsRightSaid desc.now newest.now files (said_of said)) }
 {
-    if verb == "install" {
+    if verb == b"install".as_slice() {
         install_in(desc, newest, files, words)
-    } else if verb == "load" {
+    } else if verb == b"load".as_slice() {
         load_in(files, words)
-    } else if verb == "post" {
+    } else if verb == b"post".as_slice() {
         post_in(desc, words)
-    } else if verb == "step" {
+    } else if verb == b"step".as_slice() {
         step_in(desc, words)
-    } else if verb == "run" {
+    } else if verb == b"run".as_slice() {
         Ok(Said {
             step: Step::Run,
             file: None,
         })
-    } else if verb == "answer" {
+    } else if verb == b"answer".as_slice() {
         answer_in(desc, words)
-    } else if verb == "show" {
+    } else if verb == b"show".as_slice() {
         Ok(Said {
             step: Step::Show,
             file: None,
         })
-    } else if verb == "reset" {
+    } else if verb == b"reset".as_slice() {
         Ok(Said {
             step: Step::Reset,
             file: None,

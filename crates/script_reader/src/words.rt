@@ -60,10 +60,19 @@ impl<'a> Words<'a> {
     pub fn is_skipped(&self) -> bool
         ensures { result ≡ is_skipped (words_of self.now) }
     {
-        let mut ahead = Words { rest: self.rest };
-        match ahead.next() {
-            Some(word) => begins_comment(word),
-            None => true,
+        match self.rest.split_at(blanks_len(self.rest)).1 {
+            [first, ..] => *first == b'#',
+            [] => true,
+        }
+    }
+
+    /// The bytes of the next word, of printable characters.
+    pub(crate) fn plain(&mut self) -> Result<&'a [u8], Cause>
+        ensures { Reads (λ w. w.now) a_word (words_of self.old) result (words_of self.new) }
+    {
+        match self.next() {
+            Some(word) => plain(word),
+            None => Err(Cause::Word),
         }
     }
 
@@ -126,7 +135,7 @@ impl<'a> Words<'a> {
         ensures value { Reads (λ h. h) (a_handler desc.now) (words_of self.old) result (words_of self.new) }
         ensures below { IfOk result (λ h. h.0 < length desc.now.handlers.items) }
     {
-        let word = self.word()?;
+        let word = self.plain()?;
         handler_of(desc, word)
     }
 
@@ -175,15 +184,6 @@ fn word_len(bytes: &[u8]) -> usize
     bytes.iter().take_while(|byte| !is_blank(**byte)).count()
 }
 
-fn begins_comment(word: &[u8]) -> bool
-    ensures { result ≡ is_skipped (word.now ∷ []) }
-{
-    match word {
-        [first, ..] => *first == b'#',
-        [] => false,
-    }
-}
-
 fn is_printable(byte: u8) -> bool
     ensures { result ≡ is_printable byte }
 {
@@ -194,6 +194,17 @@ fn are_printable(word: &[u8]) -> bool
     ensures { result ≡ list_all is_printable word.now }
 {
     word.iter().all(|byte| is_printable(*byte))
+}
+
+// The word, where its characters are printable.
+fn plain(word: &[u8]) -> Result<&[u8], Cause>
+    ensures { MatchResult result (λ same. printed word.now ≡ Ok same.now) (λ cause. printed word.now ≡ Err cause) }
+{
+    if are_printable(word) {
+        Ok(word)
+    } else {
+        Err(Cause::Word)
+    }
 }
 
 // The word as text, where its characters are printable.
@@ -269,12 +280,12 @@ fn negative_in(digits: &str) -> Result<i16, Cause>
     Ok((-(size as i32)) as i16)
 }
 
-fn handler_of(desc: &Description, word: &str) -> Result<HandlerId, Cause>
+fn handler_of(desc: &Description, word: &[u8]) -> Result<HandlerId, Cause>
     ensures value { result ≡ handler_of desc.now word.now }
     ensures below { IfOk result (λ h. h.0 < length desc.now.handlers.items) }
 {
     for (index, handler) in desc.handlers.as_slice().iter().enumerate() {
-        if handler.name.as_str() == word {
+        if handler.name.as_bytes() == word {
             return Ok(HandlerId(index as u8));
         }
     }

@@ -8,7 +8,7 @@ use Rattle.report_text.proofs.entry_line.entry_words.Goals as goal
 pub returns-in-Dropped : goal.returns-in-Dropped
 returns-in-Dropped g c =
     Prints-by (sym (ap (entry_words c.args.desc.now c.args.log.now) c.in-Dropped.is))
-    (c.text.ensures ⟫ Prints-by (ap word c.handler_name-in-Dropped.ensures) c.word.ensures
+    (c.text.ensures ⟫ Prints-by (ap word c.handler_name-in-Dropped.ensures.value) c.word.ensures
     ⟫ Prints-by (ap word (c.as_bytes.ensures.value ∙ c.drop_word.ensures)) c.word-in-Dropped.ensures)
 
 pub returns-in-Answer : goal.returns-in-Answer

@@ -5,5 +5,5 @@ use Rattle.report_text.proofs.summary.newest_line.Goals as goal
 
 pub returns : goal.returns
 returns g c =
-    c.text.ensures ⟫ Prints-by (ap word c.handler_name.ensures) c.word.ensures ⟫ Prints-by (ap number c.newest.ensures) c.number.ensures
+    c.text.ensures ⟫ Prints-by (ap word c.handler_name.ensures.value) c.word.ensures ⟫ Prints-by (ap number c.newest.ensures) c.number.ensures
     ⟫ Prints-by (ap number c.holders.ensures) c.number-2.ensures ⟫ c.text-2.ensures
