@@ -14,6 +14,16 @@ struct Setting {
     err: MemSink,
 }
 
+impl Setting {
+    fn new(alloc: Global) -> Setting {
+        Setting {
+            files: MemFiles::new(alloc),
+            out: MemSink::new(alloc),
+            err: MemSink::new(alloc),
+        }
+    }
+}
+
 /// How a case ends.
 #[derive(Drop)]
 struct Ended {
@@ -66,11 +76,7 @@ fn outcome(
     parts: &[&str],
     failing: u64,
 ) -> Result<Ended, AllocError> {
-    let mut setting = Setting {
-        files: MemFiles::new(alloc),
-        out: MemSink::new(alloc),
-        err: MemSink::new(alloc),
-    };
+    let mut setting = Setting::new(alloc);
     let mut right = add(&mut setting, "v.toml", machines.own.as_bytes())
         && add(&mut setting, "m.toml", machines.mixed.as_bytes())
         && setting.out.fail_at(failing).is_ok();
@@ -80,8 +86,13 @@ fn outcome(
     if !right {
         return unread(alloc);
     }
+    run(alloc, &mut setting, words)
+}
+
+/// Runs the words in a setting.
+fn run(alloc: Global, setting: &mut Setting, words: &str) -> Result<Ended, AllocError> {
     let words = words_of(alloc, words)?;
-    let Setting { files, out, err } = &mut setting;
+    let Setting { files, out, err } = setting;
     let status = mate(alloc, &words, files, out, err).code();
     let (Ok(written), Ok(told)) = (str::from_utf8(out.bytes()), str::from_utf8(err.bytes())) else {
         return unread(alloc);
@@ -116,16 +127,36 @@ fn words_of(alloc: Global, line: &str) -> Result<Vec<String>, AllocError> {
     Ok(words)
 }
 
-/// Takes a part of a case: a file, or a call that is to fail. False where it is neither.
+/// Takes a part of a case: a file, the expansion of one, or a call that is to fail. False where it is none of these.
 fn set(alloc: Global, setting: &mut Setting, part: &str) -> Result<bool, AllocError> {
     if let Some(call) = part.strip_prefix("fail ") {
         return Ok(fail(setting, call));
     }
-    let Some((name, text)) = part.split_once('=') else {
+    if let Some(file) = part.strip_prefix("expand ") {
+        return add_expanded(alloc, setting, file);
+    }
+    add_file(alloc, setting, part)
+}
+
+/// Adds a file that is written `NAME=TEXT`.
+fn add_file(alloc: Global, setting: &mut Setting, file: &str) -> Result<bool, AllocError> {
+    let Some((name, text)) = file.split_once('=') else {
         return Ok(false);
     };
     let bytes = bytes_of(alloc, text)?;
     Ok(add(setting, name, bytes.as_slice()))
+}
+
+/// Adds what `expand` writes of such a file in its place.
+fn add_expanded(alloc: Global, setting: &mut Setting, file: &str) -> Result<bool, AllocError> {
+    let Some((name, _)) = file.split_once('=') else {
+        return Ok(false);
+    };
+    let mut apart = Setting::new(alloc);
+    let right = add_file(alloc, &mut apart, file)?;
+    let words = format!(in alloc; "expand {name}")?;
+    let ended = run(alloc, &mut apart, words.as_str())?;
+    Ok(right && ended.status == 0 && add(setting, name, ended.written.as_bytes()))
 }
 
 fn add(setting: &mut Setting, name: &str, bytes: &[u8]) -> bool {

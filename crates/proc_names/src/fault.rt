@@ -2,8 +2,6 @@
 
 use mate_num::{Name, NoMemory};
 use std::alloc::AllocFailed;
-use std::error::Error;
-use std::fmt;
 
 /// Why a script with procedures is refused. A place is the offset in bytes of a word's first byte in the source.
 ///
@@ -59,23 +57,3 @@ impl<T: Drop> From<AllocFailed<T>> for ProcFault {
         ProcFault::NoMemory
     }
 }
-
-impl fmt::Display for ProcFault {
-    fn fmt<W: fmt::Write>(&self, f: &mut fmt::Formatter<W>) -> fmt::Result {
-        match self {
-            ProcFault::BadByte { place } => write!(f, "byte {place}"),
-            ProcFault::BigLiteral { place } => write!(f, "literal {place}"),
-            ProcFault::Unexpected { place } => write!(f, "unexpected {place}"),
-            ProcFault::TooDeep { place } => write!(f, "deep {place}"),
-            ProcFault::NoProc { name, place } => write!(f, "noproc {name} {place}"),
-            ProcFault::Params { place } => write!(f, "params {place}"),
-            ProcFault::Again { name, place } => write!(f, "again {name} {place}"),
-            ProcFault::Reserved { place } => write!(f, "reserved {place}"),
-            ProcFault::TooLarge { count } => write!(f, "large {count}"),
-            ProcFault::TooNested { depth } => write!(f, "nested {depth}"),
-            ProcFault::NoMemory => f.write_str("no memory"),
-        }
-    }
-}
-
-impl Error for ProcFault {}
