@@ -56,7 +56,7 @@ push-packet : (w : World) (ms : List Moment) (ps : List Packet) (p : Packet) →
 push-packet w ms [] p all one = (one, tt)
 push-packet w ms (q ∷ ps) p all one = (all.0, push-packet w ms ps p all.1 one)
 
-node-hears : (w : World) (ms : List Moment) (hs : List Happening) (p : Packet) → IsInjectedNode w ms hs → IsOfInjected w ms p → IsInjectedNode w ms (Hears p ∷ hs)
+pub node-hears : (w : World) (ms : List Moment) (hs : List Happening) (p : Packet) → IsInjectedNode w ms hs → IsOfInjected w ms p → IsInjectedNode w ms (Hears p ∷ hs)
 node-hears w ms hs p old one = record { holds = old.holds; heard_of = λ h. push-packet w ms (heard_since h hs) p (old.heard_of h) one }
 
 node-installs : (w : World) (ms : List Moment) (hs : List Happening) (g version : ℕ) (image : List ℕ) → IsInjectedNode w ms hs → WasInjected w ms g version image → IsInjectedNode w ms (Installs g version image ∷ hs)
@@ -91,7 +91,7 @@ completed-some (Fragment k version index count large bytes) hs g by_g = own (nat
       (found (collected_image k.0 (Hears (Fragment k version index count large bytes) ∷ hs)) (target_version k.0 (Hears (Fragment k version index count large bytes) ∷ hs)) refl (omega (arith, over)))
 
 -- a completed program was injected
-completed-injected : (w : World) (ms : List Moment) (hs : List Happening) (packet : Packet) (p : HeldProgram) → IsOneImage w → IsInjectedNode w ms (Hears packet ∷ hs) → completed_by packet hs ≡ Some p.handler
+pub completed-injected : (w : World) (ms : List Moment) (hs : List Happening) (packet : Packet) (p : HeldProgram) → IsOneImage w → IsInjectedNode w ms (Hears packet ∷ hs) → completed_by packet hs ≡ Some p.handler
     → p ≡ collected p.handler (Hears packet ∷ hs) → WasInjected w ms p.handler.0 p.version p.image.items
 completed-injected w ms hs packet p one node complete is =
     let some = completed-some packet hs p.handler complete in

@@ -10,3 +10,4 @@ pub mod Steps
 pub mod Origins
 pub mod Timing
 pub mod Packets
+pub mod Periods

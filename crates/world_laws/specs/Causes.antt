@@ -1,7 +1,8 @@
 -- Every cause has its event: what follows from the rules of a run, said without what is pending.
-use Rattle.std.specs.Prelude.{◌≡◌, ℕ, false, ◌==◌, if◌then◌else◌, List, [], ◌∷◌, ◌++◌, ◌⊎◌}
+use Rattle.std.specs.Prelude.{◌≡◌, ℕ, suc, ◌*◌, ◌<◌, false, ◌==◌, if◌then◌else◌, List, [], ◌∷◌, ◌++◌, ◌⊎◌, Some}
 use Rattle.world_rules.specs.Cause.{Cause}
-use Rattle.world_rules.specs.World.{World}
+use Rattle.world_rules.specs.Cause as event
+use Rattle.world_rules.specs.World.{World, handlers, handler_id, period_of}
 use Rattle.world_rules.specs.Effect.{begun_length, event_node}
 use Rattle.world_rules.specs.State.{Moment, of_time, node_at, effect_at, schedules, is_kept, is_some_length, world_start, state}
 use Rattle.world_rules.specs.Run.{HaveCome, IsDone}
@@ -47,3 +48,8 @@ pub record IsCancelled (w : World) (before later : List Moment) (c : Cause) : Ty
 abbrev pub EachComes : World → Type 0
 EachComes w = (before later : List Moment) (t : ℕ) (c : Cause) → HaveCome w (later ++ before) → IsDone (state w (later ++ before)) t
     → (rest : List Cause) (front : List Cause) → (state w before).due t ≡ front ++ c ∷ rest → HasEvent later t c ⊎ IsCancelled w before later c
+
+-- each multiple of a timer handler's period that the run reached has its event
+abbrev pub PeriodsCome : World → Type 0
+PeriodsCome w = (ms : List Moment) (node h period times : ℕ) → HaveCome w ms → node < w.nodes → h < handlers w → period_of w h ≡ Some period
+    → IsDone (state w ms) (suc times * period) → HasEvent ms (suc times * period) (event.Period node (handler_id h))

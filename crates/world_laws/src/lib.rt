@@ -4,7 +4,7 @@
 ghost use Rattle.world_rules.specs.World.{World};
 ghost use Rattle.world_laws.specs.Arrivals.{ArrivalsWereSent, SentArrive};
 ghost use Rattle.world_laws.specs.Calls.{AnswersWereCalled, CallsAreAnswered};
-ghost use Rattle.world_laws.specs.Causes.{ComeInOrder, EachComes};
+ghost use Rattle.world_laws.specs.Causes.{ComeInOrder, EachComes, PeriodsCome};
 ghost use Rattle.world_laws.specs.Packets.{ExchangesStand, InstallsHaveReasons, PacketsHaveReasons};
 ghost use Rattle.world_laws.specs.Simulates.{ReadsJournals};
 ghost use Rattle.world_laws.specs.Slots.{SendsInTime};
@@ -12,10 +12,12 @@ ghost use Rattle.world_laws.specs.Times.{FiresInTime, IsRightSet};
 ghost use Rattle.world_laws.specs.Timing.{PointsDecide, TimersStand};
 
 /// At one time the events stand in the order in which their causes were scheduled, each once; and each cause whose time the
-/// run reached has its event at that time, unless an event before it cancels it.
+/// run reached has its event at that time, unless an event before it cancels it. So each multiple of a timer handler's period that
+/// the run reached has its event.
 pub fn causes_have_events()
     ensures order { (w : World) → ComeInOrder w }
     ensures each { (w : World) → EachComes w }
+    ensures periods { (w : World) → PeriodsCome w }
 {}
 
 /// A node that isn't reset comes to a point of its timer within twice the longest interval from any moment, and sends a

@@ -8,10 +8,11 @@ use Rattle.mate_journal.specs.declared.entry.Stamped.{Stamped}
 use Rattle.world_rules.specs.World.{World}
 use Rattle.world_rules.specs.State.{Scheduled, answers_due, calls_in}
 use Rattle.world_air.specs.Air.{timed_event, timed_events}
-use Rattle.world_step.specs.Answering.{asked_of, IsAwaitedBy, AreAwaited, answer_items, with_call, told_by_entries}
+use Rattle.call_waits.specs.Waiting.{asked_of, IsAwaitedBy, AreAwaited}
+use Rattle.world_step.specs.Answering.{answer_items, with_call, told_by_entries}
 
 -- one entry more in front
-due-front : (w : World) (node time : ℕ) (r : Reading) (called : List FunId) (t : Told) (told : List Told)
+pub due-front : (w : World) (node time : ℕ) (r : Reading) (called : List FunId) (t : Told) (told : List Told)
     → answers_due w node time r called (t ∷ told) ≡ answer_items w node time r called (asked_of t) ++ answers_due w node time r (with_call called (asked_of t)) told
 due-front w node time r called (Posted n h c payload) told = refl
 due-front w node time r called (Dropped h cause) told = refl

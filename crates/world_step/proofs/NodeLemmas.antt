@@ -1,13 +1,5 @@
 -- A node's calls behind a reserve.
-use Rattle.std.proofs.Common.{◌≡◌, ◌≤◌, List, ◌++◌, sym, ◌∙◌, ap, subst, arith, length, map, inl, inr}
-use Rattle.std.specs.Prelude.{ℤ}
-use Rattle.arrayvec.specs.ArrayVec.{ArrayVec}
-use Rattle.mate_num.specs.declared.id.HandlerId.{HandlerId}
-use Rattle.mate_journal.specs.Machine.{Machine}
-use Rattle.mate_journal.specs.NodeScript.{Occasion}
-use Rattle.node_calls.specs.Posting.{PostGives}
-use Rattle.node_calls.specs.declared.posting.PostAnswer.{PostAnswer}
-use Rattle.node_calls.specs.declared.posting.PostAnswer.TheVariants.{Posted, NoCode, AllBusy}
+use Rattle.std.proofs.Common.{◌≡◌, ◌≤◌, List, ◌++◌, sym, ◌∙◌, ap, subst, arith, length, map}
 use Rattle.mate_num.specs.declared.call.Stamp.{Stamp}
 use Rattle.mate_journal.specs.Log.{Log, IsSameLog}
 use Rattle.mate_journal.specs.Journal.{Told, Event, Reading, journal_of, nothing_heard, heard_all}
@@ -61,19 +53,3 @@ tells-behind old mid new at Rule same paces t = record {
       let Q : Reading → Type 0 = λ r. Rule old.description r p t.told x.0 in
       (x.0, subst Q (heard-same old mid same) (subst P same.description x.1), x.2);
 }
-
--- what meets one rule meets another
-pub tells-by : (old new : NodeView) (at : Stamp) (Rule Other : Pace → List Told → Pace → Type 0) → ((p : Pace) (told : List Told) (q : Pace) → Rule p told q → Other p told q)
-    → Tells old new at Rule → Tells old new at Other
-tells-by old new at Rule Other goes t = record {
-  told = t.told;
-  description = t.description;
-  grows = t.grows;
-  paces = λ p has. let x = t.paces p has in (x.0, goes p t.told x.0 x.1, x.2);
-}
-
--- what a post answers is an occasion
-pub occasion-given : (m : Machine) (r : Reading) (h : HandlerId) (payload : ArrayVec ℤ) (answer : PostAnswer) (told : List Told) → PostGives m r h payload answer told → Occasion m r h payload told
-occasion-given m r h payload (Posted inv) told x = inr (inr x.1)
-occasion-given m r h payload NoCode told x = inl x
-occasion-given m r h payload AllBusy told x = inr (inl x)

@@ -1,2 +1,3 @@
 pub mod Motes
 pub mod Answering
+pub mod Handling

@@ -1,13 +1,13 @@
 //! A node of a world with its timer, its exchange and its calls, and what events do to it.
 
-ghost use Rattle.std.specs.Prelude.{◌≡◌, ◌+◌, ◌<◌, ◌≤◌, ℕ, true, List, length, OnOk, IfOk, ◌⊎◌};
+ghost use Rattle.std.specs.Prelude.{◌≡◌, ◌+◌, ◌<◌, ◌≤◌, ℕ, true, List, length, All, OnOk, IfOk, ◌⊎◌};
 ghost use Rattle.mate_journal.specs.NodeScript.{Occasion, Answers, ShowsOnce};
 ghost use Rattle.node_invariant.specs.Meaning.{machine_in, clock_of};
 ghost use Rattle.node_calls.specs.Calls.{NobodyWaits};
 ghost use Rattle.node_core.specs.View.{heard_of};
 ghost use Rattle.node_core.specs.Calls.{Pacing};
 ghost use Rattle.trickle_timer.specs.Intervals.{at_point, Expired};
-ghost use Rattle.capsule_exchange.specs.Happenings.{held_versions, Happening};
+ghost use Rattle.capsule_exchange.specs.Happenings.{held_versions, Happening, IsOpen};
 ghost use Rattle.capsule_exchange.specs.Knowledge.{knowledge};
 ghost use Rattle.arrayvec.specs.ArrayVec.{ArrayVec};
 ghost use Rattle.packet_codec.specs.Packet.{IsRight};
@@ -132,6 +132,7 @@ impl Mote {
     pub fn fire(&mut self, suppress: bool) -> Effect
         ensures same { self.new ≡ self.old }
         ensures effect { (n : ℕ) (hs : List Happening) → self.old.exchange ≡ knowledge n hs → result ≡ at_fire (held_versions n hs) (at_point self.old.timer.set self.old.timer.running suppress) }
+        ensures right { All (IsRight (length self.old.exchange.handlers)) result.sends.items }
     {
         match self.timer.fire(suppress) {
             Fire::Send => Effect::sending(self.exchange.vector()),
@@ -152,7 +153,8 @@ impl Mote {
 
     /// The node sends the next fragment that it owes.
     pub fn pump(&mut self) -> Effect
-        ensures { (n : ℕ) (hs : List Happening) → self.old.exchange ≡ knowledge n hs → PumpsMote n hs self.old self.new result }
+        ensures pumps { (n : ℕ) (hs : List Happening) → self.old.exchange ≡ knowledge n hs → PumpsMote n hs self.old self.new result }
+        ensures right { All (IsRight (length self.old.exchange.handlers)) result.sends.items }
     {
         self.pumps = false;
         match self.exchange.pump() {
@@ -166,7 +168,10 @@ impl Mote {
         requires right { IsRight (length self.old.exchange.handlers) packet.now }
         requires hour { at.time ≤ 3600000 }
         requires within { self.old.timer.running.begin ≤ at.time }
-        ensures { (n : ℕ) (hs : List Happening) (versions : ArrayVec ℕ) → self.old.exchange ≡ knowledge n hs → packet.now ≡ Vector versions → HearsVector at versions.items n hs self.old self.new result }
+        ensures hears { (n : ℕ) (hs : List Happening) (versions : ArrayVec ℕ) → self.old.exchange ≡ knowledge n hs → packet.now ≡ Vector versions → HearsVector at versions.items n hs self.old self.new result }
+
+        // What is asked for is right, unless an image that is complete was not installed.
+        ensures asks { (n : ℕ) (hs : List Happening) → self.old.exchange ≡ knowledge n hs → IsOpen n hs → All (IsRight n) result.sends.items }
     {
         let heard = self.exchange.hear(packet);
         let begins = self.count(heard.consistent, at.time);

@@ -12,7 +12,8 @@ use Rattle.world_calls.specs.Calls.{AreCallsOf}
 use Rattle.world_air.specs.Air.{timed_events}
 use Rattle.world_air.specs.Changes.{AddsToAir}
 use Rattle.world_air.proofs.ChangeLemmas.{adds-nothing, adds-both}
-use Rattle.world_step.specs.Answering.{asked_of, answer_items, told_by_entries}
+use Rattle.call_waits.specs.Waiting.{asked_of}
+use Rattle.world_step.specs.Answering.{answer_items, told_by_entries}
 use Rattle.world_step.proofs.AnswerLemmas.{awaited-at, due-more, calls-more}
 use Rattle.world_step.proofs.answers.schedule_answers.Goals as goal
 

@@ -7,7 +7,8 @@ use Rattle.world_rules.specs.State.{answers_due, calls_in}
 use Rattle.world_calls.specs.Calls.{AreCallsOf, HasSensors}
 use Rattle.world_air.specs.Air.{timed_events}
 use Rattle.world_air.specs.Changes.{AddsToAir}
-use Rattle.world_step.specs.Answering.{WaitApart, AreAwaited, told_by_entries}
+use Rattle.call_waits.specs.Waiting.{WaitApart, AreAwaited}
+use Rattle.world_step.specs.Answering.{told_by_entries}
 use Rattle.world_step.proofs.answers.schedule_answers.Given as goal
 
 abbrev pub invariant-loop-stamped : goal.invariant-loop-stamped

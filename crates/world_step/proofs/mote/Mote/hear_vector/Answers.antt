@@ -10,8 +10,8 @@ use Rattle.world_step.specs.Motes.{plain_effect, begins_with, counted_timer, beg
 use Rattle.world_step.proofs.MoteLemmas.{judged}
 use Rattle.world_step.proofs.mote.Mote.hear_vector.Goals as goal
 
-pub returns : goal.returns
-returns c = λ n hs versions knows is.
+pub returns-clause-hears : goal.returns-clause-hears
+returns-clause-hears c = λ n hs versions knows is.
     let old = c.args.self.now in
     let J : Packet → Type 0 = λ p. Judges n p hs c.hear-heard.result.consistent in
     let judgement : c.hear-heard.result.consistent ≡ Some (bytes_eq versions.items (held_versions n hs)) =

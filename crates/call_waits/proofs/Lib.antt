@@ -1,0 +1,4 @@
+pub mod Apart
+pub mod Staying
+pub mod Settling
+pub mod Few

@@ -1,0 +1,88 @@
+-- The turns of a node: what they tell is little, and what calls in them waits behind them.
+use Rattle.std.proofs.Common.{◌≡◌, ℕ, ◌+◌, ◌≤◌, List, [], ◌∷◌, length, map, sym, ◌∙◌, ap, subst, arith}
+use Rattle.mate_num.specs.declared.call.Stamp.{Stamp}
+use Rattle.mate_journal.specs.Machine.{Machine}
+use Rattle.mate_journal.specs.Journal.{Told, Event, Reading, nothing_heard, heard, heard_all, heard_told, journal_of, AtEachEntry}
+use Rattle.mate_journal.specs.Pace.{Pace}
+use Rattle.mate_journal.specs.WellFormed.{NotBefore, start, MayFollow, IsWellFormed}
+use Rattle.mate_journal.specs.Turns.{Settles}
+use Rattle.mate_journal.specs.declared.entry.Stamped.{Stamped}
+use Rattle.journal_laws.proofs.Append.{AtEachEntry-back, journal_of-same}
+use Rattle.journal_laws.specs.Growth.{last_stamp}
+use Rattle.node_invariant.specs.Meaning.{machine_in, clock_of}
+use Rattle.node_invariant.specs.Keeps.{reading, event_at, Grows, IsTimely}
+use Rattle.node_grants.proofs.PostLemmas.{in-machine}
+use Rattle.node_turns.specs.Pacing.{SettlesWithin}
+use Rattle.node_core.specs.View.{NodeView, heard_of, HasPace, Tells, IsSameNode}
+use Rattle.vm_desc.specs.declared.description.Description.{Description}
+use Rattle.vm_desc.proofs.DescriptionLemmas.{bounds_of}
+use Rattle.node_core.proofs.CallLemmas.{Tells-by}
+use Rattle.world_step.proofs.NodeLemmas.{tells-behind}
+use Rattle.call_waits.specs.Waiting.{WaitApart, WaitSmall, AreAwaited, AreFollowing, HasFewContexts, JournalsWaitApart, JournalsWaitSmall, SettlingAwaits, SettlingTellsFew}
+use Rattle.world_event.specs.Finishing.{told_from}
+use Rattle.world_step.specs.Handling.{IsPaced}
+use Rattle.world_event.proofs.ToldLemmas.{tells-heard, told-behind}
+
+-- the stamp may come next on the same node
+pub timely-behind : (old mid : NodeView) (at : Stamp) → IsSameNode old mid → IsTimely at old.log → IsTimely at mid.log
+timely-behind old mid at same t = let P : List Event → Type 0 = λ es. NotBefore (last_stamp start es) at in record { after_last = subst P (sym (journal_of-same old.log mid.log same.log)) t.after_last }
+
+few-contexts : (d : Description) → HasFewContexts (machine_in d)
+few-contexts d h c is = let low = (in-machine d h c is).1 in let few = (bounds_of d).contexts_high in omega (arith, low, few)
+
+following : (m : Machine) (r : Reading) (at : Stamp) (told : List Told) → AtEachEntry (MayFollow m) m r (map (event_at at) told) → AreFollowing m r told
+following m r at [] each = tt
+following m r at (t ∷ told) each = (each.0, following m (heard m r t) at told each.1)
+
+-- a well-formed journal of a node
+abbrev pub IsFormed : NodeView → Type 0
+IsFormed v = IsWellFormed (machine_in v.description) (nothing_heard (machine_in v.description)) (journal_of v.log)
+
+-- what turns tell may follow
+turns-follow : (old new : NodeView) (at : Stamp) (told : List Told) → new.description ≡ old.description → Grows old.log new.log at told → IsFormed new → AreFollowing (machine_in old.description) (heard_of old) told
+unfolding reading
+turns-follow old new at told same grows formed =
+    let m : Machine = machine_in old.description in
+    let all : AtEachEntry (MayFollow m) m (nothing_heard m) (journal_of new.log) = subst (λ (d : Description). AtEachEntry (MayFollow (machine_in d)) (machine_in d) (nothing_heard (machine_in d)) (journal_of new.log)) same formed.follow in
+    following m (heard_all m (nothing_heard m) (journal_of old.log)) at told
+    (AtEachEntry-back (MayFollow m) m (nothing_heard m) (journal_of old.log) (map (event_at at) told) (subst (AtEachEntry (MayFollow m) m (nothing_heard m)) grows.journal all))
+
+-- the node settled in one pace
+settled-few : (old new : NodeView) (at : Stamp) (p q : Pace) (told : List Told) → IsFormed old → SettlingTellsFew (machine_in old.description) → Settles (clock_of old.description) (machine_in old.description) (heard_of old) p told q
+    → AreFollowing (machine_in old.description) (heard_of old) told → length told ≤ 32
+unfolding reading
+settled-few old new at p q told formed law settles follow = law (few-contexts old.description) (journal_of old.log) formed (clock_of old.description) p told q settles follow
+
+formed-small : (v : NodeView) → IsFormed v → JournalsWaitSmall (machine_in v.description) → WaitSmall (heard_of v)
+unfolding reading
+formed-small v formed law = law (few-contexts v.description) (journal_of v.log) formed
+
+pub formed-apart : (v : NodeView) → IsFormed v → JournalsWaitApart (machine_in v.description) → WaitApart (heard_of v)
+unfolding reading
+formed-apart v formed law = law (journal_of v.log) formed
+
+module _ (old mid new : NodeView) (at : Stamp) (bound : ℕ) (same : IsSameNode old mid) (paces : (p : Pace) → HasPace old p → HasPace mid p) (paced : IsPaced old)
+    (tells : Tells mid new at (SettlesWithin (clock_of mid.description) (machine_in mid.description) bound (heard_of mid))) where
+  pub turns-tell : Tells old new at (Settles (clock_of old.description) (machine_in old.description) (heard_of old))
+  turns-tell =
+      tells-behind old mid new at (λ d r. Settles (clock_of d) (machine_in d) r) same paces
+      (Tells-by mid new at (SettlesWithin (clock_of mid.description) (machine_in mid.description) bound (heard_of mid)) (Settles (clock_of mid.description) (machine_in mid.description) (heard_of mid)) (λ p told q x. x.settles) tells)
+
+  settles : (q : Pace) × Settles (clock_of mid.description) (machine_in mid.description) (heard_of mid) paced.pace tells.told q
+  settles = let x = tells.paces paced.pace (paces paced.pace paced.has) in (x.0, x.1.settles)
+
+  pub turns-few : IsFormed mid → IsFormed new → SettlingTellsFew (machine_in mid.description) → length new.log.entries ≤ length old.log.entries + 32
+  turns-few formed formed_new law =
+      let few = settled-few mid new at paced.pace settles.0 tells.told formed law settles.1 (turns-follow mid new at tells.told tells.description tells.grows formed_new) in
+      let long = ap (λ (es : List Stamped). length es) same.log.entries in
+      let count = tells.grows.count in
+      omega (arith, few, long, count)
+
+  pub turns-awaited : IsFormed new → SettlingAwaits (machine_in mid.description) → JournalsWaitSmall (machine_in new.description) → AreAwaited (heard_of new) (told_from (length old.log.entries) new.log)
+  turns-awaited formed_new law small =
+      let m : Machine = machine_in mid.description in
+      let heard_is : heard_of new ≡ heard_told (machine_in mid.description) (heard_of mid) tells.told = tells-heard mid new at _ tells in
+      let told_is : told_from (length old.log.entries) new.log ≡ tells.told = ap (λ (es : List Stamped). told_from (length es) new.log) (sym same.log.entries) ∙ told-behind mid.log new.log at tells.told tells.grows in
+      let waits = law (clock_of mid.description) (heard_of mid) paced.pace tells.told settles.0 settles.1 (turns-follow mid new at tells.told tells.description tells.grows formed_new)
+      (subst WaitSmall heard_is (formed-small new formed_new small)) in
+      subst (AreAwaited (heard_of new)) (sym told_is) (subst (λ (r : Reading). AreAwaited r tells.told) (sym heard_is) waits)

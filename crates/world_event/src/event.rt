@@ -1,0 +1,43 @@
+//! One event of a world.
+
+ghost use Rattle.std.specs.Prelude.{List, OnOk};
+ghost use Rattle.world_rules.specs.Cause.{Cause};
+ghost use Rattle.world_rules.specs.State.{Moment};
+ghost use Rattle.world_states.specs.Coming.{code_world};
+ghost use Rattle.world_states.specs.Sound.{AreProgramsOfWorld};
+ghost use Rattle.world_event.specs.Performing.{MayPerform, Performed};
+
+use crate::finish::finish;
+use crate::turns::{have_turns, is_well_formed};
+use mate_journal::Programs;
+use mate_num::{NoMemory, Stamp};
+use radio_sim::{Event, Radio};
+use script_reader::World;
+use vm_desc::Description;
+use world_states::states_are_sound;
+use world_step::{Mote, handle};
+
+/// An event that was due comes to its node, which then has turns until nobody is ready there.
+pub fn perform(
+    radio: &mut Radio,
+    mote: &mut Mote,
+    desc: &Description,
+    world: &World,
+    programs: &Programs,
+    number: u8,
+    event: &Event,
+    at: Stamp,
+) -> Result<(), NoMemory>
+    requires right { AreProgramsOfWorld desc.now world.now programs.now }
+    requires may { (ms : List Moment) × (c : Cause) × MayPerform (code_world desc.now world.now programs.now) ms c number event.now at radio.old mote.old }
+    ensures { OnOk result ((ms : List Moment) (c : Cause) → MayPerform (code_world desc.now world.now programs.now) ms c number event.now at radio.old mote.old
+        → Performed (code_world desc.now world.now programs.now) ms c number at radio.new mote.new) }
+{
+    states_are_sound();
+    is_well_formed(&mote.node);
+    let effect = handle(mote, desc, world, programs, event, at)?;
+    let from = mote.node.log().entries().len();
+    have_turns(&mut mote.node, at)?;
+    finish(radio, mote, desc, world, number, event, effect, from, at)?;
+    Ok(())
+}

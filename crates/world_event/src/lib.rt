@@ -1,0 +1,9 @@
+//! One event of a world: what comes to its node, the node's turns, and what the event records, cancels and schedules.
+#![tactic(auto)]
+
+pub mod event;
+pub mod finish;
+mod pieces;
+mod turns;
+
+pub use event::perform;

@@ -1,0 +1,42 @@
+//! The turns of a node behind an event's own part.
+
+ghost use Rattle.std.specs.Prelude.{◌≤◌, ◌+◌, length, OnOk};
+ghost use Rattle.mate_journal.specs.Journal.{journal_of, nothing_heard};
+ghost use Rattle.mate_journal.specs.WellFormed.{IsWellFormed};
+ghost use Rattle.mate_journal.specs.Turns.{Settles};
+ghost use Rattle.node_invariant.specs.Meaning.{machine_in, clock_of};
+ghost use Rattle.node_invariant.specs.Keeps.{IsTimely};
+ghost use Rattle.node_core.specs.View.{heard_of, Tells};
+ghost use Rattle.call_waits.specs.Waiting.{WaitApart, AreAwaited};
+ghost use Rattle.world_event.specs.Finishing.{told_from};
+ghost use Rattle.world_step.specs.Handling.{IsPaced};
+
+use call_waits::{settling_leaves_waiting, settling_tells_few, waits_are_apart};
+use mate_num::{NoMemory, Stamp};
+use node_core::Node;
+
+/// The node has turns until nobody is ready there. They tell at most 32 entries, and what calls in them waits behind them.
+pub(crate) fn have_turns(node: &mut Node, at: Stamp) -> Result<(), NoMemory>
+    requires timely { IsTimely at node.old.log }
+    requires paced { IsPaced node.old }
+    ensures tells { OnOk result (Tells node.old node.new at (Settles (clock_of node.old.description) (machine_in node.old.description) (heard_of node.old))) }
+    ensures few { OnOk result (length node.new.log.entries ≤ length node.old.log.entries + 32) }
+    ensures apart { OnOk result (WaitApart (heard_of node.new)) }
+    ensures awaited { OnOk result (AreAwaited (heard_of node.new) (told_from (length node.old.log.entries) node.new.log)) }
+{
+    node.reserve(32)?;
+    is_well_formed(node);
+    node.settle(at);
+    is_well_formed(node);
+    waits_are_apart();
+    settling_leaves_waiting();
+    settling_tells_few();
+    Ok(())
+}
+
+/// The node's journal is well formed.
+pub(crate) fn is_well_formed(node: &Node)
+    ensures { IsWellFormed (machine_in node.now.description) (nothing_heard (machine_in node.now.description)) (journal_of node.now.log) }
+{
+    let _log = node.log();
+}

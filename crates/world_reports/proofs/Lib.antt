@@ -1,0 +1,5 @@
+pub mod Stamps
+pub mod AirRecords
+pub mod AirOrder
+pub mod Marks
+pub mod Tidy

@@ -1,0 +1,6 @@
+pub mod StartLemmas
+pub mod BeginLemmas
+pub mod ReportLemmas
+pub mod StepLemmas
+pub mod RunLemmas
+pub mod WorldLemmas

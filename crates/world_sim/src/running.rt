@@ -1,0 +1,50 @@
+//! The run of a world.
+
+ghost use Rattle.world_states.specs.Sound.{AreProgramsOfWorld};
+ghost use Rattle.world_sim.specs.Running.{WorldRunGives};
+
+use crate::report::{report_of, see_stores};
+use crate::simulation::Simulation;
+use mate_journal::{NodeLogs, Programs, RECORDS_MAX, Report, RunFault};
+use mate_num::Stamp;
+use script_reader::World;
+use std::alloc::Global;
+use vm_desc::Description;
+use world_states::states_are_sound;
+
+/// Runs a world on nodes of this machine, with the programs of its files: each event is the next that is due, and at the end
+/// each node's store is seen. `LogFull` comes exactly where 1,000,000 records stand or more and an event is left, with the
+/// report so far.
+pub fn run(
+    alloc: Global,
+    desc: &Description,
+    world: &World,
+    programs: &Programs,
+) -> Result<Report, RunFault>
+    requires { AreProgramsOfWorld desc.now world.now programs.now }
+    ensures { WorldRunGives desc.now world.now programs.now result }
+{
+    states_are_sound();
+    let logs = NodeLogs::empty(alloc, world.nodes)?;
+    let mut sim = Simulation::start(alloc, desc, world)?;
+    for events in 0..u64::MAX {
+        let Some((time, event)) = sim.radio.next() else {
+            let at = Stamp {
+                event: events + 1,
+                time: world.until,
+            };
+            see_stores(&mut sim.motes, at)?;
+            return Ok(report_of(logs, sim, events, true));
+        };
+        if sim.records >= RECORDS_MAX {
+            return Err(RunFault::LogFull(report_of(logs, sim, events, false)));
+        }
+        let at = Stamp {
+            event: events + 1,
+            time,
+        };
+        sim.step(desc, world, programs, &event, at)?;
+    }
+    // (more events than 64 bits count)
+    Err(RunFault::NoMemory)
+}

@@ -1,0 +1,19 @@
+//! What stands between the events of a world: whatever comes next finds what it needs.
+#![tactic(auto)]
+
+ghost use Rattle.std.specs.Prelude.{List};
+ghost use Rattle.vm_desc.specs.declared.description.Description.{Description};
+ghost use Rattle.mate_journal.specs.declared.program.Program.{Program};
+ghost use Rattle.script_reader.specs.declared.world.World.{World as Script};
+ghost use Rattle.world_states.specs.Coming.{code_world};
+ghost use Rattle.world_states.specs.Sound.{AreProgramsOfWorld, NextMayCome, NodesAreSound, DuesAreOfNodes};
+
+/// In a right world with right programs, whatever event is due next finds what it needs: its line, handler, context or link is
+/// there, an answer comes to the one invocation that waits in its context, a packet is right for the machine, an interval ends at
+/// its end, and a program that it installs is taken. Each node keeps what this rests on, and all that is due is of the
+/// world's nodes.
+pub fn states_are_sound()
+    ensures next { (d : Description) (script : Script) (ps : List Program) → AreProgramsOfWorld d script ps → NextMayCome (code_world d script ps) }
+    ensures nodes { (d : Description) (script : Script) (ps : List Program) → AreProgramsOfWorld d script ps → NodesAreSound (code_world d script ps) }
+    ensures dues { (d : Description) (script : Script) (ps : List Program) → AreProgramsOfWorld d script ps → DuesAreOfNodes (code_world d script ps) }
+{}
