@@ -21,7 +21,6 @@ use Rattle.code_verifier.specs.Verified.{Fits as FitsCode}
 use Rattle.vm_desc.specs.declared.description.Description.{Description}
 use Rattle.vm_desc.specs.Shapes.{shape_of}
 use Rattle.mate_journal.specs.declared.entry.Entry.TheVariants as entry
-use Rattle.mate_journal.specs.Log.{Log}
 use Rattle.mate_journal.specs.Machine.{Machine}
 use Rattle.mate_journal.specs.Journal.{Answered, Phase, Ready, Waiting, is_started, Invocation, Reading, answers_of, heard}
 use Rattle.mate_journal.specs.Grants.{AllHeldBack}
@@ -50,6 +49,7 @@ use Rattle.node_grants.proofs.WaiterLemmas.{all-held-moves}
 use Rattle.node_grants.proofs.OrderLemmas.{IsQueue-becomes, KeepsOrder-push, heard-by, grows-by}
 use Rattle.node_grants.proofs.StartLemmas.{map-same}
 use Rattle.node_calls.specs.Calls.{RestsAgain}
+use Rattle.open_log.specs.OpenLog.{OpenView}
 
 -- ---- the run goes on
 
@@ -100,10 +100,10 @@ own-given d r i s now heap f args value waits counted pushed is =
 
 -- ---- what an answer asks of the parts
 
-module _ (d : Description) (old : Parts) (contexts : Contexts) (log : Log) (stamp : Stamp) (c : ContextId) (value : ℤ) (call : Asked) (rests : Rests d old) (timely : IsTimely stamp old.log)
+module _ (d : Description) (old : Parts) (contexts : Contexts) (log : OpenView) (stamp : Stamp) (c : ContextId) (value : ℤ) (call : Asked) (rests : Rests d old) (timely : IsTimely stamp old.log.all)
     (is_waiting : (at old.contexts c).call ≡ Some call) (answers : IsAnswered old.contexts contexts c value) where
   abbrev pub r : Reading
-  r = reading d old.log
+  r = reading d old.log.all
 
   abbrev pub held : Programs
   held = held_at old.handlers.programs
@@ -163,18 +163,18 @@ module _ (d : Description) (old : Parts) (contexts : Contexts) (log : Log) (stam
       (record { becomes = becomes-ready; seat = refl; number = now-inv; alone = alone })
       (record { was = started; is = refl; program = refl }) (record { as_long = record { shared = refl; buffers = refl }; others = λ q not. refl }) own-ready
 
-  module _ (pushed : IsPushed old.log record { stamp = stamp; entry = entry.Answer one.seat.inv value } log) (room : old.log.spare ≤ log.spare + 1) where
+  module _ (pushed : IsPushed old.log.all record { stamp = stamp; entry = entry.Answer one.seat.inv value } log.all) (room : old.log.all.spare ≤ log.all.spare + 1) where
     abbrev pub new : Parts
     new = record old { contexts = contexts; log = log }
 
-    pub Continues-answered : Continues d old new old.log stamp (entry.Answer one.seat.inv value) (Answered one.seat.inv value)
+    pub Continues-answered : Continues d old new old.log.all stamp (entry.Answer one.seat.inv value) (Answered one.seat.inv value)
     Continues-answered =
         let n = keeps.numbers in
         record {
-          prepared = IsPrepared-same old.log;
+          prepared = IsPrepared-same old.log.all;
           pushed = pushed;
           tells = refl;
-          tidily = AddsTidily-plain d old.log log stamp (entry.Answer one.seat.inv value) pushed (record { image = refl; store = refl; in_range = tt });
+          tidily = AddsTidily-plain d old.log.all log.all stamp (entry.Answer one.seat.inv value) pushed (record { image = refl; store = refl; in_range = tt });
           timely = timely;
           follows = record { fun = call.0; args = call.1; waits = waits };
           ends = tt;
@@ -192,13 +192,13 @@ module _ (d : Description) (old : Parts) (contexts : Contexts) (log : Log) (stam
 
     order-now : KeepsOrder d new
     order-now =
-        KeepsOrder-push d old new old.log stamp (entry.Answer one.seat.inv value) (Answered one.seat.inv value) rests.order Continues-answered room rests.held
+        KeepsOrder-push d old new old.log.all stamp (entry.Answer one.seat.inv value) (Answered one.seat.inv value) rests.order Continues-answered room rests.held
         (IsQueue-becomes old.contexts contexts c (ready answers.now one.seated.x.locks) becomes-ready (ap (λ (l : Claims). l.waiting) answers.locks) (inr (now-inv ∙ ap number_at (sym one.is))) rests.order.queue)
 
-    heard-is : reading d log ≡ heard (machine_in d) r (Answered one.seat.inv value)
-    heard-is = heard-by d old new old.log stamp (entry.Answer one.seat.inv value) (Answered one.seat.inv value) rests.order Continues-answered room
+    heard-is : reading d log.all ≡ heard (machine_in d) r (Answered one.seat.inv value)
+    heard-is = heard-by d old new old.log.all stamp (entry.Answer one.seat.inv value) (Answered one.seat.inv value) rests.order Continues-answered room
 
-    held-now : AllHeldBack (machine_in d) (reading d log)
+    held-now : AllHeldBack (machine_in d) (reading d log.all)
     held-now =
         let P : Reading → Type 0 = λ q. AllHeldBack (machine_in d) q in
         subst P (sym heard-is) (all-held-moves (machine_in d) r (heard (machine_in d) r (Answered one.seat.inv value)) one.seat.inv Ready (answered-Moves (machine_in d) r one.seat.inv value) refl rests.held)
@@ -238,7 +238,7 @@ module _ (d : Description) (old : Parts) (contexts : Contexts) (log : Log) (stam
     RestsAgain-answered = record {
       adds = record {
         told = Answered one.seat.inv value ∷ [];
-        grows = grows-by d old new old.log stamp (entry.Answer one.seat.inv value) (Answered one.seat.inv value) rests.order Continues-answered room;
+        grows = grows-by d old new old.log.all stamp (entry.Answer one.seat.inv value) (Answered one.seat.inv value) rests.order Continues-answered room;
         made = record { invocation = one.seat.inv; waits = record { fun = call.0; args = call.1; waits = waits }; context = one.seated.context; made = refl };
       };
       rests = record { order = order-now; held = held-now };
@@ -246,22 +246,22 @@ module _ (d : Description) (old : Parts) (contexts : Contexts) (log : Log) (stam
     }
 
 -- the answer is told of whoever has the context
-pub RestsAgain-answer : (d : Description) (old : Parts) (contexts : Contexts) (log : Log) (stamp : Stamp) (c : ContextId) (value : ℤ) (call : Asked) (n : ℕ) → Rests d old → IsTimely stamp old.log
-    → (at old.contexts c).call ≡ Some call → IsAnswered old.contexts contexts c value → IsPlaced (at contexts c) n → IsPushed old.log record { stamp = stamp; entry = entry.Answer n value } log → old.log.spare ≤ log.spare + 1
-    → RestsAgain d old (record old { contexts = contexts; log = log }) stamp (AnswersStep (reading d old.log) c value)
+pub RestsAgain-answer : (d : Description) (old : Parts) (contexts : Contexts) (log : OpenView) (stamp : Stamp) (c : ContextId) (value : ℤ) (call : Asked) (n : ℕ) → Rests d old → IsTimely stamp old.log.all
+    → (at old.contexts c).call ≡ Some call → IsAnswered old.contexts contexts c value → IsPlaced (at contexts c) n → IsPushed old.log.all record { stamp = stamp; entry = entry.Answer n value } log.all → old.log.all.spare ≤ log.all.spare + 1
+    → RestsAgain d old (record old { contexts = contexts; log = log }) stamp (AnswersStep (reading d old.log.all) c value)
 RestsAgain-answer d old contexts log stamp c value call n rests timely is_waiting answers placed pushed room =
     let number : n ≡ (one d old contexts log stamp c value call rests timely is_waiting answers).seat.inv =
     (let f : Some placed.seat ≡ Some answers.now = sym placed.is ∙ ap (λ (a : At). a.seat) answers.becomes.here in
     let g : placed.seat ≡ answers.now = cc in
     sym placed.number ∙ ap (λ (s : Seat). s.inv) g ∙ now-inv d old contexts log stamp c value call rests timely is_waiting answers) in
-    let P : ℕ → Type 0 = λ k. IsPushed old.log record { stamp = stamp; entry = entry.Answer k value } log in
+    let P : ℕ → Type 0 = λ k. IsPushed old.log.all record { stamp = stamp; entry = entry.Answer k value } log.all in
     RestsAgain-answered d old contexts log stamp c value call rests timely is_waiting answers (subst P number pushed) room
 
 -- what the answer asks of the context
 pub CanAnswer-waiting : (d : Description) (s : Parts) (c : ContextId) (call : Asked) → Rests d s → c.0 < 16 → (at s.contexts c).call ≡ Some call → CanAnswer (held_at s.handlers.programs) s.contexts c
 CanAnswer-waiting d s c call rests small is_waiting =
     let held = held_at s.handlers.programs in
-    let r = reading d s.log in
+    let r = reading d s.log.all in
     let fits = rests.order.keeps.fits in
     let h = answering (machine_in d) held r s.contexts c call fits is_waiting in
     record {

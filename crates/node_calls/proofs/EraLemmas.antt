@@ -37,6 +37,7 @@ use Rattle.node_grants.specs.Starting.{last_started, Rests}
 use Rattle.node_grants.proofs.OrderLemmas.{KeepsOrder-push, heard-by, grows-by, IsQueue-idle}
 use Rattle.node_calls.specs.Calls.{RestsAgain, AtPace, TellsStore, IsCleared}
 use Rattle.node_calls.proofs.QuietLemmas.{RestsAgain-then}
+use Rattle.open_log.specs.OpenLog.{OpenView}
 
 -- the last entry shows a store
 pub seen-last : (old new : Log) (at_ : Stamp) (told : List Told) (store : Store) → Grows old new at_ told → told ≡ Seen store ∷ [] → last_is_seen false (journal_of new) ≡ true
@@ -55,16 +56,16 @@ pub record BeginsEra (d : Description) (r : Reading) (told : Told) : Type 0 wher
   pub before_era : IsSeenBefore true told
   pub line : (p : Pace) → (paced p told).line ≡ []
 
-module _ (d : Description) (old new : Parts) (before : Log) (stamp : Stamp) (e : Entry) (told : Told) (rests : Rests d old) (timely : IsTimely stamp old.log) (era : BeginsEra d (reading d old.log) told)
-    (seen : last_is_seen false (journal_of old.log) ≡ true) (idles : AreIdle new.contexts) (zero : new.heap ≡ zero_store (length d.shared.items) (length d.buffers.items)) (posts : new.posts ≡ old.posts)
-    (installed : AreInstalled d (heard (machine_in d) (reading d old.log) told).installed (held_at new.handlers.programs))
-    (prepared : IsPrepared old.log before) (pushed : IsPushed before record { stamp = stamp; entry = e } new.log) (tells : told_of before e ≡ told) (tidily : AddsTidily d old.log e new.log)
-    (room : old.log.spare ≤ new.log.spare + 1) where
+module _ (d : Description) (old new : Parts) (before : Log) (stamp : Stamp) (e : Entry) (told : Told) (rests : Rests d old) (timely : IsTimely stamp old.log.all) (era : BeginsEra d (reading d old.log.all) told)
+    (seen : last_is_seen false (journal_of old.log.all) ≡ true) (idles : AreIdle new.contexts) (zero : new.heap ≡ zero_store (length d.shared.items) (length d.buffers.items)) (posts : new.posts ≡ old.posts)
+    (installed : AreInstalled d (heard (machine_in d) (reading d old.log.all) told).installed (held_at new.handlers.programs))
+    (prepared : IsPrepared old.log.all before) (pushed : IsPushed before record { stamp = stamp; entry = e } new.log.all) (tells : told_of before e ≡ told) (tidily : AddsTidily d old.log.all e new.log.all)
+    (room : old.log.all.spare ≤ new.log.all.spare + 1) where
   abbrev r : Reading
-  r = reading d old.log
+  r = reading d old.log.all
 
   abbrev later : Reading
-  later = heard (machine_in d) (reading d old.log) told
+  later = heard (machine_in d) (reading d old.log.all) told
 
   abbrev keeps : Keeps d old
   keeps = rests.order.keeps
@@ -103,7 +104,7 @@ module _ (d : Description) (old new : Parts) (before : Log) (stamp : Stamp) (e :
         };
       }
 
-  heard-is : reading d new.log ≡ later
+  heard-is : reading d new.log.all ≡ later
   heard-is = heard-by d old new before stamp e told rests.order Continues-era room
 
   held-now : AllHeldBack (machine_in d) later
@@ -119,7 +120,7 @@ module _ (d : Description) (old new : Parts) (before : Log) (stamp : Stamp) (e :
   RestsAgain-era = record {
     adds = record { told = told ∷ []; grows = grows-by d old new before stamp e told rests.order Continues-era room; made = refl };
     rests = record {
-      order = KeepsOrder-push d old new before stamp e told rests.order Continues-era room (era.granted rests.held (last_started old.log)) (IsQueue-idle new.contexts idles);
+      order = KeepsOrder-push d old new before stamp e told rests.order Continues-era room (era.granted rests.held (last_started old.log.all)) (IsQueue-idle new.contexts idles);
       held = (let P : Reading → Type 0 = λ q. AllHeldBack (machine_in d) q in subst P (sym heard-is) held-now);
     };
     pace = λ p pace. (let P : Reading → Type 0 = λ q. IsPace q new.contexts (paced p told) in subst P (sym heard-is) (pace-now p));
@@ -138,23 +139,23 @@ BeginsEra-reset d r = record {
   line = λ p. refl;
 }
 
-pub RestsAgain-reset : (d : Description) (old new : Parts) (stamp : Stamp) → Rests d old → IsTimely stamp old.log → last_is_seen false (journal_of old.log) ≡ true → AreIdle new.contexts
-    → new.heap ≡ zero_store (length d.shared.items) (length d.buffers.items) → new.posts ≡ old.posts → new.handlers ≡ old.handlers → IsPushed old.log record { stamp = stamp; entry = entry.Reset } new.log
-    → old.log.spare ≤ new.log.spare + 1 → RestsAgain d old new stamp (λ xs. xs ≡ Reset ∷ [])
+pub RestsAgain-reset : (d : Description) (old new : Parts) (stamp : Stamp) → Rests d old → IsTimely stamp old.log.all → last_is_seen false (journal_of old.log.all) ≡ true → AreIdle new.contexts
+    → new.heap ≡ zero_store (length d.shared.items) (length d.buffers.items) → new.posts ≡ old.posts → new.handlers ≡ old.handlers → IsPushed old.log.all record { stamp = stamp; entry = entry.Reset } new.log.all
+    → old.log.all.spare ≤ new.log.all.spare + 1 → RestsAgain d old new stamp (λ xs. xs ≡ Reset ∷ [])
 RestsAgain-reset d old new stamp rests timely seen idles zero posts handlers pushed room =
-    let P : _ → Type 0 = λ h. AreInstalled d (reading d old.log).installed (held_at h.programs) in
-    RestsAgain-era d old new old.log stamp entry.Reset Reset rests timely (BeginsEra-reset d (reading d old.log)) seen idles zero posts (subst P (sym handlers) rests.order.keeps.installed)
-    (IsPrepared-same old.log) pushed refl (AddsTidily-plain d old.log new.log stamp entry.Reset pushed (record { image = refl; store = refl; in_range = tt })) room
+    let P : _ → Type 0 = λ h. AreInstalled d (reading d old.log.all).installed (held_at h.programs) in
+    RestsAgain-era d old new old.log.all stamp entry.Reset Reset rests timely (BeginsEra-reset d (reading d old.log.all)) seen idles zero posts (subst P (sym handlers) rests.order.keeps.installed)
+    (IsPrepared-same old.log.all) pushed refl (AddsTidily-plain d old.log.all new.log.all stamp entry.Reset pushed (record { image = refl; store = refl; in_range = tt })) room
 
 -- the store is told, all is cleared, and the reset is told
-pub RestsAgain-resets : (d : Description) (old mid next : Parts) (log : Log) (at_ : Stamp) → TellsStore d old mid at_ → IsCleared d mid next → IsPushed next.log record { stamp = at_; entry = entry.Reset } log → next.log.spare ≤ log.spare + 1
-    → RestsAgain d old (record next { log = log }) at_ (AtPace d old (Resets (clock_of d) (machine_in d) (reading d old.log)))
+pub RestsAgain-resets : (d : Description) (old mid next : Parts) (log : OpenView) (at_ : Stamp) → TellsStore d old mid at_ → IsCleared d mid next → IsPushed next.log.all record { stamp = at_; entry = entry.Reset } log.all → next.log.all.spare ≤ log.all.spare + 1
+    → RestsAgain d old (record next { log = log }) at_ (AtPace d old (Resets (clock_of d) (machine_in d) (reading d old.log.all)))
 RestsAgain-resets d old mid next log at_ told cleared pushed room =
-    let log_is : next.log ≡ mid.log = ap (λ (s : Parts). s.log) cleared.same in
-    let P : Log → Type 0 = λ l. IsPushed l record { stamp = at_; entry = entry.Reset } log in
-    let Q : Log → Type 0 = λ l. l.spare ≤ log.spare + 1 in
-    let last = seen-last old.log mid.log at_ told.again.adds.told old.heap told.again.adds.grows told.again.adds.made in
-    RestsAgain-then d old mid (record next { log = log }) at_ (λ ts. ts ≡ Seen old.heap ∷ []) (λ ts. ts ≡ Reset ∷ []) (AtPace d old (Resets (clock_of d) (machine_in d) (reading d old.log))) told.again
+    let log_is : next.log.all ≡ mid.log.all = ap (λ (s : Parts). s.log.all) cleared.same in
+    let P : Log → Type 0 = λ l. IsPushed l record { stamp = at_; entry = entry.Reset } log.all in
+    let Q : Log → Type 0 = λ l. l.spare ≤ log.all.spare + 1 in
+    let last = seen-last old.log.all mid.log.all at_ told.again.adds.told old.heap told.again.adds.grows told.again.adds.made in
+    RestsAgain-then d old mid (record next { log = log }) at_ (λ ts. ts ≡ Seen old.heap ∷ []) (λ ts. ts ≡ Reset ∷ []) (AtPace d old (Resets (clock_of d) (machine_in d) (reading d old.log.all))) told.again
     (RestsAgain-reset d mid (record next { log = log }) at_ told.again.rests told.again.adds.grows.timely last cleared.idle cleared.zero (ap (λ (s : Parts). s.posts) cleared.same) (ap (λ (s : Parts). s.handlers) cleared.same)
     (subst P log_is pushed) (subst Q log_is room))
     (λ xs ys e f p has. record { seen = old.heap; shown = told.shown p has; made = ap (λ (l : List Told). l ++ ys) e ∙ ap (λ (l : List Told). Seen old.heap ∷ l) f })

@@ -57,6 +57,7 @@ use Rattle.node_calls.specs.Installing.{IsUnverified, IsNoNewer, IsInstallable, 
 use Rattle.node_calls.specs.Posting.{PostGives}
 use Rattle.node_calls.proofs.QuietLemmas.{RestsAgain-then, RestsAgain-as}
 use Rattle.node_calls.proofs.EraLemmas.{BeginsEra, RestsAgain-era}
+use Rattle.open_log.specs.OpenLog.{OpenView}
 
 -- ---- from bytes to code
 
@@ -132,61 +133,61 @@ pub record IsInstalledIn (l : Log) (h : HandlerId) (version : ℕ) (image : Arra
   pub images : after.images ≡ l.images ++ image ∷ []
   pub stores : after.stores ≡ l.stores
 
-module _ (d : Description) (old new : Parts) (stamp : Stamp) (h : HandlerId) (x : Held) (rests : Rests d old) (timely : IsTimely stamp old.log) (seen : last_is_seen false (journal_of old.log) ≡ true) where
+module _ (d : Description) (old new : Parts) (stamp : Stamp) (h : HandlerId) (x : Held) (rests : Rests d old) (timely : IsTimely stamp old.log.all) (seen : last_is_seen false (journal_of old.log.all) ≡ true) where
   abbrev keeps : Keeps d old
   keeps = rests.order.keeps
 
   abbrev before : Log
-  before = record (old.log) { images = old.log.images ++ x.image ∷ [] }
+  before = record (old.log.all) { images = old.log.all.images ++ x.image ∷ [] }
 
-  adds : AddsImage old.log x.image before
+  adds : AddsImage old.log.all x.image before
   adds = record { entries = refl; images = refl; stores = refl }
 
-  prepared : IsPrepared old.log before
+  prepared : IsPrepared old.log.all before
   prepared =
-      record { journal = journal_of-add_image old.log x.image before (NamesInLog-numbered old.log keeps.tidy.numbered) adds; entries = refl }
+      record { journal = journal_of-add_image old.log.all x.image before (NamesInLog-numbered old.log.all keeps.tidy.numbered) adds; entries = refl }
 
-  tidily : IsHeld d x → h.0 < length d.handlers.items → IsInstalledIn old.log h x.version x.image stamp new.log → AddsTidily d old.log (entry.Install h x.version (length old.log.images)) new.log
+  tidily : IsHeld d x → h.0 < length d.handlers.items → IsInstalledIn old.log.all h x.version x.image stamp new.log.all → AddsTidily d old.log.all (entry.Install h x.version (length old.log.all.images)) new.log.all
   tidily held_now of_machine is =
       let S : List Store → Type 0 = λ l. All (IsStoreOf d) l in
       let F : ArrayVec ℕ → Type 0 = λ image. 0 < length image.items in
       let I : List (ArrayVec ℕ) → Type 0 = λ l. All F l in
       record {
         in_range = of_machine;
-        numbered = NumbersInOrder-install old.log new.log stamp h x.version x.image is.entries is.images is.stores;
+        numbered = NumbersInOrder-install old.log.all new.log.all stamp h x.version x.image is.entries is.images is.stores;
         lengths = λ lengths. subst S (sym is.stores) lengths;
-        full = λ full. record { full = subst I (sym is.images) (All-append F old.log.images (x.image ∷ []) full.full (All-cons F x.image [] held_now.full (All-nil F))) };
+        full = λ full. record { full = subst I (sym is.images) (All-append F old.log.all.images (x.image ∷ []) full.full (All-cons F x.image [] held_now.full (All-nil F))) };
       }
 
   pub RestsAgain-installed : IsHeld d x → h.0 < length d.handlers.items → h.0 < length old.handlers.programs → AreIdle new.contexts → new.heap ≡ zero_store (length d.shared.items) (length d.buffers.items) → new.posts ≡ old.posts
-      → new.handlers.programs ≡ set old.handlers.programs h.0 (Some x) → IsInstalledIn old.log h x.version x.image stamp new.log → old.log.spare ≤ new.log.spare + 1
+      → new.handlers.programs ≡ set old.handlers.programs h.0 (Some x) → IsInstalledIn old.log.all h x.version x.image stamp new.log.all → old.log.all.spare ≤ new.log.all.spare + 1
       → RestsAgain d old new stamp (λ told. told ≡ Installed (program_of h x) ∷ [])
   RestsAgain-installed held_now of_machine below idles zero posts set_now is room =
-      let P : List (Option Held) → Type 0 = λ programs. AreInstalled d (installed_with (reading d old.log).installed (program_of h x)) (held_at programs) in
-      RestsAgain-era d old new before stamp (entry.Install h x.version (length old.log.images)) (Installed (program_of h x)) rests timely (BeginsEra-install d (reading d old.log) (program_of h x)) seen idles zero posts
-      (subst P (sym set_now) (AreInstalled-with d (reading d old.log).installed old.handlers.programs h x keeps.installed held_now below))
+      let P : List (Option Held) → Type 0 = λ programs. AreInstalled d (installed_with (reading d old.log.all).installed (program_of h x)) (held_at programs) in
+      RestsAgain-era d old new before stamp (entry.Install h x.version (length old.log.all.images)) (Installed (program_of h x)) rests timely (BeginsEra-install d (reading d old.log.all) (program_of h x)) seen idles zero posts
+      (subst P (sym set_now) (AreInstalled-with d (reading d old.log.all).installed old.handlers.programs h x keeps.installed held_now below))
       prepared (record { entries = is.entries; images = is.images; stores = is.stores })
-      (ap (λ (image : ArrayVec ℕ). Installed (record { handler = h; version = x.version; image = image })) (get_or-append_seam old.log.images x.image [] (record { items = [] })))
+      (ap (λ (image : ArrayVec ℕ). Installed (record { handler = h; version = x.version; image = image })) (get_or-append_seam old.log.all.images x.image [] (record { items = [] })))
       (tidily held_now of_machine is) room
 
 -- the image and the program take their places, and all is cleared
-pub RestsAgain-begun : (d : Description) (old mid : Parts) (pushed : Log) (handlers : Handlers) (at_ : Stamp) (h : HandlerId) (x : Held) → Rests d old → IsTimely at_ old.log → last_is_seen false (journal_of old.log) ≡ true → IsHeld d x → h.0 < length d.handlers.items
-    → length old.handlers.programs ≡ 8 → IsInstalledIn old.log h x.version x.image at_ pushed → old.log.spare ≤ pushed.spare + 1 → IsCleared d (record old { log = pushed }) mid → handlers.programs ≡ set mid.handlers.programs h.0 (Some x)
+pub RestsAgain-begun : (d : Description) (old mid : Parts) (pushed : OpenView) (handlers : Handlers) (at_ : Stamp) (h : HandlerId) (x : Held) → Rests d old → IsTimely at_ old.log.all → last_is_seen false (journal_of old.log.all) ≡ true → IsHeld d x → h.0 < length d.handlers.items
+    → length old.handlers.programs ≡ 8 → IsInstalledIn old.log.all h x.version x.image at_ pushed.all → old.log.all.spare ≤ pushed.all.spare + 1 → IsCleared d (record old { log = pushed }) mid → handlers.programs ≡ set mid.handlers.programs h.0 (Some x)
     → RestsAgain d old (record mid { handlers = handlers }) at_ (λ told. told ≡ Installed (program_of h x) ∷ [])
 RestsAgain-begun d old mid pushed handlers at_ h x rests timely seen held_now of_machine eight is room cleared set_now =
-    let log_is : mid.log ≡ pushed = ap (λ (s : Parts). s.log) cleared.same in
-    let P : Log → Type 0 = λ l. IsInstalledIn old.log h x.version x.image at_ l in
-    let Q : Log → Type 0 = λ l. old.log.spare ≤ l.spare + 1 in
+    let log_is : mid.log.all ≡ pushed.all = ap (λ (s : Parts). s.log.all) cleared.same in
+    let P : Log → Type 0 = λ l. IsInstalledIn old.log.all h x.version x.image at_ l in
+    let Q : Log → Type 0 = λ l. old.log.all.spare ≤ l.spare + 1 in
     RestsAgain-installed d old (record mid { handlers = handlers }) at_ h x rests timely seen held_now of_machine (let high = (bounds_of d).handlers_high in omega arith) cleared.idle cleared.zero (ap (λ (s : Parts). s.posts) cleared.same)
     (set_now ∙ ap (λ (s : Parts). set s.handlers.programs h.0 (Some x)) cleared.same) (subst P (sym log_is) is) (subst Q (sym log_is) room)
 
 -- ---- versions
 
 -- what is held is what was heard
-pub held-version : (d : Description) (s : Parts) (h : HandlerId) → Rests d s → held (reading d s.log) h ≡ version_in (held_at s.handlers.programs h)
+pub held-version : (d : Description) (s : Parts) (h : HandlerId) → Rests d s → held (reading d s.log.all) h ≡ version_in (held_at s.handlers.programs h)
 held-version d s h rests = ap (version h) (rests.order.keeps.installed.same h) ∙ by (held_at s.handlers.programs h) where
   version : HandlerId → Option HeldProgram → ℕ
-  version k o = held (record (reading d s.log) { installed = λ _. o }) k
+  version k o = held (record (reading d s.log.all) { installed = λ _. o }) k
 
   by : (o : Option Held) → version h (option_map (program_of h) o) ≡ version_in o
   by None = refl
@@ -245,13 +246,13 @@ Occasion-gives m r h payload (PostedAnswer inv) told gives = inr (inr gives.1)
 Occasion-gives m r h payload NoCode told gives = inl gives
 Occasion-gives m r h payload AllBusy told gives = inr (inl gives)
 
-module _ (d : Description) (old mid next : Parts) (at_ : Stamp) (bytes : List ℕ) (i : Installable) (can : IsInstallable d bytes i) (newer : held (reading d old.log) i.handler < i.held.version) (seen : TellsStore d old mid at_)
+module _ (d : Description) (old mid next : Parts) (at_ : Stamp) (bytes : List ℕ) (i : Installable) (can : IsInstallable d bytes i) (newer : held (reading d old.log.all) i.handler < i.held.version) (seen : TellsStore d old mid at_)
     (begun_ : RestsAgain d mid next at_ (λ told. told ≡ Installed (program_of i.handler i.held) ∷ [])) where
   abbrev m : Machine
   m = machine_in d
 
   abbrev r : Reading
-  r = reading d old.log
+  r = reading d old.log.all
 
   abbrev p : HeldProgram
   p = program_of i.handler i.held
@@ -262,8 +263,8 @@ module _ (d : Description) (old mid next : Parts) (at_ : Stamp) (bytes : List �
       RestsAgain-then d old mid next at_ (λ told. told ≡ Seen old.heap ∷ []) (λ told. told ≡ Installed p ∷ []) (λ told. told ≡ Seen old.heap ∷ Installed p ∷ []) seen.again begun_
       (λ xs ys e f. ap (λ (l : List Told). l ++ ys) e ∙ ap (λ (l : List Told). Seen old.heap ∷ l) f)
 
-  heard-next : reading d next.log ≡ heard m r (Installed p)
-  heard-next = reading-grows d old.log next.log at_ both.adds.told both.adds.grows ∙ ap (λ (ts : List Told). heard_all m r (map (event_at at_) ts)) both.adds.made
+  heard-next : reading d next.log.all ≡ heard m r (Installed p)
+  heard-next = reading-grows d old.log.all next.log.all at_ both.adds.told both.adds.grows ∙ ap (λ (ts : List Told). heard_all m r (map (event_at at_) ts)) both.adds.made
 
   installs : (rest told : List Told) → told ≡ Seen old.heap ∷ Installed p ∷ rest → (IsTrue (m.runs_once i.handler) → Occasion m (heard m r (Installed p)) i.handler (record { items = [] }) rest) → ((m.runs_once i.handler ≡ false) → rest ≡ [])
       → AtPace d old (InstallsBytes d r bytes) told
@@ -282,10 +283,10 @@ module _ (d : Description) (old mid next : Parts) (at_ : Stamp) (bytes : List �
       (λ told made. installs [] told made (λ is. absurd (let e : false ≡ true = sym never ∙ is in cc)) (λ e. refl))
 
   -- one that does
-  pub RestsAgain-once : (new : Parts) (payload : ArrayVec ℤ) (answer : PostAnswer) → m.runs_once i.handler ≡ true → payload.items ≡ [] → RestsAgain d next new at_ (PostGives m (reading d next.log) i.handler payload answer)
+  pub RestsAgain-once : (new : Parts) (payload : ArrayVec ℤ) (answer : PostAnswer) → m.runs_once i.handler ≡ true → payload.items ≡ [] → RestsAgain d next new at_ (PostGives m (reading d next.log.all) i.handler payload answer)
       → RestsAgain d old new at_ (AtPace d old (InstallsBytes d r bytes))
   RestsAgain-once new payload answer always empty posted =
-      RestsAgain-then d old next new at_ (λ told. told ≡ Seen old.heap ∷ Installed p ∷ []) (PostGives m (reading d next.log) i.handler payload answer) (AtPace d old (InstallsBytes d r bytes)) both posted
+      RestsAgain-then d old next new at_ (λ told. told ≡ Seen old.heap ∷ Installed p ∷ []) (PostGives m (reading d next.log.all) i.handler payload answer) (AtPace d old (InstallsBytes d r bytes)) both posted
       (λ xs ys e gives.
       (let Q : Reading → Type 0 = λ q. PostGives m q i.handler payload answer ys in
       let O : List ℤ → Type 0 = λ values. Occasion m (heard m r (Installed p)) i.handler (record { items = values }) ys in
@@ -295,13 +296,13 @@ module _ (d : Description) (old mid next : Parts) (at_ : Stamp) (bytes : List �
 -- ---- refusals
 
 -- an older capsule, or one of the same version
-pub IsNoNewer-from : (d : Description) (s : Parts) (bytes : List ℕ) (i : Installable) (version : ℕ) → Rests d s → IsInstallable d bytes i → version ≡ version_in (held_at s.handlers.programs i.handler) → i.held.version ≤ version → IsNoNewer d (reading d s.log) bytes version
+pub IsNoNewer-from : (d : Description) (s : Parts) (bytes : List ℕ) (i : Installable) (version : ℕ) → Rests d s → IsInstallable d bytes i → version ≡ version_in (held_at s.handlers.programs i.handler) → i.held.version ≤ version → IsNoNewer d (reading d s.log.all) bytes version
 IsNoNewer-from d s bytes i version rests can version_is older =
-    let H : HeldProgram → Type 0 = λ p. version ≡ held (reading d s.log) p.handler in
-    let O : HeldProgram → Type 0 = λ p. p.version ≤ held (reading d s.log) p.handler in
-    let same : version ≡ held (reading d s.log) i.handler = version_is ∙ sym (held-version d s i.handler rests) in
+    let H : HeldProgram → Type 0 = λ p. version ≡ held (reading d s.log.all) p.handler in
+    let O : HeldProgram → Type 0 = λ p. p.version ≤ held (reading d s.log.all) p.handler in
+    let same : version ≡ held (reading d s.log.all) i.handler = version_is ∙ sym (held-version d s i.handler rests) in
     record { capsule = can.capsule; right = can.right; held_is = subst H can.program same; older = subst O can.program (omega arith) }
 
 -- a newer one
-pub newer-than : (d : Description) (s : Parts) (i : Installable) (version : ℕ) → Rests d s → version ≡ version_in (held_at s.handlers.programs i.handler) → version < i.held.version → held (reading d s.log) i.handler < i.held.version
+pub newer-than : (d : Description) (s : Parts) (i : Installable) (version : ℕ) → Rests d s → version ≡ version_in (held_at s.handlers.programs i.handler) → version < i.held.version → held (reading d s.log.all) i.handler < i.held.version
 newer-than d s i version rests version_is above = let same = held-version d s i.handler rests in omega arith

@@ -22,7 +22,6 @@ use Rattle.vm_desc.specs.Contexts.{first_context}
 use Rattle.vm_desc.proofs.DescriptionLemmas.{bounds_of, first_context-within}
 use Rattle.mate_journal.specs.declared.entry.DropCause.TheVariants as drop
 use Rattle.mate_journal.specs.declared.entry.Entry.TheVariants as entry
-use Rattle.mate_journal.specs.Log.{Log}
 use Rattle.mate_journal.specs.Machine.{Machine, HeldProgram}
 use Rattle.mate_journal.specs.Journal.{Posted, Dropped, is_started, Invocation, Reading, heard}
 use Rattle.mate_journal.specs.WellFormed.{IsIdle, IsBusy}
@@ -52,18 +51,19 @@ use Rattle.node_calls.specs.Calls.{RestsAgain}
 use Rattle.node_calls.specs.Posting.{IsFirstFree, HasNoneFree, CanQueue, IsQueued}
 use Rattle.node_calls.proofs.QuietLemmas.{RestsAgain-as}
 use Rattle.node_calls.proofs.SeenLemmas.{RestsAgain-dropped}
+use Rattle.open_log.specs.OpenLog.{OpenView}
 
 -- ---- whom the event finds
 
 -- what is installed
-pub held-heard : (d : Description) (s : Parts) (h : HandlerId) (x : Held) → Rests d s → held_at s.handlers.programs h ≡ Some x → (reading d s.log).installed h ≡ Some (program_of h x)
+pub held-heard : (d : Description) (s : Parts) (h : HandlerId) (x : Held) → Rests d s → held_at s.handlers.programs h ≡ Some x → (reading d s.log.all).installed h ≡ Some (program_of h x)
 held-heard d s h x rests is = rests.order.keeps.installed.same h ∙ some-map (held_at s.handlers.programs h) h x is
 
 -- whether something is
-pub some-heard : (d : Description) (s : Parts) (h : HandlerId) (x : Held) → Rests d s → held_at s.handlers.programs h ≡ Some x → IsSome ((reading d s.log).installed h)
+pub some-heard : (d : Description) (s : Parts) (h : HandlerId) (x : Held) → Rests d s → held_at s.handlers.programs h ≡ Some x → IsSome ((reading d s.log.all).installed h)
 some-heard d s h x rests is = let P : Option HeldProgram → Type 0 = λ o. IsSome o in subst P (sym (held-heard d s h x rests is)) refl
 
-pub none-heard : (d : Description) (s : Parts) (h : HandlerId) → Rests d s → held_at s.handlers.programs h ≡ None → IsNone ((reading d s.log).installed h)
+pub none-heard : (d : Description) (s : Parts) (h : HandlerId) → Rests d s → held_at s.handlers.programs h ≡ None → IsNone ((reading d s.log.all).installed h)
 none-heard d s h rests is =
     let P : Option HeldProgram → Type 0 = λ o. IsNone o in
     subst P (sym (rests.order.keeps.installed.same h ∙ ap (λ (o : Option Held). option_map (program_of h) o) is)) refl
@@ -81,36 +81,36 @@ idle-untaken held r s c fits none n live context =
     absurd (let g : None ≡ Some p.seat = sym none ∙ p.is in cc)
 
 -- the context that is free is the first idle one
-pub first-idle : (d : Description) (s : Parts) (h : HandlerId) (c : ContextId) → Rests d s → IsFirstFree (machine_in d) s.contexts h c → IsFirstIdle (machine_in d) (reading d s.log) h c
+pub first-idle : (d : Description) (s : Parts) (h : HandlerId) (c : ContextId) → Rests d s → IsFirstFree (machine_in d) s.contexts h c → IsFirstIdle (machine_in d) (reading d s.log.all) h c
 first-idle d s h c rests first =
     let held = held_at s.handlers.programs in
     let fits = rests.order.keeps.fits in
     record {
       context = first.context;
-      idle = idle-untaken held (reading d s.log) s.contexts c fits first.free;
-      lowest = λ k of_handler lower. busy-taken held (reading d s.log) s.contexts k fits (first.lower k of_handler lower);
+      idle = idle-untaken held (reading d s.log.all) s.contexts c fits first.free;
+      lowest = λ k of_handler lower. busy-taken held (reading d s.log.all) s.contexts k fits (first.lower k of_handler lower);
     }
 
 pub idle-first : (d : Description) (s : Parts) (h : HandlerId) (c : ContextId) → Rests d s → IsFirstFree (machine_in d) s.contexts h c → at s.contexts c ≡ idle
-idle-first d s h c rests first = no_seat (held_at s.handlers.programs) (reading d s.log) c (at s.contexts c) (rests.order.keeps.fits.each c) first.free
+idle-first d s h c rests first = no_seat (held_at s.handlers.programs) (reading d s.log.all) c (at s.contexts c) (rests.order.keeps.fits.each c) first.free
 
 -- ---- an event that is dropped
 
-module _ (d : Description) (old : Parts) (log : Log) (stamp : Stamp) (h : HandlerId) (of_machine : h.0 < length d.handlers.items) (rests : Rests d old) (timely : IsTimely stamp old.log) (room : old.log.spare ≤ log.spare + 1) where
-  pub RestsAgain-no_code : held_at old.handlers.programs h ≡ None → IsPushed old.log record { stamp = stamp; entry = entry.Dropped h drop.NoCode } log
-      → RestsAgain d old (record old { log = log }) stamp (DropsNoCode (reading d old.log) h)
+module _ (d : Description) (old : Parts) (log : OpenView) (stamp : Stamp) (h : HandlerId) (of_machine : h.0 < length d.handlers.items) (rests : Rests d old) (timely : IsTimely stamp old.log.all) (room : old.log.all.spare ≤ log.all.spare + 1) where
+  pub RestsAgain-no_code : held_at old.handlers.programs h ≡ None → IsPushed old.log.all record { stamp = stamp; entry = entry.Dropped h drop.NoCode } log.all
+      → RestsAgain d old (record old { log = log }) stamp (DropsNoCode (reading d old.log.all) h)
   RestsAgain-no_code is pushed =
-      RestsAgain-as d old (record old { log = log }) stamp (λ told. told ≡ Dropped h drop.NoCode ∷ []) (DropsNoCode (reading d old.log) h)
+      RestsAgain-as d old (record old { log = log }) stamp (λ told. told ≡ Dropped h drop.NoCode ∷ []) (DropsNoCode (reading d old.log.all) h)
       (RestsAgain-dropped d old log stamp rests timely h drop.NoCode of_machine pushed room) (λ told made. record { no_code = none-heard d old h rests is; made = made })
 
-  pub RestsAgain-all_busy : (x : Held) → held_at old.handlers.programs h ≡ Some x → HasNoneFree (machine_in d) old.contexts h → IsPushed old.log record { stamp = stamp; entry = entry.Dropped h drop.AllBusy } log
-      → RestsAgain d old (record old { log = log }) stamp (DropsAllBusy (machine_in d) (reading d old.log) h)
+  pub RestsAgain-all_busy : (x : Held) → held_at old.handlers.programs h ≡ Some x → HasNoneFree (machine_in d) old.contexts h → IsPushed old.log.all record { stamp = stamp; entry = entry.Dropped h drop.AllBusy } log.all
+      → RestsAgain d old (record old { log = log }) stamp (DropsAllBusy (machine_in d) (reading d old.log.all) h)
   RestsAgain-all_busy x is taken pushed =
-      RestsAgain-as d old (record old { log = log }) stamp (λ told. told ≡ Dropped h drop.AllBusy ∷ []) (DropsAllBusy (machine_in d) (reading d old.log) h)
+      RestsAgain-as d old (record old { log = log }) stamp (λ told. told ≡ Dropped h drop.AllBusy ∷ []) (DropsAllBusy (machine_in d) (reading d old.log.all) h)
       (RestsAgain-dropped d old log stamp rests timely h drop.AllBusy of_machine pushed room)
       (λ told made. record {
         code = some-heard d old h x rests is;
-        busy = λ c of_handler. busy-taken (held_at old.handlers.programs) (reading d old.log) old.contexts c rests.order.keeps.fits (taken c of_handler);
+        busy = λ c of_handler. busy-taken (held_at old.handlers.programs) (reading d old.log.all) old.contexts c rests.order.keeps.fits (taken c of_handler);
         made = made;
       })
 
@@ -126,16 +126,16 @@ map-without f g (x ∷ ring) c absent same = by (is_same c x) refl absent (map-w
       let other : x.0 ≢ c.0 = λ same_number. (let t : is_same c x ≡ true = eq-eqb c.0 x.0 (sym same_number) in let z : false ≡ true = sym is ∙ t in cc) in
       ap (λ (n : ℕ). n ∷ map f ring) (same x other) ∙ ap (λ (l : List ℕ). g x ∷ l) (further e same)
 
-module _ (d : Description) (old : Parts) (contexts : Contexts) (log : Log) (stamp : Stamp) (h : HandlerId) (c : ContextId) (payload : ArrayVec ℤ) (x : Held) (s : Seat) (posts : ℕ)
-    (rests : Rests d old) (timely : IsTimely stamp old.log) (is_held : held_at old.handlers.programs h ≡ Some x) (own : s.handler ≡ h) (next_post : posts ≡ suc old.posts) (number : s.inv ≡ posts)
+module _ (d : Description) (old : Parts) (contexts : Contexts) (log : OpenView) (stamp : Stamp) (h : HandlerId) (c : ContextId) (payload : ArrayVec ℤ) (x : Held) (s : Seat) (posts : ℕ)
+    (rests : Rests d old) (timely : IsTimely stamp old.log.all) (is_held : held_at old.handlers.programs h ≡ Some x) (own : s.handler ≡ h) (next_post : posts ≡ suc old.posts) (number : s.inv ≡ posts)
     (machine : s.machine ≡ begun d.turns payload.items) (none_yet : s.count ≡ 0) (fitting : FitsCode x.code s.machine) (first : IsFirstFree (machine_in d) old.contexts h c)
     (becomes : Becomes old.contexts contexts c (queued s x.locks)) (enqueues : Enqueues old.contexts.locks contexts.locks c x.locks) (ring : contexts.ring ≡ old.contexts.ring)
-    (pushed : IsPushed old.log record { stamp = stamp; entry = entry.Post posts h c payload } log) (room : old.log.spare ≤ log.spare + 1) where
+    (pushed : IsPushed old.log.all record { stamp = stamp; entry = entry.Post posts h c payload } log.all) (room : old.log.all.spare ≤ log.all.spare + 1) where
   abbrev pub m : Machine
   m = machine_in d
 
   abbrev pub r : Reading
-  r = reading d old.log
+  r = reading d old.log.all
 
   abbrev pub mid : Parts
   mid = record old { contexts = contexts; posts = posts; log = log }
@@ -143,7 +143,7 @@ module _ (d : Description) (old : Parts) (contexts : Contexts) (log : Log) (stam
   free : at old.contexts c ≡ idle
   free = idle-first d old h c rests first
 
-  continues : Continues d old mid old.log stamp (entry.Post posts h c payload) (Posted posts h c payload)
+  continues : Continues d old mid old.log.all stamp (entry.Post posts h c payload) (Posted posts h c payload)
   continues =
       Continues-posted d old contexts log stamp h c payload x s posts rests timely is_held own next_post number machine none_yet fitting first.context free becomes enqueues pushed room
 
@@ -151,14 +151,14 @@ module _ (d : Description) (old : Parts) (contexts : Contexts) (log : Log) (stam
   IsStarting-post =
       IsStarting-posted d old contexts log stamp h c payload x s posts rests timely is_held own next_post number machine none_yet fitting first.context free becomes enqueues pushed room
 
-  pub grows-post : Grows old.log log stamp (Posted posts h c payload ∷ [])
-  grows-post = grows-by d old mid old.log stamp (entry.Post posts h c payload) (Posted posts h c payload) rests.order continues room
+  pub grows-post : Grows old.log.all log.all stamp (Posted posts h c payload ∷ [])
+  grows-post = grows-by d old mid old.log.all stamp (entry.Post posts h c payload) (Posted posts h c payload) rests.order continues room
 
   posts-is : posts ≡ suc r.posts
   posts-is = next_post ∙ ap suc (sym rests.order.keeps.posts)
 
-  heard-is : reading d log ≡ heard m r (Posted posts h c payload)
-  heard-is = heard-by d old mid old.log stamp (entry.Post posts h c payload) (Posted posts h c payload) rests.order continues room
+  heard-is : reading d log.all ≡ heard m r (Posted posts h c payload)
+  heard-is = heard-by d old mid old.log.all stamp (entry.Post posts h c payload) (Posted posts h c payload) rests.order continues room
 
   pace-post : (p : Pace) → IsPace r old.contexts p → IsPace (heard m r (Posted posts h c payload)) contexts p
   pace-post p pace = record {
@@ -199,32 +199,32 @@ module _ (d : Description) (old : Parts) (contexts : Contexts) (log : Log) (stam
   }
 
 -- the seat and the entry, as the code makes them
-pub IsQueued-made : (d : Description) (old : Parts) (contexts : Contexts) (log : Log) (stamp : Stamp) (h : HandlerId) (c : ContextId) (payload copy again : ArrayVec ℤ) (locks : LockSet) (machine : Private) (can : CanQueue d old h c locks) → IsTimely stamp old.log
+pub IsQueued-made : (d : Description) (old : Parts) (contexts : Contexts) (log : OpenView) (stamp : Stamp) (h : HandlerId) (c : ContextId) (payload copy again : ArrayVec ℤ) (locks : LockSet) (machine : Private) (can : CanQueue d old h c locks) → IsTimely stamp old.log.all
     → copy ≡ payload → again ≡ payload → machine ≡ begun d.turns copy.items → ((v : VerifiedCode) → IsVerifiedCode v → FitsCode v machine)
     → Becomes old.contexts contexts c (queued (record { inv = old.posts + 1; handler = h; machine = machine; count = 0 }) locks) → Enqueues old.contexts.locks contexts.locks c locks → contexts.ring ≡ old.contexts.ring
-    → IsPushed old.log record { stamp = stamp; entry = entry.Post (old.posts + 1) h c again } log → old.log.spare ≤ log.spare + 1
+    → IsPushed old.log.all record { stamp = stamp; entry = entry.Post (old.posts + 1) h c again } log.all → old.log.all.spare ≤ log.all.spare + 1
     → IsQueued d old (record old { contexts = contexts; posts = old.posts + 1; log = log }) stamp h payload (old.posts + 1)
 IsQueued-made d old contexts log stamp h c payload copy again locks machine can timely same_copy same_again begins fits becomes enqueues ring pushed room =
     let s : Seat = record { inv = old.posts + 1; handler = h; machine = machine; count = 0 } in
     let next_post : old.posts + 1 ≡ suc old.posts = omega arith in
     let B : LockSet → Type 0 = λ l. Becomes old.contexts contexts c (queued s l) in
     let E : LockSet → Type 0 = λ l. Enqueues old.contexts.locks contexts.locks c l in
-    let P : ArrayVec ℤ → Type 0 = λ xs. IsPushed old.log record { stamp = stamp; entry = entry.Post (old.posts + 1) h c xs } log in
+    let P : ArrayVec ℤ → Type 0 = λ xs. IsPushed old.log.all record { stamp = stamp; entry = entry.Post (old.posts + 1) h c xs } log.all in
     IsQueued-from d old contexts log stamp h c payload can.x s (old.posts + 1) can.rests timely can.is_held refl next_post refl (begins ∙ ap (λ (xs : ArrayVec ℤ). begun d.turns xs.items) same_copy) refl
     (fits can.x.code (can.rests.order.keeps.installed.each h can.x can.is_held).verified) can.first (subst B (sym can.locks_are) becomes) (subst E (sym can.locks_are) enqueues) ring (subst P same_again pushed) room
 
 -- ---- a post, with the start that may follow
 
 -- at most the new one can start
-pub room-queued : (d : Description) (old new : Parts) (at_ : Stamp) (h : HandlerId) (payload : ArrayVec ℤ) (n : ℕ) → IsQueued d old new at_ h payload n → 2 ≤ old.log.spare → IsRoomForAll d new
+pub room-queued : (d : Description) (old new : Parts) (at_ : Stamp) (h : HandlerId) (payload : ArrayVec ℤ) (n : ℕ) → IsQueued d old new at_ h payload n → 2 ≤ old.log.all.spare → IsRoomForAll d new
 room-queued d old new at_ h payload n q enough = inr (record { invocation = n; others = q.others; spare = (let g = q.grows.spare in omega arith) })
 
 pub RestsAgain-posted : (d : Description) (old mid new : Parts) (at_ : Stamp) (h : HandlerId) (payload : ArrayVec ℤ) (n : ℕ) → IsQueued d old mid at_ h payload n → StartsAll d mid new at_
-    → RestsAgain d old new at_ (λ told. (n ≡ suc (reading d old.log).posts) × Posts (machine_in d) (reading d old.log) h payload told)
+    → RestsAgain d old new at_ (λ told. (n ≡ suc (reading d old.log.all).posts) × Posts (machine_in d) (reading d old.log.all) h payload told)
 RestsAgain-posted d old mid new at_ h payload n q starts = record {
   adds = record {
     told = Posted n h q.context payload ∷ starts.some.told;
-    grows = Grows-then old.log mid.log new.log at_ (Posted n h q.context payload ∷ []) starts.some.told q.grows starts.some.grows;
+    grows = Grows-then old.log.all mid.log.all new.log.all at_ (Posted n h q.context payload ∷ []) starts.some.told q.grows starts.some.grows;
     made = (
       q.number,
       record {

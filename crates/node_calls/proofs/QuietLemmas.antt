@@ -17,6 +17,7 @@ use Rattle.node_grants.specs.Starting.{last_started, Rests}
 use Rattle.node_grants.proofs.OrderLemmas.{KeepsOrder-push, heard-by, grows-by}
 use Rattle.node_grants.proofs.StartLemmas.{paced_all-append}
 use Rattle.node_calls.specs.Calls.{RestsAgain}
+use Rattle.open_log.specs.OpenLog.{OpenView}
 
 -- one call after another
 pub RestsAgain-then : (d : Description) (a b c : Parts) (at_ : Stamp) (First Then Both : List Told → Type 0) → RestsAgain d a b at_ First → RestsAgain d b c at_ Then
@@ -24,12 +25,12 @@ pub RestsAgain-then : (d : Description) (a b c : Parts) (at_ : Stamp) (First The
 RestsAgain-then d a b c at_ First Then Both f g both = record {
   adds = record {
     told = f.adds.told ++ g.adds.told;
-    grows = Grows-then a.log b.log c.log at_ f.adds.told g.adds.told f.adds.grows g.adds.grows;
+    grows = Grows-then a.log.all b.log.all c.log.all at_ f.adds.told g.adds.told f.adds.grows g.adds.grows;
     made = both f.adds.told g.adds.told f.adds.made g.adds.made;
   };
   rests = g.rests;
   pace = λ p pace.
-      (let P : Pace → Type 0 = λ q. IsPace (reading d c.log) c.contexts q in
+      (let P : Pace → Type 0 = λ q. IsPace (reading d c.log.all) c.contexts q in
       subst P (sym (paced_all-append p f.adds.told g.adds.told)) (g.pace (paced_all p f.adds.told) (f.pace p pace)));
 }
 
@@ -42,9 +43,9 @@ RestsAgain-as d a b at_ First Then f as_ = record {
 }
 
 -- an entry that leaves contexts, heap and programs as they are
-module _ (d : Description) (old : Parts) (log before : Log) (at_ : Stamp) (e : Entry) (told : Told) (rests : Rests d old) (continues : Continues d old (record old { log = log }) before at_ e told) (room : old.log.spare ≤ log.spare + 1)
-    (granted : IsGranted (machine_in d) (reading d old.log) (last_started old.log) told) (unheard : heard (machine_in d) (reading d old.log) told ≡ reading d old.log) (unpaced : (p : Pace) → paced p told ≡ p) where
-  heard-is : reading d log ≡ reading d old.log
+module _ (d : Description) (old : Parts) (log : OpenView) (before : Log) (at_ : Stamp) (e : Entry) (told : Told) (rests : Rests d old) (continues : Continues d old (record old { log = log }) before at_ e told) (room : old.log.all.spare ≤ log.all.spare + 1)
+    (granted : IsGranted (machine_in d) (reading d old.log.all) (last_started old.log.all) told) (unheard : heard (machine_in d) (reading d old.log.all) told ≡ reading d old.log.all) (unpaced : (p : Pace) → paced p told ≡ p) where
+  heard-is : reading d log.all ≡ reading d old.log.all
   heard-is = heard-by d old (record old { log = log }) before at_ e told rests.order continues room ∙ unheard
 
   pub RestsAgain-quiet : RestsAgain d old (record old { log = log }) at_ (λ xs. xs ≡ told ∷ [])
@@ -56,6 +57,6 @@ module _ (d : Description) (old : Parts) (log before : Log) (at_ : Stamp) (e : E
     };
     pace = λ p pace.
         (let P : Reading → Type 0 = λ r. IsPace r old.contexts p in
-        let Q : Pace → Type 0 = λ q. IsPace (reading d log) old.contexts q in
+        let Q : Pace → Type 0 = λ q. IsPace (reading d log.all) old.contexts q in
         subst Q (sym (unpaced p)) (subst P (sym heard-is) pace));
   }

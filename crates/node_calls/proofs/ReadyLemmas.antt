@@ -6,7 +6,6 @@ use Rattle.mate_code.specs.Cells.{AreAsLong}
 use Rattle.vm_desc.specs.declared.description.Description.{Description}
 use Rattle.mate_journal.specs.Journal.{Phase, Ready, is_live, is_started, Invocation}
 use Rattle.mate_num.specs.declared.call.Stamp.{Stamp}
-use Rattle.mate_journal.specs.Log.{Log}
 use Rattle.mate_journal.specs.Pace.{Pace}
 use Rattle.mate_journal.specs.Stores.{values_at, Writes}
 use Rattle.mate_journal.specs.Turns.{store_so_far, ShowsReady}
@@ -21,19 +20,20 @@ use Rattle.node_grants.specs.Pace.{IsPace}
 use Rattle.node_grants.specs.Starting.{Rests}
 use Rattle.node_calls.specs.Calls.{TellsStore}
 use Rattle.node_calls.proofs.SeenLemmas.{IsShownIn, RestsAgain-seen}
+use Rattle.open_log.specs.OpenLog.{OpenView}
 
-pub ShowsReady-keeps : (d : Description) (s : Parts) (p : Pace) → Keeps d s → IsPace (reading d s.log) s.contexts p → ShowsReady (clock_of d) (machine_in d) (reading d s.log) p s.heap
+pub ShowsReady-keeps : (d : Description) (s : Parts) (p : Pace) → Keeps d s → IsPace (reading d s.log.all) s.contexts p → ShowsReady (clock_of d) (machine_in d) (reading d s.log.all) p s.heap
 ShowsReady-keeps d s p keeps pace = record { ready = shows } where
-  shows : (q : Resource) (n : ℕ) → Writes (machine_in d) (reading d s.log) n q → ((reading d s.log).invocations n).phase ≡ Ready
-      → values_at s.heap q ≡ values_at (store_so_far (clock_of d) (machine_in d) (reading d s.log) p n) q
+  shows : (q : Resource) (n : ℕ) → Writes (machine_in d) (reading d s.log.all) n q → ((reading d s.log.all).invocations n).phase ≡ Ready
+      → values_at s.heap q ≡ values_at (store_so_far (clock_of d) (machine_in d) (reading d s.log.all) p n) q
   shows q n writes is_ready =
-      let i : Invocation = (reading d s.log).invocations n in
-      let serial : Store = (reading d s.log).serial in
+      let i : Invocation = (reading d s.log.all).invocations n in
+      let serial : Store = (reading d s.log.all).serial in
       let there = keeps.fits.placed n (ap is_live is_ready) in
       let t : Seat = there.seat in
-      let P : ℕ → Type 0 = λ k. RunsOwn d ((reading d s.log).invocations k).phase ((reading d s.log).invocations k) t serial s.heap in
+      let P : ℕ → Type 0 = λ k. RunsOwn d ((reading d s.log.all).invocations k).phase ((reading d s.log.all).invocations k) t serial s.heap in
       let Q : Phase → Type 0 = λ ph. RunsOwn d ph i t serial s.heap in
-      let S : ℕ → Type 0 = λ k. is_started ((reading d s.log).invocations k).phase ≡ true in
+      let S : ℕ → Type 0 = λ k. is_started ((reading d s.log.all).invocations k).phase ≡ true in
       let own : IsOwnRun d i t serial s.heap = subst Q is_ready (subst P there.number (keeps.agrees.each i.context t there.is)) in
       let count : t.count ≡ p.counts n = pace.counts i.context t there.is (subst S (sym there.number) (ap is_started is_ready)) ∙ ap p.counts there.number in
       let same = own.stores.same q (or-right ((uses_for d i).reads q) ((uses_for d i).writes q) writes.writes) in
@@ -41,7 +41,7 @@ ShowsReady-keeps d s p keeps pace = record { ready = shows } where
       values-read s.heap (own_run d i t.count serial).store q as_long (sym same) ∙ ap (λ (k : ℕ). values_at (own_run d i k serial).store q) count
 
 -- the store is told, and nothing else changes
-pub TellsStore-pushed : (d : Description) (old : Parts) (log : Log) (at_ : Stamp) → Rests d old → IsTimely at_ old.log → IsShownIn old.log old.heap at_ log → old.log.spare ≤ log.spare + 1 → TellsStore d old (record old { log = log }) at_
+pub TellsStore-pushed : (d : Description) (old : Parts) (log : OpenView) (at_ : Stamp) → Rests d old → IsTimely at_ old.log.all → IsShownIn old.log.all old.heap at_ log.all → old.log.all.spare ≤ log.all.spare + 1 → TellsStore d old (record old { log = log }) at_
 TellsStore-pushed d old log at_ rests timely is room = record {
   again = RestsAgain-seen d old log at_ rests timely is room;
   shown = λ p has. ShowsReady-keeps d old p rests.order.keeps has;

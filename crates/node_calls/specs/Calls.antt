@@ -17,13 +17,13 @@ use Rattle.node_grants.specs.Starting.{Rests}
 
 -- The entries meet the rule, the node rests again, and its pace is the one that they make.
 pub record RestsAgain (d : Description) (old new : Parts) (at : Stamp) (Rule : List Told → Type 0) : Type 0 where
-  pub adds : TellsMore old.log new.log at Rule
+  pub adds : TellsMore old.log.all new.log.all at Rule
   pub rests : Rests d new
-  pub pace : (p : Pace) → IsPace (reading d old.log) old.contexts p → IsPace (reading d new.log) new.contexts (paced_all p adds.told)
+  pub pace : (p : Pace) → IsPace (reading d old.log.all) old.contexts p → IsPace (reading d new.log.all) new.contexts (paced_all p adds.told)
 
 -- the rule, at each pace that the node may have
 abbrev pub AtPace : Description → Parts → (Pace → List Told → Type 0) → List Told → Type 0
-AtPace d s Rule told = (p : Pace) → IsPace (reading d s.log) s.contexts p → Rule p told
+AtPace d s Rule told = (p : Pace) → IsPace (reading d s.log.all) s.contexts p → Rule p told
 
 -- no invocation in the context waits for an answer
 abbrev pub NobodyWaits : Reading → ContextId → Type 0
@@ -32,7 +32,7 @@ NobodyWaits r c = (n : ℕ) → IsWaiting r n → (r.invocations n).context ≡ 
 -- the store is told, and nothing else changes
 pub record TellsStore (d : Description) (old new : Parts) (at : Stamp) : Type 0 where
   pub again : RestsAgain d old new at (λ told. told ≡ Seen old.heap ∷ [])
-  pub shown : (p : Pace) → IsPace (reading d old.log) old.contexts p → ShowsReady (clock_of d) (machine_in d) (reading d old.log) p old.heap
+  pub shown : (p : Pace) → IsPace (reading d old.log.all) old.contexts p → ShowsReady (clock_of d) (machine_in d) (reading d old.log.all) p old.heap
   pub same : new ≡ record old { log = new.log }
 
 -- all contexts are idle, and the store is as at first

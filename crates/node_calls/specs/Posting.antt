@@ -49,11 +49,11 @@ pub record CanQueue (d : Description) (s : Parts) (h : HandlerId) (c : ContextId
 
 -- the invocation of this number is in the handler's first idle context, and all others that wait are held back
 pub record IsQueued (d : Description) (old new : Parts) (at_stamp : Stamp) (h : HandlerId) (payload : ArrayVec ℤ) (n : ℕ) : Type 0 where
-  pub number : n ≡ suc (reading d old.log).posts
+  pub number : n ≡ suc (reading d old.log.all).posts
   pub context : ContextId
-  pub code : IsSome ((reading d old.log).installed h)
-  pub first_idle : IsFirstIdle (machine_in d) (reading d old.log) h context
-  pub grows : Grows old.log new.log at_stamp (PostedEntry n h context payload ∷ [])
+  pub code : IsSome ((reading d old.log.all).installed h)
+  pub first_idle : IsFirstIdle (machine_in d) (reading d old.log.all) h context
+  pub grows : Grows old.log.all new.log.all at_stamp (PostedEntry n h context payload ∷ [])
   pub starting : IsStarting d new
-  pub others : AllButHeld (machine_in d) (reading d new.log) n
-  pub pace : (p : Pace) → IsPace (reading d old.log) old.contexts p → IsPace (reading d new.log) new.contexts p
+  pub others : AllButHeld (machine_in d) (reading d new.log.all) n
+  pub pace : (p : Pace) → IsPace (reading d old.log.all) old.contexts p → IsPace (reading d new.log.all) new.contexts p

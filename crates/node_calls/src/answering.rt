@@ -24,12 +24,13 @@ pub fn answer_in(
     at: Stamp,
 ) -> Result<(), NotWaiting>
     requires rests { Rests description.now parts.old }
-    requires timely { IsTimely at parts.old.log }
-    requires room { 1 ≤ parts.old.log.spare }
+    requires timely { IsTimely at parts.old.log.all }
+    requires room { 1 ≤ parts.old.log.all.spare }
     requires context { ctx.0 < CONTEXTS_MAX }
-    ensures { MatchResult result
-        (λ _. RestsAgain description.now parts.old parts.new at (Answers (reading description.now parts.old.log) ctx value))
-        (λ _. NobodyWaits (reading description.now parts.old.log) ctx × (parts.new ≡ parts.old)) }
+    ensures answers { MatchResult result
+        (λ _. RestsAgain description.now parts.old parts.new at (Answers (reading description.now parts.old.log.all) ctx value))
+        (λ _. NobodyWaits (reading description.now parts.old.log.all) ctx × (parts.new ≡ parts.old)) }
+    ensures gone { parts.new.log.gone ≡ parts.old.log.gone }
 {
     let _description = description;
     let Some(_) = parts.contexts.asked(ctx) else {

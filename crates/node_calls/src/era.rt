@@ -1,6 +1,6 @@
 //! The beginning of an era, and resets.
 
-ghost use Rattle.std.specs.Prelude.{◌<◌, ◌≤◌, length};
+ghost use Rattle.std.specs.Prelude.{◌≡◌, ◌<◌, ◌≤◌, length};
 ghost use Rattle.mate_journal.specs.NodeScript.{Resets};
 ghost use Rattle.node_invariant.specs.Meaning.{machine_in, clock_of};
 ghost use Rattle.node_invariant.specs.Keeps.{reading, IsTimely};
@@ -28,10 +28,11 @@ pub(crate) fn clear(description: &Description, parts: &mut Parts)
 /// empty. What is installed stays.
 pub fn reset_in(description: &Description, parts: &mut Parts, at: Stamp)
     requires rests { Rests description.now parts.old }
-    requires timely { IsTimely at parts.old.log }
-    requires room { 2 ≤ parts.old.log.spare }
-    requires few { length parts.old.log.entries < 4100000000 }
-    ensures { RestsAgain description.now parts.old parts.new at (AtPace description.now parts.old (Resets (clock_of description.now) (machine_in description.now) (reading description.now parts.old.log))) }
+    requires timely { IsTimely at parts.old.log.all }
+    requires room { 2 ≤ parts.old.log.all.spare }
+    requires few { length parts.old.log.all.entries < 4100000000 }
+    ensures again { RestsAgain description.now parts.old parts.new at (AtPace description.now parts.old (Resets (clock_of description.now) (machine_in description.now) (reading description.now parts.old.log.all))) }
+    ensures gone { parts.new.log.gone ≡ parts.old.log.gone }
 {
     seen_in(description, parts, at);
     clear(description, parts);

@@ -94,13 +94,14 @@ fn programs_have_places(programs: &[Option<Held>; HANDLERS_MAX])
 /// An era begins with the program in place of what the handler had.
 fn begin(description: &Description, parts: &mut Parts, program: Installable, at: Stamp)
     requires rests { Rests description.now parts.old }
-    requires timely { IsTimely at parts.old.log }
-    requires room { 1 ≤ parts.old.log.spare }
-    requires few { length parts.old.log.entries < 4100000000 }
-    requires seen { last_is_seen false (journal_of parts.old.log) ≡ true }
+    requires timely { IsTimely at parts.old.log.all }
+    requires room { 1 ≤ parts.old.log.all.spare }
+    requires few { length parts.old.log.all.entries < 4100000000 }
+    requires seen { last_is_seen false (journal_of parts.old.log.all) ≡ true }
     requires held { IsHeld description.now program.held }
     requires handler { program.handler.0 < length description.now.handlers.items }
-    ensures { RestsAgain description.now parts.old parts.new at (λ told. told ≡ Installed (program_of program.handler program.held) ∷ []) }
+    ensures again { RestsAgain description.now parts.old parts.new at (λ told. told ≡ Installed (program_of program.handler program.held) ∷ []) }
+    ensures gone { parts.new.log.gone ≡ parts.old.log.gone }
 {
     programs_have_places(&parts.handlers.programs);
     parts.log.push_install(
@@ -136,12 +137,13 @@ pub fn install_in(
     at: Stamp,
 ) -> Result<(), InstallFault>
     requires rests { Rests description.now parts.old }
-    requires timely { IsTimely at parts.old.log }
-    requires room { 4 ≤ parts.old.log.spare }
-    requires few { length parts.old.log.entries < 4000000000 }
-    ensures { MatchResult result
-        (λ _. RestsAgain description.now parts.old parts.new at (AtPace description.now parts.old (InstallsBytes description.now (reading description.now parts.old.log) bytes.now)))
-        (λ fault. Refuses description.now (reading description.now parts.old.log) bytes.now fault × (parts.new ≡ parts.old)) }
+    requires timely { IsTimely at parts.old.log.all }
+    requires room { 4 ≤ parts.old.log.all.spare }
+    requires few { length parts.old.log.all.entries < 4000000000 }
+    ensures installs { MatchResult result
+        (λ _. RestsAgain description.now parts.old parts.new at (AtPace description.now parts.old (InstallsBytes description.now (reading description.now parts.old.log.all) bytes.now)))
+        (λ fault. Refuses description.now (reading description.now parts.old.log.all) bytes.now fault × (parts.new ≡ parts.old)) }
+    ensures gone { parts.new.log.gone ≡ parts.old.log.gone }
 {
     let program = read_program(description, bytes)?;
     let handler = program.handler;

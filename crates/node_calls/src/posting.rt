@@ -69,10 +69,11 @@ fn queue(
     at: Stamp,
 ) -> u32
     requires can { CanQueue description.now parts.old handler ctx locks }
-    requires timely { IsTimely at parts.old.log }
-    requires room { 1 ≤ parts.old.log.spare }
-    requires few { length parts.old.log.entries < 4100000000 }
-    ensures { IsQueued description.now parts.old parts.new at handler payload.now result }
+    requires timely { IsTimely at parts.old.log.all }
+    requires room { 1 ≤ parts.old.log.all.spare }
+    requires few { length parts.old.log.all.entries < 4100000000 }
+    ensures queued { IsQueued description.now parts.old parts.new at handler payload.now result }
+    ensures gone { parts.new.log.gone ≡ parts.old.log.gone }
 {
     parts.posts += 1;
     let inv = parts.posts;
@@ -108,11 +109,12 @@ pub fn post_in(
     at: Stamp,
 ) -> PostAnswer
     requires rests { Rests description.now parts.old }
-    requires timely { IsTimely at parts.old.log }
-    requires room { 2 ≤ parts.old.log.spare }
-    requires few { length parts.old.log.entries < 4100000000 }
+    requires timely { IsTimely at parts.old.log.all }
+    requires room { 2 ≤ parts.old.log.all.spare }
+    requires few { length parts.old.log.all.entries < 4100000000 }
     requires handler { handler.0 < length description.now.handlers.items }
-    ensures { RestsAgain description.now parts.old parts.new at (PostGives (machine_in description.now) (reading description.now parts.old.log) handler payload.now result) }
+    ensures again { RestsAgain description.now parts.old parts.new at (PostGives (machine_in description.now) (reading description.now parts.old.log.all) handler payload.now result) }
+    ensures gone { parts.new.log.gone ≡ parts.old.log.gone }
 {
     let Some(held) = parts.handlers.get(handler) else {
         let cause = DropCause::NoCode;

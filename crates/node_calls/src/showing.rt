@@ -14,10 +14,11 @@ use vm_desc::Description;
 /// The shared variables and buffers are told as they are.
 pub fn seen_in(description: &Description, parts: &mut Parts, at: Stamp)
     requires rests { Rests description.now parts.old }
-    requires timely { IsTimely at parts.old.log }
-    requires room { 1 ≤ parts.old.log.spare }
-    requires few { length parts.old.log.entries < 4100000000 }
-    ensures { TellsStore description.now parts.old parts.new at }
+    requires timely { IsTimely at parts.old.log.all }
+    requires room { 1 ≤ parts.old.log.all.spare }
+    requires few { length parts.old.log.all.entries < 4100000000 }
+    ensures tells { TellsStore description.now parts.old parts.new at }
+    ensures gone { parts.new.log.gone ≡ parts.old.log.gone }
 {
     let _description = description;
     parts.log.push_seen(at, &parts.heap.store());
@@ -26,10 +27,11 @@ pub fn seen_in(description: &Description, parts: &mut Parts, at: Stamp)
 /// It is told why a step did nothing.
 pub fn void_in(description: &Description, parts: &mut Parts, cause: VoidCause, at: Stamp)
     requires rests { Rests description.now parts.old }
-    requires timely { IsTimely at parts.old.log }
-    requires room { 1 ≤ parts.old.log.spare }
+    requires timely { IsTimely at parts.old.log.all }
+    requires room { 1 ≤ parts.old.log.all.spare }
     ensures again { RestsAgain description.now parts.old parts.new at (λ told. told ≡ Void cause ∷ []) }
     ensures same { parts.new ≡ record (parts.old) { log = parts.new.log } }
+    ensures gone { parts.new.log.gone ≡ parts.old.log.gone }
 {
     let _description = description;
     tell(&mut parts.log, at, Entry::Void { cause });

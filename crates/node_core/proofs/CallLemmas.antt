@@ -34,7 +34,7 @@ module _ (d : Description) (old new : Parts) (at_ : Stamp) (rests : Rests d old)
       Tells-from d old new at_ (Pacing (λ _. Rule)) again.adds.told rests.order.keeps again.rests.order.keeps again.adds.grows
       (λ p pace. (paced_all p again.adds.told, (again.adds.made, refl), again.pace p pace))
 
-  pub Tells-store : TellsStore d old new at_ → Tells (seen_as d old) (seen_as d new) at_ (Pacing (ShowsOnce (clock_of d) (machine_in d) (reading d old.log)))
+  pub Tells-store : TellsStore d old new at_ → Tells (seen_as d old) (seen_as d new) at_ (Pacing (ShowsOnce (clock_of d) (machine_in d) (reading d old.log.all)))
   Tells-store t =
       Tells-from d old new at_ _ t.again.adds.told rests.order.keeps t.again.rests.order.keeps t.again.adds.grows
       (λ p pace. (paced_all p t.again.adds.told, (record { seen = old.heap; shown = t.shown p pace; made = t.again.adds.made }, refl), t.again.pace p pace))

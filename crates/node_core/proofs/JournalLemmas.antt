@@ -1,7 +1,7 @@
 -- What a node that rests keeps of its log, and that more room changes nothing.
 use Rattle.std.proofs.Common.{◌∙◌, ◌≡◌, List, length, sym, ap, subst, arith, ℕ, ◌<◌}
 use Rattle.vm_desc.specs.declared.description.Description.{Description}
-use Rattle.mate_journal.specs.Log.{Log, IsSameLog}
+use Rattle.mate_journal.specs.Log.{IsSameLog}
 use Rattle.mate_journal.specs.Journal.{Event, Reading, journal_of, nothing_heard, heard_all}
 use Rattle.mate_journal.specs.WellFormed.{IsWellFormed}
 use Rattle.mate_journal.specs.Serial.{IsSerial}
@@ -9,6 +9,7 @@ use Rattle.mate_journal.specs.Stores.{ShowsStores}
 use Rattle.mate_journal.specs.Grants.{AllHeldBack, GrantsInOrder}
 use Rattle.mate_journal.specs.Machine.{Machine}
 use Rattle.mate_journal.specs.Devices.{DeviceOf, WritesWhatItAsks, AsksDevicesInOrder}
+use Rattle.open_log.specs.OpenLog.{OpenView}
 use Rattle.journal_laws.specs.Progress.{GoesForward}
 use Rattle.journal_laws.specs.Growth.{GrantsBefore}
 use Rattle.journal_laws.proofs.Append.{journal_of-same, GrantsInOrder-join}
@@ -32,22 +33,22 @@ use Rattle.node_grants.specs.Pace.{IsPace}
 use Rattle.node_grants.specs.Starting.{Rests}
 use Rattle.node_core.specs.Journal.{KeepsJournal}
 
-grants-of : (d : Description) (s : Parts) → Rests d s → GrantsInOrder (machine_in d) (nothing_heard (machine_in d)) 0 (journal_of s.log)
+grants-of : (d : Description) (s : Parts) → Rests d s → GrantsInOrder (machine_in d) (nothing_heard (machine_in d)) 0 (journal_of s.log.all)
 unfolding reading
-grants-of d s rests = GrantsInOrder-join (machine_in d) (nothing_heard (machine_in d)) 0 (journal_of s.log) rests.order.grants rests.held
+grants-of d s rests = GrantsInOrder-join (machine_in d) (nothing_heard (machine_in d)) 0 (journal_of s.log.all) rests.order.grants rests.held
 
-pub Forward : (d : Description) (s : Parts) → Rests d s → GoesForward (reading d s.log)
+pub Forward : (d : Description) (s : Parts) → Rests d s → GoesForward (reading d s.log.all)
 unfolding reading
 Forward d s rests =
     let m = machine_in d in
-    (never-stuck m (nothing_heard m) 0 (journal_of s.log) rests.order.keeps.well_formed.follow (grants-of d s rests) (record { numbered = (nothing_heard-orderly m).numbered })).last
+    (never-stuck m (nothing_heard m) 0 (journal_of s.log.all) rests.order.keeps.well_formed.follow (grants-of d s rests) (record { numbered = (nothing_heard-orderly m).numbered })).last
 
 -- the calls to devices are in order in each such journal
 abbrev pub InOrder : Type 0
 InOrder = (m : Machine) (es : List Event) (device_of : DeviceOf) → WritesWhatItAsks device_of m.meaning → IsWellFormed m (nothing_heard m) es → IsSerial m (nothing_heard m) es
     → GrantsInOrder m (nothing_heard m) 0 es → AsksDevicesInOrder device_of es
 
-pub KeepsJournal-rests : (d : Description) (s : Parts) → InOrder → Rests d s → KeepsJournal d (machine_in d) s.log
+pub KeepsJournal-rests : (d : Description) (s : Parts) → InOrder → Rests d s → KeepsJournal d (machine_in d) s.log.all
 KeepsJournal-rests d s in_order rests =
     let m = machine_in d in
     let keeps = rests.order.keeps in
@@ -59,25 +60,25 @@ KeepsJournal-rests d s in_order rests =
       grants = grants;
       tidy = keeps.tidy;
       full = keeps.full;
-      never_stuck = never-stuck m (nothing_heard m) 0 (journal_of s.log) keeps.well_formed.follow grants (record { numbered = (nothing_heard-orderly m).numbered });
-      devices = in_order m (journal_of s.log) m.device_of (writes-what_it_asks d) keeps.well_formed keeps.serial grants;
-      ends_as_posted = ends-in_order m (nothing_heard m) 0 (journal_of s.log) keeps.well_formed.follow rests.order.grants (nothing_heard-orderly m);
+      never_stuck = never-stuck m (nothing_heard m) 0 (journal_of s.log.all) keeps.well_formed.follow grants (record { numbered = (nothing_heard-orderly m).numbered });
+      devices = in_order m (journal_of s.log.all) m.device_of (writes-what_it_asks d) keeps.well_formed keeps.serial grants;
+      ends_as_posted = ends-in_order m (nothing_heard m) 0 (journal_of s.log.all) keeps.well_formed.follow rests.order.grants (nothing_heard-orderly m);
     }
 
 -- ---- the same log, with other room
 
-module _ (d : Description) (s : Parts) (log : Log) (same : IsSameLog log s.log) (rests : Rests d s) where
-  journal-is : journal_of log ≡ journal_of s.log
-  journal-is = journal_of-same s.log log same
+module _ (d : Description) (s : Parts) (log : OpenView) (same : IsSameLog log.all s.log.all) (rests : Rests d s) where
+  journal-is : journal_of log.all ≡ journal_of s.log.all
+  journal-is = journal_of-same s.log.all log.all same
 
-  pub reading-is : reading d log ≡ reading d s.log
+  pub reading-is : reading d log.all ≡ reading d s.log.all
   unfolding reading
   reading-is = ap (heard_all (machine_in d) (nothing_heard (machine_in d))) journal-is
 
-  along : (P : List Event → Type 0) → P (journal_of s.log) → P (journal_of log)
+  along : (P : List Event → Type 0) → P (journal_of s.log.all) → P (journal_of log.all)
   along P here = subst P (sym journal-is) here
 
-  heard : (P : Reading → Type 0) → P (reading d s.log) → P (reading d log)
+  heard : (P : Reading → Type 0) → P (reading d s.log.all) → P (reading d log.all)
   heard P here = subst P (sym reading-is) here
 
   pub Rests-room : Rests d (record s { log = log })
@@ -116,5 +117,5 @@ module _ (d : Description) (s : Parts) (log : Log) (same : IsSameLog log s.log) 
         held = heard (λ r. AllHeldBack m r) rests.held;
       }
 
-  pub IsPace-room : (p : Pace) → IsPace (reading d s.log) s.contexts p → IsPace (reading d log) s.contexts p
+  pub IsPace-room : (p : Pace) → IsPace (reading d s.log.all) s.contexts p → IsPace (reading d log.all) s.contexts p
   IsPace-room p pace = heard (λ r. IsPace r s.contexts p) pace

@@ -29,29 +29,29 @@ module _ (d : Description) (s : Parts) (keeps : Keeps d s) (p : Pace) where
   entry-is : (c : ContextId) → count_at (seen_as d s) c ≡ entry_of (at s.contexts c).seat
   entry-is c = entry-at s.contexts.seats c.0
 
-  pub IsPace-seen : HasPace (seen_as d s) p → IsPace (reading d s.log) s.contexts p
+  pub IsPace-seen : HasPace (seen_as d s) p → IsPace (reading d s.log.all) s.contexts p
   IsPace-seen pace = record { line = pace.line; counts = counts } where
-    counts : (c : ContextId) (t : Seat) → (at s.contexts c).seat ≡ Some t → is_started ((reading d s.log).invocations t.inv).phase ≡ true → t.count ≡ p.counts t.inv
+    counts : (c : ContextId) (t : Seat) → (at s.contexts c).seat ≡ Some t → is_started ((reading d s.log.all).invocations t.inv).phase ≡ true → t.count ≡ p.counts t.inv
     counts c t is started =
         let e : count_at (seen_as d s) c ≡ (t.inv, t.count) = entry-is c ∙ ap entry_of is in
-        let P : ℕ × ℕ → Type 0 = λ x. is_started ((reading d s.log).invocations x.0).phase ≡ true → x.1 ≡ p.counts x.0 in
+        let P : ℕ × ℕ → Type 0 = λ x. is_started ((reading d s.log.all).invocations x.0).phase ≡ true → x.1 ≡ p.counts x.0 in
         subst P e (pace.counts c) started
 
-  pub HasPace-from : IsPace (reading d s.log) s.contexts p → HasPace (seen_as d s) p
+  pub HasPace-from : IsPace (reading d s.log.all) s.contexts p → HasPace (seen_as d s) p
   HasPace-from pace = record { line = pace.line; counts = λ c. counts c (at s.contexts c).seat refl } where
     Right : ℕ × ℕ → Type 0
-    Right x = is_started ((reading d s.log).invocations x.0).phase ≡ true → x.1 ≡ p.counts x.0
+    Right x = is_started ((reading d s.log.all).invocations x.0).phase ≡ true → x.1 ≡ p.counts x.0
 
     by : (c : ContextId) (o : Option Seat) → (at s.contexts c).seat ≡ o → Right (entry_of o)
-    by c None is started = absurd (let above = live-above d s 0 keeps (started_live ((reading d s.log).invocations 0).phase started) in omega arith)
+    by c None is started = absurd (let above = live-above d s 0 keeps (started_live ((reading d s.log.all).invocations 0).phase started) in omega arith)
     by c (Some t) is started = pace.counts c t is started
 
     counts : (c : ContextId) (o : Option Seat) → (at s.contexts c).seat ≡ o → Right (count_at (seen_as d s) c)
     counts c o is = subst Right (sym (entry-is c ∙ ap entry_of is)) (by c o is)
 
 -- what the parts tell, as it is seen
-pub Tells-from : (d : Description) (old new : Parts) (at_ : Stamp) (Rule : Pace → List Told → Pace → Type 0) (told : List Told) → Keeps d old → Keeps d new → Grows old.log new.log at_ told
-    → ((p : Pace) → IsPace (reading d old.log) old.contexts p → (q : Pace) × Rule p told q × IsPace (reading d new.log) new.contexts q) → Tells (seen_as d old) (seen_as d new) at_ Rule
+pub Tells-from : (d : Description) (old new : Parts) (at_ : Stamp) (Rule : Pace → List Told → Pace → Type 0) (told : List Told) → Keeps d old → Keeps d new → Grows old.log.all new.log.all at_ told
+    → ((p : Pace) → IsPace (reading d old.log.all) old.contexts p → (q : Pace) × Rule p told q × IsPace (reading d new.log.all) new.contexts q) → Tells (seen_as d old) (seen_as d new) at_ Rule
 Tells-from d old new at_ Rule told before after grows paces = record {
   told = told;
   description = refl;

@@ -25,19 +25,19 @@ use Rattle.node_core.proofs.JournalLemmas.{Forward}
 
 -- ---- who is ready
 
-pub ready-in : (d : Description) (s : Parts) (c : ContextId) → Keeps d s → (at s.contexts c).ready ≡ true → IsReadyIn (reading d s.log) c
+pub ready-in : (d : Description) (s : Parts) (c : ContextId) → Keeps d s → (at s.contexts c).ready ≡ true → IsReadyIn (reading d s.log.all) c
 ready-in d s c keeps is_ready = record { invocation = (one d s c keeps is_ready).seat.inv; ready = one-ready d s c keeps is_ready; context = (one d s c keeps is_ready).seated.context }
 
-pub nobody-ready : (d : Description) (s : Parts) → Keeps d s → s.contexts.ring ≡ [] → IsNoneReady (reading d s.log)
+pub nobody-ready : (d : Description) (s : Parts) → Keeps d s → s.contexts.ring ≡ [] → IsNoneReady (reading d s.log.all)
 nobody-ready d s keeps empty n is =
-    let c = ((reading d s.log).invocations n).context in
-    none_ready (held_at s.handlers.programs) (reading d s.log) s.contexts c keeps.fits (ap (λ (l : List ContextId). holds l c) empty) record { invocation = n; ready = is; context = refl }
+    let c = ((reading d s.log.all).invocations n).context in
+    none_ready (held_at s.handlers.programs) (reading d s.log.all) s.contexts c keeps.fits (ap (λ (l : List ContextId). holds l c) empty) record { invocation = n; ready = is; context = refl }
 
 -- ---- who waits
 
 module _ (d : Description) (s : Parts) (keeps : Keeps d s) where
   abbrev r : Reading
-  r = reading d s.log
+  r = reading d s.log.all
 
   abbrev h : Programs
   h = held_at s.handlers.programs
@@ -60,20 +60,20 @@ module _ (d : Description) (s : Parts) (keeps : Keeps d s) where
 
   pub none-live : Rests d s → s.contexts.ring ≡ [] → IsNoneAsking s.contexts → IsNoneLive r
   none-live rests empty none = by (Forward d s rests) where
-    by : GoesForward (reading d s.log) → IsNoneLive (reading d s.log)
+    by : GoesForward (reading d s.log.all) → IsNoneLive (reading d s.log.all)
     by (inl x) = absurd (nobody-ready d s keeps empty x.invocation x.ready)
     by (inr (inl x)) = absurd (
         let w = x.waits in
-        let c = ((reading d s.log).invocations x.invocation).context in
+        let c = ((reading d s.log.all).invocations x.invocation).context in
         let p = keeps.fits.placed x.invocation (ap is_live w.waits) in
-        none_waits (held_at s.handlers.programs) (reading d s.log) s.contexts c keeps.fits (none.none c p.seat p.is) x.invocation w.fun w.args w.waits refl)
+        none_waits (held_at s.handlers.programs) (reading d s.log.all) s.contexts c keeps.fits (none.none c p.seat p.is) x.invocation w.fun w.args w.waits refl)
     by (inr (inr x)) = x
 
 -- ---- what is installed
 
 module _ (d : Description) (s : Parts) (keeps : Keeps d s) (handler : HandlerId) where
   abbrev q : Reading
-  q = reading d s.log
+  q = reading d s.log.all
 
   pub held-is : held q handler ≡ version_in (held_at s.handlers.programs handler)
   held-is = by (held_at s.handlers.programs handler) (keeps.installed.same handler) where

@@ -7,6 +7,7 @@ use Rattle.vm_desc.specs.declared.description.Description.{Description}
 use Rattle.mate_journal.specs.Log.{Log, IsSameLog}
 use Rattle.mate_journal.specs.Journal.{Told, is_started, Reading}
 use Rattle.mate_journal.specs.Pace.{Pace}
+use Rattle.open_log.specs.OpenLog.{Gone}
 use Rattle.node_invariant.specs.Keeps.{reading, Grows}
 
 -- `line` has the ready invocations, the one that has the next turn first. `counts` has for each context the number of its
@@ -16,6 +17,11 @@ pub record NodeView : Type 0 where
   pub log : Log
   pub line : List ℕ
   pub counts : List (ℕ × ℕ)
+
+-- the same of a node whose log may be forgotten in part: it has the whole log, and how much of it is gone
+pub record OpenNodeView : Type 0 where
+  pub node : NodeView
+  pub gone : Gone
 
 -- what was heard of the node
 abbrev pub heard_of : NodeView → Reading

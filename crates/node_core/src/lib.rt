@@ -3,7 +3,9 @@
 
 pub mod calls;
 pub mod node;
+pub mod open_node;
 pub mod standing;
 
 pub use node::Node;
+pub use open_node::OpenNode;
 pub use standing::{Asked, NotReady, Standing};

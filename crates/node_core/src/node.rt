@@ -1,26 +1,25 @@
-//! A node: its heap and contexts, what is installed for its handlers, and its log.
+//! A node with its whole log.
 
-ghost use Rattle.std.specs.Prelude.{◌≡◌, ◌<◌, ◌≤◌, ◌+◌, ◌*◌, MatchOption, MatchResult, IfOk, OnOk};
+ghost use Rattle.std.specs.Prelude.{◌≡◌, ◌<◌, ◌≤◌, ◌+◌, ◌*◌, ◌∷◌, [], length, MatchOption, MatchResult, IfOk, OnOk};
 ghost use Rattle.mate_num.specs.declared.bounds.TheConstants.{CODE_MAX, CONTEXTS_MAX};
 ghost use Rattle.mate_journal.specs.Log.{IsEmpty};
-ghost use Rattle.mate_journal.specs.Journal.{held as held_version};
+ghost use Rattle.mate_journal.specs.Journal.{Void, held as held_version};
 ghost use Rattle.mate_journal.specs.Pace.{Pace, no_pace};
-ghost use Rattle.mate_journal.specs.NodeScript.{IsReadyIn};
+ghost use Rattle.mate_journal.specs.NodeScript.{IsReadyIn, Answers, ShowsOnce, Resets};
 ghost use Rattle.node_invariant.specs.Meaning.{machine_in, clock_of};
 ghost use Rattle.node_invariant.specs.Keeps.{IsTimely};
-ghost use Rattle.node_grants.specs.Starting.{Rests};
 ghost use Rattle.node_turns.specs.Pacing.{SettlesWithin};
 ghost use Rattle.node_calls.specs.Calls.{NobodyWaits};
+ghost use Rattle.node_calls.specs.Posting.{PostGives};
+ghost use Rattle.node_calls.specs.Installing.{InstallsBytes, Refuses};
 ghost use Rattle.node_core.specs.Journal.{KeepsJournal};
 
+use crate::open_node::OpenNode;
 use crate::standing::{Asked, NotReady, Standing};
-use journal_laws::asks_devices_in_order;
-use mate_journal::NodeLog;
-use mate_num::{ContextId, HandlerId, Image, NoMemory, Stamp};
-use node_contexts::{Contexts, Handlers};
-use node_heap::Heap;
-use node_invariant::Parts;
-use node_turns::{settle, take_turn};
+use mate_journal::{NodeLog, VoidCause};
+use mate_num::{ContextId, HandlerId, Image, NoMemory, Payload, Stamp};
+use node_calls::{InstallFault, PostAnswer};
+use split_phase::NotWaiting;
 use std::alloc::Global;
 use std::marker::Model;
 use vm_desc::Description;
@@ -31,8 +30,8 @@ use vm_desc::Description;
 /// last entry, that the time is the last entry's where the event is, and that there is room for the entries.
 #[derive(Drop)]
 pub struct Node {
-    pub(crate) description: Description,
-    pub(crate) parts: Parts,
+    // nothing of its log is gone
+    node: OpenNode,
 }
 
 impl Model for Node {
@@ -40,44 +39,25 @@ impl Model for Node {
 
     ghost Value = { NodeView };
 
-    ghost use Rattle.node_core.specs.Inside.{view_of, IsResting};
+    ghost use Rattle.node_core.specs.Inside.{HasWholeLog};
 
-    ghost view = { view_of };
+    ghost view = { λ n. n.node.node };
 
-    ghost invariant = { IsResting };
-}
-
-/// What the log of a node that rests keeps.
-fn keeps_journal(description: &Description, parts: &Parts)
-    requires { Rests description.now parts.now }
-    ensures { KeepsJournal description.now (machine_in description.now) parts.now.log }
-{
-    let _description = description;
-    let _parts = parts;
-    asks_devices_in_order();
+    ghost invariant = { HasWholeLog };
 }
 
 impl Node {
     ghost use Rattle.node_core.specs.View.{heard_of, HasPace, Tells, IsSameNode};
-    ghost use Rattle.node_core.specs.Calls.{HasStepped, StandsAs, IsAsked, IsImageOf};
+    ghost use Rattle.node_core.specs.Calls.{Pacing, HasStepped, StandsAs, IsAsked, IsImageOf};
 
     /// A node of this machine. Nothing is installed, all variables are 0, all buffers are empty, and nothing was told.
     pub fn new(alloc: Global, description: &Description) -> Result<Node, NoMemory>
         ensures { IfOk result (λ node. (node.description ≡ description.now) × IsEmpty node.log × HasPace node no_pace) }
     {
-        Ok(Node {
-            description: description.copy(),
-            parts: Parts {
-                heap: Heap::new(
-                    description.shared.len() as u8,
-                    description.buffers.len() as u8,
-                ),
-                contexts: Contexts::new(alloc)?,
-                handlers: Handlers::new(),
-                posts: 0,
-                log: NodeLog::new(alloc),
-            },
-        })
+        match OpenNode::new(alloc, description) {
+            Ok(node) => Ok(Node { node }),
+            Err(_) => Err(NoMemory),
+        }
     }
 
     /// Makes room for n more entries. `NoMemory` leaves the node as it was, but for its room.
@@ -86,14 +66,14 @@ impl Node {
         ensures pace { (p : Pace) → HasPace self.old p → HasPace self.new p }
         ensures room { OnOk result (n ≤ self.new.log.spare) }
     {
-        self.parts.log.reserve(n)
+        self.node.reserve(n)
     }
 
     /// How many entries, of whatever kind, are made without memory.
     pub fn spare(&self) -> usize
         ensures { result ≡ self.now.log.spare }
     {
-        self.parts.log.spare()
+        self.node.spare()
     }
 
     /// The invocation in the context executes n instructions, or fewer where it asks or is over before. Answers how many.
@@ -107,10 +87,7 @@ impl Node {
             (λ ran. Tells self.old self.new at (HasStepped (clock_of self.old.description) (machine_in self.old.description) (heard_of self.old) ctx n ran))
             (λ _. (IsReadyIn (heard_of self.old) ctx → ⊥) × (self.new ≡ self.old)) }
     {
-        if !self.parts.contexts.is_ready(ctx) {
-            return Err(NotReady);
-        }
-        Ok(take_turn(&self.description, &mut self.parts, at, ctx, n))
+        self.node.step(ctx, n, at)
     }
 
     /// Turns of the description's quantum follow one another, each to the invocation that is longest without one, until
@@ -120,20 +97,14 @@ impl Node {
         requires room { 32 ≤ self.old.log.spare }
         ensures { Tells self.old self.new at (SettlesWithin (clock_of self.old.description) (machine_in self.old.description) ((self.old.description.turns + 1) * CODE_MAX) (heard_of self.old)) }
     {
-        settle(&self.description, &mut self.parts, at);
+        self.node.settle(at);
     }
 
     /// What can go on. A `step` in a context that it names as `Can` is never refused.
     pub fn standing(&self) -> Standing
         ensures { StandsAs (heard_of self.now) result }
     {
-        if let Some(ctx) = self.parts.contexts.first_ready() {
-            return Standing::Can(ctx);
-        }
-        match self.parts.contexts.first_waiting() {
-            Some(ctx) => Standing::Outside(ctx),
-            None => Standing::Idle,
-        }
+        self.node.standing()
     }
 
     /// The call that the invocation in the context waits with; None exactly where none waits there.
@@ -141,26 +112,21 @@ impl Node {
         requires { ctx.0 < CONTEXTS_MAX }
         ensures { MatchOption result (NobodyWaits (heard_of self.now) ctx) (IsAsked (heard_of self.now) ctx) }
     {
-        let (fun, args) = self.parts.contexts.asked(ctx)?;
-        let inv = self.parts.contexts.seat(ctx)?.inv;
-        Some(Asked { inv, fun, args })
+        self.node.asked(ctx)
     }
 
     /// The version that is installed for the handler, 0 for none.
     pub fn held(&self, handler: HandlerId) -> u32
         ensures { result ≡ held_version (heard_of self.now) handler }
     {
-        self.parts.handlers.version(handler)
+        self.node.held(handler)
     }
 
     /// The image that is installed for the handler; None exactly where none is.
     pub fn image(&self, handler: HandlerId) -> Option<&Image>
         ensures { MatchOption result (held_version (heard_of self.now) handler ≡ 0) (λ image. IsImageOf (heard_of self.now) handler image.now) }
     {
-        match self.parts.handlers.get(handler) {
-            Some(held) => Some(&held.image),
-            None => None,
-        }
+        self.node.image(handler)
     }
 
     /// What happened on the node.
@@ -168,8 +134,7 @@ impl Node {
         ensures same { result.now ≡ self.now.log }
         ensures keeps { KeepsJournal self.now.description (machine_in self.now.description) self.now.log }
     {
-        keeps_journal(&self.description, &self.parts);
-        &self.parts.log
+        self.node.log()
     }
 
     /// What happened on the node, handed out.
@@ -177,7 +142,76 @@ impl Node {
         ensures same { result ≡ self.log }
         ensures keeps { KeepsJournal self.description (machine_in self.description) self.log }
     {
-        keeps_journal(&self.description, &self.parts);
-        self.parts.log
+        self.node.into_log()
+    }
+
+    /// An event for the handler becomes an invocation in the handler's lowest idle context, which starts where nothing
+    /// holds it back. It is dropped with `NoCode` exactly where nothing is installed for the handler, and else with
+    /// `AllBusy` exactly where no context of the handler is idle.
+    pub fn post(&mut self, handler: HandlerId, payload: &Payload, at: Stamp) -> PostAnswer
+        requires handler { handler.0 < length self.old.description.handlers.items }
+        requires timely { IsTimely at self.old.log }
+        requires few { length self.old.log.entries < 4000000000 }
+        requires room { 2 ≤ self.old.log.spare }
+        ensures { Tells self.old self.new at (Pacing (λ _. PostGives (machine_in self.old.description) (heard_of self.old) handler payload.now result)) }
+    {
+        self.node.post(handler, payload, at)
+    }
+
+    /// The invocation that waits in the context gets the answer to its call, and is ready, with its turn after all others.
+    /// `NotWaiting` comes exactly where none waits there, and leaves the node as it was.
+    pub fn answer(&mut self, ctx: ContextId, value: i16, at: Stamp) -> Result<(), NotWaiting>
+        requires context { ctx.0 < CONTEXTS_MAX }
+        requires timely { IsTimely at self.old.log }
+        requires room { 1 ≤ self.old.log.spare }
+        ensures { MatchResult result
+            (λ _. Tells self.old self.new at (Pacing (λ _. Answers (heard_of self.old) ctx value)))
+            (λ _. NobodyWaits (heard_of self.old) ctx × (self.new ≡ self.old)) }
+    {
+        self.node.answer(ctx, value, at)
+    }
+
+    /// The capsule is installed, and an era begins: live invocations are cut, variables are 0 and buffers empty. A handler
+    /// that runs once is then posted with an empty payload. A refusal leaves the node as it was: the capsule's, then its
+    /// code's, then `NotNewer` exactly where the version that is held for the handler is at least the capsule's, with that
+    /// version.
+    pub fn install(&mut self, bytes: &[u8], at: Stamp) -> Result<(), InstallFault>
+        requires timely { IsTimely at self.old.log }
+        requires few { length self.old.log.entries < 4000000000 }
+        requires room { 4 ≤ self.old.log.spare }
+        ensures { MatchResult result
+            (λ _. Tells self.old self.new at (Pacing (InstallsBytes self.old.description (heard_of self.old) bytes.now)))
+            (λ fault. Refuses self.old.description (heard_of self.old) bytes.now fault × (self.new ≡ self.old)) }
+    {
+        self.node.install(bytes, at)
+    }
+
+    /// An era begins as with an install, but what is installed stays, and nothing is posted.
+    pub fn reset(&mut self, at: Stamp)
+        requires timely { IsTimely at self.old.log }
+        requires few { length self.old.log.entries < 4000000000 }
+        requires room { 2 ≤ self.old.log.spare }
+        ensures { Tells self.old self.new at (Pacing (Resets (clock_of self.old.description) (machine_in self.old.description) (heard_of self.old))) }
+    {
+        self.node.reset(at);
+    }
+
+    /// The shared variables and buffers are shown as they are.
+    pub fn seen(&mut self, at: Stamp)
+        requires timely { IsTimely at self.old.log }
+        requires few { length self.old.log.entries < 4000000000 }
+        requires room { 1 ≤ self.old.log.spare }
+        ensures { Tells self.old self.new at (Pacing (ShowsOnce (clock_of self.old.description) (machine_in self.old.description) (heard_of self.old))) }
+    {
+        self.node.seen(at);
+    }
+
+    /// A step that could do nothing is told.
+    pub fn void(&mut self, cause: VoidCause, at: Stamp)
+        requires timely { IsTimely at self.old.log }
+        requires room { 1 ≤ self.old.log.spare }
+        ensures { Tells self.old self.new at (Pacing (λ _ told. told ≡ Void cause ∷ [])) }
+    {
+        self.node.void(cause, at);
     }
 }

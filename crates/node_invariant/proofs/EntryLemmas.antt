@@ -31,7 +31,6 @@ use Rattle.mate_journal.specs.declared.entry.Entry.TheVariants as entry
 use Rattle.journal_laws.specs.Growth.{IsPushed}
 use Rattle.mate_journal.specs.WellFormed.{Closes}
 use Rattle.mate_journal.specs.Serial.{EndsAsRun}
-use Rattle.mate_journal.specs.Log.{Log}
 use Rattle.mate_journal.specs.Machine.{HeldProgram}
 use Rattle.mate_journal.specs.Journal.{told_of, Started, Asked as AskedTold, Ended, Phase, Unposted, Queued, Ready, Waiting, Over as Gone, is_started, in_phase, Invocation, Reading}
 use Rattle.node_contexts.specs.declared.handlers.Held.{Held}
@@ -55,6 +54,7 @@ use Rattle.node_invariant.proofs.MoveLemmas.{alone-seat, changed-same, starting,
 use Rattle.node_invariant.proofs.AgreeLemmas.{Alters, going_in, step-Alters, step-own, Sits, Agrees-moves}
 use Rattle.node_invariant.proofs.StartLemmas.{Agrees-started, Agrees-ended}
 use Rattle.node_invariant.proofs.SerialLemmas.{HasVerified, started-live, verified-seat, whole, whole-over}
+use Rattle.open_log.specs.OpenLog.{OpenView}
 
 -- ---- locks and uses
 
@@ -82,10 +82,10 @@ holds-by_started Gone s l is = cc
 
 -- ---- a start
 
-module _ (d : Description) (old : Parts) (contexts : Contexts) (log : Log) (stamp : Stamp) (c : ContextId) (s : Seat) (keeps : Keeps d old) (timely : IsTimely stamp old.log)
-    (starts : Starts old.contexts contexts c) (seat : (at old.contexts c).seat ≡ Some s) (pushed : IsPushed old.log record { stamp = stamp; entry = entry.Start s.inv } log) where
+module _ (d : Description) (old : Parts) (contexts : Contexts) (log : OpenView) (stamp : Stamp) (c : ContextId) (s : Seat) (keeps : Keeps d old) (timely : IsTimely stamp old.log.all)
+    (starts : Starts old.contexts contexts c) (seat : (at old.contexts c).seat ≡ Some s) (pushed : IsPushed old.log.all record { stamp = stamp; entry = entry.Start s.inv } log.all) where
   abbrev r : Reading
-  r = reading d old.log
+  r = reading d old.log.all
 
   abbrev held : Programs
   held = held_at old.handlers.programs
@@ -129,15 +129,15 @@ module _ (d : Description) (old : Parts) (contexts : Contexts) (log : Log) (stam
         alone = subst P (start-seat (machine_in d) held r old.contexts contexts c keeps.fits starts s seat) (alone-seat held r old.contexts c keeps.fits g);
       }
 
-  pub Continues-started : Continues d old (record old { contexts = contexts; log = log }) old.log stamp (entry.Start s.inv) (Started s.inv)
+  pub Continues-started : Continues d old (record old { contexts = contexts; log = log }) old.log.all stamp (entry.Start s.inv) (Started s.inv)
   Continues-started =
       let queued = start-queued (machine_in d) held r old.contexts contexts c keeps.fits starts s seat in
       let n = keeps.numbers in
       record {
-        prepared = IsPrepared-same old.log;
+        prepared = IsPrepared-same old.log.all;
         pushed = pushed;
         tells = refl;
-        tidily = AddsTidily-plain d old.log log stamp (entry.Start s.inv) pushed (record { image = refl; store = refl; in_range = tt });
+        tidily = AddsTidily-plain d old.log.all log.all stamp (entry.Start s.inv) pushed (record { image = refl; store = refl; in_range = tt });
         timely = timely;
         follows = queued;
         ends = tt;
@@ -170,7 +170,7 @@ IsClosing-fault kind = record { status = λ p o. refl; calls = λ p o. refl; cou
 module _ (d : Description) (old : Parts) (contexts : Contexts) (heap : Store) (c : ContextId) (how : StepEnd) (keeps : Keeps d old)
     (is_ready : (at old.contexts c).ready ≡ true) (ex : Executes (held_at old.handlers.programs) old.contexts old.heap c how contexts heap) where
   abbrev pub q : Reading
-  q = reading d old.log
+  q = reading d old.log.all
 
   abbrev pub programs : Programs
   programs = held_at old.handlers.programs
@@ -295,8 +295,8 @@ module _ (d : Description) (old : Parts) (contexts : Contexts) (heap : Store) (c
         }
 
   -- it calls a function, and waits
-  module _ (after : Contexts) (log : Log) (stamp : Stamp) (f : FunId) (args : ArrayVec ℤ) (timely : IsTimely stamp old.log) (calls : how ≡ Ask f args)
-      (asks : Asks contexts after c (f, args)) (pushed : IsPushed old.log record { stamp = stamp; entry = entry.Ask one.seat.inv f args } log) where
+  module _ (after : Contexts) (log : OpenView) (stamp : Stamp) (f : FunId) (args : ArrayVec ℤ) (timely : IsTimely stamp old.log.all) (calls : how ≡ Ask f args)
+      (asks : Asks contexts after c (f, args)) (pushed : IsPushed old.log.all record { stamp = stamp; entry = entry.Ask one.seat.inv f args } log.all) where
     waits-now : Waits x.code ex.now.machine
     waits-now = let P : StepEnd → Type 0 = λ e. FitsCodeAfter x.code e ex.now.machine in subst P calls stepping.fits
 
@@ -323,14 +323,14 @@ module _ (d : Description) (old : Parts) (contexts : Contexts) (heap : Store) (c
     asked-plain : IsPlain d (entry.Ask one.seat.inv f args)
     asked-plain = record { image = refl; store = refl; in_range = asked-in_range d i.program.image q.serial i.payload (answers_of i) d.turns f args wants }
 
-    pub Continues-asked : Continues d old (record old { contexts = after; heap = heap; log = log }) old.log stamp (entry.Ask one.seat.inv f args) (AskedTold one.seat.inv f args)
+    pub Continues-asked : Continues d old (record old { contexts = after; heap = heap; log = log }) old.log.all stamp (entry.Ask one.seat.inv f args) (AskedTold one.seat.inv f args)
     Continues-asked =
         let n = keeps.numbers in
         record {
-          prepared = IsPrepared-same old.log;
+          prepared = IsPrepared-same old.log.all;
           pushed = pushed;
           tells = refl;
-          tidily = AddsTidily-plain d old.log log stamp (entry.Ask one.seat.inv f args) pushed asked-plain;
+          tidily = AddsTidily-plain d old.log.all log.all stamp (entry.Ask one.seat.inv f args) pushed asked-plain;
           timely = timely;
           follows = ready-phase;
           ends = tt;
@@ -349,9 +349,9 @@ module _ (d : Description) (old : Parts) (contexts : Contexts) (heap : Store) (c
         }
 
   -- it is over
-  module _ (after : Contexts) (log : Log) (stamp : Stamp) (e : End) (told : Entry) (timely : IsTimely stamp old.log) (closes : Closes e) (closing : IsClosing how e)
-      (tells : told_of old.log told ≡ Ended one.seat.inv e) (plain : IsPlain d told)
-      (finishes : Ends contexts after c) (pushed : IsPushed old.log record { stamp = stamp; entry = told } log) where
+  module _ (after : Contexts) (log : OpenView) (stamp : Stamp) (e : End) (told : Entry) (timely : IsTimely stamp old.log.all) (closes : Closes e) (closing : IsClosing how e)
+      (tells : told_of old.log.all told ≡ Ended one.seat.inv e) (plain : IsPlain d told)
+      (finishes : Ends contexts after c) (pushed : IsPushed old.log.all record { stamp = stamp; entry = told } log.all) where
     becomes-idle : Becomes old.contexts after c idle
     becomes-idle =
         record {
@@ -383,14 +383,14 @@ module _ (d : Description) (old : Parts) (contexts : Contexts) (heap : Store) (c
         let r : Run = begun_run q.serial i.payload (answers_of i) d.turns in
         record { as_long = after-AreAsLong b (shape_of d) (code_for d i) r; others = λ z not. after-other b (shape_of d) (code_for d i) r z not }
 
-    pub Continues-ended : Continues d old (record old { contexts = after; heap = heap; log = log }) old.log stamp told (Ended one.seat.inv e)
+    pub Continues-ended : Continues d old (record old { contexts = after; heap = heap; log = log }) old.log.all stamp told (Ended one.seat.inv e)
     Continues-ended =
         let n = keeps.numbers in
         record {
-          prepared = IsPrepared-same old.log;
+          prepared = IsPrepared-same old.log.all;
           pushed = pushed;
           tells = tells;
-          tidily = AddsTidily-plain d old.log log stamp told pushed plain;
+          tidily = AddsTidily-plain d old.log.all log.all stamp told pushed plain;
           timely = timely;
           follows = (ready-phase, closes);
           ends = end-is;

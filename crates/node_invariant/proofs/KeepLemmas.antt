@@ -24,6 +24,7 @@ use Rattle.node_invariant.specs.declared.parts.Parts.{Parts}
 use Rattle.node_invariant.specs.Meaning.{machine_in}
 use Rattle.node_invariant.specs.Keeps.{reading, Keeps, IsTimely, event_at, Grows}
 use Rattle.node_invariant.specs.Continues.{IsPrepared, AddsTidily, AgreesAfter, Continues}
+use Rattle.open_log.specs.OpenLog.{OpenView}
 
 pub NotBefore-same : (at : Stamp) → NotBefore at at
 NotBefore-same at = record { event = omega arith; time = omega arith; same = λ _. refl }
@@ -54,58 +55,58 @@ module _ (d : Description) (old new : Parts) (before : Log) (at : Stamp) (e : En
   abbrev s : Stamped
   s = record { stamp = at; entry = e }
 
-  journal-new : journal_of new.log ≡ journal_of old.log ++ event_at at told ∷ []
+  journal-new : journal_of new.log.all ≡ journal_of old.log.all ++ event_at at told ∷ []
   journal-new =
-      journal_of-push before s new.log next.pushed
+      journal_of-push before s new.log.all next.pushed
       ∙ ap (λ (es : List Event). es ++ event_of before s ∷ []) next.prepared.journal
-      ∙ ap (λ (t : Told). journal_of old.log ++ event_at at t ∷ []) next.tells
+      ∙ ap (λ (t : Told). journal_of old.log.all ++ event_at at t ∷ []) next.tells
 
-  reading-new : reading d new.log ≡ heard m (reading d old.log) told
+  reading-new : reading d new.log.all ≡ heard m (reading d old.log.all) told
   unfolding reading
-  reading-new = ap (heard_all m (nothing_heard m)) journal-new ∙ heard_all-push m (nothing_heard m) (journal_of old.log) (event_at at told)
+  reading-new = ap (heard_all m (nothing_heard m)) journal-new ∙ heard_all-push m (nothing_heard m) (journal_of old.log.all) (event_at at told)
 
-  well_formed-new : IsWellFormed m (nothing_heard m) (journal_of new.log)
+  well_formed-new : IsWellFormed m (nothing_heard m) (journal_of new.log.all)
   unfolding reading
   well_formed-new =
       let P : List Event → Type 0 = λ es. IsWellFormed m (nothing_heard m) es in
-      subst P (sym journal-new) (IsWellFormed-push m (nothing_heard m) (journal_of old.log) (event_at at told) keeps.well_formed next.timely.after_last next.follows)
+      subst P (sym journal-new) (IsWellFormed-push m (nothing_heard m) (journal_of old.log.all) (event_at at told) keeps.well_formed next.timely.after_last next.follows)
 
-  entries-new : length new.log.entries ≡ length old.log.entries + 1
+  entries-new : length new.log.all.entries ≡ length old.log.all.entries + 1
   entries-new =
       let n = ap length next.pushed.entries in
       let k = length-append before.entries (s ∷ []) in
       let j = ap length next.prepared.entries in
       omega arith
 
-  timely-new : IsTimely at new.log
+  timely-new : IsTimely at new.log.all
   timely-new =
       let P : List Event → Type 0 = λ es. NotBefore (last_stamp start es) at in
       let Q : Stamp → Type 0 = λ last. NotBefore last at in
-      record { after_last = subst P (sym journal-new) (subst Q (sym (last_stamp-push start (journal_of old.log) (event_at at told))) (NotBefore-same at)) }
+      record { after_last = subst P (sym journal-new) (subst Q (sym (last_stamp-push start (journal_of old.log.all) (event_at at told))) (NotBefore-same at)) }
 
-  after-new : AgreesAfter d (reading d new.log) new
+  after-new : AgreesAfter d (reading d new.log.all) new
   after-new = let P : Reading → Type 0 = λ r. AgreesAfter d r new in subst P (sym reading-new) next.after
 
-  serial-new : IsSerial m (nothing_heard m) (journal_of new.log)
+  serial-new : IsSerial m (nothing_heard m) (journal_of new.log.all)
   unfolding reading
   serial-new =
       let P : List Event → Type 0 = λ es. IsSerial m (nothing_heard m) es in
       let x = next.after in
-      let runs : RunsSoFar m (heard m (reading d old.log) told) =
-      stands d (heard m (reading d old.log) told) new.contexts (held_at new.handlers.programs) new.heap x.fits x.installed.each x.agrees in
-      subst P (sym journal-new) (IsSerial-push m (nothing_heard m) (journal_of old.log) (event_at at told) keeps.serial next.ends runs)
+      let runs : RunsSoFar m (heard m (reading d old.log.all) told) =
+      stands d (heard m (reading d old.log.all) told) new.contexts (held_at new.handlers.programs) new.heap x.fits x.installed.each x.agrees in
+      subst P (sym journal-new) (IsSerial-push m (nothing_heard m) (journal_of old.log.all) (event_at at told) keeps.serial next.ends runs)
 
-  shows-new : ShowsStores m (nothing_heard m) (journal_of new.log)
+  shows-new : ShowsStores m (nothing_heard m) (journal_of new.log.all)
   unfolding reading
   shows-new =
       let P : List Event → Type 0 = λ es. ShowsStores m (nothing_heard m) es in
-      subst P (sym journal-new) (ShowsStores-push m (nothing_heard m) (journal_of old.log) (event_at at told) keeps.shows next.shown next.before_era)
+      subst P (sym journal-new) (ShowsStores-push m (nothing_heard m) (journal_of old.log.all) (event_at at told) keeps.shows next.shown next.before_era)
 
-  in_range-new : All (λ (x : Stamped). IsEntryInRange d x.entry) new.log.entries
+  in_range-new : All (λ (x : Stamped). IsEntryInRange d x.entry) new.log.all.entries
   in_range-new =
-      let is : new.log.entries ≡ old.log.entries ++ s ∷ [] = next.pushed.entries ∙ ap (λ (es : List Stamped). es ++ s ∷ []) next.prepared.entries in
+      let is : new.log.all.entries ≡ old.log.all.entries ++ s ∷ [] = next.pushed.entries ∙ ap (λ (es : List Stamped). es ++ s ∷ []) next.prepared.entries in
       let P : List Stamped → Type 0 = λ es. All (λ (x : Stamped). IsEntryInRange d x.entry) es in
-      subst P (sym is) (in_range-push d old.log.entries s next.tidily.in_range keeps.tidy.in_range)
+      subst P (sym is) (in_range-push d old.log.all.entries s next.tidily.in_range keeps.tidy.in_range)
 
   pub Keeps-push : Keeps d new
   Keeps-push =
@@ -116,7 +117,7 @@ module _ (d : Description) (old new : Parts) (before : Log) (at : Stamp) (e : En
           in_range = in_range-new;
           numbered = next.tidily.numbered keeps.tidy.numbered;
           lengths = next.tidily.lengths keeps.tidy.lengths;
-          ordered = ordered-in_time new.log well_formed-new.in_time;
+          ordered = ordered-in_time new.log.all well_formed-new.in_time;
         };
         full = next.tidily.full keeps.full;
         numbers = omega arith;
@@ -130,7 +131,7 @@ module _ (d : Description) (old new : Parts) (before : Log) (at : Stamp) (e : En
         shows = shows-new;
       }
 
-  pub Grows-push : old.log.spare ≤ new.log.spare + 1 → Grows old.log new.log at (told ∷ [])
+  pub Grows-push : old.log.all.spare ≤ new.log.all.spare + 1 → Grows old.log.all new.log.all at (told ∷ [])
   Grows-push room = record { journal = journal-new; count = entries-new; spare = room; timely = timely-new }
 
 -- where nothing was prepared
@@ -155,20 +156,20 @@ AddsTidily-plain d old new at e pushed plain =
     }
 
 -- an entry that changes nothing of the parts
-pub Continues-same : (d : Description) (old : Parts) (log : Log) (at : Stamp) (e : Entry) (told : Told) → Keeps d old → IsTimely at old.log → IsPushed old.log record { stamp = at; entry = e } log
-    → told_of old.log e ≡ told → IsPlain d e → MayFollow (machine_in d) (reading d old.log) told
-    → EndsAsRun (machine_in d) (reading d old.log) told → ShowsStore (machine_in d) (reading d old.log) told → IsSeenBefore (last_is_seen false (journal_of old.log)) told
-    → heard (machine_in d) (reading d old.log) told ≡ reading d old.log
-    → Continues d old (record old { log = log }) old.log at e told
+pub Continues-same : (d : Description) (old : Parts) (log : OpenView) (at : Stamp) (e : Entry) (told : Told) → Keeps d old → IsTimely at old.log.all → IsPushed old.log.all record { stamp = at; entry = e } log.all
+    → told_of old.log.all e ≡ told → IsPlain d e → MayFollow (machine_in d) (reading d old.log.all) told
+    → EndsAsRun (machine_in d) (reading d old.log.all) told → ShowsStore (machine_in d) (reading d old.log.all) told → IsSeenBefore (last_is_seen false (journal_of old.log.all)) told
+    → heard (machine_in d) (reading d old.log.all) told ≡ reading d old.log.all
+    → Continues d old (record old { log = log }) old.log.all at e told
 Continues-same d old log at e told keeps timely pushed tells plain follows ends shown before_era same =
     let n = keeps.numbers in
-    let after : AgreesAfter d (reading d old.log) (record old { log = log }) = record { posts = keeps.posts; installed = keeps.installed; fits = keeps.fits; lengths = keeps.lengths; agrees = keeps.agrees } in
+    let after : AgreesAfter d (reading d old.log.all) (record old { log = log }) = record { posts = keeps.posts; installed = keeps.installed; fits = keeps.fits; lengths = keeps.lengths; agrees = keeps.agrees } in
     let P : Reading → Type 0 = λ r. AgreesAfter d r (record old { log = log }) in
     record {
-      prepared = IsPrepared-same old.log;
+      prepared = IsPrepared-same old.log.all;
       pushed = pushed;
       tells = tells;
-      tidily = AddsTidily-plain d old.log log at e pushed plain;
+      tidily = AddsTidily-plain d old.log.all log.all at e pushed plain;
       timely = timely;
       follows = follows;
       ends = ends;

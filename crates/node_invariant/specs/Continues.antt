@@ -41,14 +41,14 @@ pub record AgreesAfter (d : Description) (r : Reading) (new : Parts) : Type 0 wh
 
 -- the entry may follow
 pub record Continues (d : Description) (old new : Parts) (before : Log) (at : Stamp) (e : Entry) (told : Told) : Type 0 where
-  pub prepared : IsPrepared old.log before
-  pub pushed : IsPushed before record { stamp = at; entry = e } new.log
+  pub prepared : IsPrepared old.log.all before
+  pub pushed : IsPushed before record { stamp = at; entry = e } new.log.all
   pub tells : told_of before e ≡ told
-  pub tidily : AddsTidily d old.log e new.log
-  pub timely : IsTimely at old.log
-  pub follows : MayFollow (machine_in d) (reading d old.log) told
-  pub ends : EndsAsRun (machine_in d) (reading d old.log) told
-  pub shown : ShowsStore (machine_in d) (reading d old.log) told
-  pub before_era : IsSeenBefore (last_is_seen false (journal_of old.log)) told
-  pub numbers : new.posts ≤ length old.log.entries + 1
-  pub after : AgreesAfter d (heard (machine_in d) (reading d old.log) told) new
+  pub tidily : AddsTidily d old.log.all e new.log.all
+  pub timely : IsTimely at old.log.all
+  pub follows : MayFollow (machine_in d) (reading d old.log.all) told
+  pub ends : EndsAsRun (machine_in d) (reading d old.log.all) told
+  pub shown : ShowsStore (machine_in d) (reading d old.log.all) told
+  pub before_era : IsSeenBefore (last_is_seen false (journal_of old.log.all)) told
+  pub numbers : new.posts ≤ length old.log.all.entries + 1
+  pub after : AgreesAfter d (heard (machine_in d) (reading d old.log.all) told) new

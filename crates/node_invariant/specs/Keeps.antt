@@ -23,17 +23,17 @@ unfoldable pub reading : Description → Log → Reading
 reading d l = heard_all (machine_in d) (nothing_heard (machine_in d)) (journal_of l)
 
 pub record Keeps (d : Description) (s : Parts) : Type 0 where
-  pub tidy : IsTidyLog d s.log
-  pub full : HasFullImages s.log
-  pub numbers : s.posts ≤ length s.log.entries
-  pub well_formed : IsWellFormed (machine_in d) (nothing_heard (machine_in d)) (journal_of s.log)
-  pub posts : (reading d s.log).posts ≡ s.posts
-  pub installed : AreInstalled d (reading d s.log).installed (held_at s.handlers.programs)
-  pub fits : Fits (held_at s.handlers.programs) (reading d s.log) s.contexts
+  pub tidy : IsTidyLog d s.log.all
+  pub full : HasFullImages s.log.all
+  pub numbers : s.posts ≤ length s.log.all.entries
+  pub well_formed : IsWellFormed (machine_in d) (nothing_heard (machine_in d)) (journal_of s.log.all)
+  pub posts : (reading d s.log.all).posts ≡ s.posts
+  pub installed : AreInstalled d (reading d s.log.all).installed (held_at s.handlers.programs)
+  pub fits : Fits (held_at s.handlers.programs) (reading d s.log.all) s.contexts
   pub lengths : HasLengths (shape_of d) s.heap
-  pub agrees : Agrees d (reading d s.log) s.contexts s.heap
-  pub serial : IsSerial (machine_in d) (nothing_heard (machine_in d)) (journal_of s.log)
-  pub shows : ShowsStores (machine_in d) (nothing_heard (machine_in d)) (journal_of s.log)
+  pub agrees : Agrees d (reading d s.log.all) s.contexts s.heap
+  pub serial : IsSerial (machine_in d) (nothing_heard (machine_in d)) (journal_of s.log.all)
+  pub shows : ShowsStores (machine_in d) (nothing_heard (machine_in d)) (journal_of s.log.all)
 
 -- an entry of this stamp may come next
 pub record IsTimely (at : Stamp) (l : Log) : Type 0 where

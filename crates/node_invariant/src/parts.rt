@@ -1,12 +1,14 @@
 //! The parts of a node that its calls change, and what they write into its log.
 
-ghost use Rattle.std.specs.Prelude.{◌≤◌, ◌+◌};
+ghost use Rattle.std.specs.Prelude.{◌≡◌, ◌≤◌, ◌+◌};
 ghost use Rattle.journal_laws.specs.Growth.{IsPushed};
+ghost use Rattle.open_log.specs.OpenLog.{NamesNothing};
 
-use mate_journal::{Entry, NodeLog, Stamped};
+use mate_journal::{Entry, Stamped};
 use mate_num::Stamp;
 use node_contexts::{Contexts, Handlers};
 use node_heap::Heap;
+use open_log::OpenLog;
 
 /// What a node has beside its description.
 #[derive(Drop)]
@@ -16,14 +18,16 @@ pub struct Parts {
     pub handlers: Handlers,
     /// How many invocations were posted.
     pub posts: u32,
-    pub log: NodeLog,
+    pub log: OpenLog,
 }
 
-/// Tells an entry.
-pub fn tell(log: &mut NodeLog, at: Stamp, entry: Entry)
-    requires { 1 ≤ log.old.spare }
-    ensures pushed { IsPushed log.old record { stamp = at; entry = entry } log.new }
-    ensures spare { log.old.spare ≤ log.new.spare + 1 }
+/// Tells an entry that names neither an image nor a store.
+pub fn tell(log: &mut OpenLog, at: Stamp, entry: Entry)
+    requires room { 1 ≤ log.old.all.spare }
+    requires names { NamesNothing entry }
+    ensures pushed { IsPushed log.old.all record { stamp = at; entry = entry } log.new.all }
+    ensures spare { log.old.all.spare ≤ log.new.all.spare + 1 }
+    ensures gone { log.new.gone ≡ log.old.gone }
 {
     log.push(Stamped { stamp: at, entry });
 }

@@ -41,7 +41,7 @@ use Rattle.node_turns.proofs.MarkLemmas.{mark-going, mark-few}
 
 module _ (d : Description) (s : Parts) (c : ContextId) (keeps : Keeps d s) (is_ready : (at s.contexts c).ready ≡ true) where
   abbrev r : Reading
-  r = reading d s.log
+  r = reading d s.log.all
 
   abbrev held : Programs
   held = held_at s.handlers.programs

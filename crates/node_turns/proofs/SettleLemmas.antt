@@ -132,9 +132,9 @@ module _ (d : Description) (old : Parts) (contexts : Contexts) (c : ContextId) (
             well_formed = keeps.well_formed;
             posts = keeps.posts;
             installed = keeps.installed;
-            fits = fits-way (held_at old.handlers.programs) (reading d old.log) keeps.fits;
+            fits = fits-way (held_at old.handlers.programs) (reading d old.log.all) keeps.fits;
             lengths = keeps.lengths;
-            agrees = agrees-way (reading d old.log) keeps.agrees;
+            agrees = agrees-way (reading d old.log.all) keeps.agrees;
             serial = keeps.serial;
             shows = keeps.shows;
           };
@@ -160,7 +160,7 @@ module _ (d : Description) (old : Parts) (contexts : Contexts) (c : ContextId) (
     apart : (k : ContextId) → k.0 ≢ c.0 → (invocation_in old.contexts k ≢ n)
     apart k other = by (at old.contexts k).seat refl where
       alone : IsAlone old.contexts (one d old c rests.order.keeps is_ready).seat.inv c
-      alone = alone-seat (held_at old.handlers.programs) (reading d old.log) old.contexts c rests.order.keeps.fits (one d old c rests.order.keeps is_ready)
+      alone = alone-seat (held_at old.handlers.programs) (reading d old.log.all) old.contexts c rests.order.keeps.fits (one d old c rests.order.keeps is_ready)
 
       above : 0 < (one d old c rests.order.keeps is_ready).seat.inv
       above = live-above d old (one d old c rests.order.keeps is_ready).seat.inv rests.order.keeps (ap is_live (one-ready d old c rests.order.keeps is_ready))
@@ -169,7 +169,7 @@ module _ (d : Description) (old : Parts) (contexts : Contexts) (c : ContextId) (
       by None e same = absurd (let a = above in omega arith)
       by (Some t) e same = alone.elsewhere k t other e same
 
-    pub pace-way : (p : Pace) → IsPace (reading d old.log) old.contexts p → IsPace (reading d old.log) contexts (gives_way p n)
+    pub pace-way : (p : Pace) → IsPace (reading d old.log.all) old.contexts p → IsPace (reading d old.log.all) contexts (gives_way p n)
     pace-way p pace = record {
       line =
           ap (λ (l : List ℕ). others l n ++ n ∷ []) pace.line
@@ -182,11 +182,11 @@ module _ (d : Description) (old : Parts) (contexts : Contexts) (c : ContextId) (
 
 -- ---- the chain
 
-pub SettlesSome-none : (d : Description) (s : Parts) (at_ : Stamp) → Rests d s → IsTimely at_ s.log → SettlesSome d s s at_
+pub SettlesSome-none : (d : Description) (s : Parts) (at_ : Stamp) → Rests d s → IsTimely at_ s.log.all → SettlesSome d s s at_
 SettlesSome-none d s at_ rests timely = record {
   told = [];
   rests = rests;
-  grows = Grows-none s.log at_ timely;
+  grows = Grows-none s.log.all at_ timely;
   heard_is = refl;
   chain = λ p pace. record { turns = []; are_turns = tt; made = refl; within = tt; pace = pace };
   owed = omega arith;
@@ -200,14 +200,14 @@ SettlesSome-then d old mid next contexts at_ c first f way n ran quanta g = reco
   told = f.told ++ g.told;
   rests = g.rests;
   grows = grown;
-  heard_is = reading-grows d old.log next.log at_ (f.told ++ g.told) grown;
+  heard_is = reading-grows d old.log.all next.log.all at_ (f.told ++ g.told) grown;
   chain = λ p pace. chained p (f.chain p pace);
   owed = (let x = f.owed in let y = g.owed in let z = owes-way d mid contexts c way in omega (arith, length-append f.told g.told));
   handlers = g.handlers ∙ f.handlers;
   posts = g.posts ∙ f.posts;
 } where
-  grown : Grows old.log next.log at_ (f.told ++ g.told)
-  grown = Grows-then old.log mid.log next.log at_ f.told g.told f.grows g.grows
+  grown : Grows old.log.all next.log.all at_ (f.told ++ g.told)
+  grown = Grows-then old.log.all mid.log.all next.log.all at_ f.told g.told f.grows g.grows
 
   -- the one that has the turn
   whose : (one d mid c f.rests.order.keeps (first-ready mid.contexts c first)).seat.inv ≡ g.invocation
@@ -217,36 +217,36 @@ SettlesSome-then d old mid next contexts at_ c first f way n ran quanta g = reco
   number-is = ap number_at (one d mid c f.rests.order.keeps (first-ready mid.contexts c first)).is ∙ whose
 
   -- its quanta, from the pace before
-  together : (q : Pace) → IsPace (reading d mid.log) mid.contexts q → IsTurn (clock_of d) (machine_in d) (reading d mid.log) q n record { invocation = g.invocation; told = g.told } → AreTogether (clock_of d) (machine_in d) (most d) (reading d mid.log) q (after_step (clock_of d) (machine_in d) (reading d mid.log) (gives_way q g.invocation) n record { invocation = g.invocation; told = g.told }) g.told
+  together : (q : Pace) → IsPace (reading d mid.log.all) mid.contexts q → IsTurn (clock_of d) (machine_in d) (reading d mid.log.all) q n record { invocation = g.invocation; told = g.told } → AreTogether (clock_of d) (machine_in d) (most d) (reading d mid.log.all) q (after_step (clock_of d) (machine_in d) (reading d mid.log.all) (gives_way q g.invocation) n record { invocation = g.invocation; told = g.told }) g.told
   together q pace turn = (let ring = first-is mid.contexts.ring c first in by ring.0 ring.1 quanta.lone) where
     line : (rest : List ContextId) → mid.contexts.ring ≡ c ∷ rest → q.line ≡ g.invocation ∷ map (invocation_in mid.contexts) rest
     line rest e = pace.line ∙ ap (map (invocation_in mid.contexts)) e ∙ ap (λ (j : ℕ). j ∷ map (invocation_in mid.contexts) rest) number-is
 
     by : (rest : List ContextId) → mid.contexts.ring ≡ c ∷ rest → (quanta.more ≡ 0) ⊎ (length mid.contexts.ring ≡ 1)
-        → AreTogether (clock_of d) (machine_in d) (most d) (reading d mid.log) q (after_step (clock_of d) (machine_in d) (reading d mid.log) (gives_way q g.invocation) n record { invocation = g.invocation; told = g.told }) g.told
+        → AreTogether (clock_of d) (machine_in d) (most d) (reading d mid.log.all) q (after_step (clock_of d) (machine_in d) (reading d mid.log.all) (gives_way q g.invocation) n record { invocation = g.invocation; told = g.told }) g.told
     by rest e (inl none) =
-        let P : ℕ → Type 0 = λ j. IsTurn (clock_of d) (machine_in d) (reading d mid.log) q j record { invocation = g.invocation; told = g.told } → AreTogether (clock_of d) (machine_in d) (most d) (reading d mid.log) q (after_step (clock_of d) (machine_in d) (reading d mid.log) (gives_way q g.invocation) j record { invocation = g.invocation; told = g.told }) g.told in
+        let P : ℕ → Type 0 = λ j. IsTurn (clock_of d) (machine_in d) (reading d mid.log.all) q j record { invocation = g.invocation; told = g.told } → AreTogether (clock_of d) (machine_in d) (most d) (reading d mid.log.all) q (after_step (clock_of d) (machine_in d) (reading d mid.log.all) (gives_way q g.invocation) j record { invocation = g.invocation; told = g.told }) g.told in
         let are = quanta.are in
         let no_more : d.quantum * quanta.more ≡ 0 = ap (λ (j : ℕ). d.quantum * j) none ∙ mul-zero d.quantum in
         let same : d.quantum ≡ n = omega arith in
-        subst P same (AreTogether-one (clock_of d) (machine_in d) (most d) (reading d mid.log) record { invocation = g.invocation; told = g.told } g.within q (map (invocation_in mid.contexts) rest) (line rest e)) turn
-    by [] e (inr lone) = AreTogether-lone (clock_of d) (machine_in d) (most d) (reading d mid.log) record { invocation = g.invocation; told = g.told } g.within quanta.more n quanta.are q (line [] e) turn
+        subst P same (AreTogether-one (clock_of d) (machine_in d) (most d) (reading d mid.log.all) record { invocation = g.invocation; told = g.told } g.within q (map (invocation_in mid.contexts) rest) (line rest e)) turn
+    by [] e (inr lone) = AreTogether-lone (clock_of d) (machine_in d) (most d) (reading d mid.log.all) record { invocation = g.invocation; told = g.told } g.within quanta.more n quanta.are q (line [] e) turn
     by (a ∷ rest) e (inr lone) = absurd (let two = ap length e in let more : length (c ∷ a ∷ rest) ≡ suc (suc (length rest)) = refl in omega arith)
 
   chained : (p : Pace) → Chains d old mid f.told p → Chains d old next (f.told ++ g.told) p
   chained p h =
       let k = clock_of d in
       let m = machine_in d in
-      let r = reading d old.log in
+      let r = reading d old.log.all in
       let q = pace_after k m r p h.turns in
-      let N : ℕ → Type 0 = λ j. IsPace (reading d mid.log) contexts (gives_way q j) in
-      let way_pace : IsPace (reading d mid.log) contexts (gives_way q g.invocation) = subst N whose (pace-way d mid contexts c way f.rests (first-ready mid.contexts c first) q h.pace) in
+      let N : ℕ → Type 0 = λ j. IsPace (reading d mid.log.all) contexts (gives_way q j) in
+      let way_pace : IsPace (reading d mid.log.all) contexts (gives_way q g.invocation) = subst N whose (pace-way d mid contexts c way f.rests (first-ready mid.contexts c first) q h.pace) in
       let x = g.turn (gives_way q g.invocation) way_pace in
       let y = together q h.pace record { ready = x.0.ready; short = x.0.short; reached = x.0.reached } in
-      let heard_is : reading d mid.log ≡ heard_told m r (told_in h.turns) = f.heard_is ∙ ap (heard_told m r) h.made in
+      let heard_is : reading d mid.log.all ≡ heard_told m r (told_in h.turns) = f.heard_is ∙ ap (heard_told m r) h.made in
       let P : Reading → Type 0 = λ s. AreTurns k m s q y.turns in
       let W : Reading → Type 0 = λ s. AreWithin k m (most d) s q y.turns in
-      let R : Pace → Type 0 = λ s. IsPace (reading d next.log) next.contexts s in
+      let R : Pace → Type 0 = λ s. IsPace (reading d next.log.all) next.contexts s in
       record {
         turns = h.turns ++ y.turns;
         are_turns = AreTurns-append k m r p h.turns y.turns h.are_turns (subst P heard_is y.are_turns);
@@ -261,7 +261,7 @@ SettlesAll-from d old next at_ f first = record {
   rests = f.rests;
   grows = f.grows;
   settles = λ p pace. (let h = f.chain p pace in (
-    pace_after (clock_of d) (machine_in d) (reading d old.log) p h.turns,
+    pace_after (clock_of d) (machine_in d) (reading d old.log.all) p h.turns,
     record {
       settles = record {
         turns = h.turns;
@@ -278,10 +278,10 @@ SettlesAll-from d old next at_ f first = record {
   handlers = f.handlers;
   posts = f.posts;
 } where
-  none : (n : ℕ) → ((reading d next.log).invocations n).phase ≡ Ready → ⊥
+  none : (n : ℕ) → ((reading d next.log.all).invocations n).phase ≡ Ready → ⊥
   none n is =
-      let c = ((reading d next.log).invocations n).context in
-      none_ready (held_at next.handlers.programs) (reading d next.log) next.contexts c f.rests.order.keeps.fits (ap (λ (l : List ContextId). holds l c) (none-first next.contexts.ring first)) record { invocation = n; ready = is; context = refl }
+      let c = ((reading d next.log.all).invocations n).context in
+      none_ready (held_at next.handlers.programs) (reading d next.log.all) next.contexts c f.rests.order.keeps.fits (ap (λ (l : List ContextId). holds l c) (none-first next.contexts.ring first)) record { invocation = n; ready = is; context = refl }
 
 -- where one is ready, the entries that are owed are more than the starts
 pub room-turn : (s : Contexts) (c : ContextId) → c.0 < 16 → (at s c).ready ≡ true → starts_left s + 1 ≤ owes s

@@ -67,15 +67,15 @@ RunsFor d old new c n ran = RunsTo ran.how d old new c n ran.instructions
 pub record HasMoved (d : Description) (old new : Parts) (at_ : Stamp) (c : ContextId) (n ran : ℕ) (told : Told) : Type 0 where
   pub invocation : ℕ
   pub number : invocation_in old.contexts c ≡ invocation
-  pub was : ((reading d old.log).invocations invocation).phase ≡ Ready
+  pub was : ((reading d old.log.all).invocations invocation).phase ≡ Ready
   pub order : KeepsOrder d new
-  pub grows : Grows old.log new.log at_ (told ∷ [])
-  pub heard_is : reading d new.log ≡ heard (machine_in d) (reading d old.log) told
-  pub told_is : told ≡ entry_at invocation (whole_run (machine_in d) (reading d old.log) invocation).end
-  pub pace : (p : Pace) → IsPace (reading d old.log) old.contexts p
-      → (mark_of (clock_of d) (machine_in d) (reading d old.log) invocation ≤ p.counts invocation + n)
-      × (p.counts invocation + ran ≡ mark_of (clock_of d) (machine_in d) (reading d old.log) invocation)
-      × IsPace (reading d new.log) new.contexts (paced_all (record p { counts = changed p.counts invocation (min (p.counts invocation + n) (mark_of (clock_of d) (machine_in d) (reading d old.log) invocation)) }) (told ∷ []))
+  pub grows : Grows old.log.all new.log.all at_ (told ∷ [])
+  pub heard_is : reading d new.log.all ≡ heard (machine_in d) (reading d old.log.all) told
+  pub told_is : told ≡ entry_at invocation (whole_run (machine_in d) (reading d old.log.all) invocation).end
+  pub pace : (p : Pace) → IsPace (reading d old.log.all) old.contexts p
+      → (mark_of (clock_of d) (machine_in d) (reading d old.log.all) invocation ≤ p.counts invocation + n)
+      × (p.counts invocation + ran ≡ mark_of (clock_of d) (machine_in d) (reading d old.log.all) invocation)
+      × IsPace (reading d new.log.all) new.contexts (paced_all (record p { counts = changed p.counts invocation (min (p.counts invocation + n) (mark_of (clock_of d) (machine_in d) (reading d old.log.all) invocation)) }) (told ∷ []))
   pub owed : owes new.contexts + 1 ≡ owes old.contexts
   pub left_is : starts_left new.contexts ≡ starts_left old.contexts
   pub falls_by : falls (most d) new.contexts < falls (most d) old.contexts
@@ -89,12 +89,12 @@ pub record TakesTurn (d : Description) (old new : Parts) (at_ : Stamp) (c : Cont
   pub number : invocation_in old.contexts c ≡ invocation
   pub told : List Told
   pub rests : Rests d new
-  pub grows : Grows old.log new.log at_ told
-  pub turn : (p : Pace) → IsPace (reading d old.log) old.contexts p
-      → IsTurn (clock_of d) (machine_in d) (reading d old.log) p n record { invocation = invocation; told = told }
-      × (p.counts invocation + ran ≡ min (p.counts invocation + n) (mark_of (clock_of d) (machine_in d) (reading d old.log) invocation))
-      × IsPace (reading d new.log) new.contexts (after_step (clock_of d) (machine_in d) (reading d old.log) p n record { invocation = invocation; told = told })
-  pub within : mark_of (clock_of d) (machine_in d) (reading d old.log) invocation ≤ most d
+  pub grows : Grows old.log.all new.log.all at_ told
+  pub turn : (p : Pace) → IsPace (reading d old.log.all) old.contexts p
+      → IsTurn (clock_of d) (machine_in d) (reading d old.log.all) p n record { invocation = invocation; told = told }
+      × (p.counts invocation + ran ≡ min (p.counts invocation + n) (mark_of (clock_of d) (machine_in d) (reading d old.log.all) invocation))
+      × IsPace (reading d new.log.all) new.contexts (after_step (clock_of d) (machine_in d) (reading d old.log.all) p n record { invocation = invocation; told = told })
+  pub within : mark_of (clock_of d) (machine_in d) (reading d old.log.all) invocation ≤ most d
   pub owed : owes new.contexts + length told ≤ owes old.contexts
   pub falls_by : falls (most d) new.contexts < falls (most d) old.contexts
   pub handlers : new.handlers ≡ old.handlers
@@ -122,10 +122,10 @@ pub record AreTogether (k : Clock) (m : Machine) (bound : ℕ) (r : Reading) (p 
 -- turns from this pace on, one after another
 pub record Chains (d : Description) (old new : Parts) (told : List Told) (p : Pace) : Type 0 where
   pub turns : List Turn
-  pub are_turns : AreTurns (clock_of d) (machine_in d) (reading d old.log) p turns
+  pub are_turns : AreTurns (clock_of d) (machine_in d) (reading d old.log.all) p turns
   pub made : told ≡ told_in turns
-  pub within : AreWithin (clock_of d) (machine_in d) (most d) (reading d old.log) p turns
-  pub pace : IsPace (reading d new.log) new.contexts (pace_after (clock_of d) (machine_in d) (reading d old.log) p turns)
+  pub within : AreWithin (clock_of d) (machine_in d) (most d) (reading d old.log.all) p turns
+  pub pace : IsPace (reading d new.log.all) new.contexts (pace_after (clock_of d) (machine_in d) (reading d old.log.all) p turns)
 
 -- turns follow one another until nobody is ready, and none has its mark beyond the bound
 pub record SettlesWithin (k : Clock) (m : Machine) (bound : ℕ) (r : Reading) (p : Pace) (told : List Told) (q : Pace) : Type 0 where
@@ -136,8 +136,8 @@ pub record SettlesWithin (k : Clock) (m : Machine) (bound : ℕ) (r : Reading) (
 pub record SettlesAll (d : Description) (old new : Parts) (at_ : Stamp) : Type 0 where
   pub told : List Told
   pub rests : Rests d new
-  pub grows : Grows old.log new.log at_ told
-  pub settles : (p : Pace) → IsPace (reading d old.log) old.contexts p → (q : Pace) × SettlesWithin (clock_of d) (machine_in d) (most d) (reading d old.log) p told q × IsPace (reading d new.log) new.contexts q
+  pub grows : Grows old.log.all new.log.all at_ told
+  pub settles : (p : Pace) → IsPace (reading d old.log.all) old.contexts p → (q : Pace) × SettlesWithin (clock_of d) (machine_in d) (most d) (reading d old.log.all) p told q × IsPace (reading d new.log.all) new.contexts q
   pub handlers : new.handlers ≡ old.handlers
   pub posts : new.posts ≡ old.posts
 
@@ -145,9 +145,9 @@ pub record SettlesAll (d : Description) (old new : Parts) (at_ : Stamp) : Type 0
 pub record SettlesSome (d : Description) (old new : Parts) (at_ : Stamp) : Type 0 where
   pub told : List Told
   pub rests : Rests d new
-  pub grows : Grows old.log new.log at_ told
-  pub heard_is : reading d new.log ≡ heard_told (machine_in d) (reading d old.log) told
-  pub chain : (p : Pace) → IsPace (reading d old.log) old.contexts p → Chains d old new told p
+  pub grows : Grows old.log.all new.log.all at_ told
+  pub heard_is : reading d new.log.all ≡ heard_told (machine_in d) (reading d old.log.all) told
+  pub chain : (p : Pace) → IsPace (reading d old.log.all) old.contexts p → Chains d old new told p
   pub owed : owes new.contexts + length told ≤ owes old.contexts
   pub handlers : new.handlers ≡ old.handlers
   pub posts : new.posts ≡ old.posts

@@ -17,7 +17,8 @@ pub fn run_some(description: &Description, parts: &mut Parts, ctx: ContextId, n:
     requires order { KeepsOrder description.now parts.old }
     requires small { ctx.0 < CONTEXTS_MAX }
     requires ready { (at parts.old.contexts ctx).ready ≡ true }
-    ensures { RunsFor description.now parts.old parts.new ctx n result }
+    ensures runs { RunsFor description.now parts.old parts.new ctx n result }
+    ensures log { parts.new.log ≡ parts.old.log }
 {
     let _turns = description.turns;
     turn(

@@ -27,12 +27,13 @@ pub fn take_turn(
     n: u32,
 ) -> u32
     requires rests { Rests description.now parts.old }
-    requires timely { IsTimely at parts.old.log }
-    requires room { starts_left parts.old.contexts + 1 ≤ parts.old.log.spare }
+    requires timely { IsTimely at parts.old.log.all }
+    requires room { starts_left parts.old.contexts + 1 ≤ parts.old.log.all.spare }
     requires small { ctx.0 < CONTEXTS_MAX }
     requires ready { (at_context parts.old.contexts ctx).ready ≡ true }
     requires some { 0 < n }
-    ensures { TakesTurn description.now parts.old parts.new at ctx n result }
+    ensures turn { TakesTurn description.now parts.old parts.new at ctx n result }
+    ensures gone { parts.new.log.gone ≡ parts.old.log.gone }
 {
     let inv = number(&parts.contexts, ctx);
     let Ran { instructions, how } = run_some(description, parts, ctx, n);
@@ -81,10 +82,11 @@ fn length_of_turn(quantum: u32, ready: usize) -> u32
 /// Turns follow one another until nobody is ready.
 pub fn settle(description: &Description, parts: &mut Parts, at: Stamp)
     requires rests { Rests description.now parts.old }
-    requires timely { IsTimely at parts.old.log }
-    requires room { owes parts.old.contexts ≤ parts.old.log.spare }
+    requires timely { IsTimely at parts.old.log.all }
+    requires room { owes parts.old.contexts ≤ parts.old.log.all.spare }
     requires quantum { 0 < description.now.quantum }
-    ensures { SettlesAll description.now parts.old parts.new at }
+    ensures settles { SettlesAll description.now parts.old parts.new at }
+    ensures gone { parts.new.log.gone ≡ parts.old.log.gone }
 {
     while let Some(ctx) = parts.contexts.first_ready() {
         let n = length_of_turn(description.quantum, parts.contexts.ring.len());

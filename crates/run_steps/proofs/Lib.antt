@@ -1,3 +1,4 @@
 pub mod EventLemmas
 pub mod RunLemmas
 pub mod WrittenLemmas
+pub mod KeptLemmas

@@ -45,7 +45,9 @@ use Rattle.mate_journal.specs.NodeReport.{is_whole}
 use Rattle.mate_journal.specs.declared.program.Program.{Program}
 use Rattle.mate_journal.specs.declared.report.IntoFault.{IntoFault}
 use Rattle.mate_journal.specs.declared.report.IntoFault.TheVariants.{LogFull, NoMemory, Sink}
-use Rattle.run_steps.specs.Running.{at_event, HasRun, IsReportOf}
+use Rattle.run_steps.specs.Running.{report_with, at_event, HasRun, IsReportOf}
+use Rattle.run_steps.specs.Passing.{write_fault_of, into_fault, with_report}
+use Rattle.run_steps.specs.declared.writing.WriteFault.{WriteFault}
 use Rattle.run_steps.specs.Writing.{last_event, lines_before, last_line, IsWrittenPart, RunsInto, IsOfOneNode, IsStopped, EndsInto}
 
 -- the report of one log
@@ -152,10 +154,6 @@ module _ (d : Description) where
 
 -- ---- what was written, where a run stops
 
--- the report of a log
-abbrev pub report_with : Log → ℕ → Bool → Report
-report_with l events whole = record { nodes = l ∷ []; air = []; events = events; whole = whole }
-
 module _ (d : Description) (script : NodeScript) (ps : List Program) (how : RunEnd) (out0 out1 out2 : Option (List ℕ)) where
   -- the sink failed within an event's lines
   pub stopped-within : (old new : Log) (events n : ℕ) (piece : List ℕ) → IsReportOf d script ps how (report_with new events (is_whole how)) → last_event how events ≡ n
@@ -237,6 +235,16 @@ stopped-by d script ps out0 out1 out2 f0 f1 f2 Failed r answer part later cause 
 stopped-by d script ps out0 out1 out2 f0 f1 f2 OutOfMemory r answer part later cause is =
     let P : IntoFault → Type 0 = λ x. RunsInto d script ps out0 out2 f0 f2 (Err x) in subst P (sym is) (inr part)
 
+-- the same of a run without its report
+pub stopped-with : (d : Description) (script : NodeScript) (ps : List Program) (out0 out1 out2 : Option (List ℕ)) (f0 f1 f2 : ℕ) (fault : SinkFault) (r : Report) (answer : WriteFault)
+    → IsWrittenPart d script ps out0 out2 r → f0 ≤ f1 → HasCause {T = Unit {0}} f1 f2 (Err fault) → answer ≡ write_fault_of fault → RunsInto d script ps out0 out2 f0 f2 (with_report (Err answer) r)
+stopped-with d script ps out0 out1 out2 f0 f1 f2 fault r answer part later cause is =
+    let P : WriteFault → Type 0 = λ x. RunsInto d script ps out0 out2 f0 f2 (with_report (Err x) r) in
+    subst P (sym is) (stopped-by d script ps out0 out1 out2 f0 f1 f2 fault r (into_fault (write_fault_of fault) r) part later cause (is-stopped fault r)) where
+      is-stopped : (fault : SinkFault) (r : Report) → IsStopped fault r (into_fault (write_fault_of fault) r)
+      is-stopped Failed r = refl
+      is-stopped OutOfMemory r = refl
+
 -- ---- the last line
 
 one-sum : (nodes : List Log) (l : Log) → length nodes ≡ 1 → l ≡ slice_index_or nodes 0 l → sum_by (λ (x : Log). length x.entries) nodes ≡ length l.entries
@@ -259,6 +267,17 @@ ended-part r out out' f f' Failed answer part cause later is =
     let P : IntoFault → Type 0 = λ x. EndsInto r out f out' f' (Err x) in subst P (sym is) (refl, part, cause, later)
 ended-part r out out' f f' OutOfMemory answer part cause later is =
     let P : IntoFault → Type 0 = λ x. EndsInto r out f out' f' (Err x) in subst P (sym is) (refl, part, later)
+
+-- the same of a run without its report
+pub ended-with : (l : Log) (events : ℕ) (whole : Bool) (out out' : Option (List ℕ)) (f f' : ℕ) (fault : SinkFault) (answer : WriteFault) → SentPart out out' (last_line (report_with l events whole))
+    → HasCause {T = Unit {0}} f f' (Err fault) → f ≤ f' → answer ≡ write_fault_of fault → EndsInto (report_with l events whole) out f out' f' (with_report (Err answer) (report_with l events whole))
+ended-with l events whole out out' f f' fault answer part cause later is =
+    let r : Report = report_with l events whole in
+    let P : WriteFault → Type 0 = λ x. EndsInto r out f out' f' (with_report (Err x) r) in
+    subst P (sym is) (ended-part r out out' f f' fault (into_fault (write_fault_of fault) r) part cause later (is-stopped fault r)) where
+      is-stopped : (fault : SinkFault) (r : Report) → IsStopped fault r (into_fault (write_fault_of fault) r)
+      is-stopped Failed r = refl
+      is-stopped OutOfMemory r = refl
 
 -- ---- an event on a node
 

@@ -1,2 +1,4 @@
 pub mod Running
+pub mod Keeping
 pub mod Writing
+pub mod Passing

@@ -1,9 +1,10 @@
 -- The run of a node script: what it gives, and what it keeps on its way.
-use Rattle.std.specs.Prelude.{◌≡◌, ◌≤◌, ◌<◌, ℕ, List, length, map, Result, Ok, Err}
+use Rattle.std.specs.Prelude.{◌≡◌, ◌≤◌, ◌<◌, ℕ, Bool, List, [], ◌∷◌, length, map, Result, Ok, Err}
 use Rattle.mate_num.specs.declared.call.Stamp.{Stamp}
 use Rattle.vm_desc.specs.declared.description.Description.{Description}
 use Rattle.script_reader.specs.Steps.{NodeScript}
 use Rattle.script_reader.specs.declared.steps.Step.{Step}
+use Rattle.mate_journal.specs.Log.{Log}
 use Rattle.mate_journal.specs.Journal.{Told, journal_of, nothing_heard}
 use Rattle.mate_journal.specs.Pace.{Pace, no_pace}
 use Rattle.mate_journal.specs.NodeScript as node
@@ -31,6 +32,10 @@ abbrev pub RunGives : Description → NodeScript → List Program → Result Rep
 RunGives d script ps (Ok r) = IsReportOf d script ps Whole r
 RunGives d script ps (Err (LogFull r)) = IsReportOf d script ps Full r
 RunGives d script ps (Err NoMemory) = Unit {0}
+
+-- the report of one node with this log, and nothing on the air
+abbrev pub report_with : Log → ℕ → Bool → Report
+report_with l events whole = record { nodes = l ∷ []; air = []; events = events; whole = whole }
 
 -- ---- on the way
 

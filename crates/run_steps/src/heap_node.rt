@@ -2,9 +2,8 @@
 
 ghost use Rattle.std.specs.Prelude.{◌≡◌, ◌<◌, ◌≤◌, length, IfOk, OnOk};
 ghost use Rattle.vm_desc.specs.Whole.{context_count};
-ghost use Rattle.mate_journal.specs.Log.{IsEmpty};
 ghost use Rattle.mate_journal.specs.NodeScript.{ShowsOnce};
-ghost use Rattle.mate_journal.specs.Pace.{Pace, no_pace};
+ghost use Rattle.mate_journal.specs.Pace.{Pace};
 ghost use Rattle.node_invariant.specs.Meaning.{machine_in, clock_of};
 ghost use Rattle.node_invariant.specs.Keeps.{IsTimely};
 ghost use Rattle.script_reader.specs.Steps.{IsRightStep};
@@ -14,37 +13,46 @@ ghost use Rattle.node_core.specs.View.{heard_of, HasPace, IsSameNode, Tells};
 ghost use Rattle.node_programs.specs.Right.{AreRightPrograms};
 ghost use Rattle.node_programs.specs.ScriptSteps.{step_of};
 ghost use Rattle.run_steps.specs.Running.{IsReadyFor, MakesOn};
+ghost use Rattle.open_log.specs.OpenLog.{nothing_gone, IsKept};
+ghost use Rattle.run_steps.specs.Keeping.{IsNewNode, StaysAsToldTo};
 
 use crate::events::make_step;
 use mate_journal::{NodeLog, Programs};
 use mate_num::{NoMemory, Stamp};
-use node_core::Node;
+use node_core::OpenNode;
 use script_reader::Step;
 use std::alloc::Global;
 use std::marker::Model;
 use vm_desc::Description;
 
+/// What becomes of entries when their lines are written.
+#[derive(Clone, Copy)]
+pub(crate) enum Written {
+    Kept,
+    Forgotten,
+}
+
 /// A node on the heap: it is too large to be moved about on the stack. Contracts see the node.
 #[derive(Drop)]
 pub(crate) struct HeapNode {
-    node: Box<Node>,
+    node: Box<OpenNode>,
 }
 
 impl Model for HeapNode {
-    ghost use Rattle.node_core.specs.View.{NodeView};
+    ghost use Rattle.node_core.specs.View.{OpenNodeView};
 
-    ghost Value = { NodeView };
+    ghost Value = { OpenNodeView };
 
     ghost view = { λ held. held.node.value };
 }
 
 impl HeapNode {
-    /// A node as `Node::new` makes it.
+    /// A node as `OpenNode::new` makes it.
     #[inline(never)]
     pub(crate) fn new(alloc: Global, desc: &Description) -> Result<HeapNode, NoMemory>
-        ensures { IfOk result (λ node. (node.description ≡ desc.now) × IsEmpty node.log × HasPace node no_pace) }
+        ensures { IfOk result (IsNewNode desc.now) }
     {
-        match Node::new(alloc, desc) {
+        match OpenNode::new(alloc, desc) {
             Ok(node) => match Box::new(alloc, node) {
                 Ok(node) => Ok(HeapNode { node }),
                 Err(_) => Err(NoMemory),
@@ -55,47 +63,85 @@ impl HeapNode {
 
     /// Makes room for n more entries.
     pub(crate) fn reserve(&mut self, n: usize) -> Result<(), NoMemory>
-        ensures same { IsSameNode self.old self.new }
-        ensures pace { (p : Pace) → HasPace self.old p → HasPace self.new p }
-        ensures room { OnOk result (n ≤ self.new.log.spare) }
+        ensures same { IsSameNode self.old.node self.new.node }
+        ensures pace { (p : Pace) → HasPace self.old.node p → HasPace self.new.node p }
+        ensures room { OnOk result (n ≤ self.new.node.log.spare) }
+        ensures gone { self.new.gone ≡ self.old.gone }
     {
         self.node.reserve(n)
     }
 
     /// The step is one event, with this stamp.
     pub(crate) fn make(&mut self, step: &Step, programs: &Programs, at: Stamp)
-        requires ready { IsReadyFor self.old at }
-        requires right { IsRightStep self.old.description (length programs.now) step.now }
-        requires programs { AreRightPrograms self.old.description programs.now }
-        requires contexts { context_count self.old.description ≤ 16 }
-        ensures { Tells self.old self.new at (MakesOn self.old (step_of programs.now step.now)) }
+        requires ready { IsReadyFor self.old.node at }
+        requires right { IsRightStep self.old.node.description (length programs.now) step.now }
+        requires programs { AreRightPrograms self.old.node.description programs.now }
+        requires contexts { context_count self.old.node.description ≤ 16 }
+        ensures tells { Tells self.old.node self.new.node at (MakesOn self.old.node (step_of programs.now step.now)) }
+        ensures gone { self.new.gone ≡ self.old.gone }
     {
         make_step(&mut self.node, step, programs, at);
     }
 
     /// The stores are shown as they are.
     pub(crate) fn seen(&mut self, at: Stamp)
-        requires timely { IsTimely at self.old.log }
-        requires few { length self.old.log.entries < 4000000000 }
-        requires room { 1 ≤ self.old.log.spare }
-        ensures { Tells self.old self.new at (Pacing (ShowsOnce (clock_of self.old.description) (machine_in self.old.description) (heard_of self.old))) }
+        requires timely { IsTimely at self.old.node.log }
+        requires few { length self.old.node.log.entries < 4000000000 }
+        requires room { 1 ≤ self.old.node.log.spare }
+        ensures tells { Tells self.old.node self.new.node at (Pacing (ShowsOnce (clock_of self.old.node.description) (machine_in self.old.node.description) (heard_of self.old.node))) }
+        ensures gone { self.new.gone ≡ self.old.gone }
     {
         self.node.seen(at);
     }
 
-    /// What happened on the node.
-    pub(crate) fn log(&self) -> &NodeLog
-        ensures same { result.now ≡ self.now.log }
-        ensures keeps { KeepsJournal self.now.description (machine_in self.now.description) self.now.log }
+    /// Lets go of what was told, where that is to be forgotten, and makes room for n more entries.
+    pub(crate) fn make_room(&mut self, written: Written, n: usize) -> Result<(), NoMemory>
+        requires { length self.old.node.log.entries < 4000000000 }
+        ensures same { IsSameNode self.old.node self.new.node }
+        ensures pace { (p : Pace) → HasPace self.old.node p → HasPace self.new.node p }
+        ensures room { OnOk result (n ≤ self.new.node.log.spare) }
+        ensures gone { StaysAsToldTo written self.old.gone self.new.gone }
     {
-        self.node.log()
+        self.let_go(written);
+        self.reserve(n)
     }
 
-    /// The same, handed out.
+    /// Forgets what was told, where that is to be forgotten.
+    fn let_go(&mut self, written: Written)
+        requires { length self.old.node.log.entries < 4000000000 }
+        ensures same { IsSameNode self.old.node self.new.node }
+        ensures pace { (p : Pace) → HasPace self.old.node p → HasPace self.new.node p }
+        ensures gone { StaysAsToldTo written self.old.gone self.new.gone }
+    {
+        match written {
+            Written::Kept => {}
+            Written::Forgotten => self.node.forget(),
+        }
+    }
+
+    /// How many entries were told.
+    pub(crate) fn told(&self) -> usize
+        ensures count { result ≡ length self.now.node.log.entries }
+        ensures keeps { KeepsJournal self.now.node.description (machine_in self.now.node.description) self.now.node.log }
+    {
+        let _kept = self.node.kept();
+        self.node.told()
+    }
+
+    /// What was told since the last entries were forgotten.
+    pub(crate) fn kept(&self) -> &NodeLog
+        ensures kept { IsKept (record { all = self.now.node.log; gone = self.now.gone }) result.now }
+        ensures keeps { KeepsJournal self.now.node.description (machine_in self.now.node.description) self.now.node.log }
+    {
+        self.node.kept()
+    }
+
+    /// What happened on the node, where nothing was forgotten, handed out.
     #[inline(never)]
     pub(crate) fn into_log(self) -> NodeLog
-        ensures same { result ≡ self.log }
-        ensures keeps { KeepsJournal self.description (machine_in self.description) self.log }
+        requires { self.gone ≡ nothing_gone }
+        ensures same { result ≡ self.node.log }
+        ensures keeps { KeepsJournal self.node.description (machine_in self.node.description) self.node.log }
     {
         let HeapNode { node } = self;
         Box::into_inner(node).into_log()

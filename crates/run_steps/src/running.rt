@@ -1,11 +1,12 @@
 //! The run of a node script.
 
-ghost use Rattle.std.specs.Prelude.{◌≡◌, ◌≤◌, ◌∷◌, [], length, nat_le};
+ghost use Rattle.std.specs.Prelude.{◌≡◌, ◌≤◌, length, nat_le};
 ghost use Rattle.mate_journal.specs.declared.report.TheConstants.{RECORDS_MAX as records_max};
 ghost use Rattle.node_invariant.specs.Meaning.{machine_in};
 ghost use Rattle.node_core.specs.Journal.{KeepsJournal};
 ghost use Rattle.node_programs.specs.ScriptSteps.{AreProgramsOf};
-ghost use Rattle.run_steps.specs.Running.{RunGives};
+ghost use Rattle.open_log.specs.OpenLog.{nothing_gone};
+ghost use Rattle.run_steps.specs.Running.{RunGives, report_with};
 
 use crate::heap_node::HeapNode;
 use mate_journal::{Airs, NodeLogs, Programs, RECORDS_MAX, Report, RunFault};
@@ -16,9 +17,10 @@ use vm_desc::Description;
 
 /// No further event is begun on the node.
 pub(crate) fn is_full(node: &HeapNode) -> bool
-    ensures { result ≡ nat_le records_max (length node.now.log.entries) }
+    ensures full { result ≡ nat_le records_max (length node.now.node.log.entries) }
+    ensures keeps { KeepsJournal node.now.node.description (machine_in node.now.node.description) node.now.node.log }
 {
-    node.log().entries().len() >= RECORDS_MAX
+    node.told() >= RECORDS_MAX
 }
 
 /// The report of a run on one node. It takes no memory.
@@ -29,9 +31,10 @@ pub(crate) fn report_of(
     events: u64,
     whole: bool,
 ) -> Report
-    requires { length logs ≡ 1 }
-    ensures is { result ≡ record { nodes = node.log ∷ []; air = []; events = events; whole = whole } }
-    ensures keeps { KeepsJournal node.description (machine_in node.description) node.log }
+    requires one { length logs ≡ 1 }
+    requires all { node.gone ≡ nothing_gone }
+    ensures is { result ≡ report_with node.node.log events whole }
+    ensures keeps { KeepsJournal node.node.description (machine_in node.node.description) node.node.log }
 {
     let mut logs = logs;
     logs.put(0, node.into_log());
@@ -68,7 +71,7 @@ pub fn run_steps(
         node.make(step, programs, at);
     }
     node.reserve(1)?;
-    let _log = node.log();
+    let _told = node.told();
     let at = Stamp {
         event: events + 1,
         time: 0,

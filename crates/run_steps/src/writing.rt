@@ -1,15 +1,19 @@
 //! The run of a node script whose lines are written as its events end.
 
-ghost use Rattle.std.specs.Prelude.{◌≡◌, ◌≤◌, [], length, false};
+ghost use Rattle.std.specs.Prelude.{◌≡◌, ◌≤◌, ◌+◌, [], length, false, Err};
 ghost use Rattle.mate_files.specs.Counts.{Rose};
 ghost use Rattle.mate_files.specs.Sink.{Puts};
 ghost use Rattle.report_text.specs.Text.{event_piece};
 ghost use Rattle.node_invariant.specs.Meaning.{machine_in};
 ghost use Rattle.node_core.specs.Journal.{KeepsJournal};
 ghost use Rattle.node_programs.specs.ScriptSteps.{AreProgramsOf};
-ghost use Rattle.run_steps.specs.Writing.{RunsInto, IsStopped, IsOfOneNode, EndsInto};
+ghost use Rattle.run_steps.specs.Running.{report_with};
+ghost use Rattle.run_steps.specs.Keeping.{IsNewNode, StaysAsToldTo};
+ghost use Rattle.run_steps.specs.Writing.{RunsInto, EndsInto};
+ghost use Rattle.run_steps.specs.Passing.{write_fault_of, into_fault, with_report, PassWrites, WritesRun};
+ghost use Rattle.run_steps.specs.declared.writing.WriteFault.TheVariants.{NoMemory as OutOfMemory};
 
-use crate::heap_node::HeapNode;
+use crate::heap_node::{HeapNode, Written};
 use crate::running::{is_full, report_of};
 use mate_files::{Sink, SinkFault};
 use mate_journal::{Airs, IntoFault, NodeLogs, Programs, Report};
@@ -19,6 +23,38 @@ use script_reader::Steps;
 use std::alloc::Global;
 use vm_desc::Description;
 
+/// Why a run that is written as its events end was not written whole.
+#[derive(Clone, Copy, PartialEq, Eq, Debug)]
+pub enum WriteFault {
+    /// 1,000,000 records or more stood, and an event was left. The report was written whole.
+    LogFull,
+    /// Memory was refused, to the run or to the sink.
+    NoMemory,
+    /// The sink couldn't be written.
+    Sink,
+}
+
+impl WriteFault {
+    /// The same, with the report of the events that ended.
+    fn with_report(self, report: Report) -> IntoFault
+        ensures { result ≡ into_fault self report }
+    {
+        match self {
+            WriteFault::LogFull => IntoFault::LogFull(report),
+            WriteFault::NoMemory => IntoFault::NoMemory(report),
+            WriteFault::Sink => IntoFault::Sink(report),
+        }
+    }
+}
+
+/// How the writing of a run ended: how many events ended, whether they are all, and whether their lines were written.
+#[derive(Clone, Copy)]
+pub(crate) struct Pass {
+    events: u64,
+    whole: bool,
+    result: Result<(), WriteFault>,
+}
+
 /// The report of a run that didn't begin.
 fn nothing_run(alloc: Global) -> Report
     ensures { result ≡ record { nodes = []; air = []; events = 0; whole = false } }
@@ -26,44 +62,136 @@ fn nothing_run(alloc: Global) -> Report
     Report::new(NodeLogs::new(alloc), Airs::new(alloc), 0, false)
 }
 
-/// The run was stopped by the sink, with this report.
-fn stopped(fault: SinkFault, report: Report) -> IntoFault
-    ensures { IsStopped fault report result }
+/// The sink stopped the run.
+fn stopped(fault: SinkFault) -> WriteFault
+    ensures { result ≡ write_fault_of fault }
 {
     match fault {
-        SinkFault::Failed => IntoFault::Sink(report),
-        SinkFault::NoMemory => IntoFault::NoMemory(report),
+        SinkFault::Failed => WriteFault::Sink,
+        SinkFault::NoMemory => WriteFault::NoMemory,
     }
 }
 
-/// Writes the lines of the entries from a position on.
+/// Memory was refused before an event.
+fn no_room(node: &HeapNode, events: u64) -> Pass
+    ensures is { result ≡ record { events = events; whole = false; result = Err OutOfMemory } }
+    ensures keeps { KeepsJournal node.now.node.description (machine_in node.now.node.description) node.now.node.log }
+{
+    let _told = node.told();
+    Pass {
+        events,
+        whole: false,
+        result: Err(WriteFault::NoMemory),
+    }
+}
+
+/// How many entries of the node are at hand: the next one has this position among them.
+fn next_position(node: &HeapNode) -> usize
+    ensures position { node.now.gone.entries + result ≡ length node.now.node.log.entries }
+    ensures keeps { KeepsJournal node.now.node.description (machine_in node.now.node.description) node.now.node.log }
+{
+    node.kept().entries().len()
+}
+
+/// Writes the lines of the entries from a position on, among those that are at hand.
 fn write_new<S: Sink>(
     desc: &Description,
     node: &HeapNode,
     from: usize,
     out: &mut S,
 ) -> Result<(), SinkFault>
-    requires { from ≤ length node.now.log.entries }
-    ensures writes { Puts (S.written out.old) (S.faults out.old) (S.written out.new) (S.faults out.new) result (event_piece desc.now [] node.now.log from 0) }
-    ensures keeps { KeepsJournal node.now.description (machine_in node.now.description) node.now.log }
+    requires { node.now.gone.entries + from ≤ length node.now.node.log.entries }
+    ensures writes { Puts (S.written out.old) (S.faults out.old) (S.written out.new) (S.faults out.new) result (event_piece desc.now [] node.now.node.log (node.now.gone.entries + from) 0) }
+    ensures keeps { KeepsJournal node.now.node.description (machine_in node.now.node.description) node.now.node.log }
 {
-    write_event(desc, &[], node.log(), from, 0, out)
+    write_event(desc, &[], node.kept(), from, 0, out)
 }
 
-/// Writes the last line of a report of one node, behind its other lines.
-fn end_into<S: Sink>(report: Report, out: &mut S) -> Result<Report, IntoFault>
-    requires { IsOfOneNode report }
-    ensures { EndsInto report (S.written out.old) (S.faults out.old) (S.written out.new) (S.faults out.new) result }
+/// Writes the last line of the report of a run on a node, behind its other lines.
+fn write_last<S: Sink>(node: &HeapNode, events: u64, whole: bool, out: &mut S) -> Pass
+    ensures { EndsInto (report_with node.now.node.log events whole) (S.written out.old) (S.faults out.old) (S.written out.new) (S.faults out.new)
+        (with_report result.result (report_with node.now.node.log result.events result.whole)) }
 {
-    let records = report.nodes()[0].entries().len() as u64;
-    if let Err(fault) = write_end(records, report.events(), 1, report.whole(), out) {
-        return Err(stopped(fault, report));
+    if let Err(fault) = write_end(node.told() as u64, events, 1, whole, out) {
+        return Pass {
+            events,
+            whole,
+            result: Err(stopped(fault)),
+        };
     }
-    if report.whole() {
-        Ok(report)
+    if whole {
+        Pass {
+            events,
+            whole,
+            result: Ok(()),
+        }
     } else {
-        Err(IntoFault::LogFull(report))
+        Pass {
+            events,
+            whole,
+            result: Err(WriteFault::LogFull),
+        }
     }
+}
+
+/// Runs the steps of a script on a new node, and writes each event's lines when it ends, and then the last line. After a fault
+/// of the sink no further event is begun.
+fn write_run<S: Sink>(
+    desc: &Description,
+    steps: &Steps,
+    programs: &Programs,
+    node: &mut HeapNode,
+    written: Written,
+    out: &mut S,
+) -> Pass
+    requires programs { AreProgramsOf desc.now steps.now programs.now }
+    requires fresh { IsNewNode desc.now node.old }
+    ensures gives { PassWrites desc.now steps.now programs.now (S.written out.old) (S.written out.new) (S.faults out.old) (S.faults out.new) node.new.node.log result }
+    ensures later { S.faults out.old ≤ S.faults out.new }
+    ensures gone { StaysAsToldTo written node.old.gone node.new.gone }
+{
+    let _contexts = desc.contexts();
+    let mut events = 0;
+    let list = steps.steps();
+    for step in list {
+        if is_full(node) {
+            return write_last(node, events, false, out);
+        }
+        if node.make_room(written, 32).is_err() {
+            return no_room(node, events);
+        }
+        let from = next_position(node);
+        events += 1;
+        let at = Stamp {
+            event: events,
+            time: 0,
+        };
+        node.make(step, programs, at);
+        if let Err(fault) = write_new(desc, node, from, out) {
+            return Pass {
+                events,
+                whole: false,
+                result: Err(stopped(fault)),
+            };
+        }
+    }
+    if node.reserve(1).is_err() {
+        return no_room(node, events);
+    }
+    let from = next_position(node);
+    let at = Stamp {
+        event: events + 1,
+        time: 0,
+    };
+    node.seen(at);
+    if let Err(fault) = write_new(desc, node, from, out) {
+        return Pass {
+            events,
+            whole: true,
+            result: Err(stopped(fault)),
+        };
+    }
+    write_last(node, events, true, out)
 }
 
 /// Runs the steps of a script as `run_steps` does, and writes each event's lines when it ends, and then the last line. After
@@ -79,46 +207,35 @@ pub fn run_steps_into<S: Sink>(
     ensures gives { RunsInto desc.now steps.now programs.now (S.written out.old) (S.written out.new) (S.faults out.old) (S.faults out.new) result }
     ensures later { S.faults out.old ≤ S.faults out.new }
 {
-    let _contexts = desc.contexts();
     let Ok(mut node) = HeapNode::new(alloc, desc) else {
         return Err(IntoFault::NoMemory(nothing_run(alloc)));
     };
     let Ok(logs) = NodeLogs::empty(alloc, 1) else {
         return Err(IntoFault::NoMemory(nothing_run(alloc)));
     };
-    let mut events = 0;
-    let mut written = 0;
-    let list = steps.steps();
-    for step in list {
-        if is_full(&node) {
-            return end_into(report_of(alloc, logs, node, events, false), out);
-        }
-        if node.reserve(32).is_err() {
-            return Err(IntoFault::NoMemory(report_of(alloc, logs, node, events, false)));
-        }
-        let _before = node.log();
-        events += 1;
-        let at = Stamp {
-            event: events,
-            time: 0,
-        };
-        node.make(step, programs, at);
-        if let Err(fault) = write_new(desc, &node, written, out) {
-            return Err(stopped(fault, report_of(alloc, logs, node, events, false)));
-        }
-        written = node.log().entries().len();
+    let pass = write_run(desc, steps, programs, &mut node, Written::Kept, out);
+    let report = report_of(alloc, logs, node, pass.events, pass.whole);
+    match pass.result {
+        Ok(()) => Ok(report),
+        Err(fault) => Err(fault.with_report(report)),
     }
-    if node.reserve(1).is_err() {
-        return Err(IntoFault::NoMemory(report_of(alloc, logs, node, events, false)));
-    }
-    let _log = node.log();
-    let at = Stamp {
-        event: events + 1,
-        time: 0,
+}
+
+/// The same text, without a report: an event's entries are forgotten once their lines are written, so that a long run takes no
+/// more memory than its longest event.
+pub fn write_steps<S: Sink>(
+    alloc: Global,
+    desc: &Description,
+    steps: &Steps,
+    programs: &Programs,
+    out: &mut S,
+) -> Result<(), WriteFault>
+    requires { AreProgramsOf desc.now steps.now programs.now }
+    ensures gives { WritesRun desc.now steps.now programs.now (S.written out.old) (S.written out.new) (S.faults out.old) (S.faults out.new) result }
+    ensures later { S.faults out.old ≤ S.faults out.new }
+{
+    let Ok(mut node) = HeapNode::new(alloc, desc) else {
+        return Err(WriteFault::NoMemory);
     };
-    node.seen(at);
-    if let Err(fault) = write_new(desc, &node, written, out) {
-        return Err(stopped(fault, report_of(alloc, logs, node, events, true)));
-    }
-    end_into(report_of(alloc, logs, node, events, true), out)
+    write_run(desc, steps, programs, &mut node, Written::Forgotten, out).result
 }

@@ -7,8 +7,8 @@ use Rattle.node_calls.proofs.answering.answer_in.Goals as goal
 pub answer-requires : goal.answer-requires
 answer-requires c = CanAnswer-waiting c.args.description.now c.args.parts.now c.args.ctx c.in-Some.field-0 c.requires.rests c.requires.context (sym c.in-Some.ensures)
 
-pub returns : goal.returns
-returns c =
+pub returns-clause-answers : goal.returns-clause-answers
+returns-clause-answers c =
     let answered = rw (to_z-of_z w16 c.args.value c.ranges.value) at c.answer.ensures in
     let pushed = rw (to_z-of_z w16 c.args.value c.ranges.value) at c.tell.ensures.pushed in
     RestsAgain-answer c.args.description.now c.args.parts.now c.answer.new.contexts c.tell.new.log c.args.at c.args.ctx c.args.value c.in-Some.field-0 c.number-inv.result c.requires.rests c.requires.timely (sym c.in-Some.ensures)

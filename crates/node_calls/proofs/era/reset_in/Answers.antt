@@ -2,6 +2,6 @@
 use Rattle.node_calls.proofs.EraLemmas.{RestsAgain-resets}
 use Rattle.node_calls.proofs.era.reset_in.Goals as goal
 
-pub returns : goal.returns
-returns c =
-    RestsAgain-resets c.args.description.now c.args.parts.now c.seen_in.new.parts c.clear.new.parts c.tell.new.log c.args.at c.seen_in.ensures c.clear.ensures c.tell.ensures.pushed c.tell.ensures.spare
+pub returns-clause-again : goal.returns-clause-again
+returns-clause-again c =
+    RestsAgain-resets c.args.description.now c.args.parts.now c.seen_in.new.parts c.clear.new.parts c.tell.new.log c.args.at c.seen_in.ensures.tells c.clear.ensures c.tell.ensures.pushed c.tell.ensures.spare

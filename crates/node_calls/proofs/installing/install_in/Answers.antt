@@ -6,30 +6,30 @@ use Rattle.node_calls.proofs.EraLemmas.{seen-last}
 use Rattle.node_calls.proofs.InstallLemmas.{IsNoNewer-from, newer-than, RestsAgain-once, RestsAgain-once_none}
 use Rattle.node_calls.proofs.installing.install_in.Goals as goal
 
-pub returns-in_err-program : goal.returns-in_err-program
-returns-in_err-program c =
+pub returns-in_err-program-clause-installs : goal.returns-in_err-program-clause-installs
+returns-in_err-program-clause-installs c =
     let e = err_from_is_err_and c.from_residual.result c.from_residual.ensures.1 in
-    rw (e.1, e.2) (c.in_err-program.ensures (reading c.args.description.now c.args.parts.now.log), refl)
+    rw (e.1, e.2) (c.in_err-program.ensures (reading c.args.description.now c.args.parts.now.log.all), refl)
 
-pub returns-then-program-held : goal.returns-then-program-held
-returns-then-program-held c =
+pub returns-then-program-held-clause-installs : goal.returns-then-program-held-clause-installs
+returns-then-program-held-clause-installs c =
     (IsNoNewer-from c.args.description.now c.args.parts.now c.args.bytes.now c.in_ok-program.program c.version-held.result c.requires.rests c.in_ok-program.ensures c.version-held.ensures c.if-program-held.true, refl)
 
 pub begin-requires-clause-seen : goal.begin-requires-clause-seen
 begin-requires-clause-seen c =
-    let told = c.seen_in.ensures.again in
-    seen-last c.args.parts.now.log c.seen_in.new.parts.log c.args.at told.adds.told c.args.parts.now.heap told.adds.grows told.adds.made
+    let told = c.seen_in.ensures.tells.again in
+    seen-last c.args.parts.now.log.all c.seen_in.new.parts.log.all c.args.at told.adds.told c.args.parts.now.heap told.adds.grows told.adds.made
 
 pub begin-requires-clause-handler : goal.begin-requires-clause-handler
 begin-requires-clause-handler c = c.in_ok-program.ensures.handler
 
-pub returns-then-runs_once : goal.returns-then-runs_once
-returns-then-runs_once c =
+pub returns-then-runs_once-clause-installs : goal.returns-then-runs_once-clause-installs
+returns-then-runs_once-clause-installs c =
     RestsAgain-once c.args.description.now c.args.parts.now c.seen_in.new.parts c.begin.new.parts c.args.at c.args.bytes.now c.in_ok-program.program c.in_ok-program.ensures
-    (newer-than c.args.description.now c.args.parts.now c.in_ok-program.program c.version-held.result c.requires.rests c.version-held.ensures c.if-program-held.false) c.seen_in.ensures c.begin.ensures
-    c.post_in.new.parts c.new.result c.post_in.result (sym c.if-runs_once.ensures) c.new.ensures c.post_in.ensures
+    (newer-than c.args.description.now c.args.parts.now c.in_ok-program.program c.version-held.result c.requires.rests c.version-held.ensures c.if-program-held.false) c.seen_in.ensures.tells c.begin.ensures.again
+    c.post_in.new.parts c.new.result c.post_in.result (sym c.if-runs_once.ensures) c.new.ensures c.post_in.ensures.again
 
-pub returns-else-runs_once : goal.returns-else-runs_once
-returns-else-runs_once c =
+pub returns-else-runs_once-clause-installs : goal.returns-else-runs_once-clause-installs
+returns-else-runs_once-clause-installs c =
     RestsAgain-once_none c.args.description.now c.args.parts.now c.seen_in.new.parts c.begin.new.parts c.args.at c.args.bytes.now c.in_ok-program.program c.in_ok-program.ensures
-    (newer-than c.args.description.now c.args.parts.now c.in_ok-program.program c.version-held.result c.requires.rests c.version-held.ensures c.if-program-held.false) c.seen_in.ensures c.begin.ensures (sym c.if-runs_once.ensures)
+    (newer-than c.args.description.now c.args.parts.now c.in_ok-program.program c.version-held.result c.requires.rests c.version-held.ensures c.if-program-held.false) c.seen_in.ensures.tells c.begin.ensures.again (sym c.if-runs_once.ensures)

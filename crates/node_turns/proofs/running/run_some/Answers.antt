@@ -11,5 +11,5 @@ turn-requires c =
     let low : most d < 2 ^ 63 = grind (arith, common_steps) in
     CanExecute-ready d c.args.parts.now c.args.ctx c.requires.order.keeps c.requires.ready c.requires.small low
 
-pub returns : goal.returns
-returns c = RunsFor-from c.args.description.now c.args.parts.now c.turn.new.contexts c.turn.new.heap c.args.ctx c.args.n c.turn.result c.requires.order c.requires.ready c.turn.ensures
+pub returns-clause-runs : goal.returns-clause-runs
+returns-clause-runs c = RunsFor-from c.args.description.now c.args.parts.now c.turn.new.contexts c.turn.new.heap c.args.ctx c.args.n c.turn.result c.requires.order c.requires.ready c.turn.ensures

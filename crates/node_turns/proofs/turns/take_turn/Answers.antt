@@ -8,76 +8,76 @@ use Rattle.node_turns.proofs.ActLemmas.{TakesTurn-short}
 use Rattle.node_turns.proofs.ActedLemmas.{room-tell, TakesTurn-ask, IsStarting-end, room-end, timely-end, TakesTurn-end}
 use Rattle.node_turns.proofs.turns.take_turn.Goals as goal
 
-pub tell-requires : goal.tell-requires
-tell-requires c =
+pub tell-requires-clause-room : goal.tell-requires-clause-room
+tell-requires-clause-room c =
     let q = c.requires in
-    room-tell c.args.description.now c.args.parts.now c.run_some-instructions.new.parts c.args.ctx c.args.n c.run_some-instructions.result.instructions _ (RunsTo-at c.args.description.now c.args.parts.now c.run_some-instructions.new.parts c.args.ctx c.args.n c.run_some-instructions.result _ c.in-Ask.is c.run_some-instructions.ensures) q.room
+    room-tell c.args.description.now c.args.parts.now c.run_some-instructions.new.parts c.args.ctx c.args.n c.run_some-instructions.result.instructions _ (RunsTo-at c.args.description.now c.args.parts.now c.run_some-instructions.new.parts c.args.ctx c.args.n c.run_some-instructions.result _ c.in-Ask.is c.run_some-instructions.ensures.runs) q.room
 
-pub tell-requires-in-Halt : goal.tell-requires-in-Halt
-tell-requires-in-Halt c =
+pub tell-requires-in-Halt-clause-room : goal.tell-requires-in-Halt-clause-room
+tell-requires-in-Halt-clause-room c =
     let q = c.requires in
-    room-tell c.args.description.now c.args.parts.now c.run_some-instructions.new.parts c.args.ctx c.args.n c.run_some-instructions.result.instructions _ (RunsTo-at c.args.description.now c.args.parts.now c.run_some-instructions.new.parts c.args.ctx c.args.n c.run_some-instructions.result _ c.in-Halt.is c.run_some-instructions.ensures) q.room
+    room-tell c.args.description.now c.args.parts.now c.run_some-instructions.new.parts c.args.ctx c.args.n c.run_some-instructions.result.instructions _ (RunsTo-at c.args.description.now c.args.parts.now c.run_some-instructions.new.parts c.args.ctx c.args.n c.run_some-instructions.result _ c.in-Halt.is c.run_some-instructions.ensures.runs) q.room
 
-pub tell-requires-in-Fault : goal.tell-requires-in-Fault
-tell-requires-in-Fault c =
+pub tell-requires-in-Fault-clause-room : goal.tell-requires-in-Fault-clause-room
+tell-requires-in-Fault-clause-room c =
     let q = c.requires in
-    room-tell c.args.description.now c.args.parts.now c.run_some-instructions.new.parts c.args.ctx c.args.n c.run_some-instructions.result.instructions _ (RunsTo-at c.args.description.now c.args.parts.now c.run_some-instructions.new.parts c.args.ctx c.args.n c.run_some-instructions.result _ c.in-Fault.is c.run_some-instructions.ensures) q.room
+    room-tell c.args.description.now c.args.parts.now c.run_some-instructions.new.parts c.args.ctx c.args.n c.run_some-instructions.result.instructions _ (RunsTo-at c.args.description.now c.args.parts.now c.run_some-instructions.new.parts c.args.ctx c.args.n c.run_some-instructions.result _ c.in-Fault.is c.run_some-instructions.ensures.runs) q.room
 
 pub start_all-requires-clause-starting : goal.start_all-requires-clause-starting
 start_all-requires-clause-starting c =
     let q = c.requires in
-    IsStarting-end c.args.description.now c.args.parts.now c.run_some-instructions.new.parts c.args.ctx c.args.n c.run_some-instructions.result.instructions q.rests q.small q.ready c.args.at q.timely _ (RunsTo-at c.args.description.now c.args.parts.now c.run_some-instructions.new.parts c.args.ctx c.args.n c.run_some-instructions.result _ c.in-Halt.is c.run_some-instructions.ensures) c.number-inv.result c.number-inv.ensures c.finish.new.self c.tell-in-Halt.new.log c.tell-in-Halt.ensures.spare
+    IsStarting-end c.args.description.now c.args.parts.now c.run_some-instructions.new.parts c.args.ctx c.args.n c.run_some-instructions.result.instructions q.rests q.small q.ready c.args.at q.timely _ (RunsTo-at c.args.description.now c.args.parts.now c.run_some-instructions.new.parts c.args.ctx c.args.n c.run_some-instructions.result _ c.in-Halt.is c.run_some-instructions.ensures.runs) c.number-inv.result c.number-inv.ensures c.finish.new.self c.tell-in-Halt.new.log c.tell-in-Halt.ensures.spare
     end.Halt (λ j. entry.Halt j) tt IsClosing-halt (λ l j. refl) (λ j. record { image = refl; store = refl; in_range = tt }) (λ j. refl) c.finish.ensures c.tell-in-Halt.ensures.pushed
 
 pub start_all-requires-clause-timely : goal.start_all-requires-clause-timely
 start_all-requires-clause-timely c =
     let q = c.requires in
-    timely-end c.args.description.now c.args.parts.now c.run_some-instructions.new.parts c.args.ctx c.args.n c.run_some-instructions.result.instructions q.rests q.small q.ready c.args.at q.timely _ (RunsTo-at c.args.description.now c.args.parts.now c.run_some-instructions.new.parts c.args.ctx c.args.n c.run_some-instructions.result _ c.in-Halt.is c.run_some-instructions.ensures) c.number-inv.result c.number-inv.ensures c.finish.new.self c.tell-in-Halt.new.log c.tell-in-Halt.ensures.spare
+    timely-end c.args.description.now c.args.parts.now c.run_some-instructions.new.parts c.args.ctx c.args.n c.run_some-instructions.result.instructions q.rests q.small q.ready c.args.at q.timely _ (RunsTo-at c.args.description.now c.args.parts.now c.run_some-instructions.new.parts c.args.ctx c.args.n c.run_some-instructions.result _ c.in-Halt.is c.run_some-instructions.ensures.runs) c.number-inv.result c.number-inv.ensures c.finish.new.self c.tell-in-Halt.new.log c.tell-in-Halt.ensures.spare
     end.Halt (λ j. entry.Halt j) tt IsClosing-halt (λ l j. refl) (λ j. record { image = refl; store = refl; in_range = tt }) (λ j. refl) c.finish.ensures c.tell-in-Halt.ensures.pushed
 
 pub start_all-requires-clause-room : goal.start_all-requires-clause-room
 start_all-requires-clause-room c =
     let q = c.requires in
-    inl (room-end c.args.description.now c.args.parts.now c.run_some-instructions.new.parts c.args.ctx c.args.n c.run_some-instructions.result.instructions q.rests q.small q.ready c.args.at q.timely _ (RunsTo-at c.args.description.now c.args.parts.now c.run_some-instructions.new.parts c.args.ctx c.args.n c.run_some-instructions.result _ c.in-Halt.is c.run_some-instructions.ensures) c.number-inv.result c.number-inv.ensures c.finish.new.self c.tell-in-Halt.new.log c.tell-in-Halt.ensures.spare
+    inl (room-end c.args.description.now c.args.parts.now c.run_some-instructions.new.parts c.args.ctx c.args.n c.run_some-instructions.result.instructions q.rests q.small q.ready c.args.at q.timely _ (RunsTo-at c.args.description.now c.args.parts.now c.run_some-instructions.new.parts c.args.ctx c.args.n c.run_some-instructions.result _ c.in-Halt.is c.run_some-instructions.ensures.runs) c.number-inv.result c.number-inv.ensures c.finish.new.self c.tell-in-Halt.new.log c.tell-in-Halt.ensures.spare
     end.Halt (λ j. entry.Halt j) tt IsClosing-halt (λ l j. refl) (λ j. record { image = refl; store = refl; in_range = tt }) (λ j. refl) c.finish.ensures c.tell-in-Halt.ensures.pushed q.room)
 
 pub start_all-requires-in-Fault-clause-starting : goal.start_all-requires-in-Fault-clause-starting
 start_all-requires-in-Fault-clause-starting c =
     let q = c.requires in let k = c.in-Fault.kind in
-    IsStarting-end c.args.description.now c.args.parts.now c.run_some-instructions.new.parts c.args.ctx c.args.n c.run_some-instructions.result.instructions q.rests q.small q.ready c.args.at q.timely _ (RunsTo-at c.args.description.now c.args.parts.now c.run_some-instructions.new.parts c.args.ctx c.args.n c.run_some-instructions.result _ c.in-Fault.is c.run_some-instructions.ensures) c.number-inv.result c.number-inv.ensures c.finish-in-Fault.new.self c.tell-in-Fault.new.log c.tell-in-Fault.ensures.spare
+    IsStarting-end c.args.description.now c.args.parts.now c.run_some-instructions.new.parts c.args.ctx c.args.n c.run_some-instructions.result.instructions q.rests q.small q.ready c.args.at q.timely _ (RunsTo-at c.args.description.now c.args.parts.now c.run_some-instructions.new.parts c.args.ctx c.args.n c.run_some-instructions.result _ c.in-Fault.is c.run_some-instructions.ensures.runs) c.number-inv.result c.number-inv.ensures c.finish-in-Fault.new.self c.tell-in-Fault.new.log c.tell-in-Fault.ensures.spare
     (end.Fault k) (λ j. entry.Fault j k) tt (IsClosing-fault k) (λ l j. refl) (λ j. record { image = refl; store = refl; in_range = tt }) (λ j. refl) c.finish-in-Fault.ensures c.tell-in-Fault.ensures.pushed
 
 pub start_all-requires-in-Fault-clause-timely : goal.start_all-requires-in-Fault-clause-timely
 start_all-requires-in-Fault-clause-timely c =
     let q = c.requires in let k = c.in-Fault.kind in
-    timely-end c.args.description.now c.args.parts.now c.run_some-instructions.new.parts c.args.ctx c.args.n c.run_some-instructions.result.instructions q.rests q.small q.ready c.args.at q.timely _ (RunsTo-at c.args.description.now c.args.parts.now c.run_some-instructions.new.parts c.args.ctx c.args.n c.run_some-instructions.result _ c.in-Fault.is c.run_some-instructions.ensures) c.number-inv.result c.number-inv.ensures c.finish-in-Fault.new.self c.tell-in-Fault.new.log c.tell-in-Fault.ensures.spare
+    timely-end c.args.description.now c.args.parts.now c.run_some-instructions.new.parts c.args.ctx c.args.n c.run_some-instructions.result.instructions q.rests q.small q.ready c.args.at q.timely _ (RunsTo-at c.args.description.now c.args.parts.now c.run_some-instructions.new.parts c.args.ctx c.args.n c.run_some-instructions.result _ c.in-Fault.is c.run_some-instructions.ensures.runs) c.number-inv.result c.number-inv.ensures c.finish-in-Fault.new.self c.tell-in-Fault.new.log c.tell-in-Fault.ensures.spare
     (end.Fault k) (λ j. entry.Fault j k) tt (IsClosing-fault k) (λ l j. refl) (λ j. record { image = refl; store = refl; in_range = tt }) (λ j. refl) c.finish-in-Fault.ensures c.tell-in-Fault.ensures.pushed
 
 pub start_all-requires-in-Fault-clause-room : goal.start_all-requires-in-Fault-clause-room
 start_all-requires-in-Fault-clause-room c =
     let q = c.requires in let k = c.in-Fault.kind in
-    inl (room-end c.args.description.now c.args.parts.now c.run_some-instructions.new.parts c.args.ctx c.args.n c.run_some-instructions.result.instructions q.rests q.small q.ready c.args.at q.timely _ (RunsTo-at c.args.description.now c.args.parts.now c.run_some-instructions.new.parts c.args.ctx c.args.n c.run_some-instructions.result _ c.in-Fault.is c.run_some-instructions.ensures) c.number-inv.result c.number-inv.ensures c.finish-in-Fault.new.self c.tell-in-Fault.new.log c.tell-in-Fault.ensures.spare
+    inl (room-end c.args.description.now c.args.parts.now c.run_some-instructions.new.parts c.args.ctx c.args.n c.run_some-instructions.result.instructions q.rests q.small q.ready c.args.at q.timely _ (RunsTo-at c.args.description.now c.args.parts.now c.run_some-instructions.new.parts c.args.ctx c.args.n c.run_some-instructions.result _ c.in-Fault.is c.run_some-instructions.ensures.runs) c.number-inv.result c.number-inv.ensures c.finish-in-Fault.new.self c.tell-in-Fault.new.log c.tell-in-Fault.ensures.spare
     (end.Fault k) (λ j. entry.Fault j k) tt (IsClosing-fault k) (λ l j. refl) (λ j. record { image = refl; store = refl; in_range = tt }) (λ j. refl) c.finish-in-Fault.ensures c.tell-in-Fault.ensures.pushed q.room)
 
-pub returns-in-Next : goal.returns-in-Next
-returns-in-Next c =
+pub returns-in-Next-clause-turn : goal.returns-in-Next-clause-turn
+returns-in-Next-clause-turn c =
     let q = c.requires in
-    TakesTurn-short c.args.description.now c.args.parts.now c.run_some-instructions.new.parts c.args.ctx c.args.n q.rests q.small q.ready (RunsTo-at c.args.description.now c.args.parts.now c.run_some-instructions.new.parts c.args.ctx c.args.n c.run_some-instructions.result _ c.in-Next.is c.run_some-instructions.ensures).1 c.args.at c.run_some-instructions.result.instructions (RunsTo-at c.args.description.now c.args.parts.now c.run_some-instructions.new.parts c.args.ctx c.args.n c.run_some-instructions.result _ c.in-Next.is c.run_some-instructions.ensures).0 q.timely q.some
+    TakesTurn-short c.args.description.now c.args.parts.now c.run_some-instructions.new.parts c.args.ctx c.args.n q.rests q.small q.ready (RunsTo-at c.args.description.now c.args.parts.now c.run_some-instructions.new.parts c.args.ctx c.args.n c.run_some-instructions.result _ c.in-Next.is c.run_some-instructions.ensures.runs).1 c.args.at c.run_some-instructions.result.instructions (RunsTo-at c.args.description.now c.args.parts.now c.run_some-instructions.new.parts c.args.ctx c.args.n c.run_some-instructions.result _ c.in-Next.is c.run_some-instructions.ensures.runs).0 q.timely q.some
 
-pub returns-in-Ask : goal.returns-in-Ask
-returns-in-Ask c =
+pub returns-in-Ask-clause-turn : goal.returns-in-Ask-clause-turn
+returns-in-Ask-clause-turn c =
     let q = c.requires in
-    TakesTurn-ask c.args.description.now c.args.parts.now c.run_some-instructions.new.parts c.args.ctx c.args.n c.run_some-instructions.result.instructions q.rests q.small q.ready c.args.at q.timely _ (RunsTo-at c.args.description.now c.args.parts.now c.run_some-instructions.new.parts c.args.ctx c.args.n c.run_some-instructions.result _ c.in-Ask.is c.run_some-instructions.ensures) c.number-inv.result c.number-inv.ensures c.ask.new.self c.tell.new.log c.tell.ensures.spare
+    TakesTurn-ask c.args.description.now c.args.parts.now c.run_some-instructions.new.parts c.args.ctx c.args.n c.run_some-instructions.result.instructions q.rests q.small q.ready c.args.at q.timely _ (RunsTo-at c.args.description.now c.args.parts.now c.run_some-instructions.new.parts c.args.ctx c.args.n c.run_some-instructions.result _ c.in-Ask.is c.run_some-instructions.ensures.runs) c.number-inv.result c.number-inv.ensures c.ask.new.self c.tell.new.log c.tell.ensures.spare
     c.in-Ask.fun c.in-Ask.args c.copy_of-told.result refl c.copy_of-told.ensures c.ask.ensures c.tell.ensures.pushed
 
-pub returns-in-Halt : goal.returns-in-Halt
-returns-in-Halt c =
+pub returns-in-Halt-clause-turn : goal.returns-in-Halt-clause-turn
+returns-in-Halt-clause-turn c =
     let q = c.requires in
-    TakesTurn-end c.args.description.now c.args.parts.now c.run_some-instructions.new.parts c.args.ctx c.args.n c.run_some-instructions.result.instructions q.rests q.small q.ready c.args.at q.timely _ (RunsTo-at c.args.description.now c.args.parts.now c.run_some-instructions.new.parts c.args.ctx c.args.n c.run_some-instructions.result _ c.in-Halt.is c.run_some-instructions.ensures) c.number-inv.result c.number-inv.ensures c.finish.new.self c.tell-in-Halt.new.log c.tell-in-Halt.ensures.spare
-    end.Halt (λ j. entry.Halt j) tt IsClosing-halt (λ l j. refl) (λ j. record { image = refl; store = refl; in_range = tt }) (λ j. refl) c.finish.ensures c.tell-in-Halt.ensures.pushed c.start_all.new.parts c.start_all.ensures
+    TakesTurn-end c.args.description.now c.args.parts.now c.run_some-instructions.new.parts c.args.ctx c.args.n c.run_some-instructions.result.instructions q.rests q.small q.ready c.args.at q.timely _ (RunsTo-at c.args.description.now c.args.parts.now c.run_some-instructions.new.parts c.args.ctx c.args.n c.run_some-instructions.result _ c.in-Halt.is c.run_some-instructions.ensures.runs) c.number-inv.result c.number-inv.ensures c.finish.new.self c.tell-in-Halt.new.log c.tell-in-Halt.ensures.spare
+    end.Halt (λ j. entry.Halt j) tt IsClosing-halt (λ l j. refl) (λ j. record { image = refl; store = refl; in_range = tt }) (λ j. refl) c.finish.ensures c.tell-in-Halt.ensures.pushed c.start_all.new.parts c.start_all.ensures.starts
 
-pub returns-in-Fault : goal.returns-in-Fault
-returns-in-Fault c =
+pub returns-in-Fault-clause-turn : goal.returns-in-Fault-clause-turn
+returns-in-Fault-clause-turn c =
     let q = c.requires in let k = c.in-Fault.kind in
-    TakesTurn-end c.args.description.now c.args.parts.now c.run_some-instructions.new.parts c.args.ctx c.args.n c.run_some-instructions.result.instructions q.rests q.small q.ready c.args.at q.timely _ (RunsTo-at c.args.description.now c.args.parts.now c.run_some-instructions.new.parts c.args.ctx c.args.n c.run_some-instructions.result _ c.in-Fault.is c.run_some-instructions.ensures) c.number-inv.result c.number-inv.ensures c.finish-in-Fault.new.self c.tell-in-Fault.new.log c.tell-in-Fault.ensures.spare
-    (end.Fault k) (λ j. entry.Fault j k) tt (IsClosing-fault k) (λ l j. refl) (λ j. record { image = refl; store = refl; in_range = tt }) (λ j. refl) c.finish-in-Fault.ensures c.tell-in-Fault.ensures.pushed c.start_all-in-Fault.new.parts c.start_all-in-Fault.ensures
+    TakesTurn-end c.args.description.now c.args.parts.now c.run_some-instructions.new.parts c.args.ctx c.args.n c.run_some-instructions.result.instructions q.rests q.small q.ready c.args.at q.timely _ (RunsTo-at c.args.description.now c.args.parts.now c.run_some-instructions.new.parts c.args.ctx c.args.n c.run_some-instructions.result _ c.in-Fault.is c.run_some-instructions.ensures.runs) c.number-inv.result c.number-inv.ensures c.finish-in-Fault.new.self c.tell-in-Fault.new.log c.tell-in-Fault.ensures.spare
+    (end.Fault k) (λ j. entry.Fault j k) tt (IsClosing-fault k) (λ l j. refl) (λ j. record { image = refl; store = refl; in_range = tt }) (λ j. refl) c.finish-in-Fault.ensures c.tell-in-Fault.ensures.pushed c.start_all-in-Fault.new.parts c.start_all-in-Fault.ensures.starts

@@ -10,12 +10,12 @@ use Rattle.node_core.proofs.CallLemmas.{Tells-by}
 use Rattle.run_steps.proofs.EventLemmas.{Tells-void}
 use Rattle.run_steps.proofs.events.answer.Goals as goal
 
-pub returns-in-Ok : goal.returns-in-Ok
-returns-in-Ok c =
-    Tells-by c.args.node.now c.answer.new.self c.args.at (Pacing (λ _. Answers (heard_of c.args.node.now) c.args.ctx c.args.value)) (MakesOn c.args.node.now (AnswerStep c.args.ctx c.args.value))
-    (λ p told q x. (inl x.0, x.1)) (rw (to_z-of_z w16 c.args.value c.ranges.value) at c.in-Ok.ensures)
+pub returns-in-Ok-clause-tells : goal.returns-in-Ok-clause-tells
+returns-in-Ok-clause-tells c =
+    Tells-by c.args.node.now.node c.answer.new.self.node c.args.at (Pacing (λ _. Answers (heard_of c.args.node.now.node) c.args.ctx c.args.value)) (MakesOn c.args.node.now.node (AnswerStep c.args.ctx c.args.value))
+    (λ p told q x. (inl x.0, x.1)) (rw (to_z-of_z w16 c.args.value c.ranges.value) at c.in-Ok.ensures.tells)
 
-pub returns-in-Err : goal.returns-in-Err
-returns-in-Err c =
-    Tells-void c.args.node.now c.answer.new.self c.void.new.self c.args.at void.NotWaiting (MakesOn c.args.node.now (AnswerStep c.args.ctx c.args.value)) c.in-Err.ensures.1
-    (λ p. (inr (record { none = c.in-Err.ensures.0; made = refl }), refl)) c.void.ensures
+pub returns-in-Err-clause-tells : goal.returns-in-Err-clause-tells
+returns-in-Err-clause-tells c =
+    Tells-void c.args.node.now.node c.answer.new.self.node c.void.new.self.node c.args.at void.NotWaiting (MakesOn c.args.node.now.node (AnswerStep c.args.ctx c.args.value)) c.in-Err.ensures.tells.1
+    (λ p. (inr (record { none = c.in-Err.ensures.tells.0; made = refl }), refl)) c.void.ensures.tells

@@ -1,18 +1,11 @@
--- The entries of the post, as they are seen.
 use Rattle.std.proofs.Common.{subst}
 use Rattle.node_invariant.specs.Meaning.{machine_in}
 use Rattle.node_calls.specs.Posting.{PostGives}
 use Rattle.node_core.specs.View.{NodeView, heard_of, Tells}
 use Rattle.node_core.specs.Calls.{Pacing}
-use Rattle.node_core.proofs.PaceLemmas.{seen_as}
-use Rattle.node_core.proofs.CallLemmas.{Tells-again}
 use Rattle.node_core.proofs.node.Node.post.Goals as goal
-
-pub invariant_of-self : goal.invariant_of-self
-invariant_of-self c = record { rests = c.post_in.ensures.rests }
 
 pub returns : goal.returns
 returns c =
-    let n = c.self.inside in
-    let P : NodeView → Type 0 = λ v. Tells v (seen_as n.description c.post_in.new.parts) c.args.at (Pacing (λ _. PostGives (machine_in v.description) (heard_of v) c.args.handler c.args.payload.now c.post_in.result)) in
-    subst P c.self.view_is (Tells-again n.description n.parts c.post_in.new.parts c.args.at c.self.invariant.rests _ c.post_in.ensures)
+    let P : NodeView → Type 0 = λ v. Tells v c.post.new.self.node c.args.at (Pacing (λ _. PostGives (machine_in v.description) (heard_of v) c.args.handler c.args.payload.now c.post.result)) in
+    subst P c.self.view_is c.post.ensures.tells

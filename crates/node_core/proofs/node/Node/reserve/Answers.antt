@@ -1,19 +1,8 @@
--- More room changes nothing else.
 use Rattle.std.proofs.Common.{sym, subst}
 use Rattle.node_core.specs.View.{NodeView, HasPace}
-use Rattle.node_core.proofs.PaceLemmas.{IsPace-seen, HasPace-from}
-use Rattle.node_core.proofs.JournalLemmas.{Rests-room, IsPace-room}
 use Rattle.node_core.proofs.node.Node.reserve.Goals as goal
-
-pub invariant_of-self : goal.invariant_of-self
-invariant_of-self c = record { rests = Rests-room c.self.inside.description c.self.inside.parts c.reserve.new.self c.reserve.ensures.same c.self.invariant.rests }
 
 pub returns-clause-pace : goal.returns-clause-pace
 returns-clause-pace c = λ p pace.
-    (let d = c.self.inside.description in
-    let s = c.self.inside.parts in
-    let rests = c.self.invariant.rests in
-    let P : NodeView → Type 0 = λ v. HasPace v p in
-    let after = Rests-room d s c.reserve.new.self c.reserve.ensures.same rests in
-    HasPace-from d (record s { log = c.reserve.new.self }) after.order.keeps p
-    (IsPace-room d s c.reserve.new.self c.reserve.ensures.same rests p (IsPace-seen d s rests.order.keeps p (subst P (sym c.self.view_is) pace))))
+    (let P : NodeView → Type 0 = λ v. HasPace v p in
+    c.reserve.ensures.pace p (subst P (sym c.self.view_is) pace))

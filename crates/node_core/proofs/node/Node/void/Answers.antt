@@ -1,17 +1,10 @@
--- The entry, as it is seen.
 use Rattle.std.proofs.Common.{◌≡◌, ◌∷◌, [], subst}
 use Rattle.mate_journal.specs.Journal.{Void}
 use Rattle.node_core.specs.View.{NodeView, Tells}
 use Rattle.node_core.specs.Calls.{Pacing}
-use Rattle.node_core.proofs.PaceLemmas.{seen_as}
-use Rattle.node_core.proofs.CallLemmas.{Tells-again}
 use Rattle.node_core.proofs.node.Node.void.Goals as goal
-
-pub invariant_of-self : goal.invariant_of-self
-invariant_of-self c = record { rests = c.void_in.ensures.again.rests }
 
 pub returns : goal.returns
 returns c =
-    let n = c.self.inside in
-    let P : NodeView → Type 0 = λ v. Tells v (seen_as n.description c.void_in.new.parts) c.args.at (Pacing (λ _ told. told ≡ Void c.args.cause ∷ [])) in
-    subst P c.self.view_is (Tells-again n.description n.parts c.void_in.new.parts c.args.at c.self.invariant.rests _ c.void_in.ensures.again)
+    let P : NodeView → Type 0 = λ v. Tells v c.void.new.self.node c.args.at (Pacing (λ _ told. told ≡ Void c.args.cause ∷ [])) in
+    subst P c.self.view_is c.void.ensures.tells

@@ -1,0 +1,95 @@
+-- What is at hand of a log, and its lines.
+use Rattle.std.proofs.Common.{◌≡◌, ◌+◌, ◌-◌, ℕ, zero, suc, List, [], ◌∷◌, ◌++◌, refl, sym, ◌∙◌, ap, arith, length, map, drop, length-drop, codes}
+use Rattle.std.specs.Prelude.{flat_map, slice_get}
+use Rattle.std.proofs.lemmas.List.{length-map, drop-map, drop-drop}
+use Rattle.arrayvec.specs.ArrayVec.{ArrayVec}
+use Rattle.mate_num.specs.declared.store.Store.{Store}
+use Rattle.vm_desc.specs.declared.description.Description.{Description}
+use Rattle.mate_journal.specs.Log.{Log}
+use Rattle.mate_journal.specs.declared.entry.Entry.{Entry}
+use Rattle.mate_journal.specs.declared.entry.Entry.TheVariants as entry
+use Rattle.mate_journal.specs.declared.entry.Stamped.{Stamped}
+use Rattle.open_log.specs.OpenLog.{Gone, OpenView, entry_behind, stamped_behind, IsKept}
+use Rattle.node_core.specs.View.{NodeView, IsSameNode}
+use Rattle.report_text.specs.Words.{stamp_words, handler_name, number, word, image_word, image_of, seen_words, entry_words}
+use Rattle.report_text.specs.Text.{entry_line, event_piece}
+use Rattle.run_steps.specs.Keeping.{StaysAsToldTo}
+use Rattle.run_steps.specs.declared.heap_node.Written.{Written}
+use Rattle.run_steps.specs.declared.heap_node.Written.TheVariants.{Kept, Forgotten}
+
+-- ---- what is gone
+
+pub stays-first : (written : Written) (g : Gone) → StaysAsToldTo written g g
+stays-first Kept g = refl
+stays-first Forgotten g = tt
+
+pub stays-then : (written : Written) (first old mid new : Gone) → StaysAsToldTo written first old → StaysAsToldTo written old mid → new ≡ mid → StaysAsToldTo written first new
+stays-then Kept first old mid new f g same = same ∙ g ∙ f
+stays-then Forgotten first old mid new f g same = tt
+
+pub stays-back : (written : Written) (old mid new : Gone) → StaysAsToldTo written old mid → new ≡ mid → StaysAsToldTo written old new
+stays-back Kept old mid new g same = same ∙ g
+stays-back Forgotten old mid new g same = tt
+
+-- ---- the same node twice
+
+pub same-then : (a b c : NodeView) → IsSameNode a b → IsSameNode b c → IsSameNode a c
+same-then a b c f g = record {
+  description = g.description ∙ f.description;
+  log = record { entries = g.log.entries ∙ f.log.entries; images = g.log.images ∙ f.log.images; stores = g.log.stores ∙ f.log.stores };
+  line = g.line ∙ f.line;
+  counts = g.counts ∙ f.counts;
+  room = let x = f.room in let y = g.room in omega (arith, x, y);
+}
+
+-- ---- the lines of what is at hand
+
+slice_get-drop : {A : Type 0} (n : ℕ) (xs : List A) (k : ℕ) → slice_get (drop n xs) k ≡ slice_get xs (n + k)
+slice_get-drop zero xs k = let e : k ≡ 0 + k = omega arith in ap (slice_get xs) e
+slice_get-drop (suc n) [] k = refl
+slice_get-drop (suc n) (x ∷ xs) k = let e : suc (n + k) ≡ suc n + k = omega arith in slice_get-drop n xs k ∙ ap (slice_get (x ∷ xs)) e
+
+module _ (d : Description) (v : OpenView) (kept : Log) (is : IsKept v kept) where
+  abbrev moved : Stamped → Stamped
+  moved = stamped_behind v.gone.images v.gone.stores
+
+  words-same : (e : Entry) → entry_words d v.all (entry_behind v.gone.images v.gone.stores e) ≡ entry_words d kept e
+  words-same (entry.Post n h c payload) = refl
+  words-same (entry.Dropped h cause) = refl
+  words-same (entry.Start n) = refl
+  words-same (entry.Ask n f args) = refl
+  words-same (entry.Answer n value) = refl
+  words-same (entry.Halt n) = refl
+  words-same (entry.Fault n kind) = refl
+  words-same (entry.Install h version image) =
+      let same : slice_get v.all.images (v.gone.images + image) ≡ slice_get kept.images image =
+      sym (slice_get-drop v.gone.images v.all.images image) ∙ ap (λ (xs : List (ArrayVec ℕ)). slice_get xs image) is.images in
+      ap (λ (o : _). codes " install" ++ word (handler_name d h) ++ number version ++ word (image_word (image_of o))) same
+  words-same entry.Reset = refl
+  words-same (entry.Seen store) =
+      let same : slice_get v.all.stores (v.gone.stores + store) ≡ slice_get kept.stores store =
+      sym (slice_get-drop v.gone.stores v.all.stores store) ∙ ap (λ (xs : List Store). slice_get xs store) is.stores in
+      ap (λ (o : _). codes " seen" ++ seen_words d o) same
+  words-same (entry.Void cause) = refl
+
+  lines-same : (es : List Stamped) → flat_map (entry_line d v.all 0) (map moved es) ≡ flat_map (entry_line d kept 0) es
+  lines-same [] = refl
+  lines-same (s ∷ es) =
+      ap (λ (ws : List ℕ). (stamp_words s.stamp 0 ++ ws ++ codes "\n") ++ flat_map (entry_line d v.all 0) (map moved es)) (words-same s.entry)
+      ∙ ap (λ (ls : List ℕ). entry_line d kept 0 s ++ ls) (lines-same es)
+
+  -- the lines from a position on, of those that are at hand
+  pub piece-kept : (from : ℕ) → event_piece d [] kept from 0 ≡ event_piece d [] v.all (v.gone.entries + from) 0
+  piece-kept from =
+      let left : drop (v.gone.entries + from) v.all.entries ≡ map moved (drop from kept.entries) =
+      sym (drop-drop from v.gone.entries v.all.entries) ∙ ap (drop from) is.entries ∙ drop-map moved from kept.entries in
+      sym (ap (flat_map (entry_line d v.all 0)) left ∙ lines-same (drop from kept.entries))
+
+-- how many are at hand
+pub count-kept : (v : OpenView) (kept : Log) → IsKept v kept → v.gone.entries + length kept.entries ≡ length v.all.entries
+count-kept v kept is =
+    let moves = length-map kept.entries (stamped_behind v.gone.images v.gone.stores) in
+    let left = length-drop v.gone.entries v.all.entries in
+    let same = ap (λ (es : List Stamped). length es) is.entries in
+    let within = is.within in
+    omega (arith, moves, left, same, within)

@@ -1,0 +1,241 @@
+use Rattle.std.proofs.Common.{◌≡◌, ◌≤◌, ◌+◌, ℕ, suc, List, true, false, length, take, sym, ◌∙◌, ap, subst, arith, inr, refl}
+use Rattle.std.proofs.lemmas.Bool.{leb-false, leb-true}
+use Rattle.vm_desc.specs.declared.description.Description.{Description}
+use Rattle.mate_files.specs.Sink.{Sent}
+use Rattle.mate_files.proofs.SinkLemmas.{Sent-nil, Sent-trans, SentPart-nil}
+use Rattle.mate_journal.specs.NodeScript.{Whole, Full, Cut}
+use Rattle.mate_journal.specs.declared.entry.Stamped.{Stamped}
+use Rattle.mate_journal.specs.declared.report.TheConstants.{RECORDS_MAX}
+use Rattle.node_programs.specs.Right.{AreRightPrograms}
+use Rattle.open_log.specs.OpenLog.{Gone}
+use Rattle.run_steps.specs.Passing.{with_report, PassWrites}
+use Rattle.run_steps.specs.Running.{report_with}
+use Rattle.run_steps.specs.declared.writing.Pass.{Pass}
+use Rattle.run_steps.proofs.KeptLemmas.{stays-first, stays-then}
+use Rattle.run_steps.proofs.RunLemmas.{HasRun-new, HasRun-same, HasRun-step, timely-at, timely-next, few-entries, run-whole, run-full, run-cut, reported, keeps-by, ok-room}
+use Rattle.run_steps.proofs.WrittenLemmas.{lines-none, lines-room, lines-last, event-written, stopped-within, stopped-behind, stopped-with, ended-whole, ended-full}
+use Rattle.run_steps.proofs.writing.write_run.Goals as goal
+
+pub loop-step-init : goal.loop-step-init
+loop-step-init g c =
+    let fresh = c.requires.fresh in
+    record {
+      run = HasRun-new c.args.desc.now c.args.programs.now c.args.node.now.node fresh.description fresh.empty fresh.pace;
+      count = refl;
+      sent = subst (λ (bs : List ℕ). Sent (g.S.Sink.written c.args.out.now) (g.S.Sink.written c.args.out.now) bs) (sym (lines-none c.args.desc.now c.args.node.now.node.log fresh.empty.entries)) Sent-nil;
+      later = omega arith;
+      gone = stays-first c.args.written c.args.node.now.gone;
+    }
+
+pub returns-then-is_full-clause-gives : goal.returns-then-is_full-clause-gives
+returns-then-is_full-clause-gives g c =
+    let i = c.loop-step.invariant in
+    let d = c.args.desc.now in
+    let below = c.loop-step-test.true in
+    let run = run-full d c.args.programs.now c.steps-list.result.now c.loop-step.step-index c.loop-step.events c.loop-step.node.node i.run c.loop-step-test.true i.count
+    (leb-true RECORDS_MAX (length c.loop-step.node.node.log.entries) (sym c.is_full.ensures.full ∙ c.if-is_full.true)) in
+    let keeps = keeps-by d c.loop-step.node.node i.run.description c.is_full.ensures.keeps in
+    let timely = timely-at d c.args.programs.now c.steps-list.result.now c.loop-step.step-index c.loop-step.events c.loop-step.node.node i.run (omega (arith, below)) i.count in
+    (ended-full d c.args.steps.now c.args.programs.now (g.S.Sink.written c.args.out.now) (g.S.Sink.written c.loop-step.out) (g.S.Sink.written c.write_last.new.out) (g.S.Sink.faults c.args.out.now)
+    (g.S.Sink.faults c.loop-step.out) (g.S.Sink.faults c.write_last.new.out) c.loop-step.node.node.log c.loop-step.events c.loop-step.events (with_report c.write_last.result.result (report_with c.loop-step.node.node.log c.write_last.result.events c.write_last.result.whole))
+    (reported d c.args.steps.now c.args.programs.now Full c.steps-list.result.now c.loop-step.node.node c.loop-step.events c.steps-list.ensures c.requires.programs.programs i.run.description c.is_full.ensures.keeps run _ refl)
+    refl (lines-last d c.loop-step.node.node.log c.loop-step.events keeps timely) i.sent i.later c.write_last.ensures).0
+
+-- memory was refused before a step
+pub returns-then-is_err-clause-gives : goal.returns-then-is_err-clause-gives
+returns-then-is_err-clause-gives g c =
+    let i = c.loop-step.invariant in
+    let d = c.args.desc.now in
+    let ps = c.args.programs.now in
+    let list = c.steps-list.result.now in
+    let mid = c.make_room.new.self.node in
+    let below = c.loop-step-test.true in
+    let mid_run = HasRun-same d ps (take c.loop-step.step-index list) c.loop-step.node.node mid c.make_room.ensures.same c.make_room.ensures.pace i.run in
+    let within : c.loop-step.step-index ≤ length list = omega (arith, below) in
+    let keeps = keeps-by d mid mid_run.description c.no_room.ensures.keeps in
+    let sent = subst (λ (bs : List ℕ). Sent (g.S.Sink.written c.args.out.now) (g.S.Sink.written c.loop-step.out) bs) (sym (lines-room d mid.log c.loop-step.node.node.log c.make_room.ensures.same.log)) i.sent in
+    let report = reported d c.args.steps.now ps Cut list mid c.loop-step.events c.steps-list.ensures c.requires.programs.programs mid_run.description c.no_room.ensures.keeps
+    (run-cut d ps list c.loop-step.step-index c.loop-step.events mid mid_run within i.count) (report_with mid.log c.loop-step.events false) refl in
+    let P : Pass → Type 0 = λ x. PassWrites d c.args.steps.now ps (g.S.Sink.written c.args.out.now) (g.S.Sink.written c.loop-step.out) (g.S.Sink.faults c.args.out.now) (g.S.Sink.faults c.loop-step.out) mid.log x in
+    subst P (sym c.no_room.ensures.is)
+    (inr (stopped-behind d c.args.steps.now ps Cut (g.S.Sink.written c.args.out.now) (g.S.Sink.written c.loop-step.out) (g.S.Sink.written c.loop-step.out) mid.log c.loop-step.events c.loop-step.events report refl
+    (lines-last d mid.log c.loop-step.events keeps (timely-at d ps list c.loop-step.step-index c.loop-step.events mid mid_run within i.count)) sent SentPart-nil))
+
+pub make-requires-clause-ready : goal.make-requires-clause-ready
+make-requires-clause-ready g c =
+    let i = c.loop-step.invariant in
+    let same = c.make_room.ensures.same in
+    let run = HasRun-same c.args.desc.now c.args.programs.now (take c.loop-step.step-index c.steps-list.result.now) c.loop-step.node.node c.make_room.new.self.node same c.make_room.ensures.pace i.run in
+    let below = c.loop-step-test.true in
+    let few = leb-false RECORDS_MAX (length c.loop-step.node.node.log.entries) (sym c.is_full.ensures.full ∙ c.if-is_full.false) in
+    let entries = ap (λ es. length {A = Stamped} es) same.log.entries in
+    record {
+      timely = timely-next c.args.desc.now c.args.programs.now c.steps-list.result.now c.loop-step.step-index c.loop-step.events c.make_room.new.self.node run (omega (arith, below)) i.count;
+      few = omega (arith, few, entries);
+      room = ok-room c.make_room.result _ (sym c.is_err.ensures.value ∙ c.if-is_err.false) c.make_room.ensures.room;
+    }
+
+pub make-requires-clause-programs : goal.make-requires-clause-programs
+make-requires-clause-programs g c =
+    subst (λ (d : Description). AreRightPrograms d c.args.programs.now) (sym (c.make_room.ensures.same.description ∙ c.loop-step.invariant.run.description)) c.requires.programs.programs
+
+pub write_new-requires : goal.write_new-requires
+write_new-requires g c =
+    let position = c.next_position-from.ensures.position in
+    let gone = ap (λ (x : Gone). x.entries) c.make.ensures.gone in
+    let count = c.make.ensures.tells.grows.count in
+    omega (arith, position, gone, count)
+
+-- the sink failed within an event's lines
+pub returns-in-Err-clause-gives : goal.returns-in-Err-clause-gives
+returns-in-Err-clause-gives g c =
+    let i = c.loop-step.invariant in
+    let d = c.args.desc.now in
+    let ps = c.args.programs.now in
+    let list = c.steps-list.result.now in
+    let mid = c.make_room.new.self.node in
+    let new = c.make.new.self.node in
+    let same = c.make_room.ensures.same in
+    let below = c.loop-step-test.true in
+    let count = i.count in
+    let position = c.next_position-from.ensures.position in
+    let gone = ap (λ (x : Gone). x.entries) c.make.ensures.gone in
+    let few = leb-false RECORDS_MAX (length c.loop-step.node.node.log.entries) (sym c.is_full.ensures.full ∙ c.if-is_full.false) in
+    let entries = ap (λ es. length {A = Stamped} es) same.log.entries in
+    let mid_run = HasRun-same d ps (take c.loop-step.step-index list) c.loop-step.node.node mid same c.make_room.ensures.pace i.run in
+    let new_run = HasRun-step d ps list c.loop-step.step-index c.loop-step.events c.step-item.result mid new mid_run c.loop-step-test.true count c.step-item.is (omega (arith, few, entries)) c.make.ensures.tells in
+    let written = event-written d ps list c.loop-step.step-index c.loop-step.events (c.make.new.self.gone.entries + c.next_position-from.result) mid new _ mid_run (omega (arith, below)) count (keeps-by d mid mid_run.description c.next_position-from.ensures.keeps)
+    (keeps-by d new new_run.description c.write_new.ensures.keeps) c.make.ensures.tells (omega (arith, position, gone)) in
+    let sent = subst (λ (bs : List ℕ). Sent (g.S.Sink.written c.args.out.now) (g.S.Sink.written c.loop-step.out) bs) (sym (lines-room d mid.log c.loop-step.node.node.log same.log)) i.sent in
+    let report = reported d c.args.steps.now ps Cut list new (c.loop-step.events + 1) c.steps-list.ensures c.requires.programs.programs new_run.description c.write_new.ensures.keeps
+    (run-cut d ps list (c.loop-step.step-index + 1) (c.loop-step.events + 1) new new_run (omega (arith, below)) (omega (arith, count))) (report_with new.log (c.loop-step.events + 1) false) refl in
+    stopped-with d c.args.steps.now ps (g.S.Sink.written c.args.out.now) (g.S.Sink.written c.loop-step.out) (g.S.Sink.written c.write_new.new.out) (g.S.Sink.faults c.args.out.now) (g.S.Sink.faults c.loop-step.out)
+    (g.S.Sink.faults c.write_new.new.out) c.in-Err.fault (report_with new.log (c.loop-step.events + 1) false) c.stopped.result
+    (stopped-within d c.args.steps.now ps Cut (g.S.Sink.written c.args.out.now) (g.S.Sink.written c.loop-step.out) (g.S.Sink.written c.write_new.new.out) mid.log new.log (c.loop-step.events + 1) (c.loop-step.events + 1) _
+    report refl written.0 written.1 sent c.in-Err.ensures.writes.writes)
+    i.later c.in-Err.ensures.writes.cause c.stopped.ensures
+
+pub loop-step-preserved : goal.loop-step-preserved
+loop-step-preserved g c =
+    let i = c.loop-step.invariant in
+    let d = c.args.desc.now in
+    let ps = c.args.programs.now in
+    let list = c.steps-list.result.now in
+    let mid = c.make_room.new.self.node in
+    let new = c.make.new.self.node in
+    let same = c.make_room.ensures.same in
+    let below = c.loop-step-test.true in
+    let count = i.count in
+    let position = c.next_position-from.ensures.position in
+    let gone = ap (λ (x : Gone). x.entries) c.make.ensures.gone in
+    let few = leb-false RECORDS_MAX (length c.loop-step.node.node.log.entries) (sym c.is_full.ensures.full ∙ c.if-is_full.false) in
+    let entries = ap (λ es. length {A = Stamped} es) same.log.entries in
+    let mid_run = HasRun-same d ps (take c.loop-step.step-index list) c.loop-step.node.node mid same c.make_room.ensures.pace i.run in
+    let new_run = HasRun-step d ps list c.loop-step.step-index c.loop-step.events c.step-item.result mid new mid_run c.loop-step-test.true count c.step-item.is (omega (arith, few, entries)) c.make.ensures.tells in
+    let written = event-written d ps list c.loop-step.step-index c.loop-step.events (c.make.new.self.gone.entries + c.next_position-from.result) mid new _ mid_run (omega (arith, below)) count (keeps-by d mid mid_run.description c.next_position-from.ensures.keeps)
+    (keeps-by d new new_run.description c.write_new.ensures.keeps) c.make.ensures.tells (omega (arith, position, gone)) in
+    let sent = subst (λ (bs : List ℕ). Sent (g.S.Sink.written c.args.out.now) (g.S.Sink.written c.loop-step.out) bs) (sym (lines-room d mid.log c.loop-step.node.node.log same.log)) i.sent in
+    let later = i.later in
+    let rose = c.in_default.ensures.writes.later in
+    record {
+      run = new_run;
+      count = omega (arith, count);
+      sent = subst (λ (bs : List ℕ). Sent (g.S.Sink.written c.args.out.now) (g.S.Sink.written c.write_new.new.out) bs) (sym written.0) (Sent-trans sent c.in_default.ensures.writes.writes);
+      later = omega (arith, later, rose);
+      gone = stays-then c.args.written c.args.node.now.gone c.loop-step.node.gone c.make_room.new.self.gone c.make.new.self.gone i.gone c.make_room.ensures.gone c.make.ensures.gone;
+    }
+
+-- memory was refused before the store is shown
+pub returns-then-is_err-2-clause-gives : goal.returns-then-is_err-2-clause-gives
+returns-then-is_err-2-clause-gives g c =
+    let i = c.loop-step.invariant in
+    let d = c.args.desc.now in
+    let ps = c.args.programs.now in
+    let list = c.steps-list.result.now in
+    let mid = c.reserve.new.self.node in
+    let mid_run = HasRun-same d ps (take c.loop-step.step-index list) c.loop-step.node.node mid c.reserve.ensures.same c.reserve.ensures.pace i.run in
+    let keeps = keeps-by d mid mid_run.description c.no_room-then-is_err-2.ensures.keeps in
+    let sent = subst (λ (bs : List ℕ). Sent (g.S.Sink.written c.args.out.now) (g.S.Sink.written c.loop-step.out) bs) (sym (lines-room d mid.log c.loop-step.node.node.log c.reserve.ensures.same.log)) i.sent in
+    let report = reported d c.args.steps.now ps Cut list mid c.loop-step.events c.steps-list.ensures c.requires.programs.programs mid_run.description c.no_room-then-is_err-2.ensures.keeps
+    (run-cut d ps list c.loop-step.step-index c.loop-step.events mid mid_run c.loop-step.auto.step-index-end i.count) (report_with mid.log c.loop-step.events false) refl in
+    let P : Pass → Type 0 = λ x. PassWrites d c.args.steps.now ps (g.S.Sink.written c.args.out.now) (g.S.Sink.written c.loop-step.out) (g.S.Sink.faults c.args.out.now) (g.S.Sink.faults c.loop-step.out) mid.log x in
+    subst P (sym c.no_room-then-is_err-2.ensures.is)
+    (inr (stopped-behind d c.args.steps.now ps Cut (g.S.Sink.written c.args.out.now) (g.S.Sink.written c.loop-step.out) (g.S.Sink.written c.loop-step.out) mid.log c.loop-step.events c.loop-step.events report refl
+    (lines-last d mid.log c.loop-step.events keeps (timely-at d ps list c.loop-step.step-index c.loop-step.events mid mid_run c.loop-step.auto.step-index-end i.count)) sent SentPart-nil))
+
+pub seen-requires-clause-timely : goal.seen-requires-clause-timely
+seen-requires-clause-timely g c =
+    let i = c.loop-step.invariant in
+    let run = HasRun-same c.args.desc.now c.args.programs.now (take c.loop-step.step-index c.steps-list.result.now) c.loop-step.node.node c.reserve.new.self.node c.reserve.ensures.same c.reserve.ensures.pace i.run in
+    timely-next c.args.desc.now c.args.programs.now c.steps-list.result.now c.loop-step.step-index c.loop-step.events c.reserve.new.self.node run c.loop-step.auto.step-index-end i.count
+
+pub seen-requires-clause-few : goal.seen-requires-clause-few
+seen-requires-clause-few g c =
+    let i = c.loop-step.invariant in
+    let run = HasRun-same c.args.desc.now c.args.programs.now (take c.loop-step.step-index c.steps-list.result.now) c.loop-step.node.node c.reserve.new.self.node c.reserve.ensures.same c.reserve.ensures.pace i.run in
+    few-entries c.args.desc.now c.args.programs.now (take c.loop-step.step-index c.steps-list.result.now) c.reserve.new.self.node run c.next_position-from-2.ensures.keeps
+
+pub write_new-requires-2 : goal.write_new-requires-2
+write_new-requires-2 g c =
+    let position = c.next_position-from-2.ensures.position in
+    let gone = ap (λ (x : Gone). x.entries) c.seen.ensures.gone in
+    let count = c.seen.ensures.tells.grows.count in
+    omega (arith, position, gone, count)
+
+-- the sink failed within the lines of the stores that are shown at the end
+pub returns-in-Err-write_new-clause-gives : goal.returns-in-Err-write_new-clause-gives
+returns-in-Err-write_new-clause-gives g c =
+    let i = c.loop-step.invariant in
+    let d = c.args.desc.now in
+    let ps = c.args.programs.now in
+    let list = c.steps-list.result.now in
+    let mid = c.reserve.new.self.node in
+    let new = c.seen.new.self.node in
+    let same = c.reserve.ensures.same in
+    let past = c.loop-step-test.false in
+    let position = c.next_position-from-2.ensures.position in
+    let gone = ap (λ (x : Gone). x.entries) c.seen.ensures.gone in
+    let entries = ap (λ es. length {A = Stamped} es) same.log.entries in
+    let mid_run = HasRun-same d ps (take c.loop-step.step-index list) c.loop-step.node.node mid same c.reserve.ensures.pace i.run in
+    let is = c.seen.ensures.tells.description ∙ mid_run.description in
+    let written = event-written d ps list c.loop-step.step-index c.loop-step.events (c.seen.new.self.gone.entries + c.next_position-from-2.result) mid new _ mid_run c.loop-step.auto.step-index-end i.count (keeps-by d mid mid_run.description c.next_position-from-2.ensures.keeps)
+    (keeps-by d new is c.write_new-2.ensures.keeps) c.seen.ensures.tells (omega (arith, position, gone)) in
+    let sent = subst (λ (bs : List ℕ). Sent (g.S.Sink.written c.args.out.now) (g.S.Sink.written c.loop-step.out) bs) (sym (lines-room d mid.log c.loop-step.node.node.log same.log)) i.sent in
+    let run = run-whole d ps list c.loop-step.step-index c.loop-step.events mid new mid_run c.loop-step.auto.step-index-end (omega (arith, past)) i.count c.seen.ensures.tells in
+    let report = reported d c.args.steps.now ps Whole list new c.loop-step.events c.steps-list.ensures c.requires.programs.programs is c.write_new-2.ensures.keeps run (report_with new.log c.loop-step.events true) refl in
+    let last : suc c.loop-step.events ≡ c.loop-step.events + 1 = omega arith in
+    stopped-with d c.args.steps.now ps (g.S.Sink.written c.args.out.now) (g.S.Sink.written c.loop-step.out) (g.S.Sink.written c.write_new-2.new.out) (g.S.Sink.faults c.args.out.now) (g.S.Sink.faults c.loop-step.out)
+    (g.S.Sink.faults c.write_new-2.new.out) c.in-Err-write_new.fault (report_with new.log c.loop-step.events true) c.stopped-in-Err-write_new.result
+    (stopped-within d c.args.steps.now ps Whole (g.S.Sink.written c.args.out.now) (g.S.Sink.written c.loop-step.out) (g.S.Sink.written c.write_new-2.new.out) mid.log new.log c.loop-step.events (c.loop-step.events + 1) _
+    report last written.0 written.1 sent c.in-Err-write_new.ensures.writes.writes)
+    i.later c.in-Err-write_new.ensures.writes.cause c.stopped-in-Err-write_new.ensures
+
+-- all was made, and the last line is owed
+pub returns-clause-gives : goal.returns-clause-gives
+returns-clause-gives g c =
+    let i = c.loop-step.invariant in
+    let d = c.args.desc.now in
+    let ps = c.args.programs.now in
+    let list = c.steps-list.result.now in
+    let mid = c.reserve.new.self.node in
+    let new = c.seen.new.self.node in
+    let same = c.reserve.ensures.same in
+    let past = c.loop-step-test.false in
+    let position = c.next_position-from-2.ensures.position in
+    let gone = ap (λ (x : Gone). x.entries) c.seen.ensures.gone in
+    let entries = ap (λ es. length {A = Stamped} es) same.log.entries in
+    let mid_run = HasRun-same d ps (take c.loop-step.step-index list) c.loop-step.node.node mid same c.reserve.ensures.pace i.run in
+    let is = c.seen.ensures.tells.description ∙ mid_run.description in
+    let keeps = keeps-by d new is c.write_new-2.ensures.keeps in
+    let written = event-written d ps list c.loop-step.step-index c.loop-step.events (c.seen.new.self.gone.entries + c.next_position-from-2.result) mid new _ mid_run c.loop-step.auto.step-index-end i.count (keeps-by d mid mid_run.description c.next_position-from-2.ensures.keeps)
+    keeps c.seen.ensures.tells (omega (arith, position, gone)) in
+    let sent = subst (λ (bs : List ℕ). Sent (g.S.Sink.written c.args.out.now) (g.S.Sink.written c.loop-step.out) bs) (sym (lines-room d mid.log c.loop-step.node.node.log same.log)) i.sent in
+    let all = subst (λ (bs : List ℕ). Sent (g.S.Sink.written c.args.out.now) (g.S.Sink.written c.write_new-2.new.out) bs) (sym written.0) (Sent-trans sent c.in_default-write_new.ensures.writes.writes) in
+    let run = run-whole d ps list c.loop-step.step-index c.loop-step.events mid new mid_run c.loop-step.auto.step-index-end (omega (arith, past)) i.count c.seen.ensures.tells in
+    let report = reported d c.args.steps.now ps Whole list new c.loop-step.events c.steps-list.ensures c.requires.programs.programs is c.write_new-2.ensures.keeps run (report_with new.log c.loop-step.events true) refl in
+    let last : suc c.loop-step.events ≡ c.loop-step.events + 1 = omega arith in
+    let later = i.later in
+    let rose = c.in_default-write_new.ensures.writes.later in
+    (ended-whole d c.args.steps.now ps (g.S.Sink.written c.args.out.now) (g.S.Sink.written c.write_new-2.new.out) (g.S.Sink.written c.write_last-2.new.out) (g.S.Sink.faults c.args.out.now) (g.S.Sink.faults c.write_new-2.new.out)
+    (g.S.Sink.faults c.write_last-2.new.out) new.log c.loop-step.events (c.loop-step.events + 1) (with_report c.write_last-2.result.result (report_with new.log c.write_last-2.result.events c.write_last-2.result.whole)) report last
+    (lines-last d new.log (c.loop-step.events + 1) keeps c.seen.ensures.tells.grows.timely) all (omega (arith, later, rose)) c.write_last-2.ensures).0

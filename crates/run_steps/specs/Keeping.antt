@@ -1,0 +1,21 @@
+-- A new node of a run, and whether what it told is kept.
+use Rattle.std.specs.Prelude.{◌≡◌, ⊤}
+use Rattle.vm_desc.specs.declared.description.Description.{Description}
+use Rattle.mate_journal.specs.Log.{IsEmpty}
+use Rattle.mate_journal.specs.Pace.{no_pace}
+use Rattle.open_log.specs.OpenLog.{Gone, nothing_gone}
+use Rattle.node_core.specs.View.{OpenNodeView, HasPace}
+use Rattle.run_steps.specs.declared.heap_node.Written.{Written}
+use Rattle.run_steps.specs.declared.heap_node.Written.TheVariants.{Kept, Forgotten}
+
+-- a node on which nothing happened
+pub record IsNewNode (d : Description) (v : OpenNodeView) : Type 0 where
+  pub description : v.node.description ≡ d
+  pub empty : IsEmpty v.node.log
+  pub pace : HasPace v.node no_pace
+  pub whole : v.gone ≡ nothing_gone
+
+-- no more is gone than was, where what is written is kept
+abbrev pub StaysAsToldTo : Written → Gone → Gone → Type 0
+StaysAsToldTo Kept old new = new ≡ old
+StaysAsToldTo Forgotten old new = ⊤
