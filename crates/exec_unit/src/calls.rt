@@ -32,7 +32,7 @@ pub fn ask(
     ensures waits { result ≡ Next → ⊥ }
 {
     registers.has_depth(memory);
-    let _instr = code.at(registers.place);
+    let _instr = code.at(registers.place as usize);
     let _ = heap;
     take_arguments(code.shape(), registers.past(1), memory, fun)
 }
@@ -52,7 +52,7 @@ pub fn send(
     ensures step { IsStep code.now (private_in registers.old memory.old) heap.now result (private_in registers.new memory.new) heap.now }
     ensures waits { result ≡ Next → ⊥ }
 {
-    let _instr = code.at(registers.place);
+    let _instr = code.at(registers.place as usize);
     take_values(registers.past(2), memory, heap, fun, buffer)
 }
 

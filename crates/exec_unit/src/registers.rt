@@ -6,11 +6,12 @@ use mate_num::Payload;
 
 /// The place of the next instruction, how many values are on the stack, and the turns that are left.
 ///
-/// A loop over instructions holds these apart from the arrays, so that the compiler keeps them in registers.
+/// A loop over instructions holds these apart from the arrays, so that the compiler keeps them in registers: the depth as
+/// wide as an index, and the place not, since it would keep two of one width in one vector.
 #[derive(Clone, Copy)]
 pub struct Registers {
-    pub place: usize,
-    pub depth: u32,
+    pub place: u32,
+    pub depth: usize,
     pub turns: u32,
     ghost fits: { depth ≤ 16 },
 }

@@ -18,7 +18,7 @@ const ROOM: usize = 10;
 
 impl Registers {
     // Goes past an instruction of so many bytes.
-    pub(crate) fn past(&mut self, size: usize) -> &mut Registers
+    pub(crate) fn past(&mut self, size: u32) -> &mut Registers
         requires { self.old.place + size ≤ CODE_MAX }
         ensures same { result.ghost_name ≡ self.entry.ghost_name }
         ensures value { (m : AnyMemory) → private_in result.now m ≡ at_place (self.old.place + size) (private_in self.old m) }
@@ -32,7 +32,7 @@ impl Registers {
     pub(crate) fn go_to(&mut self, place: u16)
         ensures { (m : AnyMemory) → private_in self.new m ≡ at_place place (private_in self.old m) }
     {
-        self.place = usize::from(place);
+        self.place = u32::from(place);
     }
 
     // Pays a turn. Answers whether one was left.
@@ -50,7 +50,7 @@ impl Registers {
         requires { self.old.depth < 16 }
         ensures { private_in self.new memory.new ≡ push value (private_in self.old memory.old) }
     {
-        put(&mut memory.stack, self.depth as usize, value);
+        put(&mut memory.stack, self.depth, value);
         self.depth += 1;
     }
 
@@ -59,7 +59,7 @@ impl Registers {
         ensures value { private_in self.old memory.now ≡ push result (private_in self.new memory.now) }
         ensures depth { self.new.depth + 1 ≡ self.old.depth }
     {
-        let value = last(&memory.stack, self.depth as usize);
+        let value = last(&memory.stack, self.depth);
         self.depth -= 1;
         value
     }
@@ -70,8 +70,8 @@ impl Registers {
         ensures value { result ≡ arguments count (private_in self.old memory.now).stack }
         ensures left { private_in self.new memory.now ≡ with_stack (drop count (private_in self.old memory.now).stack) (private_in self.old memory.now) }
     {
-        let first = self.depth - u32::from(count);
-        let values = between(&memory.stack, first as usize, self.depth as usize);
+        let first = self.depth - usize::from(count);
+        let values = between(&memory.stack, first, self.depth);
         let room = values.len().min(ROOM);
         let Ok(args) = Payload::try_from(&values[..room]) else {
             unreachable!()
@@ -84,7 +84,7 @@ impl Registers {
     pub(crate) fn has_depth(&self, memory: &Memory)
         ensures { length (private_in self.now memory.now).stack ≡ self.now.depth }
     {
-        let _values = between(&memory.stack, 0, self.depth as usize);
+        let _values = between(&memory.stack, 0, self.depth);
     }
 }
 

@@ -28,7 +28,7 @@ pub(crate) fn advance(
     ensures { ComesTo result code.now (private_in registers.old memory.old) heap.old (private_in registers.new memory.new) heap.new }
 {
     registers.has_depth(memory);
-    let instr = code.at(registers.place);
+    let instr = code.at(registers.place as usize);
     act(code.shape(), instr, registers, memory, heap)
 }
 

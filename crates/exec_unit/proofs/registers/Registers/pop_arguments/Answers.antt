@@ -1,4 +1,4 @@
-use Rattle.std.proofs.Common.{◌≡◌, ◌-◌, ℤ, List, take, ap, arith}
+use Rattle.std.proofs.Common.{◌-◌, ℤ, List, take, ap, arith}
 use Rattle.mate_code.specs.Effect.{with_stack}
 use Rattle.exec_unit.specs.Machine.{private_in}
 use Rattle.exec_unit.proofs.MachineLemmas.{arguments-is, without-arguments}
