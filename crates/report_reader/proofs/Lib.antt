@@ -1,15 +1,5 @@
-pub mod OptionLemmas
-pub mod WordsLemmas
-pub mod NumberLemmas
 pub mod VerbLemmas
-pub mod HexLemmas
-pub mod FieldLemmas
-pub mod StoreLemmas
 pub mod LineLemmas
 pub mod LineOf
-pub mod ItemLemmas
-pub mod WrittenWords
-pub mod WrittenFields
-pub mod WrittenStores
 pub mod WrittenLines
 pub mod Ranges

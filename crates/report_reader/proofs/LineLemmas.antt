@@ -21,19 +21,21 @@ use Rattle.report_reader.specs.declared.line.Told.TheVariants as told
 use Rattle.report_reader.specs.declared.line.Line.{Line}
 use Rattle.report_reader.specs.declared.verb.Verb.{Verb}
 use Rattle.report_reader.specs.declared.verb.Verb.TheVariants as verb
-use Rattle.report_reader.specs.Words.{words_of, first, rest, reads, only_at_end}
-use Rattle.report_reader.specs.Numbers.{unsigned_of, value_of}
-use Rattle.report_reader.specs.Verbs.{verb_word, verb_of, named_among}
-use Rattle.report_reader.specs.Hex.{image_of, packet_of}
-use Rattle.report_reader.specs.Names.{handler_of, function_of, context_of}
-use Rattle.report_reader.specs.Stores.{store_of}
+use Rattle.report_fields.specs.Words.{words_of, first, rest, reads, only_at_end}
+use Rattle.report_fields.specs.Numbers.{unsigned_of, value_of}
+use Rattle.report_fields.specs.Fields.{named_among, number_of, node_of, drop_of, fault_of, payload_of}
+use Rattle.report_reader.specs.Verbs.{verb_word, verb_of}
+use Rattle.report_fields.specs.Hex.{image_of, packet_of}
+use Rattle.report_fields.specs.Names.{handler_of, function_of, context_of}
+use Rattle.report_fields.specs.Stores.{store_of}
 use Rattle.report_reader.specs.Told.{told_words, line_words, IsRightTold, IsRight}
-use Rattle.report_reader.specs.Reading.{number_of, node_of, drop_of, fault_of, payload_of, post_of, dropped_of, ask_of, answer_of, faulted_of, installed_of, VoidVerb, ready, waiting, newer, void_word, void_by, void_of, started_of, halted_of, shown_of, interval_of, sent_of, lost_of, got_of, noise_told, told_by, told_of, line_with, line_in}
-use Rattle.report_reader.proofs.OptionLemmas.{steps}
-use Rattle.report_reader.proofs.NumberLemmas.{Tells, decimal-unsigned_of, signed-value_of}
-use Rattle.report_reader.proofs.VerbLemmas.{named_among-word, word-verb_of}
-use Rattle.report_reader.proofs.FieldLemmas.{maps, next, handler_of-name, function_of-name, context_of-number, number_of-word, node_of-word, drop_of-word, fault_of-word, hex_of-word, TellsBytes, payload_of-words}
-use Rattle.report_reader.proofs.StoreLemmas.{joined, only_end, store_of-words}
+use Rattle.report_reader.specs.Reading.{post_of, dropped_of, ask_of, answer_of, faulted_of, installed_of, VoidVerb, ready, waiting, newer, void_word, void_by, void_of, started_of, halted_of, shown_of, interval_of, sent_of, lost_of, got_of, noise_told, told_by, told_of, line_with, line_in}
+use Rattle.report_fields.proofs.OptionLemmas.{steps}
+use Rattle.report_fields.proofs.NumberLemmas.{Tells, decimal-unsigned_of, signed-value_of}
+use Rattle.report_fields.proofs.ChoiceLemmas.{named_among-word}
+use Rattle.report_reader.proofs.VerbLemmas.{word-verb_of}
+use Rattle.report_fields.proofs.FieldLemmas.{maps, next, handler_of-name, function_of-name, context_of-number, number_of-word, node_of-word, drop_of-word, fault_of-word, hex_of-word, TellsBytes, payload_of-words}
+use Rattle.report_fields.proofs.StoreLemmas.{joined, only_end, store_of-words}
 
 -- words that were read tell what is written so, and that is right for the description
 pub record Writes (d : Description) (t : Told) (ws : List (List ℕ)) : Type 0 where

@@ -20,20 +20,22 @@ use Rattle.report_reader.specs.declared.line.Told.TheVariants as told
 use Rattle.report_reader.specs.declared.line.Line.{Line}
 use Rattle.report_reader.specs.declared.verb.Verb.{Verb}
 use Rattle.report_reader.specs.declared.verb.Verb.TheVariants as verb
-use Rattle.report_reader.specs.Words.{words_of, first, rest, reads, only_at_end}
-use Rattle.report_reader.specs.Numbers.{below_limit, unsigned_of, below_of, negative, positive, value_of, values_after}
-use Rattle.report_reader.specs.Verbs.{verb_of, named_among}
+use Rattle.report_fields.specs.Words.{words_of, first, rest, reads, only_at_end}
+use Rattle.report_fields.specs.Numbers.{below_limit, unsigned_of, below_of, negative, positive, value_of, values_after}
+use Rattle.report_fields.specs.Fields.{named_among, number_of, node_of, drop_of, fault_of, payload_of}
+use Rattle.report_reader.specs.Verbs.{verb_of}
 use Rattle.capsule_codec.specs.HexText.{bytes_of_digits}
-use Rattle.report_reader.specs.Hex.{is_hex_word, hex_of, image_of, packet_of}
-use Rattle.report_reader.specs.Names.{handler_of, function_of, context_of}
-use Rattle.report_reader.specs.Stores.{after, closed, shared_value, shared_after, item, items_after, opened, buffer_of, buffers_after, store_with, store_of}
-use Rattle.report_reader.specs.Told.{IsByteList, AreValues, HasToldRanges, HasRanges}
-use Rattle.report_reader.specs.Reading.{number_of, node_of, drop_of, fault_of, payload_of, post_of, dropped_of, ask_of, VoidVerb, ready, waiting, newer, void_word, void_by, told_by, told_of, line_with, line_in}
-use Rattle.report_reader.proofs.OptionLemmas.{steps, when_some, below_some}
-use Rattle.report_reader.proofs.NumberLemmas.{decimal-below_of}
-use Rattle.report_reader.proofs.HexLemmas.{encode_lower-bytes_of_digits, small-bytes_of_digits}
-use Rattle.report_reader.proofs.FieldLemmas.{maps}
-use Rattle.report_reader.proofs.StoreLemmas.{only_end}
+use Rattle.report_fields.specs.Hex.{is_hex_word, hex_of, image_of, packet_of}
+use Rattle.report_fields.specs.Names.{handler_of, function_of, context_of}
+use Rattle.report_fields.specs.Stores.{after, closed, shared_value, shared_after, item, items_after, opened, buffer_of, buffers_after, store_with, store_of}
+use Rattle.report_fields.specs.Ranges.{IsByteList, AreValues}
+use Rattle.report_reader.specs.Told.{HasToldRanges, HasRanges}
+use Rattle.report_reader.specs.Reading.{post_of, dropped_of, ask_of, VoidVerb, ready, waiting, newer, void_word, void_by, told_by, told_of, line_with, line_in}
+use Rattle.report_fields.proofs.OptionLemmas.{steps, when_some, below_some}
+use Rattle.report_fields.proofs.NumberLemmas.{decimal-below_of}
+use Rattle.report_fields.proofs.HexLemmas.{encode_lower-bytes_of_digits, small-bytes_of_digits}
+use Rattle.report_fields.proofs.FieldLemmas.{maps}
+use Rattle.report_fields.proofs.StoreLemmas.{only_end}
 
 -- ---- numbers
 
@@ -46,7 +48,7 @@ small-number ws n h = first-told number_of (λ m. m < 2 ^ 32) (λ w m e. (decima
 
 small-unsigned : (w : List ℕ) (n : ℕ) → unsigned_of w ≡ Some n → n < 2 ^ 64
 small-unsigned w n h =
-    let numeral = when_some (Rattle.report_reader.specs.Numbers.is_plain_numeral w) (below_limit (2 ^ 64) (Rattle.std.specs.Str.Parse.digits_value 10 w)) n h in
+    let numeral = when_some (Rattle.report_fields.specs.Numbers.is_plain_numeral w) (below_limit (2 ^ 64) (Rattle.std.specs.Str.Parse.digits_value 10 w)) n h in
     let below = below_some (Rattle.std.specs.Str.Parse.digits_value 10 w) (2 ^ 64) n numeral.1 in
     let P : ℕ → Type 0 = λ m. m < 2 ^ 64 in subst P below.1 below.0
 

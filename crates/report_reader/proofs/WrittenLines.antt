@@ -25,20 +25,21 @@ use Rattle.report_reader.specs.declared.line.Told.TheVariants as told
 use Rattle.report_reader.specs.declared.line.Line.{Line}
 use Rattle.report_reader.specs.declared.verb.Verb.{Verb}
 use Rattle.report_reader.specs.declared.verb.Verb.TheVariants as verb
-use Rattle.report_reader.specs.Words.{words_of, reads, only_at_end}
-use Rattle.report_reader.specs.Numbers.{unsigned_of, value_of}
-use Rattle.report_reader.specs.Verbs.{verb_word, verb_of, named_among}
-use Rattle.report_reader.specs.Hex.{image_of, packet_of}
-use Rattle.report_reader.specs.Names.{handler_of, function_of, context_of}
+use Rattle.report_fields.specs.Words.{words_of, reads, only_at_end}
+use Rattle.report_fields.specs.Numbers.{unsigned_of, value_of}
+use Rattle.report_fields.specs.Fields.{named_among, number_of, node_of, drop_of, fault_of, payload_of}
+use Rattle.report_reader.specs.Verbs.{verb_word, verb_of}
+use Rattle.report_fields.specs.Hex.{image_of, packet_of}
+use Rattle.report_fields.specs.Names.{handler_of, function_of, context_of}
 use Rattle.report_reader.specs.Told.{told_words, line_words, IsRightTold, IsRightEntry, IsRightAir, IsRight, HasToldRanges, HasEntryRanges, HasAirRanges, HasVoidRanges, HasRanges}
-use Rattle.report_reader.specs.Reading.{number_of, node_of, drop_of, fault_of, payload_of, VoidVerb, ready, waiting, newer, void_word, void_by, told_by, told_of, line_with, line_of_words, line_in}
-use Rattle.report_reader.proofs.NumberLemmas.{unsigned_of-decimal}
+use Rattle.report_reader.specs.Reading.{VoidVerb, ready, waiting, newer, void_word, void_by, told_by, told_of, line_with, line_of_words, line_in}
+use Rattle.report_fields.proofs.NumberLemmas.{unsigned_of-decimal}
 use Rattle.report_reader.proofs.VerbLemmas.{verb_of-word}
-use Rattle.report_reader.proofs.StoreLemmas.{joined}
+use Rattle.report_fields.proofs.StoreLemmas.{joined}
 use Rattle.report_reader.proofs.LineLemmas.{post_words, dropped_words, ask_words, numbered_words, paired_words, installed_words}
-use Rattle.report_reader.proofs.WrittenWords.{is_written, in_line, words_of-joined, line-in_line, written-decimal}
-use Rattle.report_reader.proofs.WrittenFields.{Reads, reads-next, number_of-decimal, node_of-decimal, context_of-decimal, reads-handler, reads-function, reads-drop, reads-fault, reads-bytes, reads-value, payload_of-written, written-values}
-use Rattle.report_reader.proofs.WrittenStores.{store_list, store_of-written, joined-store, written-store}
+use Rattle.report_fields.proofs.WrittenWords.{is_written, in_line, words_of-joined, line-in_line, written-decimal}
+use Rattle.report_fields.proofs.WrittenFields.{Reads, reads-next, number_of-decimal, node_of-decimal, context_of-decimal, reads-handler, reads-function, reads-drop, reads-fault, reads-bytes, reads-value, payload_of-written, written-values}
+use Rattle.report_fields.proofs.WrittenStores.{store_list, store_of-written, joined-store, written-store}
 
 -- the words of what a line tells, and that they tell it
 record Spells (d : Description) (t : Told) : Type 0 where

@@ -1,44 +1,22 @@
 -- What the words of a line tell.
-use Rattle.std.specs.Prelude.{ℕ, ◌^◌, List, [], ◌∷◌, codes, ℤ, Option}
+use Rattle.std.specs.Prelude.{ℕ, List, [], ◌∷◌, codes, Option}
 use Rattle.std.specs.Option.{option_map}
-use Rattle.arrayvec.specs.ArrayVec.{ArrayVec}
-use Rattle.mate_num.specs.declared.call.FaultKind.{FaultKind}
-use Rattle.mate_num.specs.declared.call.FaultKind.TheVariants as fault
 use Rattle.vm_desc.specs.declared.description.Description.{Description}
 use Rattle.mate_journal.specs.declared.air.Air.TheVariants as air
-use Rattle.mate_journal.specs.declared.entry.DropCause.{DropCause}
-use Rattle.mate_journal.specs.declared.entry.DropCause.TheVariants as drop
 use Rattle.mate_journal.specs.declared.entry.VoidCause.TheVariants as void
 use Rattle.mate_journal.specs.declared.entry.Entry.TheVariants as entry
-use Rattle.report_text.specs.Words.{drop_word, fault_word}
 use Rattle.report_reader.specs.declared.line.Told.{Told}
 use Rattle.report_reader.specs.declared.line.Told.TheVariants as told
 use Rattle.report_reader.specs.declared.line.Line.{Line}
 use Rattle.report_reader.specs.declared.verb.Verb.{Verb}
 use Rattle.report_reader.specs.declared.verb.Verb.TheVariants as verb
-use Rattle.report_reader.specs.Words.{words_of, reads, only_at_end}
-use Rattle.report_reader.specs.Numbers.{unsigned_of, below_of, value_of, values_after}
-use Rattle.report_reader.specs.Verbs.{named_among, verb_of}
-use Rattle.report_reader.specs.Hex.{image_of, packet_of}
-use Rattle.report_reader.specs.Names.{handler_of, function_of, context_of}
-use Rattle.report_reader.specs.Stores.{store_of}
-
--- a number of 32 bits, and the number of a node
-abbrev pub number_of : List ℕ → Option ℕ
-number_of word = below_of (2 ^ 32) word
-
-abbrev pub node_of : List ℕ → Option ℕ
-node_of word = below_of 64 word
-
-unfoldable pub drop_of : List ℕ → Option DropCause
-drop_of word = named_among drop_word (drop.NoCode ∷ drop.AllBusy ∷ []) word
-
-unfoldable pub fault_of : List ℕ → Option FaultKind
-fault_of word = named_among fault_word (fault.DivZero ∷ fault.Index ∷ fault.BufferFull ∷ fault.BufferEmpty ∷ fault.Overrun ∷ []) word
-
--- the values that all words tell
-abbrev pub payload_of : List (List ℕ) → Option (ArrayVec ℤ)
-payload_of words = option_map (λ vs. record { items = vs }) (values_after [] words)
+use Rattle.report_fields.specs.Words.{words_of, reads, only_at_end}
+use Rattle.report_fields.specs.Numbers.{unsigned_of, value_of}
+use Rattle.report_fields.specs.Fields.{named_among, number_of, node_of, drop_of, fault_of, payload_of}
+use Rattle.report_reader.specs.Verbs.{verb_of}
+use Rattle.report_fields.specs.Hex.{image_of, packet_of}
+use Rattle.report_fields.specs.Names.{handler_of, function_of, context_of}
+use Rattle.report_fields.specs.Stores.{store_of}
 
 abbrev pub post_of : Description → List (List ℕ) → Option Told
 post_of d =

@@ -14,6 +14,7 @@ use Rattle.mate_journal.specs.declared.entry.Entry.TheVariants as entry
 use Rattle.mate_journal.specs.declared.entry.VoidCause.{VoidCause}
 use Rattle.mate_journal.specs.declared.entry.VoidCause.TheVariants as void
 use Rattle.report_text.specs.Words.{stamp_words, air_words, entry_words}
+use Rattle.report_fields.specs.Ranges.{IsByteList, AreValues}
 use Rattle.report_reader.specs.declared.line.Told.{Told}
 use Rattle.report_reader.specs.declared.line.Told.TheVariants as told
 use Rattle.report_reader.specs.declared.line.Line.{Line}
@@ -73,12 +74,6 @@ pub record IsRight (d : Description) (l : Line) : Type 0 where
   pub told : IsRightTold d l.told
 
 -- ---- the numbers in a line are in the ranges of their types: every line's are
-
-abbrev pub IsByteList : List ℕ → Type 0
-IsByteList bytes = All (λ b. b < 256) bytes
-
-abbrev pub AreValues : List ℤ → Type 0
-AreValues vs = (length vs ≤ 10) × All (λ v. FitsSigned w16 v) vs
 
 abbrev pub HasVoidRanges : VoidCause → Type 0
 HasVoidRanges void.NotReady = ⊤

@@ -1,6 +1,6 @@
--- The words that begin a record, and those of a small choice.
-use Rattle.std.specs.Prelude.{ℕ, List, [], ◌∷◌, codes, Option, if◌then◌else◌, None, Some}
-use Rattle.std.specs.Str.{bytes_eq}
+-- The words that begin a record.
+use Rattle.std.specs.Prelude.{ℕ, List, [], ◌∷◌, codes, Option}
+use Rattle.report_fields.specs.Fields.{named_among}
 use Rattle.report_reader.specs.declared.verb.Verb.{Verb}
 use Rattle.report_reader.specs.declared.verb.Verb.TheVariants as verb
 
@@ -27,11 +27,6 @@ abbrev pub verbs : List Verb
 verbs =
     verb.Post ∷ verb.Drop ∷ verb.Start ∷ verb.Ask ∷ verb.Answer ∷ verb.Halt ∷ verb.Fault ∷ verb.Install ∷ verb.Reset ∷ verb.Seen ∷ verb.Void
     ∷ verb.Interval ∷ verb.Keep ∷ verb.Sent ∷ verb.Lost ∷ verb.Got ∷ verb.Noise ∷ []
-
--- the one of some choices that a word names
-abbrev pub named_among : {A : Type 0} → (A → List ℕ) → List A → List ℕ → Option A
-named_among word_of [] word = None
-named_among word_of (choice ∷ choices) word = if bytes_eq (word_of choice) word then Some choice else named_among word_of choices word
 
 unfoldable pub verb_of : List ℕ → Option Verb
 verb_of word = named_among verb_word verbs word

@@ -1,21 +1,20 @@
 //! A line of a report: when and where something happened, and what.
 
 ghost use Rattle.std.specs.Prelude.{◌≡◌, IfSome, IfNone};
-ghost use Rattle.report_reader.specs.Words.{first, rest, only_at_end};
+ghost use Rattle.report_fields.specs.Words.{first, rest, only_at_end};
 ghost use Rattle.report_reader.specs.Told.{line_words, IsRight, HasRanges};
 ghost use Rattle.report_reader.specs.declared.line.Line.{Line};
 ghost use Rattle.report_reader.specs.Verbs.{verb_of};
 ghost use Rattle.report_reader.specs.Reading.{started_of, halted_of, shown_of, interval_of, told_by, told_of, line_of_words, line_in, post_of, dropped_of, ask_of, answer_of, faulted_of, installed_of, void_of, not_newer_of, sent_of, lost_of, got_of, noise_told};
 
-use crate::fields::{
+use crate::verb::{Verb, verb_of};
+use mate_journal::{Air, Entry, VoidCause};
+use mate_num::{HandlerId, Image, Stamp, Store};
+use report_fields::fields::{
     next_context, next_drop, next_event, next_fault, next_function, next_handler, next_image,
     next_node, next_number, next_packet, next_value, payload,
 };
-use crate::store_words::store_of;
-use crate::verb::{Verb, verb_of};
-use crate::words::Words;
-use mate_journal::{Air, Entry, VoidCause};
-use mate_num::{HandlerId, Image, Stamp, Store};
+use report_fields::{Words, store_of};
 use vm_desc::Description;
 
 /// What happened.

@@ -1,7 +1,8 @@
 //! The words that begin a record.
 
 ghost use Rattle.std.specs.Prelude.{◌≡◌};
-ghost use Rattle.report_reader.specs.Verbs.{verb_word, named_among, verb_of};
+ghost use Rattle.report_fields.specs.Fields.{named_among};
+ghost use Rattle.report_reader.specs.Verbs.{verb_word, verb_of};
 
 /// What kind of record a line is of.
 #[derive(Clone, Copy, PartialEq, Eq, Debug)]

@@ -3,7 +3,6 @@ pub mod PrintLemmas
 pub mod EventLemmas
 pub mod TextLemmas
 pub mod MergeLemmas
-pub mod BriefLemmas
 pub mod QuietReport
 pub mod PieceLemmas
 pub mod NodeLemmas

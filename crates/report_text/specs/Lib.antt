@@ -2,5 +2,4 @@ pub mod Words
 pub mod Text
 pub mod Tidy
 pub mod Progress
-pub mod Brief
 pub mod Pieces

@@ -2,12 +2,11 @@
 use Rattle.std.proofs.Common.{◌≡◌, ℕ, zero, suc, ◌+◌, ◌<◌, ◌≤◌, List, [], ◌∷◌, ◌++◌, length, get_or, drop, true, is_some, Option, Some, None, Result, Ok, Err, refl, sym, ap, ◌∙◌, append_assoc, append-nil, arith}
 use Rattle.std.proofs.lemmas.Bool.{and_parts}
 use Rattle.std.proofs.lemmas.List.{drop_all}
-use Rattle.std.specs.Option.{option_map_or}
 use Rattle.toml.specs.Data.{Members, as_table}
 use Rattle.toml.specs.View.{view, items_view}
 use Rattle.toml.specs.declared.value.Value.{Value}
 use Rattle.toml.proofs.Views.{items_view-drop}
-use Rattle.vm_reader.specs.Fields.{◌>>=◌, each, tables_in, are_tables}
+use Rattle.vm_fields.specs.Fields.{◌>>=◌, each, tables_in, are_tables}
 use Rattle.vm_desc.specs.declared.fault.DescFault.{DescFault}
 
 -- the items in front of those that a reading gives
@@ -57,14 +56,3 @@ table_at (x ∷ vs) zero v all within at none =
 table_at (x ∷ vs) (suc i) v all within at none =
     let (here, more) = and_parts (is_some (as_table (view x))) (are_tables (items_view vs)) all in
     table_at vs i v more (omega arith) at none
-
-counted : (o : Option Members) (rest : List Members) (n : ℕ) → is_some o ≡ true → length rest ≡ n → length (option_map_or (λ ms. ms ∷ rest) o rest) ≡ suc n
-counted None rest n h e = absurd cc
-counted (Some ms) rest n h e = ap suc e
-
--- as many tables as items
-pub length-tables_in : (vs : List Value) → are_tables (items_view vs) ≡ true → length (tables_in (items_view vs)) ≡ length vs
-length-tables_in [] all = refl
-length-tables_in (v ∷ vs) all =
-    let (here, more) = and_parts (is_some (as_table (view v))) (are_tables (items_view vs)) all in
-    counted (as_table (view v)) (tables_in (items_view vs)) (length vs) here (length-tables_in vs more)

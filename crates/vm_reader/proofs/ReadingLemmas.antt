@@ -12,7 +12,7 @@ use Rattle.vm_desc.specs.declared.fault.DescFault.TheVariants.{NotToml, BadField
 use Rattle.vm_desc.specs.declared.fault.DescFault.{DescFault}
 use Rattle.vm_desc.specs.declared.description.Description.{Description}
 use Rattle.vm_desc.specs.Whole.{parts_of}
-use Rattle.vm_reader.specs.Fields.{GivesField}
+use Rattle.vm_fields.specs.Fields.{GivesField}
 
 -- the rules of a description, each by its name
 pub record Keeps (p : Parts) : Type 0 where

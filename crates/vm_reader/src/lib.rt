@@ -1,8 +1,6 @@
 //! The reader of a machine's description: from the bytes of a TOML text to the description, or to the first refusal.
 #![tactic(auto)]
 
-mod fields;
-mod known;
 mod opening;
 mod parts;
 pub mod reading;

@@ -3,19 +3,19 @@
 ghost use Rattle.std.specs.Prelude.{◌≡◌, ◌≤◌, ◌<◌, ◌*◌, ◌^◌, Some, None, true, length, IfOk, IfSome, IsTrue};
 ghost use Rattle.std.specs.List.{list_all, position};
 ghost use Rattle.std.specs.Str.{bytes_eq};
-ghost use Rattle.toml.specs.View.{view, array_view, table_view};
+ghost use Rattle.toml.specs.View.{array_view, table_view};
 ghost use Rattle.mate_num.specs.Shapes.{is_device};
 ghost use Rattle.vm_desc.specs.Limits.{is_kind, is_handler, args_of, is_function, is_trickle, is_radio};
-ghost use Rattle.vm_reader.specs.Fields.{GivesField, field, word_as, each, seen, seen_table, tables, tables_in, are_tables};
+ghost use Rattle.vm_fields.specs.Fields.{GivesField, field, word_as, each, seen, seen_table, tables_in, are_tables};
 ghost use Rattle.vm_reader.specs.Reading.{handler_kind, with_period, handler_at, handlers_at, fun_kind, with_args, device, function_at, functions_at, trickle_at, radio_at};
 
-use crate::fields::{allowed, at, list_at, name, number, taken, within};
 use arrayvec::ArrayVec;
 use mate_num::{DeviceId, Name};
 use toml::value::Array;
 use toml::{Table, Value};
 use vm_desc::settings::doubled;
 use vm_desc::{DescFault, FunKind, Function, Handler, HandlerKind, Key, RadioSet, TrickleSet};
+use vm_fields::fields::{allowed, at, name, number, tables, taken, within};
 
 /// The handlers in `value`: one to eight.
 #[tactic(auto, unfolding(crate::specs::Reading::handlers_at))]
@@ -80,29 +80,6 @@ fn each_function(devices: &[Name], items: &Array) -> Result<ArrayVec<Function, 3
         functions.push(function_in(devices, table)?);
     }
     Ok(functions)
-}
-
-/// The list in `value`, of at most `most` items, all of them tables.
-fn tables<'a>(key: Key, most: usize, value: &'a Value) -> Result<&'a Array, DescFault>
-    ensures value { GivesField (λ v. tables_in (array_view v.now)) result (tables key most (view value.now)) }
-    ensures tables { IfOk result (λ v. are_tables (array_view v.now) ≡ true) }
-    ensures few { IfOk result (λ v. length v.now.items ≤ most) }
-    ensures count { IfOk result (λ v. length (tables_in (array_view v.now)) ≡ length v.now.items) }
-{
-    let items = list_at(key, most, value)?;
-    allowed(key, are_tables(items))?;
-    Ok(items)
-}
-
-fn are_tables(items: &Array) -> bool
-    ensures { result ≡ are_tables (array_view items.now) }
-{
-    for item in items {
-        if !item.is_table() {
-            return false;
-        }
-    }
-    true
 }
 
 #[tactic(auto, unfolding(crate::specs::Reading::handler_at))]

@@ -1,5 +1,6 @@
 use Rattle.std.proofs.Common.{◌≡◌, drop}
-use Rattle.report_reader.specs.Verbs.{verb_word, named_among}
+use Rattle.report_fields.specs.Fields.{named_among}
+use Rattle.report_reader.specs.Verbs.{verb_word}
 use Rattle.report_reader.proofs.verb.named.Given as goal
 
 abbrev pub invariant-loop-verb : goal.invariant-loop-verb

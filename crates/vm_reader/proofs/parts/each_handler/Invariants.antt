@@ -2,7 +2,7 @@ use Rattle.std.proofs.Common.{◌≡◌, drop, length, true}
 use Rattle.std.specs.List.{list_all}
 use Rattle.vm_desc.specs.Limits.{is_handler}
 use Rattle.toml.specs.View.{items_view}
-use Rattle.vm_reader.specs.Fields.{each, tables_in}
+use Rattle.vm_fields.specs.Fields.{each, tables_in}
 use Rattle.vm_reader.specs.Reading.{handler_at}
 use Rattle.vm_reader.proofs.Fronts.{with_front}
 use Rattle.vm_reader.proofs.parts.each_handler.Given as goal

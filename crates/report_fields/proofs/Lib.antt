@@ -1,0 +1,11 @@
+pub mod OptionLemmas
+pub mod WordsLemmas
+pub mod NumberLemmas
+pub mod ChoiceLemmas
+pub mod HexLemmas
+pub mod FieldLemmas
+pub mod StoreLemmas
+pub mod ItemLemmas
+pub mod WrittenWords
+pub mod WrittenFields
+pub mod WrittenStores

@@ -1,0 +1,7 @@
+pub mod Words
+pub mod Numbers
+pub mod Hex
+pub mod Names
+pub mod Fields
+pub mod Stores
+pub mod Ranges

@@ -1,6 +1,0 @@
-use Rattle.std.proofs.Common.{rules}
-use Rattle.report_reader.proofs.NumberLemmas.{is_plain_numeral-IsUtf8}
-use Rattle.report_reader.proofs.numbers.unsigned.Goals as goal
-
-pub unreachable-requires : goal.unreachable-requires
-unreachable-requires c = search (rules, is_plain_numeral-IsUtf8)

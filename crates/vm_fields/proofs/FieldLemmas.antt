@@ -1,0 +1,34 @@
+-- Lists of a text, beside the code's arrays.
+use Rattle.std.proofs.Common.{◌≡◌, ℕ, ◌<◌, ◌≤◌, List, [], ◌∷◌, length, true, is_some, Option, Some, None, Ok, Err, Vec, Global, suc, refl, ap}
+use Rattle.std.proofs.lemmas.Bool.{lt-ltb, le-ltb, and_parts}
+use Rattle.std.specs.Option.{option_map_or}
+use Rattle.toml.specs.Data.{Members, as_array, as_table}
+use Rattle.toml.specs.View.{view, items_view, array_view}
+use Rattle.toml.proofs.Views.{view-Array}
+use Rattle.toml.specs.declared.value.Value.{Value, Array}
+use Rattle.vm_fields.specs.Fields.{list_up_to, item_count, tables_in, are_tables}
+use Rattle.vm_desc.specs.declared.key.Key.{Key}
+use Rattle.vm_desc.specs.declared.fault.DescFault.TheVariants.{OverLimit}
+
+pub item_count-view : (vs : List Value) → item_count (items_view vs) ≡ length vs
+item_count-view [] = refl
+item_count-view (v ∷ vs) = ap suc (item_count-view vs)
+
+pub list_at-long : (key : Key) (most : ℕ) (v : Vec Value Global) (value : Value) → value ≡ Array v → most < length v.items
+    → list_up_to key most (as_array (view value)) ≡ Err (OverLimit key)
+list_at-long key most v value same long = rw (same, view-Array, item_count-view, lt-ltb most (length v.items) long) refl
+
+pub list_at-short : (key : Key) (most : ℕ) (v : Vec Value Global) (value : Value) → value ≡ Array v → length v.items ≤ most
+    → list_up_to key most (as_array (view value)) ≡ Ok (array_view v)
+list_at-short key most v value same short = rw (same, view-Array, item_count-view, le-ltb most (length v.items) short) refl
+
+counted : (o : Option Members) (rest : List Members) (n : ℕ) → is_some o ≡ true → length rest ≡ n → length (option_map_or (λ ms. ms ∷ rest) o rest) ≡ suc n
+counted None rest n h e = absurd cc
+counted (Some ms) rest n h e = ap suc e
+
+-- as many tables as items
+pub length-tables_in : (vs : List Value) → are_tables (items_view vs) ≡ true → length (tables_in (items_view vs)) ≡ length vs
+length-tables_in [] all = refl
+length-tables_in (v ∷ vs) all =
+    let (here, more) = and_parts (is_some (as_table (view v))) (are_tables (items_view vs)) all in
+    counted (as_table (view v)) (tables_in (items_view vs)) (length vs) here (length-tables_in vs more)
