@@ -43,6 +43,7 @@ impl From<AllocError> for WordsFault {
 
 /// Reads the words, which don't hold the program's own name. A flag may stand anywhere before `--`; after it all words
 /// are taken as they are. Any other word that begins with `-` and isn't `-` alone is refused before `--`.
+#[inline(never)]
 pub fn read<'a>(alloc: Global, words: &'a [String]) -> Result<CommandLine<'a>, WordsFault>
     ensures { ReadsLine (map string_bytes words.now) result }
 {

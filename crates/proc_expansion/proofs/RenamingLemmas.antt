@@ -1,7 +1,6 @@
 -- Names that parameters hide, and lists of renamed arguments.
-use Rattle.std.proofs.Common.{◌≡◌, ℕ, suc, ◌+◌, ◌<◌, ◌≤◌, List, [], ◌∷◌, ◌++◌, length, map, take, Bool, cond, Option, Some, None, option_map, refl, ap, sym, ◌∙◌, subst, arith, append_assoc}
+use Rattle.std.proofs.Common.{◌≡◌, ℕ, suc, ◌+◌, ◌<◌, ◌≤◌, List, [], ◌∷◌, ◌++◌, length, map, take, Option, Some, None, option_map, refl, ap, sym, ◌∙◌, subst, arith, append_assoc}
 use Rattle.std.specs.Prelude.{bytes_eq, IfSome, ◌-◌, ◌==◌}
-use Rattle.std.specs.List.{position_from}
 use Rattle.std.proofs.lemmas.List.{take_all, length-map}
 use Rattle.ts_syntax.specs.declared.expr.Expr.{Expr}
 use Rattle.ts_syntax.specs.declared.word.Word.{Word}
@@ -10,12 +9,8 @@ use Rattle.ts_syntax.specs.declared.script.DeclKind.TheVariants.{Private}
 use Rattle.ts_syntax.specs.Seen.{tree_of, trees, trees_of}
 use Rattle.ts_syntax.specs.Tree.{tree_then}
 use Rattle.proc_names.specs.Places.{place_of_name}
-use Rattle.proc_names.proofs.PlaceLemmas.{position_from-add, position_from-within}
+use Rattle.proc_names.proofs.PlaceLemmas.{position_from-add, position_from-within, position_from-map}
 use Rattle.proc_expansion.specs.Expansion.{Hiding, parameter_name, number_hiding, renamed_as, renamed, renamed_expr, renamed_args, parameter_decls}
-
-position_from-map : (t : List ℕ → Bool) (k : ℕ) (params : List Word) → position_from t k (map (λ w. w.name) params) ≡ position_from (λ w. t w.name) k params
-position_from-map t k [] = refl
-position_from-map t k (w ∷ ws) = ap (cond (t w.name) (Some k)) (position_from-map t (k + 1) ws)
 
 hiding_place : (h : Hiding) (name : List ℕ) → number_hiding h name ≡ option_map (λ i. h.first + i) (place_of_name (map (λ w. w.name) h.params) name)
 hiding_place h name =

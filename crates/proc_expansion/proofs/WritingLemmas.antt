@@ -1,18 +1,18 @@
 -- What is written so far, and what is left.
-use Rattle.std.proofs.Common.{◌≡◌, ℕ, suc, zero, ◌+◌, ◌<◌, ◌≤◌, List, [], ◌∷◌, ◌++◌, length, take, drop, get_or, Option, Some, None, refl, ap, sym, ◌∙◌, arith, append_assoc}
-use Rattle.std.specs.Prelude.{min, true, false, Result, Ok, Err, OnOk, IfOk, IsNone}
-use Rattle.std.proofs.lemmas.List.{drop_all, append-nil}
+use Rattle.std.proofs.Common.{◌≡◌, ℕ, suc, zero, ◌+◌, ◌<◌, ◌≤◌, List, [], ◌∷◌, ◌++◌, length, take, drop, get_or, Option, Some, refl, ap, sym, ◌∙◌, arith, append_assoc, map}
+use Rattle.std.specs.Prelude.{min, Result, Ok, Err, OnOk, MatchResult}
+use Rattle.std.proofs.lemmas.List.{drop_all, append-nil, map-append}
 use Rattle.ts_syntax.specs.declared.expr.Expr.{Expr}
 use Rattle.ts_syntax.specs.declared.procedure.Proc.{Proc}
 use Rattle.ts_syntax.specs.declared.stmt.Stmt.{Stmt}
 use Rattle.ts_syntax.specs.declared.word.Word.{Word}
 use Rattle.ts_syntax.specs.Seen.{tree_of, trees_of, act_of, acts_of, acts, procedure_of}
-use Rattle.ts_syntax.specs.Tree.{Tree, Trees, Act, set, if_else, Acts, tree_then}
+use Rattle.ts_syntax.specs.Tree.{Trees, Act, set, tree_then}
 use Rattle.ts_syntax.proofs.ListLemmas.{drop_item}
 use Rattle.proc_expansion.specs.declared.pending.Pending.{Pending}
 use Rattle.proc_expansion.specs.Expansion.{Hiding, Callee, callee, parameter_name, renamed_expr, first_trees, assigned, body_called, expanded_act, expanded_acts}
 use Rattle.proc_expansion.specs.Extent.{acts_depth}
-use Rattle.proc_expansion.specs.Pending.{acts_left, left_if, left_on, steps_left, steps_on, act_steps, acts_steps}
+use Rattle.proc_expansion.specs.Pending.{acts_left, left_on, steps_left, steps_on, act_steps, acts_steps}
 use Rattle.proc_expansion.specs.Plan.{bodies_of}
 use Rattle.proc_expansion.proofs.CalleeLemmas.{count_before}
 use Rattle.proc_expansion.proofs.ExtentLemmas.{acts_depth-append}
@@ -186,17 +186,8 @@ pub fewer : (procs : List Proc) (stack below : List Pending) (p : Pending) (new 
 fewer procs stack below p new one r b are second first less =
     omega (arith, second, first, less, ap (steps_on procs) are ∙ steps_on_push procs below p)
 
--- a plain statement is written, and nothing is left of it
-pub plain_wrote : {E : Type 0} (procs : List Proc) (r : Result (Option Pending) E) (old new : List Act) (a : Act) (becomes : List Act) → OnOk r (new ≡ old ++ a ∷ []) → IfOk r IsNone
-    → becomes ≡ a ∷ [] → IfOk r (λ body. new ++ left_if procs body ≡ old ++ becomes)
-plain_wrote procs (Err e) old new a becomes wrote none is = tt
-plain_wrote procs (Ok None) old new a becomes wrote none is = append-nil new ∙ wrote ∙ ap (λ xs. old ++ xs) (sym is)
-plain_wrote procs (Ok (Some p)) old new a becomes wrote none is = let never : true ≡ false = none in cc
-
--- an `if` with its `else`
-pub if_else_written : (known : List (List ℕ × Callee)) (h : Hiding) (e t : Tree) (a b : Acts) (x y : List Act) → t ≡ renamed_expr h e → x ≡ expanded_acts known h a → y ≡ expanded_acts known h b
-    → expanded_act known h (if_else e a b) ≡ if_else t (acts x) (acts y) ∷ []
-if_else_written known h e t a b x y is_t is_x is_y =
-    ap (λ t. if_else t (acts (expanded_acts known h a)) (acts (expanded_acts known h b)) ∷ []) (sym is_t)
-    ∙ ap (λ x. if_else t (acts x) (acts (expanded_acts known h b)) ∷ []) (sym is_x)
-    ∙ ap (λ y. if_else t (acts x) (acts y) ∷ []) (sym is_y)
+-- a statement is appended, or not for want of memory
+pub pushed : {E : Type 0} (r : Result (Unit {0}) E) (old new : List Stmt) (s : Stmt) (a : Act) → MatchResult r (λ _. new ≡ old ++ s ∷ []) (λ _. new ≡ old) → act_of s ≡ a
+    → OnOk r (map act_of new ≡ map act_of old ++ a ∷ [])
+pushed (Ok _) old new s a is made = ap (map act_of) is ∙ map-append act_of old (s ∷ []) ∙ ap (λ b. map act_of old ++ b ∷ []) made
+pushed (Err e) old new s a same made = tt

@@ -1,6 +1,6 @@
 //! A `do`: the assignments of its arguments, and the body of its procedure.
 
-ghost use Rattle.std.specs.Prelude.{◌≡◌, ◌≤◌, ◌<◌, ◌+◌, ◌++◌, ◌∷◌, ◌^◌, [], length, map, take, IfOk, OnOk, IsNone};
+ghost use Rattle.std.specs.Prelude.{◌≡◌, ◌≤◌, ◌<◌, ◌+◌, ◌++◌, ◌^◌, length, map, take, IfOk, OnOk};
 ghost use Rattle.ts_syntax.specs.Seen.{act_of, acts, trees_of};
 ghost use Rattle.ts_syntax.specs.Tree.{run_procedure};
 ghost use Rattle.proc_names.specs.Places.{declared_as};
@@ -60,15 +60,6 @@ pub(crate) fn call<'a>(
     }))
 }
 
-/// Appends a statement that is no `do`; there is no body to write behind it.
-pub(crate) fn plain<'a>(written: &mut Block, new: Stmt) -> Result<Option<Pending<'a>>, NoMemory>
-    ensures wrote { OnOk result (map act_of written.new ≡ map act_of written.old ++ act_of new ∷ []) }
-    ensures none { IfOk result IsNone }
-{
-    written.push(new)?;
-    Ok(None)
-}
-
 // Appends an assignment for each argument, the first of them to the variable of this number.
 fn assign(
     alloc: Global,
@@ -83,7 +74,7 @@ fn assign(
         OnOk result (map act_of written.new ≡ map act_of written.old ++ made) }
 {
     for (index, arg) in args.iter().enumerate() {
-        let name = parameter_name(alloc, first + index as u32)?;
+        let name = parameter_name(first + index as u32);
         let value = expression(alloc, hidden, arg)?;
         written.push(Stmt::Set(Word { name, place }, value))?;
     }

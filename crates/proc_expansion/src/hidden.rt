@@ -1,11 +1,10 @@
 //! Names that parameters hide.
 
-ghost use Rattle.std.specs.Prelude.{◌≤◌, ◌+◌, ◌^◌, length, map};
-ghost use Rattle.proc_names.specs.Numbers.{Tabulates};
+ghost use Rattle.std.specs.Prelude.{◌≡◌, ◌≤◌, ◌+◌, ◌^◌, length};
 
 use crate::numbers::parameter_name;
 use mate_num::NoMemory;
-use proc_names::NameTable;
+use proc_names::Parameters;
 use std::alloc::Global;
 use ts_syntax::Word;
 
@@ -13,14 +12,12 @@ use ts_syntax::Word;
 #[derive(Drop)]
 pub(crate) struct Hidden<'a> {
     first: u32,
-    params: &'a [Word],
-    places: NameTable<'a>,
-    ghost tabulated: { Tabulates places (map (λ w. w.name) params.now) },
-    ghost few: { first + length params.now ≤ 2 ^ 32 },
+    params: Parameters<'a>,
+    ghost few: { first + length params.words.now ≤ 2 ^ 32 },
 }
 
 impl<'a> Hidden<'a> {
-    ghost use Rattle.std.specs.Prelude.{◌≡◌, IfOk};
+    ghost use Rattle.std.specs.Prelude.{IfOk};
     ghost use Rattle.proc_expansion.specs.Expansion.{renamed};
     ghost use Rattle.proc_expansion.specs.Hidden.{hiding_of};
 
@@ -28,25 +25,21 @@ impl<'a> Hidden<'a> {
         requires { first + length params.now ≤ 2 ^ 32 }
         ensures { IfOk result (λ hidden. hiding_of hidden ≡ record { first = first; params = params.now }) }
     {
-        let places = NameTable::of_words(alloc, params)?;
-        Ok(Hidden {
-            first,
-            params,
-            places,
-        })
+        let params = Parameters::of(alloc, params)?;
+        Ok(Hidden { first, params })
     }
 
     /// The name of a variable or a buffer, as it stands in the expansion.
-    pub(crate) fn word(&self, alloc: Global, word: &Word) -> Result<Word, NoMemory>
-        ensures { IfOk result (λ new. new ≡ renamed (hiding_of self.now) word.now) }
+    pub(crate) fn word(&self, word: &Word) -> Word
+        ensures { result ≡ renamed (hiding_of self.now) word.now }
     {
-        let name = match self.places.get(&word.name) {
+        let name = match self.params.place(&word.name) {
             None => word.name.copy(),
-            Some(place) => parameter_name(alloc, self.first + place as u32)?,
+            Some(place) => parameter_name(self.first + place as u32),
         };
-        Ok(Word {
+        Word {
             name,
             place: word.place,
-        })
+        }
     }
 }

@@ -4,6 +4,7 @@
 mod calls;
 pub mod expanding;
 mod extent;
+mod forms;
 mod hidden;
 mod numbers;
 mod pending;

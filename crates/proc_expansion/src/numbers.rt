@@ -3,19 +3,24 @@
 ghost use Rattle.std.specs.Prelude.{◌≡◌, ◌<◌, ◌^◌, ◌++◌, IfOk};
 ghost use Rattle.proc_expansion.specs.Expansion.{parameter_name, parameter_decls};
 
+use arrayvec::ArrayString;
+use itoa::Buffer;
 use mate_num::{Name, NoMemory};
 use std::alloc::Global;
 use ts_syntax::{Decl, DeclKind, Decls, Word};
 
 /// The name of the variable that the parameter of this number is: `_` and the number.
-pub(crate) fn parameter_name(alloc: Global, number: u32) -> Result<Name, NoMemory>
-    ensures { IfOk result (λ name. name ≡ parameter_name number) }
+pub(crate) fn parameter_name(number: u32) -> Name
+    ensures { result ≡ parameter_name number }
 {
-    let text = format!(in alloc; "_{number}")?;
+    let mut digits = Buffer::new();
+    let mut text = ArrayString::<16>::new();
+    text.push_str("_");
+    text.push_str(digits.format(number));
     let Some(name) = Name::new(text.as_str()) else {
         unreachable!()
     };
-    Ok(name)
+    name
 }
 
 /// The same declarations again, and behind them the first `count` parameters.
@@ -27,7 +32,7 @@ pub(crate) fn declarations(alloc: Global, decls: &[Decl], count: u32) -> Result<
         all.push(copy_of(decl))?;
     }
     for number in 0..count {
-        let name = parameter_name(alloc, number)?;
+        let name = parameter_name(number);
         all.push(Decl {
             kind: DeclKind::Private,
             word: Word { name, place: 0 },

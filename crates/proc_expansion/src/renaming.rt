@@ -20,46 +20,45 @@ pub(crate) fn same(word: &Word) -> Word
     }
 }
 
+// It becomes a part of `boxed`, so that a node takes one call.
 #[cycle(expression)]
+#[inline(always)]
 pub(crate) fn expression(alloc: Global, hidden: &Hidden, expr: &Expr) -> Result<Expr, NoMemory>
     ensures { IfOk result (λ new. tree_of new ≡ renamed_expr (hiding_of hidden.now) (tree_of expr.now)) }
 {
     match expr {
         Expr::Num(number) => Ok(Expr::Num(*number)),
-        Expr::Var(name) => Ok(Expr::Var(hidden.word(alloc, name)?)),
+        Expr::Var(name) => Ok(Expr::Var(hidden.word(name))),
         Expr::Item(name, index) => {
-            let name = hidden.word(alloc, name)?;
-            let index = expression(alloc, hidden, index)?;
-            Ok(Expr::Item(name, Box::new(alloc, index)?))
+            let index = boxed(alloc, hidden, index)?;
+            Ok(Expr::Item(hidden.word(name), index))
         }
-        Expr::Size(name) => Ok(Expr::Size(hidden.word(alloc, name)?)),
-        Expr::MsgItem(index) => {
-            let index = expression(alloc, hidden, index)?;
-            Ok(Expr::MsgItem(Box::new(alloc, index)?))
-        }
+        Expr::Size(name) => Ok(Expr::Size(hidden.word(name))),
+        Expr::MsgItem(index) => Ok(Expr::MsgItem(boxed(alloc, hidden, index)?)),
         Expr::MsgSize => Ok(Expr::MsgSize),
-        Expr::Call(name, args) => Ok(Expr::Call(
-            same(name),
-            arguments(alloc, hidden, args.as_slice())?,
-        )),
-        Expr::Neg(of) => {
-            let of = expression(alloc, hidden, of)?;
-            Ok(Expr::Neg(Box::new(alloc, of)?))
+        Expr::Call(name, args) => {
+            let args = arguments(alloc, hidden, args.as_slice())?;
+            Ok(Expr::Call(same(name), args))
         }
-        Expr::Not(of) => {
-            let of = expression(alloc, hidden, of)?;
-            Ok(Expr::Not(Box::new(alloc, of)?))
-        }
+        Expr::Neg(of) => Ok(Expr::Neg(boxed(alloc, hidden, of)?)),
+        Expr::Not(of) => Ok(Expr::Not(boxed(alloc, hidden, of)?)),
         Expr::Two(op, left, right) => {
-            let left = Box::new(alloc, expression(alloc, hidden, left)?)?;
-            let right = Box::new(alloc, expression(alloc, hidden, right)?)?;
+            let left = boxed(alloc, hidden, left)?;
+            let right = boxed(alloc, hidden, right)?;
             Ok(Expr::Two(*op, left, right))
         }
-        Expr::Paren(of) => {
-            let of = expression(alloc, hidden, of)?;
-            Ok(Expr::Paren(Box::new(alloc, of)?))
-        }
+        Expr::Paren(of) => Ok(Expr::Paren(boxed(alloc, hidden, of)?)),
     }
+}
+
+// A part of an expression. It stays a call of its own: a node is large, and the expressions around it are still being made.
+#[cycle(expression)]
+#[inline(never)]
+fn boxed(alloc: Global, hidden: &Hidden, part: &Box<Expr>) -> Result<Box<Expr>, NoMemory>
+    ensures { IfOk result (λ new. tree_of new.value ≡ renamed_expr (hiding_of hidden.now) (tree_of part.now.value)) }
+{
+    let part = expression(alloc, hidden, part)?;
+    Ok(Box::new(alloc, part)?)
 }
 
 #[cycle(expression)]
@@ -79,7 +78,7 @@ pub(crate) fn for_head(alloc: Global, hidden: &Hidden, head: &ForHead) -> Result
     ensures to { IfOk result (λ new. tree_of new.to ≡ renamed_expr (hiding_of hidden.now) (tree_of head.now.to)) }
     ensures step { IfOk result (λ new. new.step ≡ head.now.step) }
 {
-    let var = hidden.word(alloc, &head.var)?;
+    let var = hidden.word(&head.var);
     let from = expression(alloc, hidden, &head.from)?;
     let to = expression(alloc, hidden, &head.to)?;
     Ok(ForHead {

@@ -8,11 +8,13 @@ ghost use Rattle.proc_expansion.specs.Hidden.{hiding_of};
 ghost use Rattle.proc_expansion.specs.Plan.{bodies_of};
 ghost use Rattle.proc_expansion.specs.Pending.{acts_left, left_if, steps_left, steps_if, steps_of_bodies, act_steps};
 
-use crate::calls::{call, plain};
+use crate::calls::call;
+use crate::forms::{
+    append, call_alone, clear, for_next, if_else, if_then, set, set_item, take_last, while_do,
+};
 use crate::hidden::Hidden;
 use crate::pending::Pending;
 use crate::plan::Plan;
-use crate::renaming::{arguments, expression, for_head, same};
 use crate::stack::push_if;
 use mate_num::NoMemory;
 use std::alloc::Global;
@@ -116,53 +118,30 @@ fn statement<'a>(
         IfOk result (λ body. steps_if procs body < act_steps (take count (steps_of_bodies procs)) (act_of stmt.now)) }
 {
     match stmt {
-        Stmt::Set(name, value) => {
-            let name = hidden.word(alloc, name)?;
-            plain(written, Stmt::Set(name, expression(alloc, hidden, value)?))
-        }
-        Stmt::SetItem(name, index, value) => {
-            let name = hidden.word(alloc, name)?;
-            let index = expression(alloc, hidden, index)?;
-            let value = expression(alloc, hidden, value)?;
-            plain(written, Stmt::SetItem(name, index, value))
-        }
-        Stmt::Append(name, value) => {
-            let name = hidden.word(alloc, name)?;
-            plain(
-                written,
-                Stmt::Append(name, expression(alloc, hidden, value)?),
-            )
-        }
-        Stmt::Take(name, from) => {
-            let name = hidden.word(alloc, name)?;
-            plain(written, Stmt::Take(name, hidden.word(alloc, from)?))
-        }
-        Stmt::Clear(name) => plain(written, Stmt::Clear(hidden.word(alloc, name)?)),
-        Stmt::Do(name, args) => {
-            let args = arguments(alloc, hidden, args.as_slice())?;
-            plain(written, Stmt::Do(same(name), args))
-        }
+        Stmt::Set(name, value) => set(alloc, hidden, name, value, written)?,
+        Stmt::SetItem(name, index, value) => set_item(alloc, hidden, name, index, value, written)?,
+        Stmt::Append(name, value) => append(alloc, hidden, name, value, written)?,
+        Stmt::Take(name, from) => take_last(hidden, name, from, written)?,
+        Stmt::Clear(name) => clear(hidden, name, written)?,
+        Stmt::Do(name, args) => call_alone(alloc, hidden, name, args, written)?,
         Stmt::If(test, body, None) => {
-            let test = expression(alloc, hidden, test)?;
             let body = block(alloc, plan, depth - 1, count, hidden, body.as_slice())?;
-            plain(written, Stmt::If(test, body, None))
+            if_then(alloc, hidden, test, body, written)?;
         }
         Stmt::If(test, body, Some(other)) => {
-            let test = expression(alloc, hidden, test)?;
             let body = block(alloc, plan, depth - 1, count, hidden, body.as_slice())?;
             let other = block(alloc, plan, depth - 1, count, hidden, other.as_slice())?;
-            plain(written, Stmt::If(test, body, Some(other)))
+            if_else(alloc, hidden, test, body, other, written)?;
         }
         Stmt::For(head, body, next) => {
-            let head = for_head(alloc, hidden, head)?;
             let body = block(alloc, plan, depth - 1, count, hidden, body.as_slice())?;
-            plain(written, Stmt::For(head, body, hidden.word(alloc, next)?))
+            for_next(alloc, hidden, head, body, next, written)?;
         }
         Stmt::While(test, body) => {
-            let test = expression(alloc, hidden, test)?;
             let body = block(alloc, plan, depth - 1, count, hidden, body.as_slice())?;
-            plain(written, Stmt::While(test, body))
+            while_do(alloc, hidden, test, body, written)?;
         }
-        Stmt::Run(name, args) => call(alloc, plan, count, hidden, name, args, written),
+        Stmt::Run(name, args) => return call(alloc, plan, count, hidden, name, args, written),
     }
+    Ok(None)
 }

@@ -1,6 +1,6 @@
 -- The first place of a name among names: in a longer list, in a part of one, and what stands beside it.
-use Rattle.std.proofs.Common.{◌≡◌, ℕ, suc, zero, ◌+◌, ◌<◌, ◌≤◌, List, [], ◌∷◌, ◌++◌, length, map, take, Bool, true, false, cond, Option, Some, None, option_map, slice_get, refl, ap, sym, ◌∙◌, arith}
-use Rattle.std.specs.Prelude.{nat_lt, bytes_eq, IfSome, is_some}
+use Rattle.std.proofs.Common.{◌≡◌, ℕ, suc, zero, ◌+◌, ◌<◌, List, [], ◌∷◌, ◌++◌, length, map, take, Bool, true, false, cond, Option, Some, None, option_map, slice_get, refl, ap, sym, ◌∙◌, arith}
+use Rattle.std.specs.Prelude.{bytes_eq, IfSome, is_some}
 use Rattle.std.proofs.Common.{subst, get_or}
 use Rattle.std.proofs.lemmas.List.{length-take, length-map, take_more, map-append}
 use Rattle.std.specs.List.{position_from}
@@ -8,7 +8,8 @@ use Rattle.std.specs.Map.{lookup, update}
 use Rattle.std.specs.Option.{option_and_then}
 use Rattle.std.proofs.lemmas.Bool.Decides.{nat_tests}
 use Rattle.std.proofs.lemmas.Slice.Eq.{bytes_eq-Decides}
-use Rattle.proc_names.specs.Places.{place_of_name, declared_as}
+use Rattle.ts_syntax.specs.declared.word.Word.{Word}
+use Rattle.proc_names.specs.Places.{place_of_name, place_below, declared_as}
 use Rattle.proc_names.specs.Numbers.{kept_or}
 
 later : (k : ℕ) (o : Option ℕ) → option_map (λ i. (k + 1) + i) o ≡ option_map (λ i. k + i) (option_map (λ i. (0 + 1) + i) o)
@@ -39,31 +40,26 @@ position_from-push t k (x ∷ xs) y =
       | false ↦ position_from-push t (k + 1) xs y ∙ ap (kept_or (position_from t (k + 1) xs) (t y)) e
     ]
 
--- a place, where it is below a number
-abbrev pub below : ℕ → Option ℕ → Option ℕ
-below n None = None
-below n (Some i) = cond (nat_lt i n) (Some i) None
+place_below-zero : (o : Option ℕ) → None ≡ place_below 0 o
+place_below-zero None = refl
+place_below-zero (Some i) = grind (arith, nat_tests)
 
-below-zero : (o : Option ℕ) → None ≡ below 0 o
-below-zero None = refl
-below-zero (Some i) = grind (arith, nat_tests)
+place_below-later : (n : ℕ) (o : Option ℕ) → option_map (λ i. (0 + 1) + i) (place_below n o) ≡ place_below (suc n) (option_map (λ i. (0 + 1) + i) o)
+place_below-later n None = refl
+place_below-later n (Some i) = grind (arith, nat_tests)
 
-below-later : (n : ℕ) (o : Option ℕ) → option_map (λ i. (0 + 1) + i) (below n o) ≡ below (suc n) (option_map (λ i. (0 + 1) + i) o)
-below-later n None = refl
-below-later n (Some i) = grind (arith, nat_tests)
-
-below-first : (n : ℕ) → Some 0 ≡ below (suc n) (Some 0)
-below-first n = grind (arith, nat_tests)
+place_below-first : (n : ℕ) → Some 0 ≡ place_below (suc n) (Some 0)
+place_below-first n = grind (arith, nat_tests)
 
 -- among the first items the place is the same, if it is one of theirs
-pub position_from-take : {K : Type 0} (t : K → Bool) (n : ℕ) (xs : List K) → position_from t 0 (take n xs) ≡ below n (position_from t 0 xs)
-position_from-take t zero xs = below-zero (position_from t 0 xs)
+pub position_from-take : {K : Type 0} (t : K → Bool) (n : ℕ) (xs : List K) → position_from t 0 (take n xs) ≡ place_below n (position_from t 0 xs)
+position_from-take t zero xs = place_below-zero (position_from t 0 xs)
 position_from-take t (suc n) [] = refl
 position_from-take t (suc n) (x ∷ xs) =
-    elim (t x) as (λ b. cond b (Some 0) (position_from t (0 + 1) (take n xs)) ≡ below (suc n) (cond b (Some 0) (position_from t (0 + 1) xs))) [
-      | true ↦ below-first n
-      | false ↦ position_from-add t (0 + 1) (take n xs) ∙ ap (option_map (λ i. (0 + 1) + i)) (position_from-take t n xs) ∙ below-later n (position_from t 0 xs)
-          ∙ sym (ap (below (suc n)) (position_from-add t (0 + 1) xs))
+    elim (t x) as (λ b. cond b (Some 0) (position_from t (0 + 1) (take n xs)) ≡ place_below (suc n) (cond b (Some 0) (position_from t (0 + 1) xs))) [
+      | true ↦ place_below-first n
+      | false ↦ position_from-add t (0 + 1) (take n xs) ∙ ap (option_map (λ i. (0 + 1) + i)) (position_from-take t n xs) ∙ place_below-later n (position_from t 0 xs)
+          ∙ sym (ap (place_below (suc n)) (position_from-add t (0 + 1) xs))
     ]
 
 behind : {A : Type 0} (e : List ℕ × A) (es : List (List ℕ × A)) (o : Option ℕ)
@@ -151,16 +147,13 @@ kept_all f bs q n there =
     ] refl
 
 -- a place among the first n names
-pub among_found : (names : List (List ℕ)) (n : ℕ) (name : List ℕ) (i : ℕ) → place_of_name names name ≡ Some i → i < n → Some i ≡ place_of_name (take n names) name
-among_found names n name i found less = let e : Some i ≡ below n (Some i) = grind (arith, nat_tests) in
-    e ∙ ap (below n) (sym found) ∙ sym (position_from-take (bytes_eq name) n names)
+pub among_names : (names : List (List ℕ)) (n : ℕ) (name : List ℕ) (o : Option ℕ) → o ≡ place_of_name names name → place_below n o ≡ place_of_name (take n names) name
+among_names names n name o is = ap (place_below n) is ∙ sym (position_from-take (bytes_eq name) n names)
 
-pub among_later : (names : List (List ℕ)) (n : ℕ) (name : List ℕ) (i : ℕ) → place_of_name names name ≡ Some i → n ≤ i → None ≡ place_of_name (take n names) name
-among_later names n name i found more = let e : None ≡ below n (Some i) = grind (arith, nat_tests) in
-    e ∙ ap (below n) (sym found) ∙ sym (position_from-take (bytes_eq name) n names)
-
-pub among_none : (names : List (List ℕ)) (n : ℕ) (name : List ℕ) → place_of_name names name ≡ None → None ≡ place_of_name (take n names) name
-among_none names n name found = ap (below n) (sym found) ∙ sym (position_from-take (bytes_eq name) n names)
+-- words by their names
+pub position_from-map : (t : List ℕ → Bool) (k : ℕ) (words : List Word) → position_from t k (map (λ w. w.name) words) ≡ position_from (λ w. t w.name) k words
+position_from-map t k [] = refl
+position_from-map t k (w ∷ ws) = ap (cond (t w.name) (Some k)) (position_from-map t (k + 1) ws)
 
 -- a table of the names so far, with one more
 pub added : {A : Type 0} (f : A → List ℕ) (xs : List A) (i : ℕ) (x : A) (name : List ℕ) {o : Option ℕ} → i < length xs → x ≡ get_or xs i x

@@ -9,7 +9,7 @@ ghost use Rattle.proc_names.specs.Passing.{NamesPass};
 
 use crate::fault::ProcFault;
 use crate::heads::Heads;
-use crate::name_table::NameTable;
+use crate::parameters::Parameters;
 use crate::reserved::{arguments, declarations, expression, word};
 use std::alloc::Global;
 use ts_syntax::{Args, Block, Proc, ProcScript, Stmt, Word};
@@ -42,10 +42,10 @@ fn procedure(alloc: Global, heads: &Heads, place: usize, proc: &Proc) -> Result<
 fn parameters(alloc: Global, params: &[Word]) -> Result<(), ProcFault>
     ensures { NamesPass result (params_fault [] params.now) }
 {
-    let places = NameTable::of_words(alloc, params)?;
+    let parameters = Parameters::of(alloc, params)?;
     for (place, param) in params.iter().enumerate() {
         word(param)?;
-        if places.among_first(place, &param.name).is_some() {
+        if parameters.among_first(place, &param.name).is_some() {
             return Err(again(param));
         }
     }

@@ -2,17 +2,18 @@
 
 ghost use Rattle.std.specs.Prelude.{◌≡◌, ◌≤◌, ◌<◌, ◌^◌, ℕ, List, length, map, take, IfOk};
 ghost use Rattle.ts_syntax.specs.declared.word.Word.{Word};
+ghost use Rattle.proc_names.specs.Places.{place_below};
 
 use mate_num::{Name, NoMemory};
 use std::alloc::Global;
-use std::collections::BTreeMap;
+use std::collections::HashMap;
 use ts_syntax::{Proc, Word};
 
-/// The first place of each of some names, counted from 0. It borrows the names, and a look-up takes a number of comparisons
-/// that grows with the logarithm of their number.
+/// The first place of each of some names, counted from 0. It borrows the names, and finds one by the hash of its text: how long
+/// that takes doesn't grow with their number, but for names that are made to hash alike.
 #[derive(Drop)]
 pub struct NameTable<'a> {
-    numbers: BTreeMap<&'a str, usize>,
+    numbers: HashMap<&'a str, usize>,
 }
 
 impl<'a> NameTable<'a> {
@@ -21,19 +22,19 @@ impl<'a> NameTable<'a> {
     ghost use Rattle.proc_names.specs.Places.{place_of_name};
     ghost use Rattle.proc_names.specs.Numbers.{number_of_name, kept_or, Tabulates};
 
-    fn new(alloc: Global) -> NameTable<'a>
-        ensures { (name : List ℕ) → number_of_name result name ≡ None }
+    // An empty table with room for so many names.
+    fn with_room(alloc: Global, count: usize) -> Result<NameTable<'a>, NoMemory>
+        ensures { IfOk result (λ table. (name : List ℕ) → number_of_name table name ≡ None) }
     {
-        NameTable {
-            numbers: BTreeMap::new(alloc),
-        }
+        let numbers = HashMap::with_capacity(alloc, count)?;
+        Ok(NameTable { numbers })
     }
 
     /// The table of the names of parameters.
     pub fn of_words(alloc: Global, words: &'a [Word]) -> Result<NameTable<'a>, NoMemory>
         ensures { IfOk result (λ table. Tabulates table (map (λ w. w.name) words.now)) }
     {
-        let mut table = NameTable::new(alloc);
+        let mut table = NameTable::with_room(alloc, words.len())?;
         for (place, word) in words.iter().enumerate() {
             table.add(&word.name, place)?;
         }
@@ -44,7 +45,7 @@ impl<'a> NameTable<'a> {
     pub fn of_procs(alloc: Global, procs: &'a [Proc]) -> Result<NameTable<'a>, NoMemory>
         ensures { IfOk result (λ table. Tabulates table (map (λ p. p.name.name) procs.now)) }
     {
-        let mut table = NameTable::new(alloc);
+        let mut table = NameTable::with_room(alloc, procs.len())?;
         for (place, proc) in procs.iter().enumerate() {
             table.add(&proc.name.name, place)?;
         }
@@ -74,9 +75,16 @@ impl<'a> NameTable<'a> {
     pub fn among_first(&self, count: usize, name: &Name) -> Option<usize>
         ensures { (names : List (List ℕ)) → Tabulates self.now names → result ≡ place_of_name (take count names) name.now }
     {
-        match self.get(name) {
-            None => None,
-            Some(place) => { if place < count { Some(place) } else { None } }
-        }
+        below(count, self.get(name))
+    }
+}
+
+/// A place, where it is below a count.
+pub(crate) fn below(count: usize, place: Option<usize>) -> Option<usize>
+    ensures { result ≡ place_below count place }
+{
+    match place {
+        None => None,
+        Some(place) => { if place < count { Some(place) } else { None } }
     }
 }

@@ -7,11 +7,10 @@ use Rattle.ts_syntax.specs.Statement.{Statement, Block, no_statements, statement
 use Rattle.ts_syntax.specs.Seen.{trees_of, acts_of, tree_of, act_of}
 use Rattle.ts_syntax.specs.declared.expr.Expr.{Expr}
 use Rattle.ts_syntax.specs.declared.stmt.Stmt.{Stmt}
-use Rattle.ts_syntax.specs.declared.script.Decl.{Decl}
 use Rattle.ts_syntax.proofs.ListLemmas.{drop_item}
-use Rattle.ts_checker.specs.declared.fault.CheckFault.{CheckFault}
-use Rattle.ts_checker.specs.Refusal.{◌>>=◌}
-use Rattle.ts_checker.specs.Names.{ScriptNames, declare, declare_all}
+use Rattle.ts_scope.specs.declared.fault.CheckFault.{CheckFault}
+use Rattle.ts_scope.specs.Refusal.{◌>>=◌}
+use Rattle.ts_scope.specs.Names.{ScriptNames}
 use Rattle.ts_checker.specs.Checks.{checked_expr, checked_args, checked_stmt, checked_block}
 
 -- arguments behind others
@@ -104,9 +103,3 @@ pub stmts_end : (n : ScriptNames) (stmts : List Stmt) (i : ℕ) (done : List Sta
     → with_stmts done (checked_block n (acts_of (drop i stmts))) ≡ Ok (block done)
 stmts_end n stmts i done past =
     ap (λ ss. with_stmts done (checked_block n (acts_of ss))) (drop_all i stmts past) ∙ ap Ok (stmts_behind-none done)
-
--- a declaration is refused
-pub decls_refused : (n : ScriptNames) (ds : List Decl) (i : ℕ) (d : Decl) (fault : CheckFault) → i < length ds → d ≡ get_or ds i d → declare n d ≡ Err fault
-    → declare_all n (drop i ds) ≡ Err fault
-decls_refused n ds i d fault within item refused =
-    ap (declare_all n) (drop_item ds i d within item) ∙ ap (λ r. r >>= (λ m. declare_all m (drop (i + 1) ds))) refused

@@ -30,15 +30,15 @@ use Rattle.ts_syntax.specs.Expression.{Expression, Arguments, no_arguments, argu
 use Rattle.ts_syntax.specs.Statement.{Statement, Block, no_statements, statement}
 use Rattle.mate_num.specs.Shapes.{is_shape}
 use Rattle.ts_syntax.specs.Right.{is_variable, is_buffer, is_call, is_send as is_send_for, argument_count, is_right_expr, are_right, is_step, is_head, is_right_stmt, is_right_block, is_right}
-use Rattle.ts_checker.specs.declared.scope.Symbol.{Symbol}
-use Rattle.ts_checker.specs.declared.scope.Symbol.TheVariants.{Variable, Buffer}
-use Rattle.ts_checker.specs.declared.scope.Entry.{Entry}
-use Rattle.ts_checker.specs.declared.fault.CheckFault.{CheckFault}
-use Rattle.ts_checker.specs.declared.fault.CheckFault.TheVariants.{Undeclared, NotInVm, Twice, Kind, Arity, TooManyPrivates}
-use Rattle.ts_checker.specs.Refusal.{◌>>=◌, unless_refused}
-use Rattle.ts_checker.specs.Names.{ScriptNames, names_before, symbol_of, private_count, listed, made, with_name, declare, declare_all, found_symbol, as_variable, as_buffer, variable as variable_at, buffer as buffer_at, function_from, function}
-use Rattle.ts_checker.specs.Checks.{variable_expression, Called, sends, calls, as_expression, as_statement, sent, sent_name, name_alone, tree_count, called_function, checked_call, checked_expr, checked_args, step_number, checked_step, CheckedHead, checked_head, closes_for, checked_stmt, checked_block, checked_source}
-use Rattle.ts_checker.proofs.CheckLemmas.{bind_keeps, demand_holds, ok_or_found}
+use Rattle.ts_scope.specs.declared.scope.Symbol.{Symbol}
+use Rattle.ts_scope.specs.declared.scope.Symbol.TheVariants.{Variable, Buffer}
+use Rattle.ts_scope.specs.declared.scope.Entry.{Entry}
+use Rattle.ts_scope.specs.declared.fault.CheckFault.{CheckFault}
+use Rattle.ts_scope.specs.declared.fault.CheckFault.TheVariants.{Undeclared, NotInVm, Twice, Kind, Arity, TooManyPrivates}
+use Rattle.ts_scope.specs.Refusal.{◌>>=◌, unless_refused}
+use Rattle.ts_scope.specs.Names.{ScriptNames, names_before, symbol_of, private_count, listed, made, with_name, declare, declare_all, found_symbol, as_variable, as_buffer, variable as variable_at, buffer as buffer_at, function_from, function, closes_for}
+use Rattle.ts_checker.specs.Checks.{variable_expression, Called, sends, calls, as_expression, as_statement, sent, sent_name, name_alone, tree_count, called_function, checked_call, checked_expr, checked_args, step_number, checked_step, CheckedHead, checked_head, checked_stmt, checked_block, checked_source}
+use Rattle.ts_scope.proofs.CheckLemmas.{bind_keeps, demand_holds, ok_or_found}
 
 -- what a name stands for is in the shape's range
 abbrev pub is_right_symbol : Shape → Symbol → Bool

@@ -1,5 +1,5 @@
 -- The checks of a script, word by word from left to right, and the checked tree that they give.
-use Rattle.std.specs.Prelude.{ℕ, zero, suc, ◌==◌, nat_lt, nat_le, ℤ, pos, neg_ℤ, Bool, true, false, ◌&&◌, if◌then◌else◌, List, [], Option, Some, None, Result, Ok, Err, bytes_eq, ⊤}
+use Rattle.std.specs.Prelude.{ℕ, zero, suc, ◌==◌, nat_lt, nat_le, ℤ, pos, neg_ℤ, Bool, true, false, ◌&&◌, if◌then◌else◌, List, [], Option, Some, None, Result, Ok, Err}
 use Rattle.mate_num.specs.Number.{wrap}
 use Rattle.mate_num.specs.declared.id.FunId.{FunId}
 use Rattle.mate_num.specs.declared.id.BufId.{BufId}
@@ -15,10 +15,10 @@ use Rattle.ts_syntax.specs.Tree as given
 use Rattle.ts_syntax.specs.Tree.{Tree, Trees, no_trees, tree_then, Act, Acts, no_acts, act_then, Source}
 use Rattle.ts_syntax.specs.Expression.{Expression, Arguments, no_arguments, argument, Num, Shared, Private, Item, Size, MsgItem, MsgSize, Call, SendBuf, Neg, Not, Two}
 use Rattle.ts_syntax.specs.Statement.{Statement, Block, no_statements, statement, Set, SetItem, Append, Take, Clear, Do, DoSend, If, IfElse, For, While}
-use Rattle.ts_checker.specs.declared.fault.CheckFault.{CheckFault}
-use Rattle.ts_checker.specs.declared.fault.CheckFault.TheVariants.{Undeclared, Kind, Arity}
-use Rattle.ts_checker.specs.Refusal.{◌>>=◌, unless_refused}
-use Rattle.ts_checker.specs.Names.{ScriptNames, names_before, declare_all, found_symbol, variable as variable_at, buffer as buffer_at, function}
+use Rattle.ts_scope.specs.declared.fault.CheckFault.{CheckFault}
+use Rattle.ts_scope.specs.declared.fault.CheckFault.TheVariants.{Undeclared, Kind, Arity}
+use Rattle.ts_scope.specs.Refusal.{◌>>=◌, unless_refused}
+use Rattle.ts_scope.specs.Names.{ScriptNames, names_before, declare_all, variable as variable_at, buffer as buffer_at, function, closes_for}
 
 -- a variable as an expression
 abbrev pub variable_expression : CVar → Expression
@@ -124,10 +124,6 @@ checked_head n w from to step = do
   limit ← checked_expr n false to
   size ← checked_step step
   Ok (record { var = x; from = first; to = limit; step = size })
-
--- the name after `next` is that of its `for`
-abbrev pub closes_for : ScriptNames → Word → Word → Result ⊤ CheckFault
-closes_for n w next = found_symbol n next >>= (λ _. unless_refused (bytes_eq next.name w.name) (Kind next.place))
 
 -- a statement, and the statements of a block; no machine has the procedure of a `do`
 abbrev mutual

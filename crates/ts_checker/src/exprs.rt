@@ -1,20 +1,21 @@
 //! The checks of expressions and calls.
 
-ghost use Rattle.std.specs.Prelude.{◌≡◌, option_map, pos};
+ghost use Rattle.std.specs.Prelude.{◌≡◌, option_map, pos, true};
 ghost use Rattle.mate_num.specs.Number.{wrap};
 ghost use Rattle.vm_desc.specs.Limits.{args_of};
 ghost use Rattle.vm_desc.specs.Shapes.{is_send};
 ghost use Rattle.ts_syntax.specs.Seen.{tree_of, trees_of};
+ghost use Rattle.ts_syntax.specs.Tree as given;
 ghost use Rattle.ts_syntax.specs.TreeOf.{expr_tree};
-ghost use Rattle.ts_checker.specs.Refusal.{GivesChecked};
+ghost use Rattle.ts_scope.specs.Refusal.{GivesChecked};
 ghost use Rattle.ts_checker.specs.Checks.{variable_expression, name_alone, sent, checked_call, checked_expr, checked_args};
-ghost use Rattle.ts_checker.specs.Seen.{scope_names, arguments_of, call_of};
+ghost use Rattle.ts_scope.specs.Seen.{scope_names};
+ghost use Rattle.ts_checker.specs.Seen.{arguments_of, boxed_expression, call_of};
 
 use crate::called::Called;
-use crate::fault::CheckFault;
-use crate::scope::Scope;
 use mate_num::BufId;
 use std::alloc::Global;
+use ts_scope::{CheckFault, Scope};
 use ts_syntax::{Args, BinOp, CArgs, CExpr, CVar, Expr, Word};
 use vm_desc::FunKind;
 
@@ -30,37 +31,110 @@ pub(crate) fn expression(
 {
     match expr {
         Expr::Num(literal) => Ok(CExpr::Num(number_of(*literal))),
-        Expr::Var(word) => Ok(read(scope.variable(word)?)),
-        Expr::Item(word, index) => {
-            let buffer = scope.buffer(word)?;
-            let index = expression(alloc, scope, calls, index)?;
-            Ok(CExpr::Item(buffer, Box::new(alloc, index)?))
-        }
-        Expr::Size(word) => Ok(CExpr::Size(scope.buffer(word)?)),
-        Expr::MsgItem(index) => {
-            let index = expression(alloc, scope, calls, index)?;
-            Ok(CExpr::MsgItem(Box::new(alloc, index)?))
-        }
+        Expr::Var(word) => variable(scope, word),
+        Expr::Item(word, index) => item(alloc, scope, calls, word, index),
+        Expr::Size(word) => size(scope, word),
+        Expr::MsgItem(index) => message_item(alloc, scope, calls, index),
         Expr::MsgSize => Ok(CExpr::MsgSize),
-        Expr::Call(word, args) => Ok(call(alloc, scope, calls, word, args)?.into_expr()),
-        Expr::Neg(of) => {
-            let of = expression(alloc, scope, calls, of)?;
-            Ok(CExpr::Neg(Box::new(alloc, of)?))
-        }
-        Expr::Not(of) => {
-            let of = expression(alloc, scope, calls, of)?;
-            Ok(CExpr::Not(Box::new(alloc, of)?))
-        }
+        Expr::Call(word, args) => call_in(alloc, scope, calls, word, args),
+        Expr::Neg(of) => negative(alloc, scope, calls, of),
+        Expr::Not(of) => inverse(alloc, scope, calls, of),
         Expr::Two(op, left, right) => {
-            let left = Box::new(alloc, expression(alloc, scope, calls, left)?)?;
-            let right = Box::new(alloc, expression(alloc, scope, calls, right)?)?;
+            let left = operand(alloc, scope, calls, left)?;
+            let right = operand(alloc, scope, calls, right)?;
             Ok(CExpr::Two(*op, left, right))
         }
         Expr::Paren(of) => expression(alloc, scope, calls, of),
     }
 }
 
+// The forms of an expression stay calls of their own: a function pays at its entry for all that it may hold, and few
+// nodes are of one form.
+
+// Checks a part of an expression, and boxes it.
+#[inline(never)]
+#[cycle(expression)]
+fn operand(alloc: Global, scope: &Scope, calls: bool, expr: &Expr) -> Result<Box<CExpr>, CheckFault>
+    ensures { GivesChecked boxed_expression result (checked_expr (scope_names scope.now) calls (tree_of expr.now)) }
+{
+    let checked = expression(alloc, scope, calls, expr)?;
+    Ok(Box::new(alloc, checked)?)
+}
+
+#[inline(never)]
+#[cycle(expression)]
+fn item(
+    alloc: Global,
+    scope: &Scope,
+    calls: bool,
+    word: &Word,
+    index: &Expr,
+) -> Result<CExpr, CheckFault>
+    ensures { GivesChecked expr_tree result (checked_expr (scope_names scope.now) calls (given.item word.now (tree_of index.now))) }
+{
+    let buffer = scope.buffer(word)?;
+    Ok(CExpr::Item(buffer, operand(alloc, scope, calls, index)?))
+}
+
+#[inline(never)]
+#[cycle(expression)]
+fn message_item(
+    alloc: Global,
+    scope: &Scope,
+    calls: bool,
+    index: &Expr,
+) -> Result<CExpr, CheckFault>
+    ensures { GivesChecked expr_tree result (checked_expr (scope_names scope.now) calls (given.message_item (tree_of index.now))) }
+{
+    Ok(CExpr::MsgItem(operand(alloc, scope, calls, index)?))
+}
+
+#[inline(never)]
+#[cycle(expression)]
+fn negative(alloc: Global, scope: &Scope, calls: bool, of: &Expr) -> Result<CExpr, CheckFault>
+    ensures { GivesChecked expr_tree result (checked_expr (scope_names scope.now) calls (given.negative (tree_of of.now))) }
+{
+    Ok(CExpr::Neg(operand(alloc, scope, calls, of)?))
+}
+
+#[inline(never)]
+#[cycle(expression)]
+fn inverse(alloc: Global, scope: &Scope, calls: bool, of: &Expr) -> Result<CExpr, CheckFault>
+    ensures { GivesChecked expr_tree result (checked_expr (scope_names scope.now) calls (given.inverse (tree_of of.now))) }
+{
+    Ok(CExpr::Not(operand(alloc, scope, calls, of)?))
+}
+
+#[inline(never)]
+#[cycle(expression)]
+fn call_in(
+    alloc: Global,
+    scope: &Scope,
+    calls: bool,
+    word: &Word,
+    args: &Args,
+) -> Result<CExpr, CheckFault>
+    ensures { GivesChecked expr_tree result (checked_expr (scope_names scope.now) calls (given.call word.now (trees_of args.now))) }
+{
+    Ok(call(alloc, scope, calls, word, args)?.into_expr())
+}
+
+#[inline(never)]
+fn variable(scope: &Scope, word: &Word) -> Result<CExpr, CheckFault>
+    ensures { GivesChecked expr_tree result (checked_expr (scope_names scope.now) true (given.variable word.now)) }
+{
+    Ok(read(scope.variable(word)?))
+}
+
+#[inline(never)]
+fn size(scope: &Scope, word: &Word) -> Result<CExpr, CheckFault>
+    ensures { GivesChecked expr_tree result (checked_expr (scope_names scope.now) true (given.size word.now)) }
+{
+    Ok(CExpr::Size(scope.buffer(word)?))
+}
+
 /// Checks a call.
+#[inline(never)]
 #[cycle(expression)]
 pub(crate) fn call(
     alloc: Global,
@@ -88,6 +162,7 @@ pub(crate) fn call(
 }
 
 // The arguments of a call, from left to right.
+#[inline(never)]
 #[cycle(expression)]
 fn arguments(alloc: Global, scope: &Scope, calls: bool, args: &[Expr]) -> Result<CArgs, CheckFault>
     ensures { GivesChecked arguments_of result (checked_args (scope_names scope.now) calls (trees_of args.now)) }

@@ -4,9 +4,7 @@
 mod called;
 pub mod checking;
 mod exprs;
-pub mod fault;
-pub mod scope;
 mod stmts;
 
 pub use checking::check;
-pub use fault::CheckFault;
+pub use ts_scope::CheckFault;

@@ -1,17 +1,18 @@
 //! The checks of statements.
 
-ghost use Rattle.std.specs.Prelude.{◌≡◌};
+ghost use Rattle.std.specs.Prelude.{◌≡◌, [], IfOk};
 ghost use Rattle.ts_syntax.specs.Seen.{tree_of, trees_of, act_of, acts_of};
 ghost use Rattle.ts_syntax.specs.Tree as given;
-ghost use Rattle.ts_syntax.specs.TreeOf.{stmt_tree, block_tree};
-ghost use Rattle.ts_checker.specs.Refusal.{GivesChecked};
+ghost use Rattle.ts_syntax.specs.TreeOf.{stmt_tree, block_tree, block_trees};
+ghost use Rattle.ts_scope.specs.Refusal.{GivesChecked};
 ghost use Rattle.ts_checker.specs.Checks.{checked_step, checked_head, checked_stmt, checked_block};
-ghost use Rattle.ts_checker.specs.Seen.{scope_names, checked_head_of};
+ghost use Rattle.ts_scope.specs.Seen.{scope_names};
+ghost use Rattle.ts_checker.specs.Seen.{checked_head_of};
 
 use crate::exprs::{call, expression};
-use crate::fault::CheckFault;
-use crate::scope::Scope;
+use mate_num::NoMemory;
 use std::alloc::Global;
+use ts_scope::{CheckFault, Scope};
 use ts_syntax::{Args, Block, CBlock, CForHead, CStmt, Expr, ForHead, Step, Stmt, Word};
 
 /// Checks the statements of a block.
@@ -19,11 +20,20 @@ use ts_syntax::{Args, Block, CBlock, CForHead, CStmt, Expr, ForHead, Step, Stmt,
 pub(crate) fn block(alloc: Global, scope: &Scope, stmts: &Block) -> Result<CBlock, CheckFault>
     ensures { GivesChecked block_tree result (checked_block (scope_names scope.now) (acts_of stmts.now)) }
 {
-    let mut checked = CBlock::new(alloc);
+    let mut checked = room_for(alloc, stmts.len())?;
     for stmt in stmts.as_slice() {
         checked.push(statement(alloc, scope, stmt)?)?;
     }
     Ok(checked)
+}
+
+// A block that takes so many statements with no more memory.
+fn room_for(alloc: Global, count: usize) -> Result<CBlock, NoMemory>
+    ensures { IfOk result (λ room. block_trees room ≡ []) }
+{
+    Ok(CBlock {
+        items: Vec::with_capacity(alloc, count)?,
+    })
 }
 
 #[cycle(block)]
@@ -60,6 +70,7 @@ fn statement(alloc: Global, scope: &Scope, stmt: &Stmt) -> Result<CStmt, CheckFa
     }
 }
 
+#[inline(never)]
 fn set_variable(
     alloc: Global,
     scope: &Scope,
@@ -72,6 +83,7 @@ fn set_variable(
     Ok(CStmt::Set(variable, expression(alloc, scope, true, value)?))
 }
 
+#[inline(never)]
 fn set_item(
     alloc: Global,
     scope: &Scope,
@@ -87,6 +99,7 @@ fn set_item(
     Ok(CStmt::SetItem(buffer, index, value))
 }
 
+#[inline(never)]
 fn append(alloc: Global, scope: &Scope, word: &Word, value: &Expr) -> Result<CStmt, CheckFault>
     ensures { GivesChecked stmt_tree result (checked_stmt (scope_names scope.now) (given.append word.now (tree_of value.now))) }
 {
@@ -94,6 +107,7 @@ fn append(alloc: Global, scope: &Scope, word: &Word, value: &Expr) -> Result<CSt
     Ok(CStmt::Append(buffer, expression(alloc, scope, true, value)?))
 }
 
+#[inline(never)]
 fn take_last(scope: &Scope, word: &Word, from: &Word) -> Result<CStmt, CheckFault>
     ensures { GivesChecked stmt_tree result (checked_stmt (scope_names scope.now) (given.take_last word.now from.now)) }
 {
@@ -101,12 +115,14 @@ fn take_last(scope: &Scope, word: &Word, from: &Word) -> Result<CStmt, CheckFaul
     Ok(CStmt::Take(variable, scope.buffer(from)?))
 }
 
+#[inline(never)]
 fn clear(scope: &Scope, word: &Word) -> Result<CStmt, CheckFault>
     ensures { GivesChecked stmt_tree result (checked_stmt (scope_names scope.now) (given.clear word.now)) }
 {
     Ok(CStmt::Clear(scope.buffer(word)?))
 }
 
+#[inline(never)]
 fn call_alone(alloc: Global, scope: &Scope, word: &Word, args: &Args) -> Result<CStmt, CheckFault>
     ensures { GivesChecked stmt_tree result (checked_stmt (scope_names scope.now) (given.call_alone word.now (trees_of args.now))) }
 {
@@ -114,6 +130,7 @@ fn call_alone(alloc: Global, scope: &Scope, word: &Word, args: &Args) -> Result<
 }
 
 // A machine has no procedures.
+#[inline(never)]
 fn no_procedure(word: &Word) -> CheckFault
     ensures { result ≡ CheckFault.Undeclared word.now.name word.now.place }
 {
@@ -123,6 +140,7 @@ fn no_procedure(word: &Word) -> CheckFault
     }
 }
 
+#[inline(never)]
 fn for_head(alloc: Global, scope: &Scope, head: &ForHead) -> Result<CForHead, CheckFault>
     ensures { let from = tree_of head.now.from in
         GivesChecked checked_head_of result (checked_head (scope_names scope.now) head.now.var from (tree_of head.now.to) head.now.step) }

@@ -4,7 +4,9 @@ use Rattle.std.specs.Option.{option_map}
 use Rattle.std.proofs.lemmas.Bool.{false≢true, cond-true, cond-false, cond_both, or_from, or_parts, eqb-true, ne_eqb, not-true, not_from_false}
 use Rattle.ts_syntax.specs.declared.token.TokenKind.{TokenKind}
 use Rattle.ts_syntax.specs.declared.token.TokenKind.TheVariants as kind
-use Rattle.ts_syntax.specs.Cut.{is_blank, is_digit, begins_name, sign_of, token, bad_byte, between, less, greater, stop, go, sign_turn, fresh, with_front, cut_from}
+use Rattle.ts_syntax.specs.declared.dialect.Dialect.{Dialect}
+use Rattle.ts_syntax.specs.declared.dialect.Dialect.TheVariants as dialect
+use Rattle.ts_syntax.specs.Cut.{is_blank, is_digit, begins_name, sign_of, procedure_kind, kind_in, token, bad_byte, between, less, greater, stop, go, sign_turn, fresh, with_front, cut_from}
 use Rattle.ts_lexer.specs.declared.fault.TokenFault.{TokenFault}
 use Rattle.ts_lexer.specs.declared.fault.TokenFault.TheVariants.{NoMemory}
 use Rattle.ts_lexer.specs.declared.scanner.Scanner.{Scanner}
@@ -110,6 +112,45 @@ sign_at-Fits (b ∷ bs) = by (b == 60) (b == 62)
     by true w = less_fits bs
     by false true = greater_fits bs
     by false false = short_fits b bs (sign_of b)
+
+-- a sign is the same in each dialect
+
+abbrev Stays : Option TokenKind → Type 0
+Stays None = Unit {0}
+Stays (Some k) = procedure_kind k ≡ k
+
+abbrev SignStays : Option (TokenKind × ℕ) → Type 0
+SignStays None = Unit {0}
+SignStays (Some s) = procedure_kind s.0 ≡ s.0
+
+sign_of-Stays : (b : ℕ) → Stays (sign_of b)
+sign_of-Stays b =
+    cond_both (b == 59) _ _ Stays (λ _. refl) (λ _. cond_both (b == 44) _ _ Stays (λ _. refl) (λ _. cond_both (b == 40) _ _ Stays (λ _. refl) (λ _. cond_both (b == 41) _ _ Stays (λ _. refl) (λ _. cond_both (b == 91) _ _ Stays (λ _. refl) (λ _. cond_both (b == 93) _ _ Stays (λ _. refl) (λ _. cond_both (b == 61) _ _ Stays (λ _. refl) (λ _. cond_both (b == 43) _ _ Stays (λ _. refl) (λ _. cond_both (b == 45) _ _ Stays (λ _. refl) (λ _. cond_both (b == 42) _ _ Stays (λ _. refl) (λ _. cond_both (b == 47) _ _ Stays (λ _. refl) (λ _. cond_both (b == 37) _ _ Stays (λ _. refl) (λ _. tt))))))))))))
+
+short_stays : (o : Option TokenKind) → Stays o → SignStays (option_map (λ k. (k, 1)) o)
+short_stays None h = tt
+short_stays (Some k) h = h
+
+less_stays : (bs : List ℕ) → SignStays (Some (less_sign bs))
+less_stays [] = refl
+less_stays (b ∷ bs) = cond_both (b == 61) _ _ (λ s. SignStays (Some s)) (λ _. refl) (λ _. cond_both (b == 62) _ _ (λ s. SignStays (Some s)) (λ _. refl) (λ _. refl))
+
+greater_stays : (bs : List ℕ) → SignStays (Some (greater_sign bs))
+greater_stays [] = refl
+greater_stays (b ∷ bs) = cond_both (b == 61) _ _ (λ s. SignStays (Some s)) (λ _. refl) (λ _. refl)
+
+sign_at-SignStays : (bs : List ℕ) → SignStays (sign_at bs)
+sign_at-SignStays [] = tt
+sign_at-SignStays (b ∷ bs) = by (b == 60) (b == 62)
+  where
+    by : (v w : Bool) → SignStays (if v then Some (less_sign bs) else (if w then Some (greater_sign bs) else option_map (λ k. (k, 1)) (sign_of b)))
+    by true w = less_stays bs
+    by false true = greater_stays bs
+    by false false = short_stays (sign_of b) (sign_of-Stays b)
+
+pub sign_stays : (d : Dialect) (bs : List ℕ) (k : TokenKind) (n : ℕ) → Some (k, n) ≡ sign_at bs → k ≡ kind_in d k
+sign_stays dialect.Plain bs k n e = refl
+sign_stays dialect.Procedures bs k n e = sym (subst SignStays (sym e) (sign_at-SignStays bs))
 
 -- steps of a scanner
 

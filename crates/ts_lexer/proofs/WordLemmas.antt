@@ -1,14 +1,16 @@
 -- Names and keywords as texts.
-use Rattle.std.proofs.Common.{◌≡◌, ℕ, ◌<◌, true, false, ◌&&◌, ◌||◌, ◌==◌, nat_le, inl, inr, List, [], ◌∷◌, refl, ◌∙◌, arith}
+use Rattle.std.proofs.Common.{◌≡◌, ℕ, ◌<◌, Bool, cond, length, ap, true, false, ◌&&◌, ◌||◌, ◌==◌, nat_le, inl, inr, List, [], ◌∷◌, refl, sym, ◌∙◌, arith}
 use Rattle.std.specs.Str.{IsUtf8, IsAscii, bytes_eq}
-use Rattle.std.proofs.lemmas.Bool.{or_cases, and_parts, leb-true, eqb-true, cond-false, false_from_ne_true}
+use Rattle.std.proofs.lemmas.Bool.{or_cases, and_parts, leb-true, eqb-true, eqb-false, cond-false, false_from_ne_true}
 use Rattle.std.proofs.lemmas.Str.{IsUtf8-from_ascii}
 use Rattle.std.proofs.lemmas.Str.Ascii.{IsAscii-nil, IsAscii-cons}
 use Rattle.std.proofs.lemmas.Slice.Eq.{bytes_eq-Decides}
 use Rattle.ts_syntax.specs.declared.token.TokenKind.{TokenKind}
 use Rattle.ts_syntax.specs.declared.token.TokenKind.TheVariants as kind
+use Rattle.ts_syntax.specs.declared.dialect.Dialect.{Dialect}
+use Rattle.ts_syntax.specs.declared.dialect.Dialect.TheVariants as dialect
 use Rattle.ts_syntax.specs.Text.{token_text}
-use Rattle.ts_syntax.specs.Cut.{is_digit, begins_name, in_name, keyword_among}
+use Rattle.ts_syntax.specs.Cut.{is_digit, begins_name, in_name, keywords, keyword_among, procedure_kind, kind_in}
 use Rattle.ts_lexer.specs.Spans.{Passes}
 
 in_name-lt : (b : ℕ) → in_name b ≡ true → b < 128
@@ -43,3 +45,31 @@ among_none (k ∷ ks) w h = cond-false (bytes_eq w (token_text k)) _ _ h.0 ∙ a
 -- a text that isn't another one
 pub unlike : (w v : List ℕ) → (w ≡ v → ⊥) → bytes_eq w v ≡ false
 unlike w v h = false_from_ne_true (bytes_eq w v) (λ e. h ((bytes_eq-Decides w v).0 e))
+
+-- the keywords of a length
+abbrev pub of_length : ℕ → List TokenKind → List TokenKind
+of_length n [] = []
+of_length n (k ∷ ks) = cond (length (token_text k) == n) (k ∷ of_length n ks) (of_length n ks)
+
+of_its_length : (ks : List TokenKind) (k : TokenKind) (w : List ℕ) (b : Bool) → (length (token_text k) == length w) ≡ b → keyword_among ks w ≡ keyword_among (of_length (length w) ks) w
+    → keyword_among (k ∷ ks) w ≡ keyword_among (cond b (k ∷ of_length (length w) ks) (of_length (length w) ks)) w
+of_its_length ks k w true e later = ap (λ r. cond (bytes_eq w (token_text k)) k r) later
+of_its_length ks k w false e later =
+    cond-false (bytes_eq w (token_text k)) _ _ (unlike w (token_text k) (λ same. eqb-false (length (token_text k)) (length w) e (sym (ap length same)))) ∙ later
+
+-- a word is a keyword of its own length, or none
+pub among_its_length : (ks : List TokenKind) (w : List ℕ) → keyword_among ks w ≡ keyword_among (of_length (length w) ks) w
+among_its_length [] w = refl
+among_its_length (k ∷ ks) w = of_its_length ks k w (length (token_text k) == length w) refl (among_its_length ks w)
+
+-- a word that is shorter than each keyword, or longer, is none
+pub of_no_length : (w : List ℕ) → (length w ≡ 2 → ⊥) → (length w ≡ 3 → ⊥) → (length w ≡ 4 → ⊥) → (length w ≡ 5 → ⊥) → (length w ≡ 6 → ⊥) → (length w ≡ 7 → ⊥)
+    → keyword_among keywords w ≡ kind.Name w
+of_no_length w not2 not3 not4 not5 not6 not7 =
+    let other : (v : List ℕ) → (length w ≡ length v → ⊥) → bytes_eq w v ≡ false = λ v h. unlike w v (λ same. h (ap length same)) in
+    among_none keywords w (other _ not6, (other _ not7, (other _ not6, (other _ not2, (other _ not4, (other _ not4, (other _ not3, (other _ not3, (other _ not2, (other _ not4, (other _ not4, (other _ not5, (other _ not3, (other _ not2, (other _ not3, (other _ not4, (other _ not5, (other _ not3, tt))))))))))))))))))
+
+-- a kind that is no name of a dialect's own keyword is the same in each dialect
+pub same_in : (d : Dialect) (k : TokenKind) → procedure_kind k ≡ k → k ≡ kind_in d k
+same_in dialect.Plain k e = refl
+same_in dialect.Procedures k e = sym e

@@ -5,8 +5,8 @@ ghost use Rattle.ts_lexer.specs.Answers.{Cuts, CutsIn};
 
 use crate::fault::TokenFault;
 use crate::spans::{
-    begins_with_letter, digits_len, is_blank, is_digit, is_letter, kind_in, line_len,
-    literal_value, name_len, sign, word,
+    begins_with_letter, digits_len, is_blank, is_digit, is_letter, line_len, literal_value,
+    name_len, sign, word,
 };
 use mate_num::{Items, Name};
 use std::alloc::Global;
@@ -51,7 +51,8 @@ struct Scanner<'a> {
 
 impl<'a> Scanner<'a> {
     ghost use Rattle.std.specs.Prelude.{◌≡◌, ◌≤◌, ◌==◌, length, Some, slice_get, take, MatchResult};
-    ghost use Rattle.ts_syntax.specs.Cut.{is_blank, begins_name, is_digit, token};
+    ghost use Rattle.ts_syntax.specs.Cut.{is_blank, begins_name, is_digit, token, kind_in};
+    ghost use Rattle.ts_syntax.specs.declared.token.TokenKind.{TokenKind as Kind};
     ghost use Rattle.ts_lexer.specs.Spans.{Begins, begins_sign};
     ghost use Rattle.ts_lexer.specs.Scanner.{Takes, Appends, Moves, Steps};
 
@@ -108,7 +109,7 @@ impl<'a> Scanner<'a> {
         let Ok(text) = str::from_utf8(self.take(len)) else {
             unreachable!()
         };
-        self.push(word(text), from)
+        self.push(word(self.dialect, text), from)
     }
 
     /// Reads a literal.
@@ -152,12 +153,12 @@ impl<'a> Scanner<'a> {
         taken
     }
 
-    /// Appends the token that stands from `from` up to the rest.
+    /// Appends the token that stands from `from` up to the rest, of a kind of the dialect.
     fn push(&mut self, kind: TokenKind, from: u32) -> Result<(), TokenFault>
-        ensures { MatchResult result (λ _. Appends self.old self.new (token kind from self.old.place)) (λ e. e ≡ TokenFault.NoMemory) }
+        ensures { (plain : Kind) → kind ≡ kind_in self.old.dialect plain
+            → MatchResult result (λ _. Appends self.old self.new (token plain from self.old.place)) (λ e. e ≡ TokenFault.NoMemory) }
     {
         let to = self.place;
-        let kind = kind_in(self.dialect, kind);
         self.tokens.push(Token { kind, from, to })?;
         Ok(())
     }

@@ -1,6 +1,6 @@
 //! What the first bytes of a text are: how long a name, a literal, a comment or a sign is, and what it says.
 
-ghost use Rattle.std.specs.Prelude.{◌≡◌, ◌≤◌, ◌==◌, not, length, nat_lt, if◌then◌else◌, Some, None};
+ghost use Rattle.std.specs.Prelude.{◌≡◌, ◌<◌, ◌≤◌, ◌==◌, not, length, nat_lt, if◌then◌else◌, Some, None};
 ghost use Rattle.std.specs.List.{prefix_len};
 ghost use Rattle.ts_syntax.specs.Cut.{is_blank, begins_name, in_name, is_digit, sign_of, word_kind, kind_in, procedure_kind};
 ghost use Rattle.ts_lexer.specs.Spans.{begins, Passes, value_of, sign_at};
@@ -74,30 +74,129 @@ pub fn literal_value(digits: &[u8]) -> Option<u16>
     Some(value)
 }
 
-/// The keyword that a text spells, or else the name.
-pub fn word(text: &str) -> TokenKind
+/// The keyword of a dialect that a text spells, or else the name. A text is compared with the keywords of its length alone.
+pub fn word(dialect: Dialect, text: &str) -> TokenKind
     requires { length text.now ≤ 16 }
-    ensures { result ≡ word_kind text.now }
+    ensures { result ≡ kind_in dialect (word_kind text.now) }
+{
+    match text.len() {
+        0..=1 => short_word(dialect, text),
+        2 => word_of_2(dialect, text),
+        3 => word_of_3(dialect, text),
+        4 => word_of_4(dialect, text),
+        5 => word_of_5(dialect, text),
+        6 => word_of_6(dialect, text),
+        7 => word_of_7(dialect, text),
+        8.. => long_word(dialect, text),
+    }
+}
+
+fn short_word(dialect: Dialect, text: &str) -> TokenKind
+    requires { length text.now < 2 }
+    ensures { result ≡ kind_in dialect (word_kind text.now) }
+{
+    own_word(dialect, text)
+}
+
+fn word_of_2(dialect: Dialect, text: &str) -> TokenKind
+    requires { length text.now ≡ 2 }
+    ensures { result ≡ kind_in dialect (word_kind text.now) }
+{
+    match text {
+        "if" => TokenKind::If,
+        "to" => TokenKind::To,
+        "or" => TokenKind::Or,
+        _ => own_word(dialect, text),
+    }
+}
+
+fn word_of_3(dialect: Dialect, text: &str) -> TokenKind
+    requires { length text.now ≡ 3 }
+    ensures { result ≡ kind_in dialect (word_kind text.now) }
+{
+    match text {
+        "end" => TokenKind::End,
+        "for" => TokenKind::For,
+        "and" => TokenKind::And,
+        "not" => TokenKind::Not,
+        "msg" => TokenKind::Msg,
+        _ => own_word(dialect, text),
+    }
+}
+
+fn word_of_4(dialect: Dialect, text: &str) -> TokenKind
+    requires { length text.now ≡ 4 }
+    ensures { result ≡ kind_in dialect (word_kind text.now) }
+{
+    match text {
+        "then" => TokenKind::Then,
+        "else" => TokenKind::Else,
+        "step" => TokenKind::Step,
+        "next" => TokenKind::Next,
+        "size" => TokenKind::Size,
+        _ => own_word(dialect, text),
+    }
+}
+
+fn word_of_5(dialect: Dialect, text: &str) -> TokenKind
+    requires { length text.now ≡ 5 }
+    ensures { result ≡ kind_in dialect (word_kind text.now) }
+{
+    match text {
+        "while" => TokenKind::While,
+        "clear" => TokenKind::Clear,
+        _ => own_word(dialect, text),
+    }
+}
+
+fn word_of_6(dialect: Dialect, text: &str) -> TokenKind
+    requires { length text.now ≡ 6 }
+    ensures { result ≡ kind_in dialect (word_kind text.now) }
 {
     match text {
         "shared" => TokenKind::Shared,
-        "private" => TokenKind::Private,
         "buffer" => TokenKind::Buffer,
-        "if" => TokenKind::If,
-        "then" => TokenKind::Then,
-        "else" => TokenKind::Else,
-        "end" => TokenKind::End,
-        "for" => TokenKind::For,
-        "to" => TokenKind::To,
-        "step" => TokenKind::Step,
-        "next" => TokenKind::Next,
-        "while" => TokenKind::While,
-        "and" => TokenKind::And,
-        "or" => TokenKind::Or,
-        "not" => TokenKind::Not,
-        "size" => TokenKind::Size,
-        "clear" => TokenKind::Clear,
-        "msg" => TokenKind::Msg,
+        _ => own_word(dialect, text),
+    }
+}
+
+fn word_of_7(dialect: Dialect, text: &str) -> TokenKind
+    requires { length text.now ≡ 7 }
+    ensures { result ≡ kind_in dialect (word_kind text.now) }
+{
+    match text {
+        "private" => TokenKind::Private,
+        _ => own_word(dialect, text),
+    }
+}
+
+fn long_word(dialect: Dialect, text: &str) -> TokenKind
+    requires least { 8 ≤ length text.now }
+    requires most { length text.now ≤ 16 }
+    ensures { result ≡ kind_in dialect (word_kind text.now) }
+{
+    own_word(dialect, text)
+}
+
+/// What a text that is no keyword of plain TinyScript is in a dialect: where a script may have procedures, `proc` and
+/// `do` are keywords.
+fn own_word(dialect: Dialect, text: &str) -> TokenKind
+    requires { length text.now ≤ 16 }
+    ensures { result ≡ kind_in dialect (TokenKind.Name text.now) }
+{
+    match dialect {
+        Dialect::Plain => name(text),
+        Dialect::Procedures => procedure_word(text),
+    }
+}
+
+fn procedure_word(text: &str) -> TokenKind
+    requires { length text.now ≤ 16 }
+    ensures { result ≡ procedure_kind (TokenKind.Name text.now) }
+{
+    match text {
+        "proc" => TokenKind::Proc,
+        "do" => TokenKind::Do,
         _ => name(text),
     }
 }
@@ -110,35 +209,6 @@ fn name(text: &str) -> TokenKind
         unreachable!()
     };
     TokenKind::Name(name)
-}
-
-/// What a kind of token is in a dialect: where a script may have procedures, the names `proc` and `do` are keywords.
-pub fn kind_in(dialect: Dialect, kind: TokenKind) -> TokenKind
-    ensures { result ≡ kind_in dialect kind }
-{
-    match dialect {
-        Dialect::Plain => kind,
-        Dialect::Procedures => procedure_kind(kind),
-    }
-}
-
-fn procedure_kind(kind: TokenKind) -> TokenKind
-    ensures { result ≡ procedure_kind kind }
-{
-    match kind {
-        TokenKind::Name(name) => named(name),
-        kind => kind,
-    }
-}
-
-fn named(name: Name) -> TokenKind
-    ensures { result ≡ procedure_kind (TokenKind.Name name) }
-{
-    match name.as_str() {
-        "proc" => TokenKind::Proc,
-        "do" => TokenKind::Do,
-        _ => TokenKind::Name(name),
-    }
 }
 
 /// The sign that bytes begin with, and its length: the longest that fits.

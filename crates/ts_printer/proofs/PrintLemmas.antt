@@ -47,6 +47,11 @@ pub one_token : {w0 w1 w2 : Option (List ℕ)} {f0 f1 f2 : ℕ} {r1 : Result (Un
     → gap ≡ space old.begun → text ≡ token_text k → new.begun ≡ true → Prints w0 f0 old.pen.result w1 f1 r1 gap → Prints w1 f1 r1 w2 f2 new.pen.result text → PrintsTokens w0 f0 old w2 f2 new (k ∷ [])
 one_token {old} k g e b p q = record { prints = Prints-by (written_one old.begun k) (Prints-by g p ⟫ Prints-by e q); begun = b }
 
+-- the same of one piece
+pub one_piece : {w0 w1 : Option (List ℕ)} {f0 f1 : ℕ} {old new : Printer} {piece : List ℕ} (k : TokenKind)
+    → piece ≡ space old.begun ++ token_text k → new.begun ≡ true → Prints w0 f0 old.pen.result w1 f1 new.pen.result piece → PrintsTokens w0 f0 old w1 f1 new (k ∷ [])
+one_piece {old} k is b p = record { prints = Prints-by (written_one old.begun k) (Prints-by is p); begun = b }
+
 -- tokens and then others
 infixl 20 ◌⋙◌
 pub ◌⋙◌ : {w0 w1 w2 : Option (List ℕ)} {f0 f1 f2 : ℕ} {a b c : Printer} {ks ls : List TokenKind}

@@ -1,6 +1,6 @@
 //! A script's text: its tokens, with one space between two.
 
-ghost use Rattle.std.specs.Prelude.{◌≡◌, ◌∷◌, ◌++◌, [], ◌&&◌};
+ghost use Rattle.std.specs.Prelude.{◌≡◌, ◌∷◌, ◌++◌, ℕ, List, [], ◌&&◌};
 ghost use Rattle.mate_files.specs.Sink.{Puts};
 ghost use Rattle.ts_syntax.specs.declared.token.TokenKind.{TokenKind};
 ghost use Rattle.ts_syntax.specs.declared.token.TokenKind.TheVariants as kind;
@@ -27,33 +27,48 @@ fn gap(begun: bool) -> &'static str
     if begun { " " } else { "" }
 }
 
-fn sign_text(op: BinOp) -> &'static str
-    ensures { result.now ≡ token_text (sign op) }
+/// A token with what stands before it, where `spaced` has a space before the token.
+fn with_gap(begun: bool, spaced: &[u8]) -> &[u8]
+    ensures { (text : List ℕ) → spaced.now ≡ 32 ∷ text → result.now ≡ space begun ++ text }
 {
-    match op {
-        BinOp::Or => "or",
-        BinOp::And => "and",
-        BinOp::Eq => "=",
-        BinOp::Ne => "<>",
-        BinOp::Lt => "<",
-        BinOp::Gt => ">",
-        BinOp::Le => "<=",
-        BinOp::Ge => ">=",
-        BinOp::Add => "+",
-        BinOp::Sub => "-",
-        BinOp::Mul => "*",
-        BinOp::Div => "/",
-        BinOp::Rem => "%",
+    if begun {
+        return spaced;
+    }
+    match spaced.split_first() {
+        None => spaced,
+        Some((_, text)) => text,
     }
 }
 
+/// The text of an operator, with a space before it.
+fn sign_text(op: BinOp) -> &'static str
+    ensures { result.now ≡ 32 ∷ token_text (sign op) }
+{
+    match op {
+        BinOp::Or => " or",
+        BinOp::And => " and",
+        BinOp::Eq => " =",
+        BinOp::Ne => " <>",
+        BinOp::Lt => " <",
+        BinOp::Gt => " >",
+        BinOp::Le => " <=",
+        BinOp::Ge => " >=",
+        BinOp::Add => " +",
+        BinOp::Sub => " -",
+        BinOp::Mul => " *",
+        BinOp::Div => " /",
+        BinOp::Rem => " %",
+    }
+}
+
+/// The keyword of a declaration, with a space before it.
 fn keyword_text(kind: DeclKind) -> &'static str
-    ensures { result.now ≡ token_text (decl_keyword kind) }
+    ensures { result.now ≡ 32 ∷ token_text (decl_keyword kind) }
 {
     match kind {
-        DeclKind::Shared => "shared",
-        DeclKind::Private => "private",
-        DeclKind::Buffer => "buffer",
+        DeclKind::Shared => " shared",
+        DeclKind::Private => " private",
+        DeclKind::Buffer => " buffer",
     }
 }
 
@@ -64,21 +79,20 @@ fn ends(behind: bool, first: bool) -> bool
     behind && first
 }
 
-/// What stands before a declared name.
+/// What stands before a declared name, with a space before it.
 fn start_text(first: bool, kind: DeclKind) -> &'static str
-    ensures { result.now ≡ token_text (decl_start first kind) }
+    ensures { result.now ≡ 32 ∷ token_text (decl_start first kind) }
 {
-    if first { keyword_text(kind) } else { "," }
+    if first { keyword_text(kind) } else { " ," }
 }
 
 impl Printer {
-    /// Prints a token by its text.
-    fn token<S: Sink>(&mut self, out: &mut S, text: &str)
-        ensures { (k : TokenKind) → text.now ≡ token_text k → PrintsTokens (S.written out.old) (S.faults out.old) self.old
+    /// Prints a token by its text, which is given with a space before it, so that both are one piece.
+    fn token<S: Sink>(&mut self, out: &mut S, spaced: &str)
+        ensures { (k : TokenKind) → spaced.now ≡ 32 ∷ token_text k → PrintsTokens (S.written out.old) (S.faults out.old) self.old
             (S.written out.new) (S.faults out.new) self.new (k ∷ []) }
     {
-        self.pen.text(out, gap(self.begun));
-        self.pen.text(out, text);
+        self.pen.bytes(out, with_gap(self.begun, spaced.as_bytes()));
         self.begun = true;
     }
 
@@ -96,7 +110,9 @@ impl Printer {
         ensures { PrintsTokens (S.written out.old) (S.faults out.old) self.old
             (S.written out.new) (S.faults out.new) self.new (name word.now ∷ []) }
     {
-        self.token(out, word.name.as_str());
+        self.pen.text(out, gap(self.begun));
+        self.pen.bytes(out, word.name.as_bytes());
+        self.begun = true;
     }
 
     #[cycle(print_expr)]
@@ -113,40 +129,40 @@ impl Printer {
             }
             Expr::Item(word, index) => {
                 self.name(out, word);
-                self.token(out, "[");
+                self.token(out, " [");
                 self.expr(out, index);
-                self.token(out, "]");
+                self.token(out, " ]");
             }
             Expr::Size(word) => {
-                self.token(out, "size");
-                self.token(out, "(");
+                self.token(out, " size");
+                self.token(out, " (");
                 self.name(out, word);
-                self.token(out, ")");
+                self.token(out, " )");
             }
             Expr::MsgItem(index) => {
-                self.token(out, "msg");
-                self.token(out, "[");
+                self.token(out, " msg");
+                self.token(out, " [");
                 self.expr(out, index);
-                self.token(out, "]");
+                self.token(out, " ]");
             }
             Expr::MsgSize => {
-                self.token(out, "size");
-                self.token(out, "(");
-                self.token(out, "msg");
-                self.token(out, ")");
+                self.token(out, " size");
+                self.token(out, " (");
+                self.token(out, " msg");
+                self.token(out, " )");
             }
             Expr::Call(word, args) => {
                 self.name(out, word);
-                self.token(out, "(");
+                self.token(out, " (");
                 self.args(out, args);
-                self.token(out, ")");
+                self.token(out, " )");
             }
             Expr::Neg(of) => {
-                self.token(out, "-");
+                self.token(out, " -");
                 self.expr(out, of);
             }
             Expr::Not(of) => {
-                self.token(out, "not");
+                self.token(out, " not");
                 self.expr(out, of);
             }
             Expr::Two(op, left, right) => {
@@ -155,9 +171,9 @@ impl Printer {
                 self.expr(out, right);
             }
             Expr::Paren(of) => {
-                self.token(out, "(");
+                self.token(out, " (");
                 self.expr(out, of);
-                self.token(out, ")");
+                self.token(out, " )");
             }
         }
     }
@@ -168,7 +184,7 @@ impl Printer {
             (S.written out.new) (S.faults out.new) self.new (comma_before first) }
     {
         if !first {
-            self.token(out, ",");
+            self.token(out, " ,");
         }
     }
 
@@ -192,7 +208,7 @@ impl Printer {
         match step {
             None => {}
             Some(step) => {
-                self.token(out, "step");
+                self.token(out, " step");
                 self.minus(out, step.minus);
                 self.number(out, step.size);
             }
@@ -204,7 +220,7 @@ impl Printer {
             (S.written out.new) (S.faults out.new) self.new (minus_spelled minus) }
     {
         if minus {
-            self.token(out, "-");
+            self.token(out, " -");
         }
     }
 
@@ -212,21 +228,21 @@ impl Printer {
         ensures { PrintsTokens (S.written out.old) (S.faults out.old) self.old
             (S.written out.new) (S.faults out.new) self.new (head_spelled head.now) }
     {
-        self.token(out, "for");
+        self.token(out, " for");
         self.name(out, &head.var);
-        self.token(out, "=");
+        self.token(out, " =");
         self.expr(out, &head.from);
-        self.token(out, "to");
+        self.token(out, " to");
         self.expr(out, &head.to);
         self.step(out, head.step);
     }
 
-    /// Prints the end of a block that `keyword` opened.
+    /// Prints the end of a block that `keyword` opened, which is given with a space before it.
     fn end<S: Sink>(&mut self, out: &mut S, keyword: &str)
-        ensures { (k : TokenKind) → keyword.now ≡ token_text k → PrintsTokens (S.written out.old) (S.faults out.old) self.old
+        ensures { (k : TokenKind) → keyword.now ≡ 32 ∷ token_text k → PrintsTokens (S.written out.old) (S.faults out.old) self.old
             (S.written out.new) (S.faults out.new) self.new (kind.End ∷ k ∷ []) }
     {
-        self.token(out, "end");
+        self.token(out, " end");
         self.token(out, keyword);
     }
 
@@ -238,84 +254,84 @@ impl Printer {
         match stmt {
             Stmt::Set(word, value) => {
                 self.name(out, word);
-                self.token(out, "=");
+                self.token(out, " =");
                 self.expr(out, value);
-                self.token(out, ";");
+                self.token(out, " ;");
             }
             Stmt::SetItem(word, index, value) => {
                 self.name(out, word);
-                self.token(out, "[");
+                self.token(out, " [");
                 self.expr(out, index);
-                self.token(out, "]");
-                self.token(out, "=");
+                self.token(out, " ]");
+                self.token(out, " =");
                 self.expr(out, value);
-                self.token(out, ";");
+                self.token(out, " ;");
             }
             Stmt::Append(word, value) => {
                 self.name(out, word);
-                self.token(out, "[");
-                self.token(out, "]");
-                self.token(out, "=");
+                self.token(out, " [");
+                self.token(out, " ]");
+                self.token(out, " =");
                 self.expr(out, value);
-                self.token(out, ";");
+                self.token(out, " ;");
             }
             Stmt::Take(word, buffer) => {
                 self.name(out, word);
-                self.token(out, "=");
+                self.token(out, " =");
                 self.name(out, buffer);
-                self.token(out, "[");
-                self.token(out, "]");
-                self.token(out, ";");
+                self.token(out, " [");
+                self.token(out, " ]");
+                self.token(out, " ;");
             }
             Stmt::Clear(word) => {
-                self.token(out, "clear");
-                self.token(out, "(");
+                self.token(out, " clear");
+                self.token(out, " (");
                 self.name(out, word);
-                self.token(out, ")");
-                self.token(out, ";");
+                self.token(out, " )");
+                self.token(out, " ;");
             }
             Stmt::Do(word, args) => {
                 self.name(out, word);
-                self.token(out, "(");
+                self.token(out, " (");
                 self.args(out, args);
-                self.token(out, ")");
-                self.token(out, ";");
+                self.token(out, " )");
+                self.token(out, " ;");
             }
             Stmt::If(condition, block, otherwise) => {
-                self.token(out, "if");
+                self.token(out, " if");
                 self.expr(out, condition);
-                self.token(out, "then");
+                self.token(out, " then");
                 self.block(out, block);
                 match otherwise {
                     None => {
-                        self.end(out, "if");
+                        self.end(out, " if");
                     }
                     Some(otherwise) => {
-                        self.token(out, "else");
+                        self.token(out, " else");
                         self.block(out, otherwise);
-                        self.end(out, "if");
+                        self.end(out, " if");
                     }
                 }
             }
             Stmt::For(head, body, word) => {
                 self.head(out, head);
                 self.block(out, body);
-                self.token(out, "next");
+                self.token(out, " next");
                 self.name(out, word);
             }
             Stmt::While(condition, body) => {
-                self.token(out, "while");
+                self.token(out, " while");
                 self.expr(out, condition);
                 self.block(out, body);
-                self.end(out, "while");
+                self.end(out, " while");
             }
             Stmt::Run(word, args) => {
-                self.token(out, "do");
+                self.token(out, " do");
                 self.name(out, word);
-                self.token(out, "(");
+                self.token(out, " (");
                 self.args(out, args);
-                self.token(out, ")");
-                self.token(out, ";");
+                self.token(out, " )");
+                self.token(out, " ;");
             }
         }
     }
@@ -336,7 +352,7 @@ impl Printer {
             (S.written out.new) (S.faults out.new) self.new (closing behind) }
     {
         if behind {
-            self.token(out, ";");
+            self.token(out, " ;");
         }
     }
 

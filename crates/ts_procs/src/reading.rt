@@ -14,14 +14,18 @@ pub fn read(alloc: Global, bytes: &[u8]) -> Result<PScript, ProcFault>
     requires { length bytes.now ≤ 1048576 }
     ensures { Reads bytes.now result }
 {
-    let tokens = match tokens_in(alloc, Dialect::Procedures, bytes) {
-        Ok(tokens) => tokens,
-        Err(fault) => return Err(fault_of(fault)),
+    // the tokens go before the names are looked up
+    let script = {
+        let tokens = match tokens_in(alloc, Dialect::Procedures, bytes) {
+            Ok(tokens) => tokens,
+            Err(fault) => return Err(fault_of(fault)),
+        };
+        match parse_procedures(alloc, &tokens, bytes.len() as u32) {
+            Ok(script) => script,
+            Err(fault) => return Err(fault_of(fault)),
+        }
     };
-    match parse_procedures(alloc, &tokens, bytes.len() as u32) {
-        Ok(script) => PScript::new(alloc, script),
-        Err(fault) => Err(fault_of(fault)),
-    }
+    PScript::new(alloc, script)
 }
 
 fn fault_of(fault: SourceFault) -> ProcFault

@@ -1,16 +1,13 @@
-use Rattle.std.proofs.Common.{rules, arith, ◌≡◌, ◌∷◌, ◌++◌, ◌∙◌, [], List, ℕ, Some, ap, sym, map, take}
+use Rattle.std.proofs.Common.{rules, arith, ◌≡◌, ◌∷◌, ◌++◌, ◌∙◌, List, ℕ, ap, sym, map, take}
 use Rattle.std.proofs.lemmas.Grind.{common_steps}
-use Rattle.ts_syntax.specs.declared.expr.Expr.{Expr}
 use Rattle.ts_syntax.specs.declared.procedure.Proc.{Proc}
-use Rattle.ts_syntax.specs.declared.stmt.Stmt.{Stmt, the_lemmas}
-use Rattle.ts_syntax.specs.declared.stmt.Stmt.TheVariants.{If}
-use Rattle.ts_syntax.specs.Seen.{tree_of, act_of, acts_of, acts}
-use Rattle.ts_syntax.specs.Tree.{Act, if_else}
-use Rattle.proc_expansion.specs.Expansion.{Callee, Hiding, expanded_act, expanded_acts}
+use Rattle.ts_syntax.specs.Seen.{act_of, acts_of}
+use Rattle.ts_syntax.specs.Tree.{Act}
+use Rattle.proc_expansion.specs.Expansion.{Callee, expanded_acts}
 use Rattle.proc_expansion.specs.Hidden.{hiding_of}
 use Rattle.proc_expansion.specs.Pending.{acts_left, left_if, left_on, steps_if, steps_on}
 use Rattle.proc_expansion.specs.Plan.{bodies_of}
-use Rattle.proc_expansion.proofs.WritingLemmas.{first_depth, rest_depth, block_part, popped_depth, below_depth, top_depth, stack_next, left_on_push, fewer, plain_wrote, if_else_written}
+use Rattle.proc_expansion.proofs.WritingLemmas.{first_depth, rest_depth, block_part, popped_depth, below_depth, top_depth, stack_next, left_on_push, fewer}
 use Rattle.proc_expansion.proofs.statements.+block.Goals as goal
 
 pub advance-statement-requires : goal.advance-statement-requires
@@ -72,25 +69,3 @@ bodies-loop-pending-preserved t c =
       shallow = top_depth body rest below (left_on procs c.push_if-in-Some-2.new.stack.items) c.args.depth top c.in_ok-rest.ensures.body c.in_ok-rest.ensures.rest
           (below_depth procs c.loop-pending.stack.items c.pop.new.self.items c.in-Some.pending c.args.depth c.in-Some.ensures.items c.loop-pending.invariant.shallow);
     }
-
-pub statement-returns-in_ok-other-in-If-default-default-Some-clause-wrote : goal.statement-returns-in_ok-other-in-If-default-default-Some-clause-wrote
-statement-returns-in_ok-other-in-If-default-default-Some-clause-wrote t c =
-    let procs : List Proc = c.args.plan.now.heads.procs.now in
-    let known : List (List ℕ × Callee) = take c.args.count (bodies_of procs) in
-    let h : Hiding = hiding_of c.args.hidden.now in
-    let test : Expr = c.in_ok-test-in-If-default-default-Some.test in
-    let body : List Stmt = c.in_ok-body-in-If-default-default-Some.body in
-    let other : List Stmt = c.in_ok-other-in-If-default-default-Some.other in
-    let seen : act_of c.args.stmt.now ≡ if_else (tree_of c.in-If-default-default-Some.test) (acts_of c.in-If-default-default-Some.body) (acts_of c.in-If-default-default-Some.other) =
-    search (rules, the_lemmas) in
-    let made : act_of (If test body (Some other)) ≡ if_else (tree_of test) (acts (map act_of body)) (acts (map act_of other)) = search (rules, the_lemmas) in
-    let is_body : map act_of body ≡ expanded_acts known h (acts_of c.in-If-default-default-Some.body) =
-    first_of (search (rules, the_lemmas), cc (c.in_ok-body-in-If-default-default-Some.ensures, c.as_slice-in-If-default-default-Some.ensures)) in
-    let is_other : map act_of other ≡ expanded_acts known h (acts_of c.in-If-default-default-Some.other) =
-    first_of (search (rules, the_lemmas), cc (c.in-If-default-default-Some.other-is, c.in_ok-other-in-If-default-default-Some.ensures, c.as_slice-in-If-default-default-Some-2.ensures)) in
-    plain_wrote procs c.plain-in-If-default-default-Some.result (map act_of c.args.written.now) (map act_of c.plain-in-If-default-default-Some.new.written) (act_of (If test body (Some other)))
-    (expanded_act known h (act_of c.args.stmt.now)) c.plain-in-If-default-default-Some.ensures.wrote c.plain-in-If-default-default-Some.ensures.none
-    (ap (λ (a : Act). expanded_act known h a) seen
-    ∙ if_else_written known h (tree_of c.in-If-default-default-Some.test) (tree_of test) (acts_of c.in-If-default-default-Some.body) (acts_of c.in-If-default-default-Some.other)
-    (map act_of body) (map act_of other) c.in_ok-test-in-If-default-default-Some.ensures is_body is_other
-    ∙ ap (λ (a : Act). a ∷ []) (sym made))

@@ -2,11 +2,12 @@ use Rattle.std.proofs.Common.{◌≡◌, ◌∙◌, ap, sym, List, Result, Ok}
 use Rattle.ts_syntax.specs.Seen.{tree_of, trees_of}
 use Rattle.ts_syntax.specs.TreeOf.{expr_tree, args_trees}
 use Rattle.ts_syntax.specs.declared.expr.Expr.{Expr}
-use Rattle.ts_checker.specs.declared.fault.CheckFault.{CheckFault}
-use Rattle.ts_checker.specs.Refusal.{◌>>=◌}
+use Rattle.ts_scope.specs.declared.fault.CheckFault.{CheckFault}
+use Rattle.ts_scope.specs.Refusal.{◌>>=◌}
 use Rattle.ts_checker.specs.Checks.{Called, calls, checked_expr, checked_args, checked_call}
-use Rattle.ts_checker.specs.Seen.{scope_names, arguments_of, call_of}
-use Rattle.ts_checker.proofs.CheckLemmas.{refuses_along, gives_refusal}
+use Rattle.ts_scope.specs.Seen.{scope_names}
+use Rattle.ts_checker.specs.Seen.{arguments_of, call_of}
+use Rattle.ts_scope.proofs.CheckLemmas.{refuses_along, gives_refusal}
 use Rattle.ts_checker.proofs.CallLemmas.{call_counted, call_miscounted}
 use Rattle.ts_checker.proofs.LoopLemmas.{args_next, args_refused, args_end}
 use Rattle.ts_checker.proofs.exprs.+expression.Goals as goal

@@ -2,8 +2,8 @@ use Rattle.std.proofs.Common.{◌≡◌, ◌∙◌, ap, sym, Ok, Err}
 use Rattle.ts_syntax.specs.Seen.{act_of, acts_of}
 use Rattle.ts_syntax.specs.TreeOf.{stmt_tree, block_tree, block_trees}
 use Rattle.ts_checker.specs.Checks.{checked_stmt, checked_block}
-use Rattle.ts_checker.specs.Seen.{scope_names}
-use Rattle.ts_checker.proofs.CheckLemmas.{refuses_along, gives_refusal}
+use Rattle.ts_scope.specs.Seen.{scope_names}
+use Rattle.ts_scope.proofs.CheckLemmas.{refuses_along, gives_refusal}
 use Rattle.ts_checker.proofs.LoopLemmas.{stmts_next, stmts_refused, stmts_end}
 use Rattle.ts_checker.proofs.stmts.+block.Goals as goal
 
@@ -15,8 +15,8 @@ block-loop-stmt-preserved t c =
 
 pub block-returns-in_err-statement : goal.block-returns-in_err-statement
 block-returns-in_err-statement t c =
-    gives_refusal block_tree c.in_err-statement.field-0.0 c.from_residual.result (checked_block (scope_names c.args.scope.now) (acts_of c.args.stmts.now))
-    c.from_residual.ensures.1
+    gives_refusal block_tree c.in_err-statement.field-0.0 c.from_residual-in_err-statement.result (checked_block (scope_names c.args.scope.now) (acts_of c.args.stmts.now))
+    c.from_residual-in_err-statement.ensures.1
     (refuses_along c.in_err-statement.field-0.0 (checked_stmt (scope_names c.args.scope.now) (act_of c.stmt-item.result)) _
     (λ f refused. ap (λ ss. checked_block (scope_names c.args.scope.now) (acts_of ss)) (sym c.as_slice-stmt-items.ensures)
     ∙ c.loop-stmt.invariant ∙ stmts_refused (scope_names c.args.scope.now) c.as_slice-stmt-items.result.now c.loop-stmt.stmt-index c.stmt-item.result

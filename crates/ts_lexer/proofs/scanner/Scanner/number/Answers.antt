@@ -1,5 +1,7 @@
-use Rattle.std.proofs.Common.{sym}
+use Rattle.std.proofs.Common.{sym, refl}
+use Rattle.ts_syntax.specs.declared.token.TokenKind.TheVariants as kind
 use Rattle.ts_syntax.specs.Cut.{is_digit}
+use Rattle.ts_lexer.proofs.WordLemmas.{same_in}
 use Rattle.ts_lexer.proofs.StepLemmas.{fits_front, front_passes, number_steps, big_literal_due, letter_due}
 use Rattle.ts_lexer.proofs.scanner.Scanner.number.Goals as goal
 
@@ -20,4 +22,5 @@ returns-then-begins_with_letter c =
 pub returns : goal.returns
 returns c =
     number_steps c.args.self.now c.take.new.self c.push.new.self c.digits_len-len.result c.take.result.now c.in-Some.value c.push.result c.requires c.digits_len-len.ensures c.take.ensures.takes c.take.ensures.bytes
-    c.in-Some.ensures (sym c.if-begins_with_letter.ensures) c.push.ensures
+    c.in-Some.ensures (sym c.if-begins_with_letter.ensures)
+    (c.push.ensures (kind.Num c.in-Some.value) (same_in c.take.new.self.dialect (kind.Num c.in-Some.value) refl))

@@ -1,5 +1,5 @@
-use Rattle.std.proofs.Common.{◌∙◌}
-use Rattle.ts_syntax.specs.Cut.{in_name}
+use Rattle.std.proofs.Common.{◌∙◌, refl}
+use Rattle.ts_syntax.specs.Cut.{in_name, word_kind}
 use Rattle.ts_lexer.proofs.StepLemmas.{fits_front, front_passes, word_steps, long_word_due}
 use Rattle.ts_lexer.proofs.WordLemmas.{passes-IsUtf8}
 use Rattle.ts_lexer.proofs.scanner.Scanner.word.Goals as goal
@@ -16,5 +16,5 @@ unreachable-requires c =
 
 pub returns : goal.returns
 returns c =
-    word_steps c.args.self.now c.take.new.self c.push.new.self c.name_len-len.result c.in-Ok.text.now c.word.result c.push.result c.requires c.name_len-len.ensures c.if-len-gt-MAX.false c.take.ensures.takes
-    (c.in-Ok.ensures.cases.0 ∙ c.take.ensures.bytes) c.word.ensures c.push.ensures
+    word_steps c.args.self.now c.take.new.self c.push.new.self c.name_len-len.result c.in-Ok.text.now (word_kind c.in-Ok.text.now) c.push.result c.requires c.name_len-len.ensures c.if-len-gt-MAX.false c.take.ensures.takes
+    (c.in-Ok.ensures.cases.0 ∙ c.take.ensures.bytes) refl (c.push.ensures (word_kind c.in-Ok.text.now) c.word.ensures)

@@ -1,0 +1,20 @@
+use Rattle.std.proofs.Common.{ℕ, refl, sym, ◌∙◌, ap}
+use Rattle.ts_syntax.specs.declared.token.TokenKind.TheVariants as kind
+use Rattle.ts_syntax.specs.Cut.{word_kind, keywords, keyword_among, kind_in}
+use Rattle.ts_lexer.proofs.WordLemmas.{of_length, among_its_length, among_none, unlike, same_in}
+use Rattle.ts_lexer.proofs.spans.word_of_6.Goals as goal
+
+pub returns-in-shared : goal.returns-in-shared
+unfolding word_kind
+returns-in-shared c = same_in c.args.dialect kind.Shared refl ∙ sym (ap (λ w. kind_in c.args.dialect (word_kind w)) c.in-shared.is)
+
+pub returns-in-buffer : goal.returns-in-buffer
+unfolding word_kind
+returns-in-buffer c = same_in c.args.dialect kind.Buffer refl ∙ sym (ap (λ w. kind_in c.args.dialect (word_kind w)) c.in-buffer.is)
+
+pub returns-in_default : goal.returns-in_default
+unfolding word_kind
+returns-in_default c =
+    c.own_word.ensures ∙ sym (ap (kind_in c.args.dialect) (among_its_length keywords c.args.text.now
+    ∙ ap (λ (n : ℕ). keyword_among (of_length n keywords) c.args.text.now) c.requires
+    ∙ among_none (of_length 6 keywords) c.args.text.now (unlike c.args.text.now _ c.in_default.not-shared, (unlike c.args.text.now _ c.in_default.not-buffer, tt))))

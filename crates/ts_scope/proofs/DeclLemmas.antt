@@ -1,0 +1,13 @@
+-- Declarations, one after another.
+use Rattle.std.proofs.Common.{◌≡◌, ℕ, ◌+◌, ◌<◌, List, length, drop, get_or, Err, ap, ◌∙◌}
+use Rattle.ts_syntax.specs.declared.script.Decl.{Decl}
+use Rattle.ts_syntax.proofs.ListLemmas.{drop_item}
+use Rattle.ts_scope.specs.declared.fault.CheckFault.{CheckFault}
+use Rattle.ts_scope.specs.Refusal.{◌>>=◌}
+use Rattle.ts_scope.specs.Names.{ScriptNames, declare, declare_all}
+
+-- a declaration is refused
+pub decls_refused : (n : ScriptNames) (ds : List Decl) (i : ℕ) (d : Decl) (fault : CheckFault) → i < length ds → d ≡ get_or ds i d → declare n d ≡ Err fault
+    → declare_all n (drop i ds) ≡ Err fault
+decls_refused n ds i d fault within item refused =
+    ap (declare_all n) (drop_item ds i d within item) ∙ ap (λ r. r >>= (λ m. declare_all m (drop (i + 1) ds))) refused

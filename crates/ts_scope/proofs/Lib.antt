@@ -1,0 +1,3 @@
+pub mod CheckLemmas
+pub mod DeclLemmas
+pub mod RoomLemmas

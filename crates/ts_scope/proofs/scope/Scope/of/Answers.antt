@@ -1,0 +1,18 @@
+use Rattle.std.proofs.Common.{ap, sym, ◌∙◌}
+use Rattle.ts_scope.specs.Names.{names_before, declare, declare_all}
+use Rattle.ts_scope.specs.Seen.{scope_names}
+use Rattle.ts_scope.proofs.CheckLemmas.{refuses_along, gives_refusal}
+use Rattle.ts_scope.proofs.DeclLemmas.{decls_refused}
+use Rattle.ts_scope.proofs.RoomLemmas.{fit_none}
+use Rattle.ts_scope.proofs.scope.Scope.of.Goals as goal
+
+pub loop-decl-init : goal.loop-decl-init
+loop-decl-init c =
+    (ap (λ xs. declare_all (record { machine = c.args.desc.now; declared = xs }) c.args.decls.now) (sym c.new.ensures), fit_none c.args.desc.now c.new.result.items c.new.ensures)
+
+pub returns-in_err-declare : goal.returns-in_err-declare
+returns-in_err-declare c =
+    gives_refusal scope_names c.in_err-declare.field-0.0 c.from_residual.result (declare_all (names_before c.args.desc.now) c.args.decls.now) c.from_residual.ensures.1
+    (refuses_along c.in_err-declare.field-0.0 (declare (scope_names c.loop-decl.scope) c.decl-item.result) (declare_all (names_before c.args.desc.now) c.args.decls.now)
+    (λ f refused. c.loop-decl.invariant.0 ∙ decls_refused (scope_names c.loop-decl.scope) c.args.decls.now c.loop-decl.decl-index c.decl-item.result f c.loop-decl-test.true c.decl-item.is refused)
+    c.in_err-declare.ensures.value)

@@ -1,0 +1,4 @@
+pub mod Refusal
+pub mod Names
+pub mod Room
+pub mod Seen

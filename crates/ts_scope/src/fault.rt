@@ -1,0 +1,70 @@
+//! Why a script is refused.
+
+use mate_num::{Name, NoMemory};
+use std::alloc::AllocFailed;
+use std::error::Error;
+use std::fmt;
+
+/// Why a script is refused for a machine. Declarations come first, and then the statements, word by word
+/// from left to right; of several refusals the first is given. A place is the offset in bytes of a word's
+/// first byte in the source.
+#[derive(Debug, Drop)]
+pub enum CheckFault {
+    /// The name at `place`, of a variable or a buffer, isn't declared; or it stands behind `do`, and a machine has no
+    /// procedures.
+    Undeclared { name: Name, place: u32 },
+    /// The machine has no shared variable, no buffer or no function of this name.
+    NotInVm { name: Name },
+    /// The name is declared twice.
+    Twice { name: Name },
+    /// The word at `place` is of another kind than is wanted there: a buffer's name where a number is
+    /// wanted, a number's name where a buffer is; the function of a call in the limit of a `for`, or of a
+    /// call whose one argument has to be a name alone; a step of 0 or over 32,767; the name after `next`
+    /// where it isn't its `for`'s variable.
+    Kind { place: u32 },
+    /// The function at `place` takes another number of arguments. It comes after the function's other
+    /// refusals, and before those of its arguments.
+    Arity { place: u32 },
+    /// A ninth private variable is declared.
+    TooManyPrivates,
+    /// Memory was refused.
+    NoMemory,
+}
+
+impl From<NoMemory> for CheckFault {
+    ghost use Rattle.std.specs.Prelude.{◌≡◌};
+    ghost use Rattle.ts_scope.specs.declared.fault.CheckFault.TheVariants.{NoMemory};
+
+    ghost from_gives = { λ _ fault. fault ≡ NoMemory };
+
+    fn from(_error: NoMemory) -> CheckFault {
+        CheckFault::NoMemory
+    }
+}
+
+impl<T: Drop> From<AllocFailed<T>> for CheckFault {
+    ghost use Rattle.std.specs.Prelude.{◌≡◌};
+    ghost use Rattle.ts_scope.specs.declared.fault.CheckFault.TheVariants.{NoMemory};
+
+    ghost from_gives = { λ _ fault. fault ≡ NoMemory };
+
+    fn from(_error: AllocFailed<T>) -> CheckFault {
+        CheckFault::NoMemory
+    }
+}
+
+impl fmt::Display for CheckFault {
+    fn fmt<W: fmt::Write>(&self, f: &mut fmt::Formatter<W>) -> fmt::Result {
+        match self {
+            CheckFault::Undeclared { name, place } => write!(f, "undeclared {name} {place}"),
+            CheckFault::NotInVm { name } => write!(f, "notinvm {name}"),
+            CheckFault::Twice { name } => write!(f, "twice {name}"),
+            CheckFault::Kind { place } => write!(f, "kind {place}"),
+            CheckFault::Arity { place } => write!(f, "arity {place}"),
+            CheckFault::TooManyPrivates => f.write_str("privates"),
+            CheckFault::NoMemory => f.write_str("no memory"),
+        }
+    }
+}
+
+impl Error for CheckFault {}

@@ -1,0 +1,229 @@
+//! The names of a script, and what they stand for.
+
+ghost use Rattle.std.specs.Prelude.{◌≡◌, ◌<◌, ◌≤◌, length, position, bytes_eq, IfSome};
+ghost use Rattle.ts_scope.specs.Names.{listed, symbol_of, function_from};
+
+use crate::fault::CheckFault;
+use arrayvec::ArrayVec;
+use mate_num::{BufId, FunId, Name, VarId};
+use ts_syntax::{CVar, Decl, DeclKind, Word};
+use vm_desc::{Description, FunKind, Function};
+
+/// What a declared name stands for.
+#[derive(Clone, Copy)]
+pub enum Symbol {
+    Variable(CVar),
+    Buffer(BufId),
+}
+
+impl Symbol {
+    ghost use Rattle.std.specs.Prelude.{◌≡◌};
+    ghost use Rattle.ts_scope.specs.Names.{is_private_symbol};
+
+    fn is_private(self) -> bool
+        ensures { result ≡ is_private_symbol self }
+    {
+        match self {
+            Symbol::Variable(CVar::Shared(_)) => false,
+            Symbol::Variable(CVar::Private(_)) => true,
+            Symbol::Buffer(_) => false,
+        }
+    }
+}
+
+// What stands in the free places of a list of names.
+impl Default for Symbol {
+    fn default() -> Symbol {
+        Symbol::Variable(CVar::Private(0))
+    }
+}
+
+/// A declared name, and what it stands for.
+#[derive(Default, Drop)]
+pub struct Entry {
+    pub name: Name,
+    pub symbol: Symbol,
+}
+
+/// The names of a script: its machine's, and those that it declared.
+#[derive(Drop)]
+pub struct Scope<'a> {
+    desc: &'a Description,
+    // No name stands twice, so the machine's 16 shared variables and 8 buffers and the 8 private ones fit.
+    names: ArrayVec<Entry, 32>,
+}
+
+fn place_among(names: &[Name], name: &Name) -> Option<usize>
+    ensures value { result ≡ position (bytes_eq name.now) names.now }
+    ensures below { IfSome result (λ place. place < length names.now) }
+{
+    names.iter().position(|other| name == other)
+}
+
+fn place_in(names: &[Name], name: &Name) -> Result<u8, CheckFault>
+    requires { length names.now ≤ 16 }
+    ensures { result ≡ listed names.now name.now }
+{
+    match place_among(names, name) {
+        Some(place) => Ok(place as u8),
+        None => Err(CheckFault::NotInVm { name: name.copy() }),
+    }
+}
+
+fn symbol_among(entries: &[Entry], name: &Name) -> Option<Symbol>
+    ensures { result ≡ symbol_of entries.now name.now }
+{
+    for entry in entries {
+        if *name == entry.name {
+            return Some(entry.symbol);
+        }
+    }
+    None
+}
+
+fn function_among(functions: &[Function], name: &Name) -> Option<(FunId, FunKind)>
+    requires { length functions.now ≤ 32 }
+    ensures { result ≡ function_from 0 functions.now name.now }
+{
+    for (index, function) in functions.iter().enumerate() {
+        if *name == function.name {
+            return Some((FunId(index as u8), function.kind));
+        }
+    }
+    None
+}
+
+impl<'a> Scope<'a> {
+    ghost use Rattle.std.specs.Prelude.{OnOk};
+    ghost use Rattle.ts_scope.specs.Refusal.{GivesChecked};
+    ghost use Rattle.ts_scope.specs.Room.{IsFit};
+    ghost use Rattle.ts_scope.specs.Names.{names_before, private_count, made, declare, declare_all, found_symbol, variable, buffer, function, closes_for};
+    ghost use Rattle.ts_scope.specs.Seen.{scope_names};
+
+    /// The names that the declarations make known, from left to right.
+    pub fn of(desc: &'a Description, decls: &[Decl]) -> Result<Scope<'a>, CheckFault>
+        ensures { GivesChecked scope_names result (declare_all (names_before desc.now) decls.now) }
+    {
+        let mut scope = Scope {
+            desc,
+            names: ArrayVec::new(),
+        };
+        for decl in decls {
+            scope.declare(decl)?;
+        }
+        Ok(scope)
+    }
+
+    // Makes a declared name known.
+    fn declare(&mut self, decl: &Decl) -> Result<(), CheckFault>
+        requires { IsFit self.old.desc.now self.old.names.items }
+        ensures value { GivesChecked (λ _. scope_names self.new) result (declare (scope_names self.old) decl.now) }
+        ensures fit { OnOk result (IsFit self.new.desc.now self.new.names.items) }
+    {
+        let name = &decl.word.name;
+        if self.symbol(name).is_some() {
+            return Err(CheckFault::Twice { name: name.copy() });
+        }
+        let symbol = self.made(decl.kind, name)?;
+        let name = name.copy();
+        self.names.push(Entry { name, symbol });
+        Ok(())
+    }
+
+    // What a declaration makes of its name.
+    fn made(&self, kind: DeclKind, name: &Name) -> Result<Symbol, CheckFault>
+        ensures { result ≡ made (scope_names self.now) kind name.now }
+    {
+        match kind {
+            DeclKind::Shared => {
+                let place = place_in(self.desc.shared.as_slice(), name)?;
+                Ok(Symbol::Variable(CVar::Shared(VarId(place))))
+            }
+            DeclKind::Private => {
+                let number = self.privates();
+                if number >= 8 {
+                    return Err(CheckFault::TooManyPrivates);
+                }
+                Ok(Symbol::Variable(CVar::Private(number as u8)))
+            }
+            DeclKind::Buffer => {
+                let place = place_in(self.desc.buffers.as_slice(), name)?;
+                Ok(Symbol::Buffer(BufId(place)))
+            }
+        }
+    }
+
+    // How many private variables are declared.
+    fn privates(&self) -> usize
+        ensures { result ≡ private_count self.now.names.items }
+    {
+        self.names
+            .as_slice()
+            .iter()
+            .filter(|entry| entry.symbol.is_private())
+            .count()
+    }
+
+    fn symbol(&self, name: &Name) -> Option<Symbol>
+        ensures { result ≡ symbol_of self.now.names.items name.now }
+    {
+        symbol_among(self.names.as_slice(), name)
+    }
+
+    // What a name stands for that has to be declared.
+    fn found(&self, word: &Word) -> Result<Symbol, CheckFault>
+        ensures { result ≡ found_symbol (scope_names self.now) word.now }
+    {
+        match self.symbol(&word.name) {
+            Some(symbol) => Ok(symbol),
+            None => Err(CheckFault::Undeclared {
+                name: word.name.copy(),
+                place: word.place,
+            }),
+        }
+    }
+
+    /// The variable of a name.
+    pub fn variable(&self, word: &Word) -> Result<CVar, CheckFault>
+        ensures { result ≡ variable (scope_names self.now) word.now }
+    {
+        match self.found(word)? {
+            Symbol::Variable(variable) => Ok(variable),
+            Symbol::Buffer(_) => Err(CheckFault::Kind { place: word.place }),
+        }
+    }
+
+    /// The buffer of a name.
+    pub fn buffer(&self, word: &Word) -> Result<BufId, CheckFault>
+        ensures { result ≡ buffer (scope_names self.now) word.now }
+    {
+        match self.found(word)? {
+            Symbol::Variable(_) => Err(CheckFault::Kind { place: word.place }),
+            Symbol::Buffer(buffer) => Ok(buffer),
+        }
+    }
+
+    /// The function of a name.
+    pub fn function(&self, word: &Word) -> Result<(FunId, FunKind), CheckFault>
+        ensures { result ≡ function (scope_names self.now) word.now }
+    {
+        match function_among(self.desc.functions.as_slice(), &word.name) {
+            Some(function) => Ok(function),
+            None => Err(CheckFault::NotInVm {
+                name: word.name.copy(),
+            }),
+        }
+    }
+
+    /// Whether the name after `next` is that of its `for`.
+    pub fn closes(&self, variable: &Word, next: &Word) -> Result<(), CheckFault>
+        ensures { result ≡ closes_for (scope_names self.now) variable.now next.now }
+    {
+        self.found(next)?;
+        if next.name == variable.name {
+            Ok(())
+        } else {
+            Err(CheckFault::Kind { place: next.place })
+        }
+    }
+}
