@@ -1,6 +1,7 @@
 -- Live invocations have contexts of their own, which are the machine's: kept entry by entry.
 use Rattle.std.proofs.Common.{◌≡◌, ◌≢◌, ◌<◌, ◌⊎◌, ℕ, false, IsTrue, List, [], ◌∷◌, refl, sym, ◌∙◌, ap, subst, inl, inr}
 use Rattle.std.proofs.lemmas.Bool.Decides.{eqb_tells}
+use Rattle.mate_num.specs.declared.bounds.TheConstants.{CONTEXTS_MAX}
 use Rattle.mate_num.specs.declared.id.ContextId.{ContextId}
 use Rattle.mate_num.specs.declared.id.HandlerId.{HandlerId}
 use Rattle.mate_journal.specs.Machine.{Machine, IsContextOf}
@@ -20,7 +21,7 @@ LiveApart r = (a b : ℕ) → IsLive r a → IsLive r b → (r.invocations a).co
 
 -- whatever is live is so in a context of a machine
 abbrev pub LiveSmall : Reading → Type 0
-LiveSmall r = (n : ℕ) → IsLive r n → (r.invocations n).context.0 < 16
+LiveSmall r = (n : ℕ) → IsLive r n → (r.invocations n).context.0 < CONTEXTS_MAX
 
 -- ---- what an entry does to who is live
 
@@ -113,14 +114,14 @@ live-waits_apart r apart a b first second same = apart a b (waiting_live r a fir
 small-joined : (m : Machine) (r s : Reading) → HasFewContexts m → OneJoins m r s → LiveSmall r → LiveSmall s
 small-joined m r s few j small k now =
     elim (eqb_tells k j.joining) [
-      | inl x ↦ subst (λ (c : ContextId). c.0 < 16) (sym (ap (λ (k : ℕ). (s.invocations k).context) x.1 ∙ j.here)) (few j.handler j.context j.of)
-      | inr x ↦ subst (λ (c : ContextId). c.0 < 16) (sym (same_context m r s j k x.1)) (small k (was_live m r s j k x.1 now))
+      | inl x ↦ subst (λ (c : ContextId). c.0 < CONTEXTS_MAX) (sym (ap (λ (k : ℕ). (s.invocations k).context) x.1 ∙ j.here)) (few j.handler j.context j.of)
+      | inr x ↦ subst (λ (c : ContextId). c.0 < CONTEXTS_MAX) (sym (same_context m r s j k x.1)) (small k (was_live m r s j k x.1 now))
     ]
 
 pub small-step : (m : Machine) (r : Reading) (t : Told) → HasFewContexts m → MayFollow m r t → LiveSmall r → LiveSmall (heard m r t)
 small-step m r t few follows small = by (who-joins m r t follows) where
   by : NoneJoins r (heard m r t) ⊎ OneJoins m r (heard m r t) → LiveSmall (heard m r t)
-  by (inl none) = λ k now. let x = none.was k now in subst (λ (c : ContextId). c.0 < 16) (sym x.1) (small k x.0)
+  by (inl none) = λ k now. let x = none.was k now in subst (λ (c : ContextId). c.0 < CONTEXTS_MAX) (sym x.1) (small k x.0)
   by (inr one) = small-joined m r (heard m r t) few one small
 
 pub small-after : (m : Machine) (r : Reading) (es : List Event) → HasFewContexts m → AtEachEntry (MayFollow m) m r es → LiveSmall r → LiveSmall (heard_all m r es)

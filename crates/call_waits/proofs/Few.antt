@@ -6,6 +6,7 @@ use Rattle.std.specs.List.{IsDistinct, AllByRecursion, list_any}
 use Rattle.std.proofs.lemmas.Bool.{cases_lt, ne_eqb}
 use Rattle.std.proofs.lemmas.Bool.Decides.{eqb_tells}
 use Rattle.std.proofs.lemmas.Map.Steps.{length-le_from_distinct_below}
+use Rattle.mate_num.specs.declared.bounds.TheConstants.{CONTEXTS_MAX}
 use Rattle.mate_num.specs.declared.id.ContextId.{ContextId}
 use Rattle.mate_journal.specs.Machine.{Machine}
 use Rattle.mate_journal.specs.Journal.{Told, Started, Asked, Ended, Phase, Unposted, Queued, Ready, Waiting, Over, is_live, Invocation, Reading, heard}
@@ -35,7 +36,7 @@ place r n = (r.invocations n).context.0
 -- those that may tell anything have contexts of their own, below 16
 record ArePlaced (r : Reading) : Type 0 where
   apart : (a b : ℕ) → 0 < left_at r a → 0 < left_at r b → place r a ≡ place r b → a ≡ b
-  small : (n : ℕ) → 0 < left_at r n → place r n < 16
+  small : (n : ℕ) → 0 < left_at r n → place r n < CONTEXTS_MAX
 
 left-live : (phase : Phase) → 0 < entries_left phase → IsTrue (is_live phase)
 left-live Unposted some = absurd (omega arith)

@@ -1,5 +1,6 @@
 -- Which invocations wait for the answers to their calls, and how long they do.
 use Rattle.std.specs.Prelude.{◌≡◌, ℕ, ◌<◌, ◌≤◌, ◌==◌, Bool, false, List, [], ◌∷◌, length, Option, Some, None}
+use Rattle.mate_num.specs.declared.bounds.TheConstants.{CONTEXTS_MAX}
 use Rattle.mate_num.specs.declared.id.ContextId.{ContextId}
 use Rattle.mate_num.specs.declared.id.FunId.{FunId}
 use Rattle.mate_num.specs.declared.id.HandlerId.{HandlerId}
@@ -16,11 +17,11 @@ WaitApart r = (a b : ℕ) → IsWaiting r a → IsWaiting r b → (r.invocations
 -- the invocation waits in a context of a machine
 pub record WaitsWithin (r : Reading) (n : ℕ) : Type 0 where
   pub waits : IsWaiting r n
-  pub small : (r.invocations n).context.0 < 16
+  pub small : (r.invocations n).context.0 < CONTEXTS_MAX
 
 -- whatever waits does so in a context of a machine
 abbrev pub WaitSmall : Reading → Type 0
-WaitSmall r = (n : ℕ) → IsWaiting r n → (r.invocations n).context.0 < 16
+WaitSmall r = (n : ℕ) → IsWaiting r n → (r.invocations n).context.0 < CONTEXTS_MAX
 
 -- the call that an entry tells, by its invocation and its function
 abbrev pub asked_of : Told → Option (ℕ × FunId)
@@ -50,9 +51,9 @@ abbrev pub NoneEndsWait : ℕ → List Told → Type 0
 NoneEndsWait n [] = Unit {0}
 NoneEndsWait n (t ∷ told) = (ends_wait n t ≡ false) × NoneEndsWait n told
 
--- the contexts of the machine are below 16
+-- the contexts of the machine are at most so many as a machine may have
 abbrev pub HasFewContexts : Machine → Type 0
-HasFewContexts m = (h : HandlerId) (c : ContextId) → IsContextOf m h c → c.0 < 16
+HasFewContexts m = (h : HandlerId) (c : ContextId) → IsContextOf m h c → c.0 < CONTEXTS_MAX
 
 -- ---- the laws
 

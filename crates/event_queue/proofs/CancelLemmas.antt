@@ -11,7 +11,7 @@ use Rattle.event_queue.specs.declared.wheel.Entry.{Entry}
 use Rattle.event_queue.specs.declared.wheel.Wheel.{Wheel}
 use Rattle.event_queue.specs.Links.{Places, list_at}
 use Rattle.event_queue.specs.Group.{is_group, is_in}
-use Rattle.event_queue.specs.Wheel.{is_current, cleared, cleared_item, IsPast, live_item, live, live_entry, timed_entry, items_at, items_timed, near, far, near_due, far_due, due, IsPastItem, IsWheel, Cancels}
+use Rattle.event_queue.specs.Wheel.{is_current, cleared, cleared_item, IsPast, live_item, live, live_entry, timed_entry, items_at, items_timed, near, far, near_due, far_due, wheel_due, IsPastItem, IsWheel, Cancels}
 use Rattle.event_queue.proofs.WheelLemmas.{due_here, due_ahead}
 
 -- a group is cancelled
@@ -107,7 +107,7 @@ left {T} group g w v right at chains long lives timeds timely =
     let far_left : (t : ℕ) → far_due group v t ≡ filter keep (far_due group w t) = λ t.
     ap (λ (c : Places). items_timed group v.generations v.entries.items (t % 2048) (list_at c (far t))) chains
     ∙ filter_map_keep keep (λ p. timed_entry group v.generations (t % 2048) (slice_get v.entries.items p)) (λ p. timed_entry group w.generations (t % 2048) (slice_get w.entries.items p)) (list_at w.chains (far t)) (timeds (t % 2048)) in
-    let kept : (t : ℕ) → due group v t ≡ filter keep (due group w t) = λ t. elim (cases_eq (t / 2048) (w.at / 2048)) [
+    let kept : (t : ℕ) → wheel_due group v t ≡ filter keep (wheel_due group w t) = λ t. elim (cases_eq (t / 2048) (w.at / 2048)) [
       | inl here ↦ due_here group v t (here ∙ sym block) ∙ ap (λ (xs : List T). xs ++ far_due group v t) (near_left t) ∙ ap (λ (xs : List T). filter keep (near_due group w t) ++ xs) (far_left t)
           ∙ sym (filter-append keep (near_due group w t) (far_due group w t)) ∙ ap (filter keep) (sym (due_here group w t here))
       | inr ahead ↦ due_ahead group v t (λ same. ahead (same ∙ block)) ∙ far_left t ∙ ap (filter keep) (sym (due_ahead group w t ahead))

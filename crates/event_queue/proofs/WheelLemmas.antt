@@ -9,7 +9,7 @@ use Rattle.std.proofs.lemmas.List.Elements.{filter_map-append, All-set, All-push
 use Rattle.event_queue.specs.declared.wheel.Entry.{Entry}
 use Rattle.event_queue.specs.declared.wheel.Wheel.{Wheel}
 use Rattle.event_queue.specs.Links.{Places, list_at, IsOutside, MovesFirst, MakesRoom}
-use Rattle.event_queue.specs.Wheel.{is_current, live_item, live, live_entry, timed_entry, items_at, items_timed, near, far, list_for, near_due, far_due, due, IsPastItem, IsTurning, IsWheel, PutsLast, PutsAll, KeepsView, TakesFirst, Turns}
+use Rattle.event_queue.specs.Wheel.{is_current, live_item, live, live_entry, timed_entry, items_at, items_timed, near, far, list_for, near_due, far_due, wheel_due, IsPastItem, IsTurning, IsWheel, PutsLast, PutsAll, KeepsView, TakesFirst, Turns}
 
 -- lists of places, by what waits there
 
@@ -27,12 +27,12 @@ filter_map_last : {X : Type 0} (f g : ℕ → Option X) (place : ℕ) (ps : List
 filter_map_last {X} f g place ps lacks same =
     filter_map-append f ps (place ∷ []) ∙ ap (λ (xs : List X). xs ++ cons_option (f place) []) (filter_map_lacks f g place ps lacks same)
 
-slice_get_set_same : {X : Type 0} (xs : List X) (i : ℕ) (x : X) → i < length xs → slice_get (set xs i x) i ≡ Some x
+pub slice_get_set_same : {X : Type 0} (xs : List X) (i : ℕ) (x : X) → i < length xs → slice_get (set xs i x) i ≡ Some x
 slice_get_set_same [] i x within = absurd (omega (arith, within))
 slice_get_set_same (y ∷ ys) zero x within = refl
 slice_get_set_same (y ∷ ys) (suc i) x within = slice_get_set_same ys i x (omega (arith, within))
 
-slice_get_set_other : {X : Type 0} (xs : List X) (i j : ℕ) (x : X) → j ≢ i → slice_get (set xs i x) j ≡ slice_get xs j
+pub slice_get_set_other : {X : Type 0} (xs : List X) (i j : ℕ) (x : X) → j ≢ i → slice_get (set xs i x) j ≡ slice_get xs j
 slice_get_set_other [] i j x other = refl
 slice_get_set_other (y ∷ ys) zero zero x other = absurd (other refl)
 slice_get_set_other (y ∷ ys) zero (suc j) x other = refl
@@ -41,16 +41,16 @@ slice_get_set_other (y ∷ ys) (suc i) (suc j) x other = slice_get_set_other ys 
 
 -- in the wheel's block both slots count, and elsewhere the far one
 
-pub due_here : {T : Type 0} (group : T → Option ℕ) (w : Wheel T) (t : ℕ) → t / 2048 ≡ w.at / 2048 → due group w t ≡ near_due group w t ++ far_due group w t
-unfolding due
+pub due_here : {T : Type 0} (group : T → Option ℕ) (w : Wheel T) (t : ℕ) → t / 2048 ≡ w.at / 2048 → wheel_due group w t ≡ near_due group w t ++ far_due group w t
+unfolding wheel_due
 due_here group w t here = elim (eqb_tells (t / 2048) (w.at / 2048)) [ inl e ↦ rw e.0 refl | inr e ↦ absurd (e.1 here) ]
 
-pub due_ahead : {T : Type 0} (group : T → Option ℕ) (w : Wheel T) (t : ℕ) → t / 2048 ≢ w.at / 2048 → due group w t ≡ far_due group w t
-unfolding due
+pub due_ahead : {T : Type 0} (group : T → Option ℕ) (w : Wheel T) (t : ℕ) → t / 2048 ≢ w.at / 2048 → wheel_due group w t ≡ far_due group w t
+unfolding wheel_due
 due_ahead group w t ahead = elim (eqb_tells (t / 2048) (w.at / 2048)) [ inl e ↦ absurd (ahead e.1) | inr e ↦ rw e.0 refl ]
 
 -- equal parts make the same due
-same_due : {T : Type 0} (group : T → Option ℕ) (w v : Wheel T) (t : ℕ) → v.at / 2048 ≡ w.at / 2048 → (t / 2048 ≡ w.at / 2048 → near_due group v t ≡ near_due group w t) → far_due group v t ≡ far_due group w t → due group v t ≡ due group w t
+same_due : {T : Type 0} (group : T → Option ℕ) (w v : Wheel T) (t : ℕ) → v.at / 2048 ≡ w.at / 2048 → (t / 2048 ≡ w.at / 2048 → near_due group v t ≡ near_due group w t) → far_due group v t ≡ far_due group w t → wheel_due group v t ≡ wheel_due group w t
 same_due {T} group w v t block near_same far_same = elim (cases_eq (t / 2048) (w.at / 2048)) [
   | inl here ↦ due_here group v t (here ∙ sym block) ∙ ap (λ (xs : List T). xs ++ far_due group v t) (near_same here) ∙ ap (λ (xs : List T). near_due group w t ++ xs) far_same ∙ sym (due_here group w t here)
   | inr ahead ↦ due_ahead group v t (λ e. ahead (e ∙ block)) ∙ far_same ∙ sym (due_ahead group w t ahead)
@@ -58,7 +58,7 @@ same_due {T} group w v t block near_same far_same = elim (cases_eq (t / 2048) (w
 
 -- a wheel that stands where it stood, and whose items of the past are those of the old one
 right_again : {T : Type 0} (group : T → Option ℕ) (w v : Wheel T) → IsWheel group w → v.at ≡ w.at → length v.chains.lists ≡ length w.chains.lists → v.chains.total ≤ length v.entries.items
-    → ((block : ℕ) → block ≤ w.at / 2048 → list_at v.chains (2049 + block) ≡ list_at w.chains (2049 + block)) → ((t : ℕ) → t < w.at → due group v t ≡ due group w t)
+    → ((block : ℕ) → block ≤ w.at / 2048 → list_at v.chains (2049 + block) ≡ list_at w.chains (2049 + block)) → ((t : ℕ) → t < w.at → wheel_due group v t ≡ wheel_due group w t)
     → All (λ (e : Entry T). IsPastItem group v.generations e.generation e.item) v.entries.items → IsWheel group v
 right_again {T} group w v right at lists room slots past timely =
     let block : v.at / 2048 ≡ w.at / 2048 = ap (λ (t : ℕ). t / 2048) at in
@@ -104,7 +104,7 @@ same_slots : {T : Type 0} (group : T → Option ℕ) (w v : Wheel T) → IsWheel
     → ((offset p : ℕ) → timed_entry group w.generations offset (slice_get v.entries.items p) ≡ timed_entry group w.generations offset (slice_get w.entries.items p))
     → All (λ (e : Entry T). IsPastItem group w.generations e.generation e.item) v.entries.items → KeepsView group w v
 same_slots {T} group w v right at generations lists room slots lives timeds timely =
-    let same : (t : ℕ) → due group v t ≡ due group w t = λ t.
+    let same : (t : ℕ) → wheel_due group v t ≡ wheel_due group w t = λ t.
     same_due group w v t (ap (λ (k : ℕ). k / 2048) at)
     (λ here. ap (λ (gs : List ℕ). items_at group gs v.entries.items (list_at v.chains (near t))) generations
     ∙ ap (items_at group w.generations v.entries.items) (slots (near t) (omega arith))
@@ -240,7 +240,7 @@ puts {T} group w v list place time e item right ahead list_is fills time_is live
     ∙ ap (λ (o : Option T). items_at group w.generations w.entries.items (list_at w.chains list) ++ cons_option o []) live_is
     ∙ ap (λ (s : ℕ). items_at group w.generations w.entries.items (list_at w.chains s) ++ item ∷ []) (sym here) in
     let own : timed_entry group w.generations (time % 2048) (Some e) ≡ Some item = timed_own group w.generations e (time % 2048) (ap (λ (k : ℕ). k % 2048) time_is) ∙ live_is in
-    let last : due group v time ≡ due group w time ++ item ∷ [] = elim is_for [
+    let last : wheel_due group v time ≡ wheel_due group w time ++ item ∷ [] = elim is_for [
       | inl a ↦ (
           let far_is : far time ≡ far w.at = ap (λ (k : ℕ). 2049 + k) a.0 in
           let away : far time ≢ list = λ same. let n = a.1 in omega (arith, same, n) in
@@ -249,7 +249,7 @@ puts {T} group w v list place time e item right ahead list_is fills time_is live
           ∙ append-nil (near_due group w time ++ item ∷ []) ∙ ap (λ (xs : List T). xs ++ item ∷ []) (sym (append-nil (near_due group w time)) ∙ ap (λ (xs : List T). near_due group w time ++ xs) (sym none) ∙ sym (due_here group w time a.0)))
       | inr a ↦ due_ahead group v time (λ same. a.0 (same ∙ block)) ∙ far_more time (sym a.1) ∙ ap (λ (o : Option T). far_due group w time ++ cons_option o []) own ∙ ap (λ (xs : List T). xs ++ item ∷ []) (sym (due_ahead group w time a.0))
     ] in
-    let others : (t : ℕ) → t ≢ time → due group v t ≡ due group w t = λ t other. elim is_for [
+    let others : (t : ℕ) → t ≢ time → wheel_due group v t ≡ wheel_due group w t = λ t other. elim is_for [
       | inl a ↦ (
           let n = a.1 in let b = a.0 in
           same_due group w v t block (λ here. near_else t (λ same. other (omega (arith, same, n, here, b)))) (far_else t (λ same. omega (arith, same, n))))
@@ -319,7 +319,7 @@ pops {T} group w v place e item right moved at generations entries was live_is =
     ∙ ap (λ (o : Option (Entry T)). cons_option (live_entry group w.generations o) (items_at group w.generations w.entries.items (list_at v.chains (near w.at)))) was
     ∙ ap (λ (o : Option T). cons_option o (items_at group w.generations w.entries.items (list_at v.chains (near w.at)))) (sym live_is)
     ∙ ap (λ (xs : List T). cons_option item xs) (sym (unmoved_near group w v place empty (list_at v.chains (near w.at)) generations entries (moved.alone (near w.at) (omega arith)))) in
-    let others : (t : ℕ) → t ≢ w.at → due group v t ≡ due group w t = λ t other.
+    let others : (t : ℕ) → t ≢ w.at → wheel_due group v t ≡ wheel_due group w t = λ t other.
     same_due group w v t block (λ here. near_else t (λ same. other (omega (arith, same, here)))) (far_else t) in
     record {
       right = right_again group w v right at moved.lists
@@ -365,7 +365,7 @@ keeps_dropped {T} group w v item takes none = record {
   right = takes.right;
   at = takes.at;
   same = λ t. elim (cases_eq t w.at) [
-    | inl here ↦ ap (λ (k : ℕ). due group v k) here ∙ sym (takes.first ∙ ap (λ (o : Option T). cons_option o (due group v w.at)) none) ∙ ap (λ (k : ℕ). due group w k) (sym here)
+    | inl here ↦ ap (λ (k : ℕ). wheel_due group v k) here ∙ sym (takes.first ∙ ap (λ (o : Option T). cons_option o (wheel_due group v w.at)) none) ∙ ap (λ (k : ℕ). wheel_due group w k) (sym here)
     | inr other ↦ takes.others t other
   ];
 }
@@ -374,7 +374,7 @@ pub takes_after : {T : Type 0} (group : T → Option ℕ) (u w v : Wheel T) (ite
 takes_after {T} group u w v item kept takes = record {
   right = takes.right;
   at = takes.at ∙ kept.at;
-  first = sym (kept.same u.at) ∙ ap (λ (k : ℕ). due group w k) (sym kept.at) ∙ takes.first ∙ ap (λ (k : ℕ). cons_option item (due group v k)) kept.at;
+  first = sym (kept.same u.at) ∙ ap (λ (k : ℕ). wheel_due group w k) (sym kept.at) ∙ takes.first ∙ ap (λ (k : ℕ). cons_option item (wheel_due group v k)) kept.at;
   others = λ t other. takes.others t (λ same. other (same ∙ kept.at)) ∙ kept.same t;
 }
 
@@ -385,7 +385,7 @@ pub keeps_start : {T : Type 0} (group : T → Option ℕ) (w : Wheel T) → IsWh
 keeps_start group w right = record { right = right; at = refl; same = λ t. refl }
 
 -- nothing waits in the slot of the wheel's time
-pub due_none : {T : Type 0} (group : T → Option ℕ) (w : Wheel T) → IsWheel group w → slice_get (list_at w.chains (near w.at)) 0 ≡ None → due group w w.at ≡ []
+pub due_none : {T : Type 0} (group : T → Option ℕ) (w : Wheel T) → IsWheel group w → slice_get (list_at w.chains (near w.at)) 0 ≡ None → wheel_due group w w.at ≡ []
 due_none {T} group w right none =
     due_here group w w.at refl ∙ ap (λ (xs : List T). xs ++ far_due group w w.at) (ap (items_at group w.generations w.entries.items) (none_first (list_at w.chains (near w.at)) none))
     ∙ ap (items_timed group w.generations w.entries.items (w.at % 2048)) right.current
@@ -397,7 +397,7 @@ nil_parts [] ys nothing = (refl, nothing)
 nil_parts {X} (x ∷ xs) ys nothing = let long : suc (length (xs ++ ys)) ≡ 0 = ap (λ (zs : List X). length zs) nothing in absurd (omega (arith, long))
 
 -- where nothing is due in the wheel's block, nothing waits in the near slots
-drained : {T : Type 0} (group : T → Option ℕ) (w : Wheel T) → ((s : ℕ) → s / 2048 ≡ w.at / 2048 → due group w s ≡ []) → (t : ℕ) → near_due group w t ≡ []
+drained : {T : Type 0} (group : T → Option ℕ) (w : Wheel T) → ((s : ℕ) → s / 2048 ≡ w.at / 2048 → wheel_due group w s ≡ []) → (t : ℕ) → near_due group w t ≡ []
 drained {T} group w done t =
     let s : ℕ = w.at / 2048 * 2048 + t % 2048 in
     let here : s / 2048 ≡ w.at / 2048 = omega arith in
@@ -405,20 +405,20 @@ drained {T} group w done t =
     ap (λ (o : ℕ). items_at group w.generations w.entries.items (list_at w.chains (1 + o))) (sym offset)
     ∙ (nil_parts (near_due group w s) (far_due group w s) (sym (due_here group w s here) ∙ done s here)).0
 
-far_none : {T : Type 0} (group : T → Option ℕ) (w : Wheel T) (t : ℕ) → due group w t ≡ [] → far_due group w t ≡ []
+far_none : {T : Type 0} (group : T → Option ℕ) (w : Wheel T) (t : ℕ) → wheel_due group w t ≡ [] → far_due group w t ≡ []
 far_none group w t nothing = elim (cases_eq (t / 2048) (w.at / 2048)) [
   | inl here ↦ (nil_parts (near_due group w t) (far_due group w t) (sym (due_here group w t here) ∙ nothing)).1
   | inr ahead ↦ sym (due_ahead group w t ahead) ∙ nothing
 ]
 
 -- a ms later, in the same block
-pub ticks : {T : Type 0} (group : T → Option ℕ) (w v : Wheel T) → IsWheel group w → due group w w.at ≡ [] → w.at + 1 < 4194304 → v ≡ record w { at = w.at + 1 } → v.at % 2048 ≢ 0 → Turns group w (w.at + 1) v
+pub ticks : {T : Type 0} (group : T → Option ℕ) (w v : Wheel T) → IsWheel group w → wheel_due group w w.at ≡ [] → w.at + 1 < 4194304 → v ≡ record w { at = w.at + 1 } → v.at % 2048 ≢ 0 → Turns group w (w.at + 1) v
 ticks {T} group w v right done below is inside =
     let next : Wheel T = record w { at = w.at + 1 } in
     let at : v.at ≡ w.at + 1 = ap (λ (u : Wheel T). u.at) is in
     let within : (w.at + 1) % 2048 ≢ 0 = λ z. inside (ap (λ (k : ℕ). k % 2048) at ∙ z) in
     let block : (w.at + 1) / 2048 ≡ w.at / 2048 = omega (arith, within) in
-    let same : (t : ℕ) → due group next t ≡ due group w t = λ t. same_due group w next t block (λ here. refl) refl in
+    let same : (t : ℕ) → wheel_due group next t ≡ wheel_due group w t = λ t. same_due group w next t block (λ here. refl) refl in
     subst (λ (u : Wheel T). Turns group w (w.at + 1) u) (sym is) (record {
       right = record {
         turning = record {
@@ -426,7 +426,7 @@ ticks {T} group w v right done below is inside =
           room = right.turning.room;
           below = below;
           spread = λ b low. right.turning.spread b (omega (arith, low, block));
-          past = λ t low. same t ∙ elim (cases_eq t w.at) [ inl here ↦ ap (λ (k : ℕ). due group w k) here ∙ done | inr other ↦ right.turning.past t (omega (arith, low, other)) ];
+          past = λ t low. same t ∙ elim (cases_eq t w.at) [ inl here ↦ ap (λ (k : ℕ). wheel_due group w k) here ∙ done | inr other ↦ right.turning.past t (omega (arith, low, other)) ];
           timely = right.turning.timely;
         };
         current = ap (λ (b : ℕ). list_at w.chains (2049 + b)) block ∙ right.current;
@@ -438,18 +438,18 @@ ticks {T} group w v right done below is inside =
 -- a ms later, in the next block
 pub record Crosses {T : Type 0} (group : T → Option ℕ) (w v : Wheel T) : Type 0 where
   pub turning : IsTurning group v
-  pub same : (t : ℕ) → due group v t ≡ due group w t
+  pub same : (t : ℕ) → wheel_due group v t ≡ wheel_due group w t
 
-pub crosses : {T : Type 0} (group : T → Option ℕ) (w v : Wheel T) → IsWheel group w → due group w w.at ≡ [] → w.at + 1 < 4194304 → v ≡ record w { at = w.at + 1 } → v.at % 2048 ≡ 0 → Crosses group w v
+pub crosses : {T : Type 0} (group : T → Option ℕ) (w v : Wheel T) → IsWheel group w → wheel_due group w w.at ≡ [] → w.at + 1 < 4194304 → v ≡ record w { at = w.at + 1 } → v.at % 2048 ≡ 0 → Crosses group w v
 crosses {T} group w v right done below is end_of =
     let next : Wheel T = record w { at = w.at + 1 } in
     let at : v.at ≡ w.at + 1 = ap (λ (u : Wheel T). u.at) is in
     let over : (w.at + 1) % 2048 ≡ 0 = ap (λ (k : ℕ). k % 2048) (sym at) ∙ end_of in
     let block : (w.at + 1) / 2048 ≡ w.at / 2048 + 1 = omega (arith, over) in
-    let passed : (s : ℕ) → s / 2048 ≡ w.at / 2048 → due group w s ≡ [] = λ s here.
-    elim (cases_eq s w.at) [ inl e ↦ ap (λ (k : ℕ). due group w k) e ∙ done | inr other ↦ right.turning.past s (omega (arith, here, over, other)) ] in
+    let passed : (s : ℕ) → s / 2048 ≡ w.at / 2048 → wheel_due group w s ≡ [] = λ s here.
+    elim (cases_eq s w.at) [ inl e ↦ ap (λ (k : ℕ). wheel_due group w k) e ∙ done | inr other ↦ right.turning.past s (omega (arith, here, over, other)) ] in
     let far_same : (t : ℕ) → far_due group next t ≡ far_due group w t = λ t. refl in
-    let same : (t : ℕ) → due group next t ≡ due group w t = λ t.
+    let same : (t : ℕ) → wheel_due group next t ≡ wheel_due group w t = λ t.
     elim (cases_eq (t / 2048) ((w.at + 1) / 2048)) [
       | inl here ↦ due_here group next t here ∙ ap (λ (xs : List T). xs ++ far_due group w t) (drained group w passed t) ∙ sym (due_ahead group w t (λ same. omega (arith, same, here, block)))
       | inr ahead ↦ due_ahead group next t ahead ∙ elim (cases_eq (t / 2048) (w.at / 2048)) [
@@ -463,7 +463,7 @@ crosses {T} group w v right done below is end_of =
         room = right.turning.room;
         below = below;
         spread = λ b low. elim (cases_eq b (w.at / 2048)) [ inl e ↦ ap (λ (k : ℕ). list_at w.chains (2049 + k)) e ∙ right.current | inr other ↦ right.turning.spread b (omega (arith, low, block, other)) ];
-        past = λ t low. same t ∙ elim (cases_eq t w.at) [ inl here ↦ ap (λ (k : ℕ). due group w k) here ∙ done | inr other ↦ right.turning.past t (omega (arith, low, other)) ];
+        past = λ t low. same t ∙ elim (cases_eq t w.at) [ inl here ↦ ap (λ (k : ℕ). wheel_due group w k) here ∙ done | inr other ↦ right.turning.past t (omega (arith, low, other)) ];
         timely = right.turning.timely;
       };
       same = same;
@@ -476,14 +476,14 @@ turns_spread group w u v crossed at turned = record { right = turned.right; at =
 pub record Spreads {T : Type 0} (group : T → Option ℕ) (w v : Wheel T) : Type 0 where
   pub turning : IsTurning group v
   pub at : v.at ≡ w.at
-  pub same : (t : ℕ) → due group v t ≡ due group w t
+  pub same : (t : ℕ) → wheel_due group v t ≡ wheel_due group w t
 
 pub spreads_start : {T : Type 0} (group : T → Option ℕ) (w : Wheel T) → IsTurning group w → Spreads group w w
 spreads_start group w turning = record { turning = turning; at = refl; same = λ t. refl }
 
 -- one place goes from the far slot to a near one
 moved_due : {T : Type 0} (group : T → Option ℕ) (w v : Wheel T) (place : ℕ) (e : Entry T) → v.at ≡ w.at → v.generations ≡ w.generations → v.entries.items ≡ w.entries.items
-    → MovesFirst w.chains v.chains (far w.at) (near e.time) place → slice_get w.entries.items place ≡ Some e → (t : ℕ) → due group v t ≡ due group w t
+    → MovesFirst w.chains v.chains (far w.at) (near e.time) place → slice_get w.entries.items place ≡ Some e → (t : ℕ) → wheel_due group v t ≡ wheel_due group w t
 moved_due {T} group w v place e at generations entries moved was t =
     let block : v.at / 2048 ≡ w.at / 2048 = ap (λ (k : ℕ). k / 2048) at in
     let near_is : near_due group v t ≡ items_at group w.generations w.entries.items (list_at v.chains (near t)) =
@@ -498,7 +498,7 @@ moved_due {T} group w v place e at generations entries moved was t =
           ap (λ (s : ℕ). items_timed group w.generations w.entries.items (t % 2048) (list_at w.chains s)) slot ∙ ap (items_timed group w.generations w.entries.items (t % 2048)) moved.first
           ∙ ap (λ (o : Option (Entry T)). cons_option (timed_entry group w.generations (t % 2048) o) (items_timed group w.generations w.entries.items (t % 2048) (list_at v.chains (far w.at)))) was
           ∙ ap (λ (s : ℕ). cons_option (timed_entry group w.generations (t % 2048) (Some e)) (items_timed group w.generations w.entries.items (t % 2048) (list_at v.chains s))) (sym slot) in
-          let after : due group v t ≡ items_at group w.generations w.entries.items (list_at v.chains (near t)) ++ rest =
+          let after : wheel_due group v t ≡ items_at group w.generations w.entries.items (list_at v.chains (near t)) ++ rest =
           due_here group v t (here ∙ sym block) ∙ ap (λ (xs : List T). xs ++ far_due group v t) near_is ∙ ap (λ (xs : List T). items_at group w.generations w.entries.items (list_at v.chains (near t)) ++ xs) far_is in
           elim (cases_eq (t % 2048) (e.time % 2048)) [
             | inl own ↦ (
@@ -526,7 +526,7 @@ pub spreads_more : {T : Type 0} (group : T → Option ℕ) (u w v : Wheel T) (pl
     → MovesFirst w.chains v.chains (far w.at) (near e.time) place → slice_get w.entries.items place ≡ Some e → Spreads group u v
 spreads_more {T} group u w v place e so_far at generations entries moved was =
     let turning = so_far.turning in
-    let same : (t : ℕ) → due group v t ≡ due group w t = moved_due group w v place e at generations entries moved was in
+    let same : (t : ℕ) → wheel_due group v t ≡ wheel_due group w t = moved_due group w v place e at generations entries moved was in
     let block : v.at / 2048 ≡ w.at / 2048 = ap (λ (k : ℕ). k / 2048) at in
     record {
       turning = record {
@@ -550,10 +550,10 @@ spreads_all group u w so_far nothing = record {
 }
 
 -- back to a time, where nothing is due at all
-pub rewinds : {T : Type 0} (group : T → Option ℕ) (w v : Wheel T) (now : ℕ) → IsWheel group w → ((t : ℕ) → due group w t ≡ []) → now ≤ w.at → v ≡ record w { at = now } → Turns group w now v
+pub rewinds : {T : Type 0} (group : T → Option ℕ) (w v : Wheel T) (now : ℕ) → IsWheel group w → ((t : ℕ) → wheel_due group w t ≡ []) → now ≤ w.at → v ≡ record w { at = now } → Turns group w now v
 rewinds {T} group w v now right nothing back is =
     let before : Wheel T = record w { at = now } in
-    let same : (t : ℕ) → due group before t ≡ due group w t = λ t. elim (cases_eq (t / 2048) (now / 2048)) [
+    let same : (t : ℕ) → wheel_due group before t ≡ wheel_due group w t = λ t. elim (cases_eq (t / 2048) (now / 2048)) [
       | inl here ↦ due_here group before t here ∙ ap (λ (xs : List T). xs ++ far_due group w t) (drained group w (λ s e. nothing s) t) ∙ far_none group w t (nothing t) ∙ sym (nothing t)
       | inr ahead ↦ due_ahead group before t ahead ∙ far_none group w t (nothing t) ∙ sym (nothing t)
     ] in
@@ -573,7 +573,7 @@ rewinds {T} group w v now right nothing back is =
       same = same;
     })
 
-pub starts : {T : Type 0} (group : T → Option ℕ) (w : Wheel T) → ((s : ℕ) → list_at w.chains s ≡ []) → (t : ℕ) → due group w t ≡ []
+pub starts : {T : Type 0} (group : T → Option ℕ) (w : Wheel T) → ((s : ℕ) → list_at w.chains s ≡ []) → (t : ℕ) → wheel_due group w t ≡ []
 starts {T} group w empty t = elim (cases_eq (t / 2048) (w.at / 2048)) [
   | inl here ↦ due_here group w t here ∙ ap (λ (xs : List T). xs ++ far_due group w t) (ap (items_at group w.generations w.entries.items) (empty (near t))) ∙ ap (items_timed group w.generations w.entries.items (t % 2048)) (empty (far t))
   | inr ahead ↦ due_ahead group w t ahead ∙ ap (items_timed group w.generations w.entries.items (t % 2048)) (empty (far t))
@@ -586,7 +586,7 @@ not_some (Some x) e = absurd (false≢true e)
 -- items put one after the other
 
 pub puts_none : {T : Type 0} (group : T → Option ℕ) (w : Wheel T) (time : ℕ) → IsWheel group w → PutsAll group w time [] w
-puts_none group w time right = record { right = right; at = refl; last = sym (append-nil (due group w time)); others = λ t other. refl }
+puts_none group w time right = record { right = right; at = refl; last = sym (append-nil (wheel_due group w time)); others = λ t other. refl }
 
 -- as far as the items were put: so many were put, and these are left
 pub record PutsSome {T : Type 0} (group : T → Option ℕ) (old : Wheel T) (time : ℕ) (items : List T) (w : Wheel T) (rest : List T) : Type 0 where
@@ -606,7 +606,7 @@ puts_more {T} group u w v time items before rest item so_far first put =
       puts = record {
         right = put.right;
         at = put.at ∙ puts.at;
-        last = put.last ∙ ap (λ (xs : List T). xs ++ item ∷ []) puts.last ∙ append_assoc (due group u time) so_far.front (item ∷ []);
+        last = put.last ∙ ap (λ (xs : List T). xs ++ item ∷ []) puts.last ∙ append_assoc (wheel_due group u time) so_far.front (item ∷ []);
         others = λ t other. put.others t other ∙ puts.others t other;
       };
     }
@@ -623,7 +623,7 @@ pub longer : (xs ys : List ℕ) (y : ℕ) → ys ≡ xs ++ y ∷ [] → length y
 longer xs ys y is = ap (λ (zs : List ℕ). length zs) is ∙ length-append xs (y ∷ [])
 
 -- nothing waits where no list but that of the free places has a place
-pub idle_due : {T : Type 0} (group : T → Option ℕ) (w : Wheel T) → ((s : ℕ) → s ≢ 0 → list_at w.chains s ≡ []) → (t : ℕ) → due group w t ≡ []
+pub idle_due : {T : Type 0} (group : T → Option ℕ) (w : Wheel T) → ((s : ℕ) → s ≢ 0 → list_at w.chains s ≡ []) → (t : ℕ) → wheel_due group w t ≡ []
 idle_due {T} group w none t =
     let near_none : near_due group w t ≡ [] = ap (λ (ps : List ℕ). items_at group w.generations w.entries.items ps) (none (near t) (λ e. omega (arith, e))) in
     let far_none : far_due group w t ≡ [] = ap (λ (ps : List ℕ). items_timed group w.generations w.entries.items (t % 2048) ps) (none (far t) (λ e. omega (arith, e))) in

@@ -51,8 +51,8 @@ abbrev pub far_due : {T : Type 0} → (T → Option ℕ) → Wheel T → ℕ →
 far_due group w t = items_timed group w.generations w.entries.items (t % 2048) (list_at w.chains (far t))
 
 -- what is due at a time: from the near slot, in the wheel's block, and then from the far one
-unfoldable pub due : {T : Type 0} → (T → Option ℕ) → Wheel T → ℕ → List T
-due group w t = (if t / 2048 == w.at / 2048 then near_due group w t else []) ++ far_due group w t
+unfoldable pub wheel_due : {T : Type 0} → (T → Option ℕ) → Wheel T → ℕ → List T
+wheel_due group w t = (if t / 2048 == w.at / 2048 then near_due group w t else []) ++ far_due group w t
 
 -- the generation is none to come
 abbrev pub IsPast : List ℕ → ℕ → Option ℕ → Type 0
@@ -69,7 +69,7 @@ pub record IsTurning {T : Type 0} (group : T → Option ℕ) (w : Wheel T) : Typ
   pub room : w.chains.total ≤ length w.entries.items
   pub below : w.at < 4194304
   pub spread : (block : ℕ) → block < w.at / 2048 → list_at w.chains (2049 + block) ≡ []
-  pub past : (t : ℕ) → t < w.at → due group w t ≡ []
+  pub past : (t : ℕ) → t < w.at → wheel_due group w t ≡ []
   pub timely : All (λ (e : Entry T). IsPastItem group w.generations e.generation e.item) w.entries.items
 
 -- what the wheel keeps
@@ -78,21 +78,21 @@ pub record IsWheel {T : Type 0} (group : T → Option ℕ) (w : Wheel T) : Type 
   pub current : list_at w.chains (far w.at) ≡ []
 
 abbrev pub IsSameDue : {T : Type 0} → (T → Option ℕ) → Wheel T → Wheel T → Type 0
-IsSameDue group old new = (t : ℕ) → due group new t ≡ due group old t
+IsSameDue group old new = (t : ℕ) → wheel_due group new t ≡ wheel_due group old t
 
 -- a wheel has an item more, last at its time
 pub record PutsLast {T : Type 0} (group : T → Option ℕ) (old : Wheel T) (time : ℕ) (item : T) (new : Wheel T) : Type 0 where
   pub right : IsWheel group new
   pub at : new.at ≡ old.at
-  pub last : due group new time ≡ due group old time ++ item ∷ []
-  pub others : (t : ℕ) → t ≢ time → due group new t ≡ due group old t
+  pub last : wheel_due group new time ≡ wheel_due group old time ++ item ∷ []
+  pub others : (t : ℕ) → t ≢ time → wheel_due group new t ≡ wheel_due group old t
 
 -- a wheel has items more, last at one time
 pub record PutsAll {T : Type 0} (group : T → Option ℕ) (old : Wheel T) (time : ℕ) (items : List T) (new : Wheel T) : Type 0 where
   pub right : IsWheel group new
   pub at : new.at ≡ old.at
-  pub last : due group new time ≡ due group old time ++ items
-  pub others : (t : ℕ) → t ≢ time → due group new t ≡ due group old t
+  pub last : wheel_due group new time ≡ wheel_due group old time ++ items
+  pub others : (t : ℕ) → t ≢ time → wheel_due group new t ≡ wheel_due group old t
 
 -- nothing changed
 pub record KeepsView {T : Type 0} (group : T → Option ℕ) (old new : Wheel T) : Type 0 where
@@ -104,8 +104,8 @@ pub record KeepsView {T : Type 0} (group : T → Option ℕ) (old new : Wheel T)
 pub record TakesFirst {T : Type 0} (group : T → Option ℕ) (old : Wheel T) (item : Option T) (new : Wheel T) : Type 0 where
   pub right : IsWheel group new
   pub at : new.at ≡ old.at
-  pub first : due group old old.at ≡ cons_option item (due group new old.at)
-  pub others : (t : ℕ) → t ≢ old.at → due group new t ≡ due group old t
+  pub first : wheel_due group old old.at ≡ cons_option item (wheel_due group new old.at)
+  pub others : (t : ℕ) → t ≢ old.at → wheel_due group new t ≡ wheel_due group old t
 
 -- the wheel stands at another time
 pub record Turns {T : Type 0} (group : T → Option ℕ) (old : Wheel T) (now : ℕ) (new : Wheel T) : Type 0 where
@@ -117,7 +117,7 @@ pub record Turns {T : Type 0} (group : T → Option ℕ) (old : Wheel T) (now : 
 pub record Cancels {T : Type 0} (group : T → Option ℕ) (old : Wheel T) (g : ℕ) (new : Wheel T) : Type 0 where
   pub right : IsWheel group new
   pub at : new.at ≡ old.at
-  pub kept : (t : ℕ) → due group new t ≡ filter (λ x. not (is_in group g x)) (due group old t)
+  pub kept : (t : ℕ) → wheel_due group new t ≡ filter (λ x. not (is_in group g x)) (wheel_due group old t)
 
 -- an entry without its item, if that is of the group
 abbrev pub cleared_item : {T : Type 0} → (T → Option ℕ) → ℕ → Option T → Option T
@@ -132,7 +132,7 @@ pub record SeeksNone {T : Type 0} (group : T → Option ℕ) (until : ℕ) (old 
   pub right : IsWheel group new
   pub from : old.at ≤ new.at
   pub to : new.at ≤ until
-  pub none_due : (t : ℕ) → t ≤ until → due group old t ≡ []
+  pub none_due : (t : ℕ) → t ≤ until → wheel_due group old t ≡ []
   pub same : IsSameDue group old new
 
 -- the first item that is due was taken
@@ -140,9 +140,9 @@ pub record SeeksFirst {T : Type 0} (group : T → Option ℕ) (until : ℕ) (old
   pub right : IsWheel group new
   pub from : old.at ≤ new.at
   pub to : new.at ≤ until
-  pub none_before : (t : ℕ) → t < new.at → due group old t ≡ []
-  pub first : due group old new.at ≡ item ∷ due group new new.at
-  pub others : (t : ℕ) → t ≢ new.at → due group new t ≡ due group old t
+  pub none_before : (t : ℕ) → t < new.at → wheel_due group old t ≡ []
+  pub first : wheel_due group old new.at ≡ item ∷ wheel_due group new new.at
+  pub others : (t : ℕ) → t ≢ new.at → wheel_due group new t ≡ wheel_due group old t
 
 abbrev pub Seeks : {T : Type 0} → (T → Option ℕ) → ℕ → Wheel T → Option T → Wheel T → Type 0
 Seeks group until old None new = SeeksNone group until old new

@@ -4,7 +4,7 @@
 
 ghost use Rattle.std.specs.Prelude.{◌≡◌, ◌≢◌, ◌+◌, ◌/◌, ◌%◌, ◌<◌, ◌≤◌, ℕ, [], true, length, map, IfSome, IfNone, IsTrue, MatchResult, OnOk, IfOk};
 ghost use Rattle.event_queue.specs.Links.{list_at};
-ghost use Rattle.event_queue.specs.Wheel.{is_current, live_item, list_for, IsPast, due, near, far, IsWheel, IsTurning, PutsLast, PutsAll, KeepsView, TakesFirst, Turns, Cancels, cleared, cleared_item};
+ghost use Rattle.event_queue.specs.Wheel.{is_current, live_item, list_for, IsPast, wheel_due, near, far, IsWheel, IsTurning, PutsLast, PutsAll, KeepsView, TakesFirst, Turns, Cancels, cleared, cleared_item};
 
 use crate::chains::Chains;
 use crate::group::{GROUPS, Grouped};
@@ -110,7 +110,7 @@ impl<T: Grouped> Wheel<T> {
     pub fn new(alloc: Global) -> Result<Wheel<T>, NoMemory>
         ensures right { IfOk result (λ w. IsWheel T.group_of w) }
         ensures at { IfOk result (λ w. w.at ≡ 0) }
-        ensures none { IfOk result (λ w. (t : ℕ) → due T.group_of w t ≡ []) }
+        ensures none { IfOk result (λ w. (t : ℕ) → wheel_due T.group_of w t ≡ []) }
     {
         let chains = Chains::new(alloc, LISTS)?;
         Ok(Wheel {
@@ -229,7 +229,7 @@ impl<T: Grouped> Wheel<T> {
     /// Whether no place is taken, not even by something cancelled. Nothing waits then.
     pub fn is_idle(&self) -> bool
         requires { IsWheel T.group_of self.now }
-        ensures { IsTrue result → (t : ℕ) → due T.group_of self.now t ≡ [] }
+        ensures { IsTrue result → (t : ℕ) → wheel_due T.group_of self.now t ≡ [] }
     {
         self.chains.has_all(FREE)
     }
@@ -238,7 +238,7 @@ impl<T: Grouped> Wheel<T> {
     pub fn take_first(&mut self) -> Option<T>
         requires { IsWheel T.group_of self.old }
         ensures takes { TakesFirst T.group_of self.old result self.new }
-        ensures none { IfNone result (due T.group_of self.old self.old.at ≡ []) }
+        ensures none { IfNone result (wheel_due T.group_of self.old self.old.at ≡ []) }
     {
         while self.chains.first(near_list(self.at)).is_some() {
             let item = self.pop();
@@ -252,7 +252,7 @@ impl<T: Grouped> Wheel<T> {
     /// Goes on by a ms, where nothing is due at the time at which the wheel stands.
     pub fn advance(&mut self)
         requires right { IsWheel T.group_of self.old }
-        requires done { due T.group_of self.old self.old.at ≡ [] }
+        requires done { wheel_due T.group_of self.old self.old.at ≡ [] }
         requires room { self.old.at + 1 < 4194304 }
         ensures { Turns T.group_of self.old (self.old.at + 1) self.new }
     {
@@ -277,7 +277,7 @@ impl<T: Grouped> Wheel<T> {
     /// Goes back to a time, where nothing waits at all.
     pub fn rewind(&mut self, at: u32)
         requires right { IsWheel T.group_of self.old }
-        requires none { (t : ℕ) → due T.group_of self.old t ≡ [] }
+        requires none { (t : ℕ) → wheel_due T.group_of self.old t ≡ [] }
         requires back { at ≤ self.old.at }
         ensures { Turns T.group_of self.old at self.new }
     {

@@ -17,17 +17,13 @@ use Rattle.world_images.specs.Newest.{IsNewest}
 use Rattle.hop_bound.specs.Spread.{IsOpenWorld, IsQuiet, AreQuiet, HoldsVersion}
 use Rattle.world_images.specs.Versions.{InjectsAt}
 use Rattle.hop_bound.specs.HopBound.{IsRightPlan, version_of, HoldsBy, HopBound}
-use Rattle.world_laws.proofs.Points.{IsPast, nodes-here, last-before, earlier-come, past-step}
+use Rattle.world_laws.proofs.Points.{nodes-here, last-before, earlier-come, run-past}
 use Rattle.world_images.proofs.Versions.{option-injects}
 use Rattle.world_images.proofs.Newest.{installs_at_most}
 use Rattle.world_images.proofs.Lines.{lines_in_order}
 use Rattle.hop_bound.proofs.Spreading.{UpTo, up-to, spreads_in_time}
 
 -- ---- times don't fall
-
-run-past : (w : World) (ms : List Moment) → HaveCome w ms → IsPast (state w ms) (last_time ms)
-run-past w [] come = record { none = λ t before. absurd (omega arith) }
-run-past w (m ∷ before) come = past-step w (state w before) m come.1.next
 
 -- an event isn't later than the last one
 times-rise : (w : World) (newer older : List Moment) (x : Moment) → HaveCome w (newer ++ (x ∷ older)) → x.time ≤ last_time (newer ++ (x ∷ older))

@@ -37,6 +37,7 @@ use Rattle.world_images.specs.Newest.{IsWorldVersion}
 use Rattle.world_images.specs.Installs.{WasInstalled}
 use Rattle.world_images.proofs.Installs.{held_was_installed, held_never_falls}
 use Rattle.world_images.proofs.Newer.{installs_are_newer}
+use Rattle.world_laws.proofs.Among.{all-at}
 use Rattle.world_laws.proofs.Points.{earlier-come}
 use Rattle.hop_bound.specs.Premises.{IsInjectedProgram, IsRightScript, OpenScriptsAreOpen, RightScriptsPlanRightly, CapsulesHaveFewFragments, ScriptsInstallsAreNewer, InjectedAreVersions, InstalledBy, InjectedIsInstalled}
 use Rattle.hop_bound.specs.HopBound.{HoldsBy, version_of}
@@ -69,11 +70,6 @@ right_set d = record {
       ap (λ (n : ℕ). n * 2 ^ d.trickle.doublings) halves ∙ mul_assoc 2 (d.trickle.imin / 2) (2 ^ d.trickle.doublings)
 
 -- ---- lines of a script
-
-all-at : {X : Type 0} (P : X → Type 0) (xs : List X) (i : ℕ) (x : X) → All P xs → slice_get xs i ≡ Some x → P x
-all-at P [] i x all e = let clash : None ≡ Some x = e in cc
-all-at P (y ∷ ys) zero x all e = let same : y ≡ x = cc in subst P same (All-head P y ys all)
-all-at P (y ∷ ys) (suc i) x all e = all-at P ys i x (All-tail P y ys all) e
 
 pairs-at : {X : Type 0} (R : X → X → Type 0) (xs : List X) (i j : ℕ) (a b : X) → AllPairs R xs → slice_get xs i ≡ Some a → slice_get xs j ≡ Some b → i < j → R a b
 pairs-at R xs i j a b all is_a is_b less =

@@ -12,7 +12,7 @@ use Rattle.script_reader.specs.declared.world.World.{World}
 use Rattle.script_reader.specs.World.{AreOtherLinks, IsRightWorld}
 use Rattle.vm_desc.specs.declared.description.Description.{Description}
 use Rattle.radio_sim.specs.declared.wire.Wire.{Wire}
-use Rattle.radio_sim.specs.Wires.{wire_after, leaving, turned}
+use Rattle.radio_sim.specs.Wires.{wire_after, leaving, turned_wire}
 use Rattle.radio_sim.specs.Sending.{AreLeaving}
 use Rattle.radio_sim.specs.Radio.{Ether, wires_of, packets, IsEtherOf}
 use Rattle.radio_sim.proofs.WireLemmas.{leaving_push, turned_leaving}
@@ -93,11 +93,11 @@ packets_other node sender senders other = sum_by_push (λ (s : ℕ). if s == nod
     ∙ elim (eqb_tells sender node) [ inl e ↦ absurd (other (sym e.1)) | inr e ↦ (let same = ap (λ (b : Bool). packets node senders + (if b then 1 else 0)) e.0 in same ∙ omega arith) ]
 
 -- the written links are those that went on
-pub turned_read : (wires : List (List Wire)) (node : ℕ) (old new : List Wire) → length wires ≡ 256 → node < 256 → old ≡ get_or wires node old → new ≡ map turned old → set wires node new ≡ set wires node (map turned (get_or wires node []))
+pub turned_read : (wires : List (List Wire)) (node : ℕ) (old new : List Wire) → length wires ≡ 256 → node < 256 → old ≡ get_or wires node old → new ≡ map turned_wire old → set wires node new ≡ set wires node (map turned_wire (get_or wires node []))
 turned_read wires node old new nodes low read turned_is =
-    ap (λ (ws : List Wire). set wires node ws) (turned_is ∙ ap (λ (ws : List Wire). map turned ws) (read ∙ get_or_default wires node old [] (omega (arith, low, nodes))))
+    ap (λ (ws : List Wire). set wires node ws) (turned_is ∙ ap (λ (ws : List Wire). map turned_wire ws) (read ∙ get_or_default wires node old [] (omega (arith, low, nodes))))
 
-pub stands_more : (w : World) (senders : List ℕ) (e v : Ether) (sender : ℕ) → length e.wires ≡ 256 → sender < 256 → v.sent ≡ e.sent + 1 → v.wires ≡ set e.wires sender (map turned (wires_of e sender)) → IsEtherOf w senders e → IsEtherOf w (senders ++ sender ∷ []) v
+pub stands_more : (w : World) (senders : List ℕ) (e v : Ether) (sender : ℕ) → length e.wires ≡ 256 → sender < 256 → v.sent ≡ e.sent + 1 → v.wires ≡ set e.wires sender (map turned_wire (wires_of e sender)) → IsEtherOf w senders e → IsEtherOf w (senders ++ sender ∷ []) v
 stands_more w senders e v sender nodes low sent_is wires_is stood =
     let long : length (senders ++ sender ∷ []) ≡ length senders + 1 = length-append senders (sender ∷ []) in
     let sent = stood.sent in
@@ -105,10 +105,10 @@ stands_more w senders e v sender nodes low sent_is wires_is stood =
       sent = omega (arith, long, sent, sent_is);
       wires = λ node below. ap (λ (ws : List (List Wire)). get_or ws node []) wires_is ∙ elim (cases_eq node sender) [
         | inl same ↦
-            ap (λ (k : ℕ). get_or (set e.wires sender (map turned (wires_of e sender))) k []) same ∙ get_or-set_same e.wires sender (map turned (wires_of e sender)) [] (omega (arith, low, nodes))
-            ∙ ap (λ (k : ℕ). map turned (wires_of e k)) (sym same) ∙ ap (λ (ws : List Wire). map turned ws) (stood.wires node below) ∙ turned_leaving w.random (packets node senders) node 0 w.links
+            ap (λ (k : ℕ). get_or (set e.wires sender (map turned_wire (wires_of e sender))) k []) same ∙ get_or-set_same e.wires sender (map turned_wire (wires_of e sender)) [] (omega (arith, low, nodes))
+            ∙ ap (λ (k : ℕ). map turned_wire (wires_of e k)) (sym same) ∙ ap (λ (ws : List Wire). map turned_wire ws) (stood.wires node below) ∙ turned_leaving w.random (packets node senders) node 0 w.links
             ∙ ap (λ (n : ℕ). leaving w.random n node 0 w.links) (sym (packets_own node senders) ∙ ap (λ (k : ℕ). packets node (senders ++ k ∷ [])) same)
-        | inr other ↦ get_or-set_other e.wires sender node (map turned (wires_of e sender)) [] other ∙ stood.wires node below
+        | inr other ↦ get_or-set_other e.wires sender node (map turned_wire (wires_of e sender)) [] other ∙ stood.wires node below
             ∙ ap (λ (n : ℕ). leaving w.random n node 0 w.links) (sym (packets_other node sender senders other))
       ];
     }

@@ -16,7 +16,7 @@ use Rattle.radio_sim.specs.declared.event.Event.TheVariants as event
 use Rattle.radio_sim.specs.declared.wire.Wire.{Wire}
 use Rattle.radio_sim.specs.declared.wire.Sending.{Sending}
 use Rattle.radio_sim.specs.Sending.{IsFurther}
-use Rattle.radio_sim.specs.Wires.{link_stream, words_from, link_word, wire_after, leaving, turned, loses, lost_on, delivered_on, losts, delivered}
+use Rattle.radio_sim.specs.Wires.{link_stream, words_from, link_word, wire_after, leaving, turned_wire, loses, lost_on, delivered_on, losts, delivered}
 
 -- a link before its first packet
 pub wire_made : (random position : ℕ) (l : Link) (words rest : Lcg) (word : ℕ) → words ≡ link_stream random position → word ≡ (pcg32 words).0 → rest ≡ (pcg32 words).1
@@ -28,18 +28,18 @@ wire_made random position l words rest word is word_is rest_is =
     ap with_word (word_is ∙ ap (λ (g : Lcg). (pcg32 g).0) begun) ∙ ap with_words (rest_is ∙ ap (λ (g : Lcg). (pcg32 g).1) begun ∙ advance_step 0 (link_stream random position))
 
 -- a link after a packet more
-turned_after : (random n position : ℕ) (l : Link) → turned (wire_after random n position l) ≡ wire_after random (n + 1) position l
+turned_after : (random n position : ℕ) (l : Link) → turned_wire (wire_after random n position l) ≡ wire_after random (n + 1) position l
 turned_after random n position l =
     let with_words : Lcg → Wire = λ g. record { link = position; to = l.to; loss = l.loss; word = link_word random position (n + 1); words = g } in
     ap with_words (advance_step (n + 1) (link_stream random position))
 
-pub turned_leaving : (random n node position : ℕ) (links : List Link) → map turned (leaving random n node position links) ≡ leaving random (n + 1) node position links
+pub turned_leaving : (random n node position : ℕ) (links : List Link) → map turned_wire (leaving random n node position links) ≡ leaving random (n + 1) node position links
 turned_leaving random n node position [] = refl
 turned_leaving random n node position (l ∷ links) = by (l.from == node) (turned_leaving random n node (suc position) links)
   where
-    by : (b : Bool) → map turned (leaving random n node (suc position) links) ≡ leaving random (n + 1) node (suc position) links → map turned (if b then wire_after random n position l ∷ leaving random n node (suc position) links else leaving random n node (suc position) links)
+    by : (b : Bool) → map turned_wire (leaving random n node (suc position) links) ≡ leaving random (n + 1) node (suc position) links → map turned_wire (if b then wire_after random n position l ∷ leaving random n node (suc position) links else leaving random n node (suc position) links)
         ≡ (if b then wire_after random (n + 1) position l ∷ leaving random (n + 1) node (suc position) links else leaving random (n + 1) node (suc position) links)
-    by true rest = ap (λ (w : Wire). w ∷ map turned (leaving random n node (suc position) links)) (turned_after random n position l) ∙ ap (λ (ws : List Wire). wire_after random (n + 1) position l ∷ ws) rest
+    by true rest = ap (λ (w : Wire). w ∷ map turned_wire (leaving random n node (suc position) links)) (turned_after random n position l) ∙ ap (λ (ws : List Wire). wire_after random (n + 1) position l ∷ ws) rest
     by false rest = rest
 
 -- a link more at the end

@@ -17,10 +17,10 @@ cancelled_by (event.Due node ctx inv value) = Some (cancel.Answers node)
 cancelled_by (event.Deliver link number bytes) = None
 
 -- each cancel has its own number
-abbrev pub number_of : Cancel → ℕ
-number_of (cancel.Timer node) = node
-number_of (cancel.Pump node) = 256 + node
-number_of (cancel.Answers node) = 512 + node
+abbrev pub cancel_number : Cancel → ℕ
+cancel_number (cancel.Timer node) = node
+cancel_number (cancel.Pump node) = 256 + node
+cancel_number (cancel.Answers node) = 512 + node
 
 abbrev pub group_of : Event → Option ℕ
-group_of e = option_map number_of (cancelled_by e)
+group_of e = option_map cancel_number (cancelled_by e)

@@ -8,7 +8,7 @@ use Rattle.vm_desc.specs.declared.description.Description.{Description}
 use Rattle.radio_sim.specs.declared.event.Event.{Event}
 use Rattle.radio_sim.specs.declared.wire.Wire.{Wire}
 use Rattle.radio_sim.specs.declared.wire.Sending.{Sending}
-use Rattle.radio_sim.specs.Wires.{leaving, turned, losts, delivered}
+use Rattle.radio_sim.specs.Wires.{leaving, turned_wire, losts, delivered}
 use Rattle.radio_sim.specs.Sending.{sent_record}
 
 -- what waits, what happened on the air, how many packets were sent, how long each is on its way in ms, and the links that leave each node
@@ -30,7 +30,7 @@ transmitted e s bytes = record {
   air = e.air ++ sent_record s bytes ∷ [] ++ losts s (wires_of e s.node);
   sent = e.sent + 1;
   delay = e.delay;
-  wires = slice_set e.wires s.node (map turned (wires_of e s.node));
+  wires = slice_set e.wires s.node (map turned_wire (wires_of e s.node));
 }
 
 -- how many packets a node sent

@@ -32,8 +32,8 @@ abbrev pub leaving : ℕ → ℕ → ℕ → ℕ → List Link → List Wire
 leaving random n node position [] = []
 leaving random n node position (l ∷ links) = if l.from == node then wire_after random n position l ∷ leaving random n node (suc position) links else leaving random n node (suc position) links
 
-abbrev pub turned : Wire → Wire
-turned w = record w { word = (pcg32 w.words).0; words = (pcg32 w.words).1 }
+abbrev pub turned_wire : Wire → Wire
+turned_wire w = record w { word = (pcg32 w.words).0; words = (pcg32 w.words).1 }
 
 -- the link loses the next packet
 abbrev pub loses : Wire → Bool

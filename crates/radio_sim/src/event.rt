@@ -54,11 +54,11 @@ pub enum Cancel {
 }
 
 impl Cancel {
-    ghost use Rattle.radio_sim.specs.Events.{number_of};
+    ghost use Rattle.radio_sim.specs.Events.{cancel_number};
 
     /// The number of the group.
     pub fn number(self) -> u16
-        ensures value { result ≡ number_of self }
+        ensures value { result ≡ cancel_number self }
         ensures below { result < 1024 }
     {
         match self {

@@ -5,7 +5,7 @@ ghost use Rattle.event_queue.specs.Agenda.{scheduled, scheduled_all, is_other, A
 ghost use Rattle.script_reader.specs.World.{IsRightWorld};
 ghost use Rattle.std.specs.List.{All};
 ghost use Rattle.script_reader.specs.declared.world.Link.{Link};
-ghost use Rattle.radio_sim.specs.Events.{group_of, number_of};
+ghost use Rattle.radio_sim.specs.Events.{group_of, cancel_number};
 ghost use Rattle.radio_sim.specs.Wires.{losts, delivered};
 ghost use Rattle.radio_sim.specs.Sending.{sent_record, AreLeaving, IsFurther};
 
@@ -131,7 +131,7 @@ impl Radio {
 
     /// Cancels events of a node: the others stay, in their order.
     pub fn cancel(&mut self, which: Cancel)
-        ensures { self.new ≡ record self.old { agenda = record self.old.agenda { items = filter (is_other group_of (number_of which)) self.old.agenda.items } } }
+        ensures { self.new ≡ record self.old { agenda = record self.old.agenda { items = filter (is_other group_of (cancel_number which)) self.old.agenda.items } } }
     {
         self.queue.cancel(which.number());
     }

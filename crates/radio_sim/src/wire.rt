@@ -2,7 +2,7 @@
 
 ghost use Rattle.std.specs.Prelude.{◌≡◌, ◌%◌, [], ◌∷◌, ◌++◌, nat_lt, map, MatchResult, IfOk};
 ghost use Rattle.radio_sim.specs.Sending.{IsFurther};
-ghost use Rattle.radio_sim.specs.Wires.{wire_after, turned, losts, delivered};
+ghost use Rattle.radio_sim.specs.Wires.{wire_after, turned_wire, losts, delivered};
 
 use crate::event::Event;
 use mate_journal::{Air, Aired, Airs};
@@ -53,7 +53,7 @@ impl Wire {
 
     /// Goes on to the next word.
     fn turn(&mut self)
-        ensures { self.new ≡ turned self.old }
+        ensures { self.new ≡ turned_wire self.old }
     {
         self.word = self.words.next_word();
     }
@@ -136,7 +136,7 @@ impl Wires {
 
     /// Each link goes on to its next word.
     pub fn turn(&mut self)
-        ensures { self.new ≡ map turned self.old }
+        ensures { self.new ≡ map turned_wire self.old }
     {
         for wire in self.wires.iter_mut() {
             wire.turn();

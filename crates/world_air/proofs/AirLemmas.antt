@@ -31,7 +31,7 @@ use Rattle.packet_codec.specs.declared.packet.Packet.{Packet}
 use Rattle.radio_sim.specs.declared.event.Event.{Event}
 use Rattle.radio_sim.specs.declared.wire.Wire.{Wire}
 use Rattle.radio_sim.specs.declared.wire.Sending.{Sending as Transmission}
-use Rattle.radio_sim.specs.Wires.{leaving, turned, losts, delivered, lost_on}
+use Rattle.radio_sim.specs.Wires.{leaving, turned_wire, losts, delivered, lost_on}
 use Rattle.radio_sim.specs.Sending.{sent_record}
 use Rattle.radio_sim.specs.Radio.{Ether, wires_of, transmitted, IsEtherOf}
 use Rattle.world_rules.specs.World.{World, called_kind}
@@ -195,9 +195,9 @@ losts-few s (v ∷ ws) = by (lost_on s v) (losts-few s ws) where
 pub steady-none : (node : ℕ) (e : Ether) → IsSteady node 0 e e
 steady-none node e = record { now = refl; air = omega arith; wires = refl }
 
-wires-long : (ws : List (List Wire)) (node : ℕ) → length (get_or (set ws node (map turned (get_or ws node []))) node []) ≡ length (get_or ws node [])
+wires-long : (ws : List (List Wire)) (node : ℕ) → length (get_or (set ws node (map turned_wire (get_or ws node []))) node []) ≡ length (get_or ws node [])
 wires-long [] node = refl
-wires-long (v ∷ ws) zero = length-map v turned
+wires-long (v ∷ ws) zero = length-map v turned_wire
 wires-long (v ∷ ws) (suc n) = wires-long ws n
 
 pub steady-one : (s : Transmission) (bytes : ArrayVec ℕ) (old new : Ether) → new ≡ transmitted old s bytes → IsSteady s.node 1 old new

@@ -2,7 +2,7 @@
 
 ghost use Rattle.std.specs.Prelude.{◌≡◌, ◌≤◌, ◌∷◌, ◌++◌, [], map, OnOk};
 ghost use Rattle.std.specs.Option.{option_to_list};
-ghost use Rattle.radio_sim.specs.Events.{number_of};
+ghost use Rattle.radio_sim.specs.Events.{cancel_number};
 ghost use Rattle.world_air.specs.Air.{aired_at};
 ghost use Rattle.world_air.specs.Changes.{AddsToAir, CancelsAll, left_items, if_begins};
 ghost use Rattle.radio_sim.specs.declared.event.Event.TheVariants as radio_event;
@@ -33,7 +33,7 @@ pub fn cancel(radio: &mut Radio, node: u8, ends: Ends)
 
 /// Cancels, or does nothing.
 fn cancel_if(radio: &mut Radio, ends: bool, which: Cancel)
-    ensures { radio.new ≡ record radio.old { agenda = record radio.old.agenda { items = left_items ends (number_of which) radio.old.agenda.items } } }
+    ensures { radio.new ≡ record radio.old { agenda = record radio.old.agenda { items = left_items ends (cancel_number which) radio.old.agenda.items } } }
 {
     if ends {
         radio.cancel(which);

@@ -13,7 +13,7 @@ use Rattle.mate_num.specs.declared.call.End.{End}
 use Rattle.mate_num.specs.declared.call.End.TheVariants as end
 use Rattle.mate_num.specs.declared.call.Stamp.{Stamp}
 use Rattle.mate_journal.specs.Machine.{Machine, HeldProgram}
-use Rattle.mate_journal.specs.Journal.{Told, Posted, Dropped, Started, Asked, Answered, Ended, Installed, Reset, Seen, Void, Reading, heard, heard_told, whole_run}
+use Rattle.mate_journal.specs.Journal.{Told, Posted, Dropped, Started, Asked, Answered, Ended, Installed, Reset, Seen, Void, Reading, heard, heard_told, told_by, whole_run}
 use Rattle.mate_journal.specs.Journal.{Event as Entered}
 use Rattle.mate_journal.specs.Grants.{IsStart}
 use Rattle.mate_journal.specs.Pace.{Pace, paced_all}
@@ -24,7 +24,7 @@ use Rattle.world_rules.specs.Effect.{Node, Deed, Nothing, Installing, Posting, A
 use Rattle.world_rules.specs.State.{Moment, WorldState, asked_by, calls_in, node_at, effect_at, state}
 use Rattle.world_rules.specs.Run.{Occasions, DeedMakes, stamp_of, journal}
 use Rattle.world_laws.proofs.Points.{nodes-here, nodes-other}
-use Rattle.world_entries.specs.Given.{Given, GivesOccasion, GivesInstall, SeesItsStore, given_in, given_by, EventsGiveTheirs, given_to, told_of, JournalsTellWhatCame, HasPayload, payload_given, PostsHaveTheirPayload, CalledAreTold}
+use Rattle.world_entries.specs.Given.{Given, GivesOccasion, GivesInstall, SeesItsStore, given_in, given_by, EventsGiveTheirs, given_to, JournalsTellWhatCame, HasPayload, payload_given, PostsHaveTheirPayload, CalledAreTold}
 
 -- ---- entries of turns
 
@@ -119,16 +119,16 @@ events_give_theirs w before m come =
 
 -- ---- journals
 
-told-stamped : (at : Stamp) (told : List Told) → told_of (map (λ t. record { stamp = at; told = t }) told) ≡ told
+told-stamped : (at : Stamp) (told : List Told) → told_by (map (λ t. record { stamp = at; told = t }) told) ≡ told
 told-stamped at [] = refl
 told-stamped at (t ∷ told) = ap (λ (ts : List Told). t ∷ ts) (told-stamped at told)
 
 -- what a journal tells with one event more
-told-more : (w : World) (k : ℕ) (m : Moment) (before : List Moment) → told_of (journal w k (m ∷ before)) ≡ told_of (journal w k before) ++ (if k == event_node w m.cause then m.told else [])
+told-more : (w : World) (k : ℕ) (m : Moment) (before : List Moment) → told_by (journal w k (m ∷ before)) ≡ told_by (journal w k before) ++ (if k == event_node w m.cause then m.told else [])
 told-more w k m before =
     map-append (λ (e : Entered). e.told) (journal w k before) (if k == event_node w m.cause then map (λ t. record { stamp = stamp_of m before; told = t }) m.told else [])
-    ∙ ap (λ (ts : List Told). told_of (journal w k before) ++ ts) (by (k == event_node w m.cause)) where
-      by : (b : Bool) → told_of (if b then map (λ t. record { stamp = stamp_of m before; told = t }) m.told else []) ≡ (if b then m.told else [])
+    ∙ ap (λ (ts : List Told). told_by (journal w k before) ++ ts) (by (k == event_node w m.cause)) where
+      by : (b : Bool) → told_by (if b then map (λ t. record { stamp = stamp_of m before; told = t }) m.told else []) ≡ (if b then m.told else [])
       by true = told-stamped (stamp_of m before) m.told
       by false = refl
 
@@ -136,7 +136,7 @@ pub journals_tell_what_came : (w : World) → JournalsTellWhatCame w
 journals_tell_what_came w k [] come = refl
 journals_tell_what_came w k (m ∷ before) come =
     ap (filter_map given_in) (told-more w k m before)
-    ∙ filter_map-append given_in (told_of (journal w k before)) (if k == event_node w m.cause then m.told else [])
+    ∙ filter_map-append given_in (told_by (journal w k before)) (if k == event_node w m.cause then m.told else [])
     ∙ ap (λ (gs : List Given). gs ++ filter_map given_in (if k == event_node w m.cause then m.told else [])) (journals_tell_what_came w k before come.0)
     ∙ ap (λ (gs : List Given). given_to w k before ++ gs) (by (k == event_node w m.cause) (events_give_theirs w before m come)) where
       by : (b : Bool) → filter_map given_in m.told ≡ given_by w.machine (effect_at w (state w before) m).deed
@@ -215,12 +215,12 @@ called_are_told w k (m ∷ before) = elim (eqb_tells k (event_node w m.cause)) [
   | inl same ↦ ap (λ (j : ℕ). ((state w (m ∷ before)).nodes j).called) same.1 ∙ ap (λ (n : Node). n.called) (nodes-here w (state w before) m)
       ∙ ap (λ (j : ℕ). ((state w before).nodes j).called ++ calls_in m.told) (sym same.1)
       ∙ ap (λ (fs : List FunId). fs ++ calls_in m.told) (called_are_told w k before)
-      ∙ sym (filter_map-append asked_by (told_of (journal w k before)) m.told)
-      ∙ ap (λ (b : Bool). calls_in (told_of (journal w k before) ++ (if b then m.told else []))) (sym same.0)
+      ∙ sym (filter_map-append asked_by (told_by (journal w k before)) m.told)
+      ∙ ap (λ (b : Bool). calls_in (told_by (journal w k before) ++ (if b then m.told else []))) (sym same.0)
       ∙ ap calls_in (sym (told-more w k m before))
   | inr other ↦ ap (λ (n : Node). n.called) (nodes-other w (state w before) m k other.1)
       ∙ called_are_told w k before
-      ∙ ap calls_in (sym (append-nil (told_of (journal w k before))))
-      ∙ ap (λ (b : Bool). calls_in (told_of (journal w k before) ++ (if b then m.told else []))) (sym other.0)
+      ∙ ap calls_in (sym (append-nil (told_by (journal w k before))))
+      ∙ ap (λ (b : Bool). calls_in (told_by (journal w k before) ++ (if b then m.told else []))) (sym other.0)
       ∙ ap calls_in (sym (told-more w k m before))
 ]

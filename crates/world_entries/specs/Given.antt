@@ -4,8 +4,7 @@ use Rattle.std.specs.List.{filter_map}
 use Rattle.arrayvec.specs.ArrayVec.{ArrayVec}
 use Rattle.mate_num.specs.declared.id.HandlerId.{HandlerId}
 use Rattle.mate_journal.specs.Machine.{Machine, HeldProgram}
-use Rattle.mate_journal.specs.Journal.{Told, Posted, Dropped, Started, Asked, Answered, Ended, Installed, Reset, Seen, Void}
-use Rattle.mate_journal.specs.Journal.{Event as Entered}
+use Rattle.mate_journal.specs.Journal.{Told, Posted, Dropped, Started, Asked, Answered, Ended, Installed, Reset, Seen, Void, told_by}
 use Rattle.world_rules.specs.World.{World}
 use Rattle.world_rules.specs.Effect.{Deed, Nothing, Installing, Posting, Answering, Showing, Resetting, event_node}
 use Rattle.world_rules.specs.State.{Moment, calls_in, effect_at, state}
@@ -53,12 +52,9 @@ abbrev pub given_to : World → ℕ → List Moment → List Given
 given_to w k [] = []
 given_to w k (m ∷ before) = given_to w k before ++ (if k == event_node w m.cause then given_by w.machine (effect_at w (state w before) m).deed else [])
 
-abbrev pub told_of : List Entered → List Told
-told_of es = map (λ (e : Entered). e.told) es
-
 -- and so does the journal of each node
 abbrev pub JournalsTellWhatCame : World → Type 0
-JournalsTellWhatCame w = (k : ℕ) (ms : List Moment) → HaveCome w ms → filter_map given_in (told_of (journal w k ms)) ≡ given_to w k ms
+JournalsTellWhatCame w = (k : ℕ) (ms : List Moment) → HaveCome w ms → filter_map given_in (told_by (journal w k ms)) ≡ given_to w k ms
 
 -- a post's payload is that of its occasion: a message's or a line's values, or none
 abbrev pub HasPayload : ArrayVec ℤ → Told → Type 0
@@ -86,4 +82,4 @@ PostsHaveTheirPayload w = (before : List Moment) (m : Moment) → HaveCome w (m 
 
 -- the calls by whose places answers are chosen are all calls that the node's journal tells
 abbrev pub CalledAreTold : World → Type 0
-CalledAreTold w = (k : ℕ) (ms : List Moment) → ((state w ms).nodes k).called ≡ calls_in (told_of (journal w k ms))
+CalledAreTold w = (k : ℕ) (ms : List Moment) → ((state w ms).nodes k).called ≡ calls_in (told_by (journal w k ms))

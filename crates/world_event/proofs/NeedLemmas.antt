@@ -34,7 +34,7 @@ use Rattle.world_laws.proofs.Timers.{timer_begun}
 use Rattle.world_air.specs.Air.{radio_event}
 use Rattle.world_states.specs.Coming.{code_world, IsExpected, MayComeTo}
 use Rattle.world_states.specs.Sound.{IsSoundNode, HasWellFormed, NextMayCome, NodesAreSound}
-use Rattle.world_step.specs.Handling.{IsMoteOf, IsFitEvent, IsOpenExchange, IsPaced, Handled}
+use Rattle.world_handling.specs.Handling.{IsMoteOf, IsFitEvent, IsOpenExchange, IsPaced, Handled}
 use Rattle.world_step.specs.Motes.{IsTellable}
 use Rattle.world_step.specs.declared.effect.Effect.{Effect}
 use Rattle.world_step.specs.declared.mote.Mote.{Mote}

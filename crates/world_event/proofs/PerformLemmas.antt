@@ -1,6 +1,5 @@
 -- One event, by what its calls did.
-use Rattle.std.proofs.Common.{◌≡◌, ℕ, List, ◌∷◌, ◌++◌, length, map, refl, sym, ◌∙◌, ap, subst, inl, inr}
-use Rattle.std.proofs.lemmas.Bool.Decides.{eqb_tells}
+use Rattle.std.proofs.Common.{◌≡◌, ℕ, List, ◌∷◌, ◌++◌, length, map, refl, sym, ◌∙◌, ap, subst}
 use Rattle.mate_num.specs.declared.call.Stamp.{Stamp}
 use Rattle.mate_journal.specs.Journal.{Told, Reading, heard_told, journal_of}
 use Rattle.mate_journal.specs.Journal.{Event as Entered}
@@ -22,9 +21,10 @@ use Rattle.world_rules.specs.Effect.{Node, event_node, node_effect}
 use Rattle.world_rules.specs.State.{Moment, WorldState, state, air_made, node_after}
 use Rattle.world_rules.specs.Run.{MayCome, DeedMakes, stamp_of, airs, journal}
 use Rattle.world_laws.proofs.Points.{nodes-here}
+use Rattle.world_laws.proofs.Steps.{journal-here}
 use Rattle.world_air.specs.Air.{aired_at}
 use Rattle.world_states.specs.Coming.{code_world}
-use Rattle.world_step.specs.Handling.{IsMoteOf, Handled}
+use Rattle.world_handling.specs.Handling.{IsMoteOf, Handled}
 use Rattle.world_step.specs.declared.effect.Effect.{Effect}
 use Rattle.world_step.specs.declared.mote.Mote.{Mote}
 use Rattle.world_event.specs.Finishing.{told_from, IsTakenFrom, HasSettled, IsFinished}
@@ -34,9 +34,6 @@ use Rattle.world_event.proofs.DeedLemmas.{deed-quiet}
 use Rattle.world_event.proofs.ToldLemmas.{tells-heard, told-behind, heard-both, journal-both}
 
 -- ---- the moment
-
-journal-own : (w : World) (m : Moment) (before : List Moment) → journal w (event_node w m.cause) (m ∷ before) ≡ journal w (event_node w m.cause) before ++ map (event_at (stamp_of m before)) m.told
-journal-own w m before = elim (eqb_tells (event_node w m.cause) (event_node w m.cause)) [ inl same ↦ rw same.0 refl | inr other ↦ absurd (other.1 refl) ]
 
 -- what came: the node's own part, and then its turns
 abbrev pub came : ℕ → Cause → List Told → List Told → Pace → Moment
@@ -156,7 +153,7 @@ module _ (d : Description) (script : Script) (ps : List Program) (ms : List Mome
         ∙ journal-both x0.node x1.node v at _ _ handled.tells settled
         ∙ ap (λ (es : List Entered). es ++ map (event_at at) (handled.tells.told ++ settled.told)) mote.journal
         ∙ ap (λ (a : Stamp). journal w k ms ++ map (event_at a) (handled.tells.told ++ settled.told)) stamp_is
-        ∙ sym (journal-own w m ms)
+        ∙ sym (journal-here w m ms)
 
     performed : Performed w ms c number at new x4
     performed = record {

@@ -13,13 +13,13 @@ use Rattle.vm_desc.specs.declared.handler.HandlerKind.{HandlerKind}
 use Rattle.vm_desc.specs.declared.handler.HandlerKind.TheVariants as kind
 use Rattle.event_queue.specs.Agenda.{due_at}
 use Rattle.radio_sim.specs.declared.event.Event.{Event}
-use Rattle.trickle_timer.specs.Intervals as trickle
-use Rattle.trickle_timer.specs.Timer.{Timer, begun, counted}
+use Rattle.trickle_timer.specs.Timer.{Timer}
 use Rattle.world_rules.specs.Cause.{Cause}
 use Rattle.world_rules.specs.Cause as event
 use Rattle.world_rules.specs.World.{World, period_in, period_of}
 use Rattle.world_rules.specs.Effect.{Node, NodeEffect, begun_length, cuts, resets}
 use Rattle.world_rules.specs.State.{Scheduled, of_time, next_period, new_interval, new_pump, timer_after, is_kept, is_some_length}
+use Rattle.world_laws.proofs.Timers.{timer_begun}
 use Rattle.world_air.specs.Air.{radio_event, timed_events}
 use Rattle.world_air.specs.Changes.{stays, if_begins}
 use Rattle.world_air.specs.declared.changes.Ends.{Ends}
@@ -88,15 +88,10 @@ pump-is w node time true = refl
 
 -- the interval that begins has its length
 pub begun-is : (n : Node) (e : NodeEffect) (time : ℕ) → if_begins (length_of (is_some_length (begun_length n e)) (timer_after n e time)) ≡ map (λ l. air.Interval l) (option_to_list (begun_length n e))
-begun-is n e time = by (e.timer) where
-  of_length : (o : Option ℕ) (d : Timer) → if_begins (length_of (is_some_length o) (option_map_or (λ length. begun n.timer.set n.timer.words length time) o d)) ≡ map (λ l. air.Interval l) (option_to_list o)
-  of_length None d = refl
-  of_length (Some l) d = refl
-
-  by : (o : Option trickle.Event)
-      → if_begins (length_of (is_some_length (begun_length n (record e { timer = o }))) (timer_after n (record e { timer = o }) time)) ≡ map (λ l. air.Interval l) (option_to_list (begun_length n (record e { timer = o })))
-  by None = refl
-  by (Some h) = of_length (trickle.next_length n.timer.set n.timer.running.length h) (record n.timer { running = counted n.timer.running h })
+begun-is n e time = by (begun_length n e) refl where
+  by : (o : Option ℕ) → begun_length n e ≡ o → if_begins (length_of (is_some_length o) (timer_after n e time)) ≡ map (λ l. air.Interval l) (option_to_list o)
+  by None is = refl
+  by (Some l) is = ap (λ (t : Timer). if_begins (length_of true t)) (timer_begun n e time l is)
 
 -- ---- periods
 

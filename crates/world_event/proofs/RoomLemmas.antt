@@ -21,7 +21,7 @@ use Rattle.world_rules.specs.Effect.{event_node}
 use Rattle.world_rules.specs.State.{Moment, air_made, state}
 use Rattle.world_rules.specs.Run.{HaveCome, stamp_of, airs, journal}
 use Rattle.world_laws.specs.Times.{last_time}
-use Rattle.world_laws.proofs.Points.{IsPast, last-before, past-step}
+use Rattle.world_laws.proofs.Points.{last-before, run-past}
 use Rattle.world_air.specs.Air.{IsAirOf}
 
 -- ---- records
@@ -68,16 +68,11 @@ last-same : (P : Stamp → Type 0) (at before : Stamp) (told : List Told) → P 
 last-same P at before [] old new = old
 last-same P at before (t ∷ told) old new = last-same P at at told new new
 
--- what is due is not before the last event
-past-last : (w : World) (ms : List Moment) → HaveCome w ms → IsPast (state w ms) (last_time ms)
-past-last w [] come = record { none = λ t before. absurd (omega (arith, before)) }
-past-last w (m ∷ before) come = past-step w (state w before) m come.1.next
-
 journal-upto : (w : World) (k : ℕ) (ms : List Moment) → HaveCome w ms → IsUpTo (length ms) (last_time ms) (last_stamp start (journal w k ms))
 journal-upto w k [] come = record { event_high = omega arith; time_high = omega arith }
 journal-upto w k (m ∷ before) come = by (journal-upto w k before come.0) (k == event_node w m.cause) where
   later : last_time before ≤ m.time
-  later = last-before (state w before) (last_time before) m.time m.cause (past-last w before come.0) come.1.next
+  later = last-before (state w before) (last_time before) m.time m.cause (run-past w before come.0) come.1.next
 
   old : IsUpTo (length before) (last_time before) (last_stamp start (journal w k before)) → IsUpTo (suc (length before)) m.time (last_stamp start (journal w k before))
   old earlier = let e = earlier.event_high in let t = earlier.time_high in let l = later in record { event_high = omega (arith, e); time_high = omega (arith, t, l) }

@@ -20,7 +20,7 @@ use Rattle.node_core.proofs.CallLemmas.{Tells-by}
 use Rattle.world_step.proofs.NodeLemmas.{tells-behind}
 use Rattle.call_waits.specs.Waiting.{WaitApart, WaitSmall, AreAwaited, AreFollowing, HasFewContexts, JournalsWaitApart, JournalsWaitSmall, SettlingAwaits, SettlingTellsFew}
 use Rattle.world_event.specs.Finishing.{told_from}
-use Rattle.world_step.specs.Handling.{IsPaced}
+use Rattle.world_handling.specs.Handling.{IsPaced}
 use Rattle.world_event.proofs.ToldLemmas.{tells-heard, told-behind}
 
 -- the stamp may come next on the same node

@@ -15,7 +15,7 @@ use Rattle.world_air.specs.Changes.{AreNear}
 use Rattle.world_calls.specs.Calls.{AreCallsOf}
 use Rattle.call_waits.specs.Waiting.{WaitApart, AreAwaited, asked_of}
 use Rattle.world_step.specs.Answering.{told_by_entries}
-use Rattle.world_step.specs.Handling.{IsEffectOf}
+use Rattle.world_handling.specs.Handling.{IsEffectOf}
 use Rattle.world_step.specs.declared.effect.Effect.{Effect}
 use Rattle.world_step.specs.declared.mote.Mote.{Mote}
 

@@ -16,7 +16,7 @@ use Rattle.world_laws.specs.Times.{last_time}
 use Rattle.world_air.specs.Air.{radio_event, IsAirOf}
 use Rattle.world_states.specs.Sound.{HaveFitMessages}
 use Rattle.world_event.specs.Finishing.{IsTakenFrom}
-use Rattle.world_step.specs.Handling.{IsMoteOf}
+use Rattle.world_handling.specs.Handling.{IsMoteOf}
 use Rattle.world_step.specs.declared.mote.Mote.{Mote}
 
 -- the radio after these events, the latest first; all that was sent is right for the machine

@@ -14,8 +14,9 @@ use mate_num::{NoMemory, Stamp};
 use radio_sim::{Event, Radio};
 use script_reader::World;
 use vm_desc::Description;
+use world_handling::handle;
 use world_states::states_are_sound;
-use world_step::{Mote, handle};
+use world_step::Mote;
 
 /// An event that was due comes to its node, which then has turns until nobody is ready there.
 pub fn perform(

@@ -9,7 +9,7 @@ ghost use Rattle.node_invariant.specs.Keeps.{IsTimely};
 ghost use Rattle.node_core.specs.View.{heard_of, Tells};
 ghost use Rattle.call_waits.specs.Waiting.{WaitApart, AreAwaited};
 ghost use Rattle.world_event.specs.Finishing.{told_from};
-ghost use Rattle.world_step.specs.Handling.{IsPaced};
+ghost use Rattle.world_handling.specs.Handling.{IsPaced};
 
 use call_waits::{settling_leaves_waiting, settling_tells_few, waits_are_apart};
 use mate_num::{NoMemory, Stamp};

@@ -4,7 +4,7 @@ use Rattle.std.specs.Prelude.{is_some, is_none, nat_lt, slice_index, ◌==◌, i
 use Rattle.std.specs.Bool.{beq}
 use Rattle.std.specs.Int.{bit_at}
 use Rattle.std.specs.List.{filter, filter_map, list_all, range_with_len, cons_option}
-use Rattle.std.proofs.lemmas.Bool.{cases_Bool, ltb-true, ltb-false}
+use Rattle.std.proofs.lemmas.Bool.{cases_Bool, ltb-true, ltb-false, and_parts}
 use Rattle.std.proofs.lemmas.Bool.Decides.{eqb_tells}
 use Rattle.std.proofs.lemmas.List.{append-nil}
 use Rattle.mate_num.specs.declared.id.HandlerId.{HandlerId}
@@ -69,11 +69,6 @@ abbrev pub AreAlike : Version → List Part → Type 0
 AreAlike v [] = Unit {0}
 AreAlike v (part ∷ parts) = IsAlike v part × AreAlike v parts
 
-and_true : (a b : Bool) → (a && b) ≡ true → (a ≡ true) × (b ≡ true)
-and_true true true h = (refl, refl)
-and_true true false h = cc
-and_true false b h = cc
-
 part-alike : (v : Version) (p : Packet) → IsTame v p → AreAlike v (cons_option (part_in v.handler v.version p) [])
 part-alike v (Vector versions) tame = tt
 part-alike v (Status g version missing) tame = tt
@@ -81,7 +76,7 @@ part-alike v (Fragment g version index count large bytes) tame = by ((g.0 == v.h
   by : (b : Bool) → ((g.0 == v.handler) && (version == v.version)) ≡ b → AreAlike v (cons_option (if b then Some (record { index = index; count = count; large = large; bytes = bytes }) else None) [])
   by false is = tt
   by true is =
-      let both = and_true (g.0 == v.handler) (version == v.version) is in
+      let both = and_parts (g.0 == v.handler) (version == v.version) is in
       elim (eqb_tells g.0 v.handler) [
         | inl same ↦ elim (eqb_tells version v.version) [
           | inl one ↦ ((tame same.1).1 one.1, tt)

@@ -1,9 +1,9 @@
 -- What is installed was injected: kept by each event.
-use Rattle.std.proofs.Common.{◌≡◌, ◌<◌, ℕ, zero, suc, ◌+◌, ◌*◌, ◌/◌, ◌%◌, Bool, true, false, not, ◌&&◌, ◌||◌, List, [], ◌∷◌, length, Some, None, refl, sym, ◌∙◌, ap, subst, arith, inl, inr, ◌⊎◌}
+use Rattle.std.proofs.Common.{◌≡◌, ◌<◌, ℕ, zero, suc, ◌+◌, ◌*◌, ◌/◌, ◌%◌, Bool, true, false, not, ◌&&◌, List, [], ◌∷◌, length, Some, None, refl, sym, ◌∙◌, ap, subst, arith, inl, inr, ◌⊎◌}
 use Rattle.std.specs.Prelude.{nat_lt, slice_index_or, ◌==◌, if◌then◌else◌}
 use Rattle.std.specs.Int.{bit_at}
 use Rattle.std.specs.List.{filter_map}
-use Rattle.std.proofs.lemmas.Bool.{ltb-true}
+use Rattle.std.proofs.lemmas.Bool.{ltb-true, and_parts, or_cases}
 use Rattle.std.proofs.lemmas.Bool.Decides.{eqb_tells}
 use Rattle.arrayvec.specs.ArrayVec.{ArrayVec}
 use Rattle.capsule_codec.specs.Fragments.{count_of, piece_at}
@@ -20,26 +20,17 @@ use Rattle.world_rules.specs.State.{Moment}
 
 -- ---- a mark is of a fragment that the held image has
 
-and_two : (a b : Bool) → (a && b) ≡ true → (a ≡ true) × (b ≡ true)
-and_two true true h = (refl, refl)
-and_two true false h = cc
-and_two false b h = cc
-
-or_two : (a b : Bool) → (a || b) ≡ true → (a ≡ true) ⊎ (b ≡ true)
-or_two true b h = inl refl
-or_two false b h = inr h
-
 asked-within : (h i : ℕ) (p : Packet) (hs : List Happening) → asks_of h i p hs ≡ true → nat_lt i (count_of (held_image h hs)) ≡ true
 asked-within h i (Vector versions) hs is = cc
-asked-within h i (Status g version missing) hs is = let both = and_two (g.0 == h && version == held_version h hs) (nat_lt i (count_of (held_image h hs)) && bit_at missing i == 1) is in (and_two (nat_lt i (count_of (held_image h hs))) (bit_at missing i == 1) both.1).0
+asked-within h i (Status g version missing) hs is = let both = and_parts (g.0 == h && version == held_version h hs) (nat_lt i (count_of (held_image h hs)) && bit_at missing i == 1) is in (and_parts (nat_lt i (count_of (held_image h hs))) (bit_at missing i == 1) both.1).0
 asked-within h i (Fragment g version index count large bytes) hs is = cc
 asked-within h i (App payload) hs is = cc
 
 pub marked-within : (h i : ℕ) (hs : List Happening) → is_marked h i hs ≡ true → nat_lt i (count_of (held_image h hs)) ≡ true
 marked-within h i [] is = cc
-marked-within h i (Hears p ∷ hs) is = elim (or_two (asks_of h i p hs) (is_marked h i hs) is) [ inl asked ↦ asked-within h i p hs asked | inr old ↦ marked-within h i hs old ]
-marked-within h i (Sends slot ∷ hs) is = marked-within h i hs (and_two (not (slot == 22 * h + i)) (is_marked h i hs) is).1
-marked-within h i (Installs g version image ∷ hs) is = by (g == h) refl (marked-within h i hs (and_two (not (g == h)) (is_marked h i hs) is).1) is where
+marked-within h i (Hears p ∷ hs) is = elim (or_cases (asks_of h i p hs) (is_marked h i hs) is) [ inl asked ↦ asked-within h i p hs asked | inr old ↦ marked-within h i hs old ]
+marked-within h i (Sends slot ∷ hs) is = marked-within h i hs (and_parts (not (slot == 22 * h + i)) (is_marked h i hs) is).1
+marked-within h i (Installs g version image ∷ hs) is = by (g == h) refl (marked-within h i hs (and_parts (not (g == h)) (is_marked h i hs) is).1) is where
   by : (b : Bool) → (g == h) ≡ b → nat_lt i (count_of (held_image h hs)) ≡ true → (not (g == h) && is_marked h i hs) ≡ true → nat_lt i (count_of (if g == h then image else held_image h hs)) ≡ true
   by true own old marks = let none : (not true && is_marked h i hs) ≡ true = subst (λ (b : Bool). (not b && is_marked h i hs) ≡ true) own marks in cc
   by false other old marks = rw other old
@@ -108,7 +99,7 @@ part-of w ms h version (Fragment g told index count large bytes) part is of = by
   by : (b : Bool) → (g.0 == h && told == version) ≡ b → (if b then Some (record { index = index; count = count; large = large; bytes = bytes }) else None) ≡ Some part → (image : List ℕ) × WasInjected w ms h version image
   by false test given = cc
   by true test given =
-      let both = and_two (g.0 == h) (told == version) test in
+      let both = and_parts (g.0 == h) (told == version) test in
       elim (eqb_tells g.0 h) [
         | inr other ↦ (let clash : true ≡ false = sym both.0 ∙ other.0 in cc)
         | inl own ↦ elim (eqb_tells told version) [

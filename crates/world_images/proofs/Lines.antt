@@ -81,21 +81,23 @@ lines-step w s m old = record {
   kept : (t : ℕ) → Rising (left_due w s m t)
   kept t = rising-filter (is_kept (event_node w m.cause) (effect_at w s m) (is_some_length (begun_length (node_at w s m) (effect_at w s m)))) (if t == m.time then drop 1 (s.due t) else s.due t) (either (t == m.time) t)
 
+-- the line that a cause is of; 0 for others
+abbrev line_of : Cause → ℕ
+line_of (event.Planned line) = line
+line_of (event.Period node h) = 0
+line_of (event.Fire node) = 0
+line_of (event.Expire node) = 0
+line_of (event.Pump node) = 0
+line_of (event.Due node c inv value) = 0
+line_of (event.Deliver link k packet) = 0
+
+same-line : {n i : ℕ} → event.Planned n ≡ event.Planned i → n ≡ i
+same-line same = ap line_of same
+
 -- the lines of a list, numbered from n
 line-at : (n : ℕ) (ls : List PlannedLine) (t i : ℕ) → Among (at t (event.Planned i)) (lines_from n ls) → (k : ℕ) × (i ≡ n + k) × (l : PlannedLine) × (slice_get ls k ≡ Some l) × (l.time ≡ t)
 line-at n [] t i a = absurd a
-line-at n (l ∷ ls) t i (inl e) = (0, (let same : n ≡ i = number_is (ap (λ (x : Scheduled). x.cause) e) in omega (arith, same)), l, refl, ap (λ (x : Scheduled). x.time) e) where
-  number : Cause → ℕ
-  number (event.Planned line) = line
-  number (event.Period node h) = 0
-  number (event.Fire node) = 0
-  number (event.Expire node) = 0
-  number (event.Pump node) = 0
-  number (event.Due node c inv value) = 0
-  number (event.Deliver link k packet) = 0
-
-  number_is : event.Planned n ≡ event.Planned i → n ≡ i
-  number_is same = ap number same
+line-at n (l ∷ ls) t i (inl e) = (0, (let same : n ≡ i = same-line (ap (λ (x : Scheduled). x.cause) e) in omega (arith, same)), l, refl, ap (λ (x : Scheduled). x.time) e)
 line-at n (l ∷ ls) t i (inr a) = let rest = line-at (suc n) ls t i a in (suc rest.0, (let e = rest.1 in omega (arith, e)), rest.2, rest.3, rest.4)
 
 lines-rising : (n : ℕ) (ls : List PlannedLine) (t : ℕ) → Rising (of_time t (lines_from n ls))
@@ -103,18 +105,7 @@ lines-rising n [] t = tt
 lines-rising n (l ∷ ls) t = by (l.time == t) (lines-rising (suc n) ls t) where
   by : (b : Bool) → Rising (of_time t (lines_from (suc n) ls)) → Rising (cons_option (if b then Some (event.Planned n) else None) (of_time t (lines_from (suc n) ls)))
   by false rest = rest
-  by true rest = (λ i j is a. (let found = line-at (suc n) ls t j (among-un_of_time t (event.Planned j) (lines_from (suc n) ls) a) in let same : n ≡ i = number_is is in let e = found.1 in omega (arith, same, e)), rest) where
-    number : Cause → ℕ
-    number (event.Planned line) = line
-    number (event.Period node h) = 0
-    number (event.Fire node) = 0
-    number (event.Expire node) = 0
-    number (event.Pump node) = 0
-    number (event.Due node c inv value) = 0
-    number (event.Deliver link k packet) = 0
-
-    number_is : {i : ℕ} → event.Planned n ≡ event.Planned i → n ≡ i
-    number_is same = ap number same
+  by true rest = (λ i j is a. (let found = line-at (suc n) ls t j (among-un_of_time t (event.Planned j) (lines_from (suc n) ls) a) in let same : n ≡ i = same-line is in let e = found.1 in omega (arith, same, e)), rest)
 
 nodes-no_line : (w : World) (t i : ℕ) → Among (at t (event.Planned i)) (flat_map (first_of w) (range_with_len 0 w.nodes)) → ⊥
 nodes-no_line w t i b =

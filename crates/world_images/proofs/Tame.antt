@@ -1,9 +1,10 @@
 -- Nothing newer than a version is about, and of the version only fragments of its image.
 use Rattle.std.proofs.Common.{◌≡◌, ◌≢◌, ◌≤◌, ℕ, suc, ◌+◌, ◌/◌, Bool, true, false, List, [], ◌∷◌, ◌++◌, map, length, Option, Some, None, refl, sym, ◌∙◌, ap, subst, arith, inl, inr}
-use Rattle.std.specs.Prelude.{nat_lt, slice_index, slice_get, ◌==◌, if◌then◌else◌}
+use Rattle.std.specs.Prelude.{ℤ, nat_lt, slice_index, slice_get, ◌==◌, if◌then◌else◌}
 use Rattle.std.specs.List.{filter, range_with_len}
 use Rattle.std.specs.Option.{option_map_or}
 use Rattle.std.proofs.lemmas.Bool.Decides.{eqb_tells}
+use Rattle.arrayvec.specs.ArrayVec.{ArrayVec}
 use Rattle.mate_num.specs.declared.id.HandlerId.{HandlerId}
 use Rattle.capsule_codec.specs.Fragments.{count_of}
 use Rattle.mate_journal.specs.Machine.{HeldProgram}
@@ -165,20 +166,21 @@ sends-tame w v n (event.Pump node) right old = sends-slot v n.exchange (next_slo
 sends-tame w v n (event.Due node x inv value) right old = none-tame v
 sends-tame w v n (event.Deliver link number packet) right old = sends-packet w v n.exchange packet
 
-message-tame : (w : World) (v : Version) (t : Told) (p : Packet) → message_in w t ≡ Some p → IsTame v p
-message-tame w v (Posted n h c payload) p is = cc
-message-tame w v (Dropped h cause) p is = cc
-message-tame w v (Started n) p is = cc
-message-tame w v (Asked n f args) p is = by (is_send_kind _) is where
-  by : (b : Bool) → (if b then Some (App args) else None) ≡ Some p → IsTame v p
-  by true given = let same : App args ≡ p = cc in subst (λ (x : Packet). IsTame v x) same tt
+-- what an entry sends is a message
+pub message-app : (w : World) (t : Told) (p : Packet) → message_in w t ≡ Some p → (args : ArrayVec ℤ) × (App args ≡ p)
+message-app w (Posted n h c payload) p is = cc
+message-app w (Dropped h cause) p is = cc
+message-app w (Started n) p is = cc
+message-app w (Asked n f args) p is = by (is_send_kind _) is where
+  by : (b : Bool) → (if b then Some (App args) else None) ≡ Some p → (args : ArrayVec ℤ) × (App args ≡ p)
+  by true given = let same : App args ≡ p = cc in (args, same)
   by false given = cc
-message-tame w v (Answered n value) p is = cc
-message-tame w v (Ended n how) p is = cc
-message-tame w v (Installed q) p is = cc
-message-tame w v Reset p is = cc
-message-tame w v (Seen store) p is = cc
-message-tame w v (Void cause) p is = cc
+message-app w (Answered n value) p is = cc
+message-app w (Ended n how) p is = cc
+message-app w (Installed q) p is = cc
+message-app w Reset p is = cc
+message-app w (Seen store) p is = cc
+message-app w (Void cause) p is = cc
 
 pub numbered-among : (y : Sending) (number before : ℕ) (ps : List Packet) → Among y (numbered_sendings number before ps) → Among y.packet ps
 numbered-among y number before [] a = absurd a
@@ -188,7 +190,7 @@ numbered-among y number before (p ∷ ps) (inr a) = inr (numbered-among y (suc n
 packets-tame : (w : World) (v : Version) (s : WorldState) (m : Moment) → IsWorldVersion w v → IsTameNode v (node_at w s m).exchange → EachTame v (packets_of w s m)
 packets-tame w v s m right old p a = elim (among-append p (effect_at w s m).sends (messages w m.told) a) [
   | inl sends ↦ sends-tame w v (node_at w s m) m.cause right old p sends
-  | inr told ↦ let found = among-filter_map (message_in w) p m.told told in message-tame w v found.0 p found.2
+  | inr told ↦ let found = among-filter_map (message_in w) p m.told told in let message = message-app w found.0 p found.2 in subst (λ (x : Packet). IsTame v x) message.1 tt
 ]
 
 -- ---- the world

@@ -8,7 +8,6 @@ use Rattle.std.proofs.lemmas.Bool.Decides.{eqb_tells}
 use Rattle.mate_num.specs.declared.id.HandlerId.{HandlerId}
 use Rattle.arrayvec.specs.ArrayVec.{ArrayVec}
 use Rattle.mate_journal.specs.Machine.{HeldProgram}
-use Rattle.mate_journal.specs.Journal.{Told, Posted, Dropped, Started, Asked, Answered, Ended, Installed, Reset, Seen, Void}
 use Rattle.packet_codec.specs.declared.packet.Packet.{Packet}
 use Rattle.packet_codec.specs.declared.packet.Packet.TheVariants.{Vector, Status, Fragment, App}
 use Rattle.trickle_timer.specs.Intervals as trickle
@@ -20,14 +19,14 @@ use Rattle.world_rules.specs.Cause.{Cause}
 use Rattle.world_rules.specs.Cause as event
 use Rattle.world_rules.specs.World.{World, PlannedLine, Want, Inject, Post, Show, ResetNode, Noise, handlers}
 use Rattle.world_rules.specs.Effect.{Node, Installing, no_effect, node_effect, of_line, of_packet, of_fragment, of_point, of_slot, collected, event_node}
-use Rattle.world_rules.specs.State.{Moment, WorldState, Scheduled, of_interval, messages, message_in, is_send_kind, packets_of, node_at, effect_at, node_after, start_node, lines_from, first_of, world_start, state}
+use Rattle.world_rules.specs.State.{Moment, WorldState, Scheduled, of_interval, messages, message_in, packets_of, node_at, effect_at, node_after, start_node, lines_from, first_of, world_start, state}
 use Rattle.world_rules.specs.Run.{MayCome, HaveCome}
 use Rattle.world_images.specs.Versions.{WasInjected, IsOneImage, InstallsInjected}
 use Rattle.world_laws.proofs.Among.{Among, among-append, among-flat_map, among-un_of_time, apart}
 use Rattle.world_laws.proofs.Due.{at, due-from, kind, Source, period, interval, delivery, pump, answer, source}
 use Rattle.world_laws.proofs.Points.{nodes-here, nodes-other, among-next, among-filter_map, line-kind, period-kind}
 use Rattle.world_laws.proofs.Happens.{Happens, nothing, injected, heard, completed, forgot, sent, happens, Installer, installer}
-use Rattle.world_images.proofs.Tame.{of_interval-none, delivered-packet, numbered-among}
+use Rattle.world_images.proofs.Tame.{message-app, of_interval-none, delivered-packet, numbered-among}
 use Rattle.world_images.proofs.Injected.{IsOfInjected, AreOfInjected, HoldsInjected, later-injected, collected-injected, sent-injected}
 
 -- ---- one node
@@ -224,25 +223,10 @@ effect-sends w ms n (event.Pump k) node = slot-sends w ms n.exchange (next_slot 
 effect-sends w ms n (event.Due k x inv value) node = none-of w ms
 effect-sends w ms n (event.Deliver link number packet) node = packet-sends w ms n.exchange packet
 
-message-of : (w : World) (ms : List Moment) (t : Told) (p : Packet) → message_in w t ≡ Some p → IsOfInjected w ms p
-message-of w ms (Posted n h c payload) p is = cc
-message-of w ms (Dropped h cause) p is = cc
-message-of w ms (Started n) p is = cc
-message-of w ms (Asked n f args) p is = by (is_send_kind _) is where
-  by : (b : Bool) → (if b then Some (App args) else None) ≡ Some p → IsOfInjected w ms p
-  by true given = let same : App args ≡ p = cc in subst (λ (x : Packet). IsOfInjected w ms x) same tt
-  by false given = cc
-message-of w ms (Answered n value) p is = cc
-message-of w ms (Ended n how) p is = cc
-message-of w ms (Installed q) p is = cc
-message-of w ms Reset p is = cc
-message-of w ms (Seen store) p is = cc
-message-of w ms (Void cause) p is = cc
-
 packets-of : (w : World) (ms : List Moment) (s : WorldState) (m : Moment) → IsInjectedNode w ms (node_at w s m).exchange → EachOf w ms (packets_of w s m)
 packets-of w ms s m node p a = elim (among-append p (effect_at w s m).sends (messages w m.told) a) [
   | inl sends ↦ effect-sends w ms (node_at w s m) m.cause node p sends
-  | inr told ↦ let found = among-filter_map (message_in w) p m.told told in message-of w ms found.0 p found.2
+  | inr told ↦ let found = among-filter_map (message_in w) p m.told told in let message = message-app w found.0 p found.2 in subst (λ (x : Packet). IsOfInjected w ms x) message.1 tt
 ]
 
 new-of : (w : World) (ms : List Moment) (s : WorldState) (m : Moment) (t j number : ℕ) (p : Packet) → IsInjectedNode w ms (node_at w s m).exchange → Source w s m (at t (event.Deliver j number p)) → IsOfInjected w ms p

@@ -1,8 +1,9 @@
 -- What stands in a list.
-use Rattle.std.proofs.Common.{◌≡◌, ℕ, Bool, true, false, List, [], ◌∷◌, ◌++◌, drop, refl, sym, ◌∙◌, ap, inl, inr, ◌⊎◌}
-use Rattle.std.specs.Prelude.{cond, ◌==◌}
+use Rattle.std.proofs.Common.{◌≡◌, ℕ, Bool, true, false, List, [], ◌∷◌, ◌++◌, drop, refl, sym, ◌∙◌, ap, subst, inl, inr, ◌⊎◌}
+use Rattle.std.specs.Prelude.{cond, ◌==◌, Some, All, slice_get}
 use Rattle.std.specs.List.{filter, flat_map}
 use Rattle.std.proofs.lemmas.Bool.Decides.{eqb_tells}
+use Rattle.std.proofs.lemmas.Option.{get_or_from_slice_get, slice_get_within}
 use Rattle.world_rules.specs.Cause.{Cause}
 use Rattle.world_rules.specs.State.{Scheduled, of_time}
 
@@ -90,6 +91,10 @@ among-un_of_time t c (x ∷ xs) h = elim (eqb_tells x.time t) [
   here : (Among c (of_time t xs) → Among (at t c) xs) → x.time ≡ t → (x.cause ≡ c) ⊎ Among c (of_time t xs) → (x ≡ at t c) ⊎ Among (at t c) xs
   here rest is (inl e) = inl (λ k. record { time = is k; cause = e k })
   here rest is (inr a) = inr (rest a)
+
+-- what holds of each holds of the one at a place
+pub all-at : {X : Type 0} (P : X → Type 0) (xs : List X) (i : ℕ) (x : X) → All P xs → slice_get xs i ≡ Some x → P x
+all-at P xs i x all is = subst P (get_or_from_slice_get xs i x x is) (all i x (slice_get_within xs i x is))
 
 -- two numbers that differ
 pub apart : (a b : ℕ) → (a == b) ≡ false → a ≡ b → ⊥

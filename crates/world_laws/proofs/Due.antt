@@ -57,7 +57,48 @@ due-from w s m t c h = elim (among-append c (left_due w s m t) (of_time t (sched
 pub due-new : (w : World) (s : WorldState) (m : Moment) (t : ℕ) (c : Cause) → Among (at t c) (schedules w s m) → Among c ((after_moment w s m).due t)
 due-new w s m t c h = among-right c (left_due w s m t) (of_time t (schedules w s m)) (among-of_time t c (schedules w s m) h)
 
--- ---- what is scheduled
+-- ---- what is scheduled, in five parts
+
+abbrev pub period_part : World → Moment → List Scheduled
+period_part w m = next_period w m.cause m.time
+
+abbrev pub interval_part : World → WorldState → Moment → List Scheduled
+interval_part w s m = new_interval (event_node w m.cause) (begun_length (node_at w s m) (effect_at w s m)) (node_after w (node_at w s m) m).timer
+
+abbrev pub delivery_part : World → WorldState → Moment → List Scheduled
+delivery_part w s m = flat_map (deliveries w (event_node w m.cause) m.time) (sendings w s (event_node w m.cause) (packets_of w s m))
+
+-- whether a pump is scheduled
+abbrev pub pumps_anew : World → WorldState → Moment → Bool
+pumps_anew w s m = not (still_pumps m.cause (effect_at w s m) (node_at w s m)) && is_owing w (node_after w (node_at w s m) m).exchange
+
+abbrev pub pump_part : World → WorldState → Moment → List Scheduled
+pump_part w s m = new_pump w (event_node w m.cause) m.time (pumps_anew w s m)
+
+abbrev pub answer_part : World → WorldState → Moment → List Scheduled
+answer_part w s m = answers_due w (event_node w m.cause) m.time (node_after w (node_at w s m) m).reading (node_at w s m).called m.told
+
+-- the part that it stands in
+pub data InPart (w : World) (s : WorldState) (m : Moment) (x : Scheduled) : Type 0 where
+  in_period : Among x (period_part w m) → InPart w s m x
+  in_interval : Among x (interval_part w s m) → InPart w s m x
+  in_delivery : Among x (delivery_part w s m) → InPart w s m x
+  in_pump : Among x (pump_part w s m) → InPart w s m x
+  in_answer : Among x (answer_part w s m) → InPart w s m x
+
+pub parted : (w : World) (s : WorldState) (m : Moment) (x : Scheduled) → Among x (schedules w s m) → InPart w s m x
+parted w s m x h = elim (among-append x (period_part w m) (interval_part w s m ++ (delivery_part w s m ++ (pump_part w s m ++ answer_part w s m))) h) [
+  | inl a ↦ in_period a
+  | inr h1 ↦ elim (among-append x (interval_part w s m) (delivery_part w s m ++ (pump_part w s m ++ answer_part w s m)) h1) [
+    | inl b ↦ in_interval b
+    | inr h2 ↦ elim (among-append x (delivery_part w s m) (pump_part w s m ++ answer_part w s m) h2) [
+      | inl c ↦ in_delivery c
+      | inr h3 ↦ elim (among-append x (pump_part w s m) (answer_part w s m) h3) [ inl d ↦ in_pump d | inr e ↦ in_answer e ]
+    ]
+  ]
+]
+
+-- ---- where what is scheduled comes from
 
 -- which kind of event it is
 abbrev pub kind : Cause → ℕ
@@ -179,33 +220,13 @@ answer_source : (w : World) (s : WorldState) (m : Moment) (x : Scheduled) → An
 answer_source w s m x a = answer (ap (λ (y : Scheduled). kind y.cause) a.is) (omega (arith, ap (λ (y : Scheduled). y.time) a.is)) a
 
 pub source : (w : World) (s : WorldState) (m : Moment) (x : Scheduled) → Among x (schedules w s m) → Source w s m x
-source w s m x h = elim (among-append x A (B ++ (C ++ (D ++ E))) h) [
-  | inl a ↦ period_source w s m x m.cause a
-  | inr h1 ↦ elim (among-append x B (C ++ (D ++ E)) h1) [
-    | inl b ↦ interval_source w s m x (begun_length (node_at w s m) (effect_at w s m)) refl b
-    | inr h2 ↦ elim (among-append x C (D ++ E) h2) [
-      | inl c ↦ delivery_source w s m x c
-      | inr h3 ↦ elim (among-append x D E h3) [
-        | inl d ↦ pump_source w s m x (not (still_pumps m.cause (effect_at w s m) (node_at w s m)) && is_owing w (node_after w (node_at w s m) m).exchange) d
-        | inr e ↦ answer_source w s m x (answer-of w (event_node w m.cause) m.time (node_after w (node_at w s m) m).reading (node_at w s m).called m.told x e)
-      ]
-    ]
-  ]
-] where
-  A : List Scheduled
-  A = next_period w m.cause m.time
-
-  B : List Scheduled
-  B = new_interval (event_node w m.cause) (begun_length (node_at w s m) (effect_at w s m)) (node_after w (node_at w s m) m).timer
-
-  C : List Scheduled
-  C = flat_map (deliveries w (event_node w m.cause) m.time) (sendings w s (event_node w m.cause) (packets_of w s m))
-
-  D : List Scheduled
-  D = new_pump w (event_node w m.cause) m.time (not (still_pumps m.cause (effect_at w s m) (node_at w s m)) && is_owing w (node_after w (node_at w s m) m).exchange)
-
-  E : List Scheduled
-  E = answers_due w (event_node w m.cause) m.time (node_after w (node_at w s m) m).reading (node_at w s m).called m.told
+source w s m x h = by (parted w s m x h) where
+  by : InPart w s m x → Source w s m x
+  by (in_period a) = period_source w s m x m.cause a
+  by (in_interval a) = interval_source w s m x (begun_length (node_at w s m) (effect_at w s m)) refl a
+  by (in_delivery a) = delivery_source w s m x a
+  by (in_pump a) = pump_source w s m x (pumps_anew w s m) a
+  by (in_answer a) = answer_source w s m x (answer-of w (event_node w m.cause) m.time (node_after w (node_at w s m) m).reading (node_at w s m).called m.told x a)
 
 -- the point and the end of a new interval are scheduled
 pub begun-scheduled : (w : World) (s : WorldState) (m : Moment) (l : ℕ) (x : Scheduled) → begun_length (node_at w s m) (effect_at w s m) ≡ Some l

@@ -12,17 +12,13 @@ use Rattle.world_rules.specs.Run.{HaveCome, IsDone}
 use Rattle.world_laws.specs.Causes.{HasEvent, PeriodsCome}
 use Rattle.world_laws.proofs.Among.{Among, among-left, among-right, among-of_time, none-among}
 use Rattle.world_laws.proofs.Due.{at, due-new}
+use Rattle.world_laws.proofs.Points.{among-map_of}
 use Rattle.world_laws.proofs.Comes.{come-along}
 
 abbrev period_event : ℕ → ℕ → Cause
 period_event node h = event.Period node (handler_id h)
 
 -- ---- what is scheduled
-
-among-in_flat_map : {X Y : Type 0} (f : X → List Y) (y : Y) (x : X) (xs : List X) → Among x xs → Among y (f x) → Among y (flat_map f xs)
-among-in_flat_map f y x [] h g = absurd h
-among-in_flat_map f y x (z ∷ zs) (inl e) g = among-left y (f z) (flat_map f zs) (subst (λ v. Among y (f v)) (sym e) g)
-among-in_flat_map f y x (z ∷ zs) (inr h) g = among-right y (f z) (flat_map f zs) (among-in_flat_map f y x zs h g)
 
 among-in_filter_map : {X Y : Type 0} (f : X → Option Y) (y : Y) (x : X) (xs : List X) → Among x xs → f x ≡ Some y → Among y (filter_map f xs)
 among-in_filter_map f y x [] h is = absurd h
@@ -46,7 +42,7 @@ first-due : (w : World) (node h period : ℕ) → node < w.nodes → h < handler
 first-due w node h period small below is =
     among-of_time period c (lines_from 0 w.plan ++ flat_map (first_of w) (range_with_len 0 w.nodes))
     (among-right (at period c) (lines_from 0 w.plan) (flat_map (first_of w) (range_with_len 0 w.nodes))
-    (among-in_flat_map (first_of w) (at period c) node (range_with_len 0 w.nodes) (among-all node w.nodes small)
+    (among-map_of (first_of w) (at period c) node (range_with_len 0 w.nodes) (among-all node w.nodes small)
     (among-right (at period c) (of_interval node (start_node w node).timer) _
     (among-in_filter_map (λ (g : ℕ). option_map_or (λ (p : ℕ). Some (at p (event.Period node (handler_id g)))) (period_of w g) None) (at period c) h (range_with_len 0 (handlers w)) (among-all h (handlers w) below)
     (ap (λ (o : Option ℕ). option_map_or (λ (p : ℕ). Some (at p c)) o None) is))))) where

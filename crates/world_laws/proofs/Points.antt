@@ -64,7 +64,7 @@ point-of i t = inl refl
 pub end-of : (i : ℕ) (t : Timer) → Among (at (t.running.begin + t.running.length) (event.Expire i)) (of_interval i t)
 end-of i t = inr (inl refl)
 
-cause_is : (x y : Scheduled) → x ≡ y → x.cause ≡ y.cause
+pub cause_is : (x y : Scheduled) → x ≡ y → x.cause ≡ y.cause
 cause_is x y e = ap (λ (z : Scheduled). z.cause) e
 
 time_is : (x y : Scheduled) → x ≡ y → x.time ≡ y.time
@@ -128,6 +128,11 @@ past-step w s m next = record {
     | inr new ↦ let ahead : m.time ≤ t = source-ahead w s m (at t c) (source w s m (at t c) new) in absurd (omega arith)
   ]);
 }
+
+-- what is due is not before the last event
+pub run-past : (w : World) (ms : List Moment) → HaveCome w ms → IsPast (state w ms) (last_time ms)
+run-past w [] come = record { none = λ t before. absurd (omega (arith, before)) }
+run-past w (m ∷ before) come = past-step w (state w before) m come.1.next
 
 -- what schedules the end of an interval is that one began
 expire-source : (w : World) (s : WorldState) (m : Moment) (i t : ℕ) → Source w s m (at t (event.Expire i))

@@ -4,7 +4,7 @@ use Rattle.std.specs.Prelude.{Option, Some, None, ◌==◌, if◌then◌else◌,
 use Rattle.std.specs.List.{find, list_any, range_with_len}
 use Rattle.std.specs.Option.{option_or}
 use Rattle.std.proofs.lemmas.Bool.Decides.{eqb_tells}
-use Rattle.std.proofs.lemmas.Bool.{cases_lt}
+use Rattle.std.proofs.lemmas.Bool.{cases_lt, and_parts, or_right}
 use Rattle.mate_journal.specs.Machine.{HeldProgram}
 use Rattle.capsule_exchange.specs.Happenings.{Happening, Hears, Sends, Installs, asks_of, is_marked_slot, last_sent, next_place, slots_from, next_slot}
 use Rattle.world_rules.specs.Cause.{Cause}
@@ -153,19 +153,10 @@ pub record IsPumped (w : World) (s : WorldState) (last i : ℕ) : Type 0 where
   pub owing : is_owing w (s.nodes i).exchange ≡ true → (s.nodes i).pumps ≡ true
   pub due : (s.nodes i).pumps ≡ true → Pumping w s last i
 
-and_both : (a b : Bool) → (a && b) ≡ true → (a ≡ true) × (b ≡ true)
-and_both true true h = (refl, refl)
-and_both true false h = cc
-and_both false b h = cc
-
 nor_both : (a b : Bool) → not (a || b) ≡ true → (a ≡ false) × (b ≡ false)
 nor_both true b h = cc
 nor_both false true h = cc
 nor_both false false h = (refl, refl)
-
-or_right : (a b : Bool) → b ≡ true → (a || b) ≡ true
-or_right true b h = refl
-or_right false b h = h
 
 -- a pump outlasts what doesn't reset its node
 pump-outlasts : (w : World) (s : WorldState) (m : Moment) (i : ℕ) → (event_node w m.cause ≡ i → resets (effect_at w s m).deed ≡ false) → Outlasts w s m (event.Pump i)
@@ -217,7 +208,7 @@ pumped-step w s m last i may later pumped = elim (eqb_tells i (event_node w m.ca
   } where
     by : (b : Bool) → still_pumps m.cause (effect_at w s m) (node_at w s m) ≡ b → (b || is_owing w (node_after w (node_at w s m) m).exchange) ≡ true → Pumping w (after_moment w s m) m.time (event_node w m.cause)
     by true still is =
-        let both = and_both (node_at w s m).pumps _ still in
+        let both = and_parts (node_at w s m).pumps _ still in
         let rest = nor_both (is_pump m.cause) (resets (effect_at w s m).deed) both.1 in
         pumping-stays w s m last (event_node w m.cause) may later (λ cause. let clash : true ≡ false = sym (ap is_pump cause) ∙ rest.0 in cc) (λ same. rest.1) (its.due both.0)
     by false still owes = record {

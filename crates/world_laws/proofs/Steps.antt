@@ -28,10 +28,11 @@ heard-append m r [] fs = refl
 heard-append m r (e ∷ es) fs = heard-append m (heard m r e.told) es fs
 
 -- the journal of a node of which the event isn't
-journal-other : (w : World) (k : ℕ) (m : Moment) (before : List Moment) → k ≢ event_node w m.cause → journal w k (m ∷ before) ≡ journal w k before
+pub journal-other : (w : World) (k : ℕ) (m : Moment) (before : List Moment) → k ≢ event_node w m.cause → journal w k (m ∷ before) ≡ journal w k before
 journal-other w k m before other = elim (eqb_tells k (event_node w m.cause)) [ inl same ↦ absurd (other same.1) | inr apart ↦ rw apart.0 (append-nil (journal w k before)) ]
 
-journal-here : (w : World) (m : Moment) (before : List Moment) → journal w (event_node w m.cause) (m ∷ before) ≡ journal w (event_node w m.cause) before ++ map (λ (t : Told). record { stamp = stamp_of m before; told = t }) m.told
+-- the journal of its own node
+pub journal-here : (w : World) (m : Moment) (before : List Moment) → journal w (event_node w m.cause) (m ∷ before) ≡ journal w (event_node w m.cause) before ++ map (λ (t : Told). record { stamp = stamp_of m before; told = t }) m.told
 journal-here w m before = elim (eqb_tells (event_node w m.cause) (event_node w m.cause)) [ inl same ↦ rw same.0 refl | inr other ↦ absurd (other.1 refl) ]
 
 pub reads_journals : (w : World) → ReadsJournals w

@@ -1,7 +1,8 @@
 -- Lists that grow at their end.
-use Rattle.std.proofs.Common.{◌≡◌, ℕ, zero, suc, ◌+◌, ◌<◌, ◌≤◌, List, [], ◌∷◌, ◌++◌, length, map, replicate, refl, sym, ◌∙◌, ap, add-one, arith}
+use Rattle.std.proofs.Common.{◌≡◌, ℕ, zero, suc, ◌+◌, ◌<◌, ◌≤◌, List, [], ◌∷◌, ◌++◌, map, replicate, refl, sym, ◌∙◌, ap, add-one, arith}
 use Rattle.std.specs.List.{All, AllPairs, range_with_len}
 use Rattle.std.proofs.lemmas.List.{map_push, append_assoc}
+use Rattle.std.proofs.lemmas.List.Elements.{All-nil, All-cons, All-tail}
 use Rattle.std.proofs.lemmas.List.Kept.{AllPairs-cons}
 
 range_push : (a n : ℕ) → range_with_len a (suc n) ≡ range_with_len a n ++ (a + n) ∷ []
@@ -30,13 +31,6 @@ replicate_push before n x = ap (λ k. before ++ replicate k x) (add-one n) ∙ a
 
 -- ---- what holds of each item, and of each two
 
-pub one_more : {X : Type 0} (P : X → Type 0) (x : X) (xs : List X) → P x → All P xs → All P (x ∷ xs)
-one_more P x xs p all zero d h = p
-one_more P x xs p all (suc i) d h = all i d (omega arith)
-
-pub all_tail : {X : Type 0} (P : X → Type 0) (x : X) (xs : List X) → All P (x ∷ xs) → All P xs
-all_tail P x xs all = λ i d h. all (suc i) d (omega arith)
-
 pub pairs_tail : {X : Type 0} (R : X → X → Type 0) (x : X) (xs : List X) → AllPairs R (x ∷ xs) → AllPairs R xs
 pairs_tail R x xs pairs = λ i j d h k. pairs (suc i) (suc j) d (omega arith) (omega arith)
 
@@ -46,13 +40,10 @@ pairs_head R x xs pairs = λ i d h. pairs 0 (suc i) d (omega arith) (omega arith
 pub no_pairs : {X : Type 0} (R : X → X → Type 0) → AllPairs R []
 no_pairs R = λ i j d h k. absurd (omega arith)
 
-pub none_of : {X : Type 0} (P : X → Type 0) → All P []
-none_of P = λ i d h. absurd (omega arith)
-
 pub all_made : {X : Type 0} (P : X → Type 0) (f : ℕ → X) (a n : ℕ) → ((i : ℕ) → a ≤ i → i < a + n → P (f i)) → All P (map f (range_with_len a n))
-all_made P f a zero each = none_of P
+all_made P f a zero each = All-nil P
 all_made P f a (suc n) each =
-    one_more P (f a) (map f (range_with_len (a + 1) n)) (each a (omega arith) (omega arith)) (all_made P f (a + 1) n (λ i low high. each i (omega arith) (omega arith)))
+    All-cons P (f a) (map f (range_with_len (a + 1) n)) (each a (omega arith) (omega arith)) (all_made P f (a + 1) n (λ i low high. each i (omega arith) (omega arith)))
 
 pub pairs_made : {X : Type 0} (R : X → X → Type 0) (f : ℕ → X) (a n : ℕ) → ((i j : ℕ) → a ≤ i → i < j → j < a + n → R (f i) (f j)) → AllPairs R (map f (range_with_len a n))
 pairs_made R f a zero each = no_pairs R
@@ -65,10 +56,10 @@ all_front P x xs all = all 0 x (omega arith)
 
 append_all : {X : Type 0} (P : X → Type 0) (xs ys : List X) → All P xs → All P ys → All P (xs ++ ys)
 append_all P [] ys front back = back
-append_all P (x ∷ xs) ys front back = one_more P x (xs ++ ys) (all_front P x xs front) (append_all P xs ys (all_tail P x xs front) back)
+append_all P (x ∷ xs) ys front back = All-cons P x (xs ++ ys) (all_front P x xs front) (append_all P xs ys (All-tail P x xs front) back)
 
 pub pairs_append : {X : Type 0} (R : X → X → Type 0) (xs ys : List X) → AllPairs R xs → AllPairs R ys → All (λ x. All (R x) ys) xs → AllPairs R (xs ++ ys)
 pairs_append R [] ys front back across = back
 pairs_append R (x ∷ xs) ys front back across =
     AllPairs-cons R x (xs ++ ys) (append_all (R x) xs ys (pairs_head R x xs front) (all_front (λ x. All (R x) ys) x xs across))
-    (pairs_append R xs ys (pairs_tail R x xs front) back (all_tail (λ x. All (R x) ys) x xs across))
+    (pairs_append R xs ys (pairs_tail R x xs front) back (All-tail (λ x. All (R x) ys) x xs across))

@@ -1,9 +1,9 @@
 -- A made world is right for its machine.
-use Rattle.std.proofs.Common.{◌≡◌, ℕ, zero, suc, ◌+◌, ◌-◌, ◌*◌, ◌%◌, ◌<◌, ◌≤◌, true, List, [], ◌∷◌, ◌++◌, length, map, replicate, get_or, refl, sym, ◌∙◌, ap, subst, arith, length-append, append_assoc}
+use Rattle.std.proofs.Common.{◌≡◌, ℕ, zero, suc, ◌+◌, ◌-◌, ◌*◌, ◌<◌, ◌≤◌, true, List, [], ◌∷◌, ◌++◌, length, map, replicate, refl, sym, ◌∙◌, ap, subst, arith, length-append, append_assoc}
 use Rattle.std.specs.List.{All, AllPairs, range_with_len}
 use Rattle.std.proofs.lemmas.List.{length-replicate}
 use Rattle.std.proofs.lemmas.List.FromFn.{length-map-range_with_len}
-use Rattle.std.proofs.lemmas.List.Elements.{All-append, All-push}
+use Rattle.std.proofs.lemmas.List.Elements.{All-nil, All-append, All-push}
 use Rattle.std.proofs.lemmas.List.Quantifiers.{all_pairs_push}
 use Rattle.mate_num.specs.declared.id.HandlerId.{HandlerId}
 use Rattle.vm_desc.specs.declared.description.Description.{Description}
@@ -15,7 +15,7 @@ use Rattle.script_reader.specs.declared.world.Series.{Series}
 use Rattle.script_reader.specs.declared.world.Planned.{Planned}
 use Rattle.script_reader.specs.World.{IsRightLink, AreOtherLinks, AreOtherSeries, IsRightPlanned, Follow, IsRightWorld}
 use Rattle.world_maker.specs.Made.{both_ways, chain, ring, first_injection, second_injection, posting, unsorted, node_count, plan_of, made_world}
-use Rattle.world_maker.proofs.ListLemmas.{none_of, no_pairs, all_made, pairs_made, pairs_append}
+use Rattle.world_maker.proofs.ListLemmas.{no_pairs, all_made, pairs_made, pairs_append}
 use Rattle.world_maker.proofs.SortLemmas.{all_sorted, length-sorted, Apart, follows_sorted}
 
 -- ---- links
@@ -45,7 +45,7 @@ two_more nodes a b loss links a_high b_high apart loss_high each pairs there bac
     )
 
 chained : (nodes n : ℕ) → n < nodes → IsChainTo nodes n (chain n)
-chained nodes zero small = record { each = none_of _; pairs = no_pairs AreOtherLinks; near = none_of _; low = none_of _ }
+chained nodes zero small = record { each = All-nil _; pairs = no_pairs AreOtherLinks; near = All-nil _; low = All-nil _ }
 chained nodes (suc n) small =
     let old : IsChainTo nodes n (chain n) = chained nodes n (omega arith) in
     let more = two_more nodes n (suc n) 50 (chain n) (omega arith) small (λ e. absurd (omega arith)) (omega arith) old.each old.pairs
@@ -171,7 +171,7 @@ right_world d number =
       until_high = omega arith;
       links = links.0;
       one_link = links.1;
-      series = none_of _;
+      series = All-nil _;
       one_series = no_pairs AreOtherSeries;
       events = subst P (sym files) plan.each;
       in_order = plan.in_order;

@@ -1,12 +1,12 @@
 -- What a line adds keeps a world right.
-use Rattle.std.proofs.Common.{◌≡◌, ℕ, zero, suc, ◌+◌, ◌<◌, ◌≤◌, ℤ, Bool, true, false, ◌==◌, ◌&&◌, ◌||◌, not, cond, List, [], ◌∷◌, ◌++◌, length, get_or, slice_get, slice_set, Option, Some, None, IfOk, refl, sym, ◌∙◌, ap, subst, inl, inr, arith, append_assoc, length-append, get_or-set_same, get_or-set_other}
+use Rattle.std.proofs.Common.{◌≡◌, ℕ, suc, ◌+◌, ◌<◌, ◌≤◌, ℤ, Bool, true, false, ◌==◌, ◌&&◌, ◌||◌, not, cond, List, [], ◌∷◌, ◌++◌, length, get_or, slice_get, slice_set, Option, Some, None, IfOk, refl, sym, ◌∙◌, ap, subst, inl, inr, arith, append_assoc, length-append, get_or-set_same, get_or-set_other}
 use Rattle.std.specs.List.{All, AllPairs}
 use Rattle.std.proofs.lemmas.Bool.Decides.{eqb_tells, nat_tests}
 use Rattle.std.proofs.lemmas.Bool.{and_parts}
 use Rattle.std.proofs.lemmas.List.{length-set}
 use Rattle.std.proofs.lemmas.Option.{slice_get_within}
 use Rattle.std.specs.Option.{IsSomeAnd}
-use Rattle.std.proofs.lemmas.List.Elements.{All-push}
+use Rattle.std.proofs.lemmas.List.Elements.{All-cons, All-tail, All-push}
 use Rattle.std.proofs.lemmas.List.Kept.{AllPairs-cons}
 use Rattle.std.proofs.lemmas.List.Quantifiers.{all_pairs_push}
 use Rattle.mate_num.specs.declared.id.HandlerId.{HandlerId}
@@ -24,22 +24,16 @@ use Rattle.script_reader.specs.NodeScript.{with_file}
 use Rattle.script_reader.specs.NodeReader.{files_after}
 use Rattle.script_reader.specs.Script.{Answers}
 use Rattle.script_reader.proofs.StepLemmas.{length-with_file, files_grow}
-use Rattle.world_reader.specs.declared.stage.Stage.{Stage}
-use Rattle.world_reader.specs.declared.stage.Stage.TheVariants as stage
-use Rattle.world_reader.specs.WorldScript.{WorldSaid, SaysNodes, SaysRandom, SaysUntil, SaysSuppress, SaysLink, SaysSeries, SaysPlanned, WorldProgress, is_linked, is_free, turned_back, links_of, is_of_pair, with_series, newest_with, with_told, no_world, world_at_end}
-use Rattle.world_reader.specs.WorldReader.{HasNoLists, IsBare, IsNotedAt, KeepsWorld, IsRightEvent, IsRightTold, HasPlace}
+use Rattle.world_lines.specs.declared.stage.Stage.{Stage}
+use Rattle.world_lines.specs.declared.stage.Stage.TheVariants as stage
+use Rattle.world_lines.specs.WorldLines.{WorldSaid, SaysNodes, SaysRandom, SaysUntil, SaysSuppress, SaysLink, SaysSeries, SaysPlanned, WorldProgress, is_linked, is_free}
+use Rattle.world_lines.specs.Draft.{is_of_pair, HasNoLists, IsBare, IsNotedAt, KeepsWorld, IsRightEvent, IsRightWorldSaid}
+use Rattle.world_reader.specs.WorldScript.{turned_back, links_of, with_series, newest_with, with_told, no_world, world_at_end, HasPlace}
 
 -- ---- lists
 
 none_in : {X : Type 0} (P : X → Type 0) (xs : List X) → xs ≡ [] → All P xs
 none_in P xs none = λ i d h. absurd (omega (arith, ap length none))
-
-one_more : {X : Type 0} (P : X → Type 0) (x : X) (xs : List X) → P x → All P xs → All P (x ∷ xs)
-one_more P x xs p all zero d h = p
-one_more P x xs p all (suc i) d h = all i d (omega arith)
-
-all_tail : {X : Type 0} (P : X → Type 0) (x : X) (xs : List X) → All P (x ∷ xs) → All P xs
-all_tail P x xs all = λ i d h. all (suc i) d (omega arith)
 
 pairs_tail : {X : Type 0} (R : X → X → Type 0) (x : X) (xs : List X) → AllPairs R (x ∷ xs) → AllPairs R xs
 pairs_tail R x xs pairs = λ i j d h k. pairs (suc i) (suc j) d (omega arith) (omega arith)
@@ -56,7 +50,7 @@ others_of from to (k ∷ links) none = by ((k.from == from) && (k.to == to)) ref
     by : (b : Bool) → ((k.from == from) && (k.to == to)) ≡ b → (b || is_linked from to links) ≡ false → (is_linked from to links ≡ false → All (λ k. k.from ≡ from → k.to ≡ to → ⊥) links)
         → All (λ k. k.from ≡ from → k.to ≡ to → ⊥) (k ∷ links)
     by true e none rest = absurd cc
-    by false e none rest = one_more (λ k. k.from ≡ from → k.to ≡ to → ⊥) k links (λ f t. absurd (grind (arith, nat_tests))) (rest none)
+    by false e none rest = All-cons (λ k. k.from ≡ from → k.to ≡ to → ⊥) k links (λ f t. absurd (grind (arith, nat_tests))) (rest none)
 
 not_true : (b : Bool) → not b ≡ true → b ≡ false
 not_true true e = absurd cc
@@ -110,12 +104,12 @@ more_links nodes links l true old right free =
 
 -- what holds of every series and of a new one, whatever values it has, holds with it
 all_with : (Q : Series → Type 0) (s : Series) (series : List Series) → ((r : Series) (more : List ℤ) → Q r → Q (record r { values = r.values ++ more })) → All Q series → Q s → All Q (with_series s series)
-all_with Q s [] more all new = one_more Q s [] new all
-all_with Q s (r ∷ series) more all new = by (is_of_pair s.node s.fun.0 r) (all_with Q s series more (all_tail Q r series all) new)
+all_with Q s [] more all new = All-cons Q s [] new all
+all_with Q s (r ∷ series) more all new = by (is_of_pair s.node s.fun.0 r) (all_with Q s series more (All-tail Q r series all) new)
   where
     by : (b : Bool) → All Q (with_series s series) → All Q (cond b (record r { values = r.values ++ s.values } ∷ series) (r ∷ with_series s series))
-    by true rest = one_more Q (record r { values = r.values ++ s.values }) series (more r s.values (all 0 r (omega arith))) (all_tail Q r series all)
-    by false rest = one_more Q r (with_series s series) (all 0 r (omega arith)) rest
+    by true rest = All-cons Q (record r { values = r.values ++ s.values }) series (more r s.values (all 0 r (omega arith))) (All-tail Q r series all)
+    by false rest = All-cons Q r (with_series s series) (all 0 r (omega arith)) rest
 
 other_pair : (s r : Series) → is_of_pair s.node s.fun.0 r ≡ false → AreOtherSeries r s
 other_pair s r other node fun = absurd (let f : r.fun.0 ≡ s.fun.0 = ap (λ x. x.0) fun in grind (arith, nat_tests))
@@ -238,7 +232,7 @@ bare_at p s e b = let P : Stage → Type 0 = λ s. IsBare s p.world in subst P e
 settled : (p : WorldProgress) (w : World) → p.stage ≡ stage.Settings → IsBare p.stage w
 settled p w e = let P : Stage → Type 0 = λ s. IsBare s w in subst P (sym e) tt
 
-pub keeps_told : (d : Description) (p : WorldProgress) (said : WorldSaid) → KeepsWorld d p → IsRightTold d p said → KeepsWorld d (with_told p said)
+pub keeps_told : (d : Description) (p : WorldProgress) (said : WorldSaid) → KeepsWorld d p → IsRightWorldSaid d p said → KeepsWorld d (with_told p said)
 keeps_told d p (SaysNodes nodes) k r =
     let bare : HasNoLists p.world = bare_at p stage.Nodes r.2 k.bare in
     record {
@@ -399,7 +393,7 @@ within xs i P None e h = absurd h
 within xs i P (Some x) e h = slice_get_within xs i x e
 
 -- the tables have a place for what a right line says
-pub has_place : (d : Description) (p : WorldProgress) (said : WorldSaid) → KeepsWorld d p → IsRightTold d p said → HasPlace p said
+pub has_place : (d : Description) (p : WorldProgress) (said : WorldSaid) → KeepsWorld d p → IsRightWorldSaid d p said → HasPlace p said
 has_place d p (SaysNodes nodes) k r = tt
 has_place d p (SaysRandom random) k r = tt
 has_place d p (SaysUntil until) k r = tt

@@ -1,4 +1,3 @@
-pub mod ValueLemmas
 pub mod SeriesLemmas
 pub mod KeepsLemmas
 pub mod LineEnd

@@ -7,8 +7,9 @@ use Rattle.script_reader.specs.Lines.{lines, words_of, is_skipped}
 use Rattle.script_reader.specs.Script.{Follows}
 use Rattle.script_reader.proofs.LineLemmas.{IsAt, goes_on}
 use Rattle.script_reader.proofs.StepLemmas.{length-with_file, few_files}
-use Rattle.world_reader.specs.WorldScript.{WorldSaid, SaysNodes, SaysRandom, SaysUntil, SaysSuppress, SaysLink, SaysSeries, SaysPlanned, WorldProgress, a_world_line, with_told, when_told, after_world_line, no_world, world_at_end, world_script_in}
-use Rattle.world_reader.specs.WorldReader.{KeepsWorld, IsRightTold}
+use Rattle.world_lines.specs.WorldLines.{WorldSaid, SaysNodes, SaysRandom, SaysUntil, SaysSuppress, SaysLink, SaysSeries, SaysPlanned, WorldProgress, a_world_line}
+use Rattle.world_reader.specs.WorldScript.{with_told, when_told, after_world_line, no_world, world_at_end, world_script_in}
+use Rattle.world_lines.specs.Draft.{KeepsWorld, IsRightWorldSaid}
 use Rattle.world_reader.proofs.KeepsLemmas.{keeps_told, keeps_no_world}
 
 -- what was planned and named before a line with a number
@@ -35,7 +36,7 @@ pub record IsWorldLineEnd (d : Description) (n : ℕ) (old new : WorldProgress) 
   pub keeps : OnOk r (KeepsWorld d new)
 
 pub line_told : (d : Description) (n : ℕ) (old new : WorldProgress) (words rest : List (List ℕ)) (said : WorldSaid) (r : Result (Unit {0}) ScriptFault) → IsBefore n old → KeepsWorld d old
-    → is_skipped words ≡ false → a_world_line d old words ≡ Ok (record { value = said; rest = rest }) → IsRightTold d old said → OnOk r (new ≡ with_told old said) → IfErr r (λ fault. fault ≡ NoMemory)
+    → is_skipped words ≡ false → a_world_line d old words ≡ Ok (record { value = said; rest = rest }) → IsRightWorldSaid d old said → OnOk r (new ≡ with_told old said) → IfErr r (λ fault. fault ≡ NoMemory)
     → IsWorldLineEnd d n old new words r
 unfolding after_world_line
 line_told d n old new words rest said (Ok u) before k skip read right adds refused =

@@ -7,8 +7,9 @@ use Rattle.std.proofs.Math.Seq.{take-suc}
 use Rattle.script_reader.specs.declared.world.World.{World}
 use Rattle.script_reader.specs.declared.world.Series.{Series}
 use Rattle.script_reader.specs.World.{with_values}
-use Rattle.world_reader.specs.WorldScript.{WorldProgress, is_of_pair, with_series, is_linked}
-use Rattle.world_reader.specs.WorldReader.{place_from, AreTables}
+use Rattle.world_lines.specs.WorldLines.{WorldProgress, is_linked}
+use Rattle.world_lines.specs.Draft.{is_of_pair, place_from, AreTables}
+use Rattle.world_reader.specs.WorldScript.{with_series}
 
 -- ---- values behind a series
 

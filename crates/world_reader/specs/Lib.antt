@@ -1,3 +1,1 @@
-pub mod WorldWords
 pub mod WorldScript
-pub mod WorldReader

@@ -28,9 +28,8 @@ use Rattle.mate_journal.specs.declared.program.Program.{Program}
 use Rattle.node_programs.specs.ScriptSteps.{program_at}
 use Rattle.world_rules.specs.Cause as event
 use Rattle.world_rules.specs.World.{World, handlers, period_in, period_of}
-use Rattle.world_rules.specs.State.{Scheduled, first_of, lines_from, of_time, of_interval, start_node, state}
-use Rattle.world_rules.specs.Run.{airs}
-use Rattle.world_air.specs.Air.{timed_event, timed_events, radio_event, aired_at, IsAirOf}
+use Rattle.world_rules.specs.State.{Scheduled, first_of, lines_from, of_interval, start_node}
+use Rattle.world_air.specs.Air.{timed_event, timed_events, aired_at}
 use Rattle.world_air.specs.Changes.{AddsToAir}
 use Rattle.world_air.proofs.ChangeLemmas.{adds-both}
 use Rattle.world_states.specs.Coming.{code_world}

@@ -1,10 +1,12 @@
 -- The lists of a report.
-use Rattle.std.proofs.Common.{◌≡◌, ◌≢◌, ℕ, zero, suc, ◌+◌, ◌<◌, ◌≤◌, List, [], ◌∷◌, ◌++◌, length, map, drop, set, get_or, refl, sym, ◌∙◌, ap, subst, arith, inl, inr, All}
-use Rattle.std.specs.Prelude.{Option, Some, None, slice_get, unwrap_or}
+use Rattle.std.proofs.Common.{◌≡◌, ℕ, zero, suc, ◌+◌, ◌<◌, List, [], ◌∷◌, ◌++◌, length, map, drop, set, get_or, refl, sym, ◌∙◌, ap, subst, arith, inl, inr, All}
+use Rattle.std.specs.Prelude.{Some, slice_get, unwrap_or}
 use Rattle.std.proofs.lemmas.Bool.{cases_eq}
 use Rattle.std.proofs.Math.Seq.{drop-cons, set-append_seam}
 use Rattle.mate_num.specs.declared.call.Stamp.{Stamp}
+use Rattle.std.proofs.lemmas.List.{length-set}
 use Rattle.std.proofs.lemmas.List.Elements.{All-append}
+use Rattle.event_queue.proofs.WheelLemmas.{slice_get_set_same, slice_get_set_other}
 use Rattle.mate_journal.specs.Log.{Log}
 use Rattle.vm_desc.specs.declared.description.Description.{Description}
 use Rattle.node_invariant.specs.Meaning.{machine_in}
@@ -13,23 +15,6 @@ use Rattle.world_step.specs.declared.mote.Mote.{Mote}
 use Rattle.world_sim.specs.Reporting.{ShowsOneStore, ShowStores, mote_logs, AreOfMachine}
 
 -- ---- an item in place of another
-
-pub length-set : {X : Type 0} (xs : List X) (i : ℕ) (x : X) → length (set xs i x) ≡ length xs
-length-set [] i x = refl
-length-set (y ∷ xs) zero x = refl
-length-set (y ∷ xs) (suc i) x = ap suc (length-set xs i x)
-
-pub get-set-own : {X : Type 0} (xs : List X) (i : ℕ) (x : X) → i < length xs → slice_get (set xs i x) i ≡ Some x
-get-set-own [] i x below = absurd (omega (arith, below))
-get-set-own (y ∷ xs) zero x below = refl
-get-set-own (y ∷ xs) (suc i) x below = get-set-own xs i x (omega (arith, below))
-
-pub get-set-other : {X : Type 0} (xs : List X) (i j : ℕ) (x : X) → j ≢ i → slice_get (set xs i x) j ≡ slice_get xs j
-get-set-other [] i j x other = refl
-get-set-other (y ∷ xs) zero zero x other = absurd (other refl)
-get-set-other (y ∷ xs) zero (suc j) x other = refl
-get-set-other (y ∷ xs) (suc i) zero x other = refl
-get-set-other (y ∷ xs) (suc i) (suc j) x other = get-set-other xs i j x (λ e. other (ap suc e))
 
 pub some-same : {X : Type 0} (a b : X) → Some a ≡ Some b → a ≡ b
 some-same a b e = ap (λ o. unwrap_or o a) e
@@ -42,11 +27,11 @@ stores-more at k old mid x y before below is shows = record {
   shown = λ j a b high is_a is_b. elim (cases_eq j k) [
     | inl same ↦
         let own_a : a ≡ x = some-same a x (sym is_a ∙ ap (slice_get old) same ∙ sym (before.others k (omega arith)) ∙ is) in
-        let own_b : b ≡ y = some-same b y (sym is_b ∙ ap (slice_get (set mid k y)) same ∙ get-set-own mid k y below) in
+        let own_b : b ≡ y = some-same b y (sym is_b ∙ ap (slice_get (set mid k y)) same ∙ slice_get_set_same mid k y below) in
         subst (λ (c : Mote). ShowsOneStore at c b) (sym own_a) (subst (λ (d : Mote). ShowsOneStore at x d) (sym own_b) shows)
-    | inr other ↦ before.shown j a b (omega (arith, high, other)) is_a (sym (get-set-other mid k j y other) ∙ is_b)
+    | inr other ↦ before.shown j a b (omega (arith, high, other)) is_a (sym (slice_get_set_other mid k j y other) ∙ is_b)
   ];
-  others = λ j high. get-set-other mid k j y (λ e. omega (arith, e, high)) ∙ before.others j (omega (arith, high));
+  others = λ j high. slice_get_set_other mid k j y (λ e. omega (arith, e, high)) ∙ before.others j (omega (arith, high));
 }
 
 -- ---- logs

@@ -1,9 +1,8 @@
 -- The event that comes next, as the radio takes it out.
-use Rattle.std.proofs.Common.{◌≡◌, ℕ, ◌+◌, ◌<◌, ◌≤◌, Bool, true, false, List, [], ◌∷◌, length, map, drop, refl, sym, ◌∙◌, ap, subst, arith, inl, inr}
+use Rattle.std.proofs.Common.{◌≡◌, ℕ, ◌<◌, ◌≤◌, Bool, true, false, List, [], ◌∷◌, length, map, drop, refl, sym, ◌∙◌, ap, subst, arith, inl, inr}
 use Rattle.std.specs.Prelude.{◌==◌, if◌then◌else◌}
 use Rattle.std.proofs.lemmas.Bool.Decides.{eqb_tells}
-use Rattle.event_queue.specs.declared.queue.Timed.{Timed}
-use Rattle.event_queue.specs.Agenda.{Agenda, due_at, Comes}
+use Rattle.event_queue.specs.Agenda.{due_at, Comes}
 use Rattle.radio_sim.specs.declared.event.Event.{Event}
 use Rattle.radio_sim.specs.Radio.{Ether, wires_of}
 use Rattle.world_rules.specs.Cause.{Cause}
@@ -12,7 +11,7 @@ use Rattle.world_rules.specs.World.{World}
 use Rattle.world_rules.specs.Effect.{event_node}
 use Rattle.world_rules.specs.State.{Moment, state}
 use Rattle.world_rules.specs.Run.{HaveCome, IsNext, IsDone}
-use Rattle.world_air.specs.Air.{radio_event, IsAirOf}
+use Rattle.world_air.specs.Air.{radio_event}
 use Rattle.world_air.specs.Changes.{AreNear, IsNear}
 use Rattle.world_states.specs.Sound.{AreOfNodes, DuesAreOfNodes}
 use Rattle.world_event.specs.Finishing.{IsTakenFrom}

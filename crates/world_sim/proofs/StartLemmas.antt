@@ -1,25 +1,17 @@
 -- What is due, recorded and known before the first event.
-use Rattle.std.proofs.Common.{◌≡◌, ℕ, zero, suc, ◌+◌, ◌<◌, ◌≤◌, List, [], ◌∷◌, ◌++◌, length, map, take, get_or, refl, sym, ◌∙◌, ap, subst, arith, append_assoc, append-nil, inl, inr}
-use Rattle.std.specs.Prelude.{Option, Some, None, IsSomeAnd, slice_get}
-use Rattle.std.specs.List.{flat_map, range_with_len, filter_map}
-use Rattle.std.specs.Option.{option_map_or}
-use Rattle.std.proofs.lemmas.List.{take_more, map-append}
-use Rattle.mate_num.specs.declared.id.HandlerId.{HandlerId}
-use Rattle.vm_desc.specs.declared.description.Description.{Description}
+use Rattle.std.proofs.Common.{◌≡◌, ℕ, zero, suc, ◌+◌, ◌<◌, List, [], ◌∷◌, ◌++◌, length, map, take, get_or, refl, sym, ◌∙◌, ap, arith, append_assoc, append-nil}
+use Rattle.std.proofs.lemmas.List.{take_more}
 use Rattle.vm_desc.specs.declared.handler.Handler.{Handler}
-use Rattle.vm_desc.specs.declared.handler.HandlerKind.{HandlerKind}
-use Rattle.vm_desc.specs.declared.handler.HandlerKind.TheVariants as kind
 use Rattle.script_reader.specs.declared.world.Planned.{Planned}
 use Rattle.event_queue.specs.declared.queue.Timed.{Timed}
 use Rattle.radio_sim.specs.declared.event.Event.{Event}
 use Rattle.radio_sim.specs.declared.event.Event.TheVariants as radio
-use Rattle.trickle_timer.specs.Timer.{Timer}
 use Rattle.mate_journal.specs.Machine.{HeldProgram}
 use Rattle.world_rules.specs.Cause as event
-use Rattle.world_rules.specs.World.{World, line_planned, period_in, period_of, handlers}
-use Rattle.world_rules.specs.State.{Scheduled, lines_from, first_of, of_interval, start_node}
-use Rattle.world_air.specs.Air.{timed_event, timed_events}
-use Rattle.world_sim.specs.Starting.{planned_items, period_item, first_periods, first_items}
+use Rattle.world_rules.specs.World.{World, line_planned}
+use Rattle.world_rules.specs.State.{lines_from}
+use Rattle.world_air.specs.Air.{timed_events}
+use Rattle.world_sim.specs.Starting.{planned_items, period_item, first_periods}
 
 -- ---- lines
 

@@ -1,26 +1,25 @@
 -- One event more of a run.
-use Rattle.std.proofs.Common.{◌≡◌, ◌≢◌, ℕ, suc, ◌+◌, ◌<◌, ◌≤◌, Bool, true, false, List, [], ◌∷◌, ◌++◌, length, map, set, get_or, refl, sym, ◌∙◌, ap, subst, arith, inl, inr, length-append, append-nil, eq-eqb}
-use Rattle.std.specs.Prelude.{◌==◌, if◌then◌else◌, Option, Some, None, IsSomeAnd, slice_get, option_map}
+use Rattle.std.proofs.Common.{◌≡◌, ◌≢◌, ℕ, ◌+◌, ◌<◌, List, ◌∷◌, length, map, set, get_or, refl, sym, ◌∙◌, ap, subst, arith, inl, inr, length-append}
+use Rattle.std.specs.Prelude.{Option, Some, None, IsSomeAnd, slice_get, option_map}
 use Rattle.std.specs.Option.{option_map_or}
-use Rattle.std.proofs.lemmas.Bool.{cases_eq, ne_eqb, false≢true}
-use Rattle.std.proofs.lemmas.Bool.Decides.{eqb_tells}
+use Rattle.std.proofs.lemmas.Bool.{cases_eq}
 use Rattle.std.proofs.lemmas.Option.{slice_get-map, slice_get-get_or}
-use Rattle.std.proofs.lemmas.List.{length-map}
+use Rattle.std.proofs.lemmas.List.{length-map, length-set}
 use Rattle.mate_num.specs.declared.call.Stamp.{Stamp}
 use Rattle.vm_desc.specs.declared.description.Description.{Description}
 use Rattle.script_reader.specs.declared.world.World.{World as Script}
 use Rattle.script_reader.specs.declared.world.Planned.{Planned}
 use Rattle.mate_journal.specs.Log.{Log}
-use Rattle.mate_journal.specs.Journal.{Told, journal_of, told_of, nothing_heard}
+use Rattle.mate_journal.specs.Journal.{journal_of, told_of, nothing_heard}
 use Rattle.mate_journal.specs.WellFormed.{IsWellFormed}
 use Rattle.mate_journal.specs.NodeScript.{records_max}
 use Rattle.mate_journal.specs.Journal.{Event as Entered}
 use Rattle.mate_journal.specs.Machine.{HeldProgram}
 use Rattle.mate_journal.specs.declared.entry.Stamped.{Stamped}
-use Rattle.mate_journal.specs.declared.air.Air.{Air}
 use Rattle.mate_journal.specs.declared.air.Aired.{Aired}
 use Rattle.mate_journal.specs.declared.program.Program.{Program}
 use Rattle.node_programs.specs.ScriptSteps.{program_at}
+use Rattle.node_invariant.specs.Keeps.{event_at}
 use Rattle.node_invariant.specs.Meaning.{machine_in}
 use Rattle.node_core.specs.View.{NodeView}
 use Rattle.node_core.specs.Journal.{KeepsJournal}
@@ -33,15 +32,16 @@ use Rattle.world_rules.specs.Effect.{Node, event_node}
 use Rattle.world_rules.specs.State.{Moment, state, air_made}
 use Rattle.world_rules.specs.Run.{stamp_of, airs, journal}
 use Rattle.world_laws.proofs.Points.{nodes-other}
+use Rattle.world_laws.proofs.Steps.{journal-here, journal-other}
 use Rattle.world_air.specs.Air.{radio_event, aired_at}
 use Rattle.world_states.specs.Coming.{code_world, IsExpected}
 use Rattle.world_states.specs.Sound.{HasWellFormed, NextMayCome, AreOfNodes, DuesAreOfNodes}
-use Rattle.world_step.specs.Handling.{IsMoteOf}
+use Rattle.world_handling.specs.Handling.{IsMoteOf}
 use Rattle.world_step.specs.declared.mote.Mote.{Mote}
 use Rattle.world_event.specs.Performing.{IsMoteAfter, MayPerform, Performed}
 use Rattle.world_sim.specs.Running.{StandsAfter, StandsAtNext, NamesPart, named_node}
 use Rattle.world_sim.specs.declared.simulation.Simulation.{Simulation}
-use Rattle.world_sim.proofs.ReportLemmas.{length-set, get-set-own, get-set-other, some-same}
+use Rattle.event_queue.proofs.WheelLemmas.{slice_get_set_same, slice_get_set_other}
 
 -- ---- which node
 
@@ -89,7 +89,7 @@ placed d script ps e at s next dues b =
       first-low w cs c others is are = (subst (AreOfNodes w) is are).0
 
 -- the event of the node's number may be performed
-pub may-perform : (d : Description) (script : Script) (ps : List Program) (e : Event) (at : Stamp) (s : Simulation) (number : ℕ) (x : Mote) (b : StandsAtNext (code_world d script ps) e at s) → number ≡ named_node script e → number < script.nodes
+may-perform : (d : Description) (script : Script) (ps : List Program) (e : Event) (at : Stamp) (s : Simulation) (number : ℕ) (x : Mote) (b : StandsAtNext (code_world d script ps) e at s) → number ≡ named_node script e → number < script.nodes
     → slice_get s.motes.items number ≡ Some x → MayPerform (code_world d script ps) b.moments b.cause number e at s.radio x
 may-perform d script ps e at s number x b is low found = record {
   come = b.come;
@@ -105,22 +105,29 @@ may-perform d script ps e at s number x b is low found = record {
   mote = subst (λ (o : Option Mote). IsSomeAnd o (IsMoteAfter (code_world d script ps) b.moments number)) found (b.motes number low);
 }
 
+found-at : (motes : List Mote) (from number : ℕ) (x : Mote) → from ≡ number → number < length motes → x ≡ get_or motes from x → slice_get motes number ≡ Some x
+found-at motes from number x same below is = slice_get-get_or motes number x below ∙ ap (λ (y : Mote). Some y) (ap (λ (n : ℕ). get_or motes n x) (sym same) ∙ sym is)
+
+-- the mote at the event's node, on which the event may be performed
+pub record IsOfMote (d : Description) (script : Script) (ps : List Program) (e : Event) (at : Stamp) (s : Simulation) (number : ℕ) (x : Mote) (b : StandsAtNext (code_world d script ps) e at s) : Type 0 where
+  pub low : number < script.nodes
+  pub may : MayPerform (code_world d script ps) b.moments b.cause number e at s.radio x
+
+pub of-mote : (d : Description) (script : Script) (ps : List Program) (e : Event) (at : Stamp) (s : Simulation) (from number : ℕ) (x : Mote) → NextMayCome (code_world d script ps) → DuesAreOfNodes (code_world d script ps)
+    → (b : StandsAtNext (code_world d script ps) e at s) → number ≡ named_node script e → from ≡ number → x ≡ get_or s.motes.items from x → IsOfMote d script ps e at s number x b
+of-mote d script ps e at s from number x next dues b is same found =
+    let below = (placed d script ps e at s next dues b).low in
+    let count = b.nodes in
+    let low : number < script.nodes = omega (arith, below, is) in
+    record { low = low; may = may-perform d script ps e at s number x b is low (found-at s.motes.items from number x same (omega (arith, low, count)) found) }
+
 -- ---- how much more stands
 
-journal-here : (w : World) (m : Moment) (before : List Moment) (k : ℕ) → k ≡ event_node w m.cause → length (journal w k (m ∷ before)) ≡ length (journal w k before) + length m.told
-journal-here w m before k is = by (k == event_node w m.cause) (eq-eqb k (event_node w m.cause) is) where
-  by : (b : Bool) → b ≡ true → length (journal w k before ++ (if b then map (λ (t : Told). let e : Entered = record { stamp = stamp_of m before; told = t } in e) m.told else [])) ≡ length (journal w k before) + length m.told
-  by true yes_ =
-      let a = length-append (journal w k before) (map (λ (t : Told). let e : Entered = record { stamp = stamp_of m before; told = t } in e) m.told) in
-      let b = length-map m.told (λ (t : Told). let e : Entered = record { stamp = stamp_of m before; told = t } in e) in
-      omega (arith, a, b)
-  by false e = absurd (false≢true e)
-
-journal-other : (w : World) (m : Moment) (before : List Moment) (k : ℕ) → k ≢ event_node w m.cause → journal w k (m ∷ before) ≡ journal w k before
-journal-other w m before k other = by (k == event_node w m.cause) (ne_eqb k (event_node w m.cause) other) where
-  by : (b : Bool) → b ≡ false → journal w k before ++ (if b then map (λ (t : Told). let e : Entered = record { stamp = stamp_of m before; told = t } in e) m.told else []) ≡ journal w k before
-  by true e = absurd (false≢true (sym e))
-  by false e = append-nil (journal w k before)
+journal-longer : (w : World) (m : Moment) (before : List Moment) → length (journal w (event_node w m.cause) (m ∷ before)) ≡ length (journal w (event_node w m.cause) before) + length m.told
+journal-longer w m before =
+    let here = ap (λ (es : List Entered). length es) (journal-here w m before) in
+    let long = length-append (journal w (event_node w m.cause) before) (map (event_at (stamp_of m before)) m.told) in
+    let told = length-map m.told (event_at (stamp_of m before)) in omega (arith, here, long, told)
 
 long-log : (l : Log) → length (journal_of l) ≡ length l.entries
 long-log l = length-map l.entries (λ (e : Stamped). let v : Entered = record { stamp = e.stamp; told = told_of l e.entry } in v)
@@ -139,7 +146,8 @@ has-more w ms c number event at e f old new may p = record {
       let is = long-log new.node.log in
       let before = ap (λ (es : List Entered). length es) may.mote.journal in
       let after = ap (λ (es : List Entered). length es) p.mote.journal in
-      let more = journal-here w p.moment ms number (sym (ap (event_node w) p.cause ∙ may.node)) in
+      let own : event_node w p.moment.cause ≡ number = ap (event_node w) p.cause ∙ may.node in
+      let more = subst (λ (k : ℕ). length (journal w k (p.moment ∷ ms)) ≡ length (journal w k ms) + length p.moment.told) own (journal-longer w p.moment ms) in
       omega (arith, was, is, before, after, more);
   aired_more =
       let before = ap (λ (rs : List Aired). length rs) may.air in
@@ -155,7 +163,7 @@ has-more w ms c number event at e f old new may p = record {
 other-mote : (w : World) (m : Moment) (ms : List Moment) (k : ℕ) (x : Mote) → k ≢ event_node w m.cause → IsMoteAfter w ms k x → IsMoteAfter w (m ∷ ms) k x
 other-mote w m ms k x other was = record {
   is = subst (λ (n : Node). IsMoteOf w k n x) (sym (nodes-other w (state w ms) m k other)) was.is;
-  journal = was.journal ∙ sym (journal-other w m ms k other);
+  journal = was.journal ∙ sym (journal-other w k m ms other);
 }
 
 some-other : (w : World) (m : Moment) (ms : List Moment) (k : ℕ) (o : Option Mote) → k ≢ event_node w m.cause → IsSomeAnd o (IsMoteAfter w ms k) → IsSomeAnd o (IsMoteAfter w (m ∷ ms) k)
@@ -176,21 +184,18 @@ stands-after d script ps e at s new number x y b low may p well motes records =
       motes = λ k below. subst (λ (ms : List Mote). IsSomeAnd (slice_get ms k) (IsMoteAfter (code_world d script ps) (p.moment ∷ b.moments) k)) (sym motes) (elim (cases_eq k number) [
         | inl same ↦
             subst (λ (o : Option Mote). IsSomeAnd o (IsMoteAfter (code_world d script ps) (p.moment ∷ b.moments) k))
-            (sym (ap (slice_get (set s.motes.items number y)) same ∙ get-set-own s.motes.items number y (let long = b.nodes in omega (arith, low, long))))
+            (sym (ap (slice_get (set s.motes.items number y)) same ∙ slice_get_set_same s.motes.items number y (let long = b.nodes in omega (arith, low, long))))
             (subst (λ (j : ℕ). IsMoteAfter (code_world d script ps) (p.moment ∷ b.moments) j y) (sym same) p.mote)
         | inr other ↦
-            subst (λ (o : Option Mote). IsSomeAnd o (IsMoteAfter (code_world d script ps) (p.moment ∷ b.moments) k)) (sym (get-set-other s.motes.items number k y other))
+            subst (λ (o : Option Mote). IsSomeAnd o (IsMoteAfter (code_world d script ps) (p.moment ∷ b.moments) k)) (sym (slice_get_set_other s.motes.items number k y other))
             (some-other (code_world d script ps) p.moment b.moments k (slice_get s.motes.items k) (λ is. other (is ∙ own)) (b.motes k below))
       ]);
       records = records;
       well_formed = λ k below. elim (cases_eq k number) [
         | inl same ↦ subst (λ (j : ℕ). HasWellFormed (code_world d script ps) j (p.moment ∷ b.moments)) (sym same) well
-        | inr other ↦ subst (λ (es : List Entered). IsWellFormed (code_world d script ps).machine (nothing_heard (code_world d script ps).machine) es) (sym (journal-other (code_world d script ps) p.moment b.moments k (λ is. other (is ∙ own)))) (b.well_formed k below)
+        | inr other ↦ subst (λ (es : List Entered). IsWellFormed (code_world d script ps).machine (nothing_heard (code_world d script ps).machine) es) (sym (journal-other (code_world d script ps) k p.moment b.moments (λ is. other (is ∙ own)))) (b.well_formed k below)
       ];
     }
-
-pub found-at : (motes : List Mote) (from number : ℕ) (x : Mote) → from ≡ number → number < length motes → x ≡ get_or motes from x → slice_get motes number ≡ Some x
-found-at motes from number x same below is = slice_get-get_or motes number x below ∙ ap (λ (y : Mote). Some y) (ap (λ (n : ℕ). get_or motes n x) (sym same) ∙ sym is)
 
 pub well-of : (d : Description) (v : NodeView) (es : List Entered) → v.description ≡ d → KeepsJournal v.description (machine_in v.description) v.log → journal_of v.log ≡ es → IsWellFormed (machine_in d) (nothing_heard (machine_in d)) es
 well-of d v es same keeps is =

@@ -7,10 +7,9 @@ use Rattle.mate_num.specs.declared.call.Stamp.{Stamp}
 use Rattle.vm_desc.specs.declared.description.Description.{Description}
 use Rattle.script_reader.specs.declared.world.World.{World as Script}
 use Rattle.mate_journal.specs.Log.{Log}
-use Rattle.mate_journal.specs.Journal.{Told, Reading, journal_of}
+use Rattle.mate_journal.specs.Journal.{Reading, journal_of}
 use Rattle.mate_journal.specs.Journal.{Event as Entered}
-use Rattle.mate_journal.specs.NodeScript.{RunEnd, Whole, Full, ShowsOnce, records_max}
-use Rattle.mate_journal.specs.NodeReport.{is_whole}
+use Rattle.mate_journal.specs.NodeScript.{RunEnd, Whole, Full, ShowsOnce}
 use Rattle.mate_journal.specs.declared.program.Program.{Program}
 use Rattle.mate_journal.specs.declared.report.Report.{Report}
 use Rattle.node_invariant.specs.Meaning.{machine_in, clock_of}
@@ -19,12 +18,12 @@ use Rattle.mate_journal.specs.WellFormed.{NotBefore, start}
 use Rattle.journal_laws.specs.Growth.{last_stamp}
 use Rattle.world_laws.specs.Times.{last_time}
 use Rattle.world_event.proofs.RoomLemmas.{next-timely}
-use Rattle.node_core.specs.View.{NodeView, heard_of}
+use Rattle.node_core.specs.View.{heard_of}
 use Rattle.node_core.specs.Journal.{KeepsJournal}
 use Rattle.world_rules.specs.World.{World}
 use Rattle.world_rules.specs.State.{Moment, state}
-use Rattle.world_rules.specs.Run.{HaveCome, IsAtEnd, IsDone, airs, journal, IsJournalOf, EndsJournal, SeesStore}
-use Rattle.world_rules.specs.Report.{IsRightJournal, IsLogOf, IsWorldReport}
+use Rattle.world_rules.specs.Run.{HaveCome, IsAtEnd, IsDone, airs, journal, IsJournalOf}
+use Rattle.world_rules.specs.Report.{IsLogOf, IsWorldReport}
 use Rattle.world_states.specs.Coming.{code_world}
 use Rattle.world_step.specs.declared.mote.Mote.{Mote}
 use Rattle.world_event.specs.Performing.{IsMoteAfter}

@@ -19,7 +19,7 @@ use Rattle.world_rules.specs.State.{Moment, WorldState, Scheduled, of_time, of_i
 use Rattle.world_rules.specs.Run.{IsNext, HaveCome}
 use Rattle.world_laws.proofs.Among.{Among, among-append, among-flat_map, among-un_of_time, apart}
 use Rattle.world_laws.proofs.Due.{at, Outlasts, due-from, kind, AnswerOf, Source, period, interval, delivery, pump, answer, source}
-use Rattle.world_laws.proofs.Points.{nodes-here, nodes-other, line-kind, period-kind}
+use Rattle.world_laws.proofs.Points.{cause_is, nodes-here, nodes-other, line-kind, period-kind}
 use Rattle.world_states.proofs.Waits.{calls_of, asked-calls, BeginsWith, AnswersOther, event-begins, event-keeps, event-once, event-waits}
 use Rattle.world_states.proofs.Follows.{IsFollowed, followed-before, followed-told, run-numbered}
 use Rattle.world_states.proofs.Answering.{answers-cause}
@@ -90,9 +90,6 @@ record IsToldBy (w : World) (s : WorldState) (m : Moment) : Type 0 where
   follow : AreFollowing w.machine (node_at w s m).reading m.told
   right : IsNumbered (node_at w s m).reading
 
-same-cause : (x y : Scheduled) → x ≡ y → x.cause ≡ y.cause
-same-cause x y e = ap (λ (z : Scheduled). z.cause) e
-
 no-interval : (t k : ℕ) (c : ContextId) (n : ℕ) (value : ℤ) (i : ℕ) (timer : Timer) → Among (at t (event.Due k c n value)) (of_interval i timer) → ⊥
 no-interval t k c n value i timer (inl e) = apart 2 5 refl (ap (λ (x : Scheduled). kind x.cause) e)
 no-interval t k c n value i timer (inr (inl e)) = apart 3 5 refl (ap (λ (x : Scheduled). kind x.cause) e)
@@ -125,7 +122,7 @@ here-each w s m told old t c n value h = elim (among-append (event.Due (event_no
       → AwaitsIn (heard_told w.machine (node_at w s m).reading m.told) c n
   new call =
       let some : 1 ≤ calls_of call.invocation m.told = asked-calls m.told call.front call.rest call.invocation call.fun call.args call.told_is in
-      let is = same-cause (at t (event.Due (event_node w m.cause) c n value)) _ call.is in
+      let is = cause_is (at t (event.Due (event_node w m.cause) c n value)) _ call.is in
       let own : n ≡ call.invocation = ap due_of is in
       let context : c ≡ ((heard_told w.machine (node_at w s m).reading m.told).invocations call.invocation).context = ap context_of is in
       subst (λ (i : ℕ). AwaitsIn (heard_told w.machine (node_at w s m).reading m.told) c i) (sym own) (record {
@@ -206,7 +203,7 @@ other-step w s m k other old = record {
   not_new : (t : ℕ) (c : ContextId) (n : ℕ) (value : ℤ) → Among (at t (event.Due k c n value)) (schedules w s m) → ⊥
   not_new t c n value h =
       let call = answer-source w s m t k c n value (source w s m (at t (event.Due k c n value)) h) in
-      other (ap (event_node w) (same-cause (at t (event.Due k c n value)) _ call.is))
+      other (ap (event_node w) (cause_is (at t (event.Due k c n value)) _ call.is))
 
 -- ---- along a run
 

@@ -1,5 +1,5 @@
 -- How many answers to an invocation's calls are due.
-use Rattle.std.proofs.Common.{◌≡◌, ◌≢◌, ◌≤◌, ℕ, ◌+◌, Bool, true, false, cond, not, ◌&&◌, List, [], ◌∷◌, ◌++◌, drop, refl, sym, ◌∙◌, ap, subst, arith, inl, inr, ◌⊎◌}
+use Rattle.std.proofs.Common.{◌≡◌, ◌≢◌, ◌≤◌, ℕ, ◌+◌, Bool, true, false, cond, ◌&&◌, List, [], ◌∷◌, ◌++◌, drop, refl, sym, ◌∙◌, ap, subst, arith, inl, inr, ◌⊎◌}
 use Rattle.std.specs.Prelude.{Option, Some, None, ℤ, ◌==◌, if◌then◌else◌}
 use Rattle.std.specs.List.{filter, flat_map}
 use Rattle.std.specs.Option.{option_map_or}
@@ -11,11 +11,11 @@ use Rattle.trickle_timer.specs.Timer.{Timer}
 use Rattle.world_rules.specs.Cause.{Cause}
 use Rattle.world_rules.specs.Cause as event
 use Rattle.world_rules.specs.World.{World, links_from, period_of}
-use Rattle.world_rules.specs.Effect.{begun_length, is_owing, event_node}
-use Rattle.world_rules.specs.State.{Moment, WorldState, Scheduled, of_time, Sending, sendings, is_lost, deliveries, packets_of, next_period, new_interval, new_pump, answers_due, still_pumps, node_at, effect_at, node_after, schedules, is_kept, is_some_length, left_due}
+use Rattle.world_rules.specs.Effect.{begun_length, event_node}
+use Rattle.world_rules.specs.State.{Moment, WorldState, Scheduled, of_time, Sending, sendings, is_lost, deliveries, packets_of, next_period, new_interval, new_pump, answers_due, node_at, effect_at, node_after, schedules, is_kept, is_some_length, left_due}
 use Rattle.world_rules.specs.Run.{IsNext}
 use Rattle.world_laws.proofs.Among.{Among, among-unfilter, among-behind}
-use Rattle.world_laws.proofs.Due.{at, Outlasts}
+use Rattle.world_laws.proofs.Due.{at, Outlasts, period_part, interval_part, delivery_part, pumps_anew, pump_part, answer_part}
 use Rattle.world_states.proofs.Waits.{calls_of}
 
 -- the cause is an answer to the invocation n of the node k
@@ -209,29 +209,28 @@ answers-other k n w node time r called (Seen store ∷ told) other = answers-oth
 answers-other k n w node time r called (Void cause ∷ told) other = answers-other k n w node time r called told other
 
 -- only what calls has answers scheduled
-only-answers : (k n : ℕ) (w : World) (s : WorldState) (m : Moment)
-    → answers_at k n (schedules w s m) ≡ answers_at k n (answers_due w (event_node w m.cause) m.time (node_after w (node_at w s m) m).reading (node_at w s m).called m.told)
+only-answers : (k n : ℕ) (w : World) (s : WorldState) (m : Moment) → answers_at k n (schedules w s m) ≡ answers_at k n (answer_part w s m)
 only-answers k n w s m =
     let a = period-none k n w m.time m.cause in
     let b = interval-none k n (event_node w m.cause) (node_after w (node_at w s m) m).timer (begun_length (node_at w s m) (effect_at w s m)) in
     let c = delivery-none k n w (event_node w m.cause) m.time (sendings w s (event_node w m.cause) (packets_of w s m)) in
-    let d = pump-none k n w (event_node w m.cause) m.time (not (still_pumps m.cause (effect_at w s m) (node_at w s m)) && is_owing w (node_after w (node_at w s m) m).exchange) in
+    let d = pump-none k n w (event_node w m.cause) m.time (pumps_anew w s m) in
     four (answers_at k n A) (answers_at k n B) (answers_at k n C) (answers_at k n D) (answers_at k n E) (answers_at k n (D ++ E)) (answers_at k n (C ++ (D ++ E))) (answers_at k n (B ++ (C ++ (D ++ E)))) (answers_at k n (schedules w s m))
     a b c d (at-append k n D E) (at-append k n C (D ++ E)) (at-append k n B (C ++ (D ++ E))) (at-append k n A (B ++ (C ++ (D ++ E)))) where
       A : List Scheduled
-      A = next_period w m.cause m.time
+      A = period_part w m
 
       B : List Scheduled
-      B = new_interval (event_node w m.cause) (begun_length (node_at w s m) (effect_at w s m)) (node_after w (node_at w s m) m).timer
+      B = interval_part w s m
 
       C : List Scheduled
-      C = flat_map (deliveries w (event_node w m.cause) m.time) (sendings w s (event_node w m.cause) (packets_of w s m))
+      C = delivery_part w s m
 
       D : List Scheduled
-      D = new_pump w (event_node w m.cause) m.time (not (still_pumps m.cause (effect_at w s m) (node_at w s m)) && is_owing w (node_after w (node_at w s m) m).exchange)
+      D = pump_part w s m
 
       E : List Scheduled
-      E = answers_due w (event_node w m.cause) m.time (node_after w (node_at w s m) m).reading (node_at w s m).called m.told
+      E = answer_part w s m
 
       four : (a b c d e de cde bcde all : ℕ) → a ≡ 0 → b ≡ 0 → c ≡ 0 → d ≡ 0 → de ≡ d + e → cde ≡ c + de → bcde ≡ b + cde → all ≡ a + bcde → all ≡ e
       four a b c d e de cde bcde all za zb zc zd p q r s = omega arith

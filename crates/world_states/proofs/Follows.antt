@@ -2,6 +2,7 @@
 use Rattle.std.proofs.Common.{◌≡◌, ◌<◌, ◌≤◌, ℕ, ◌+◌, List, [], ◌∷◌, map, refl, sym, ap, subst, arith, inl, inr}
 use Rattle.std.specs.Prelude.{Option, Some, None, ◌==◌, if◌then◌else◌, slice_get}
 use Rattle.std.proofs.lemmas.Bool.Decides.{eqb_tells}
+use Rattle.mate_num.specs.declared.bounds.TheConstants.{CONTEXTS_MAX}
 use Rattle.vm_desc.specs.declared.description.Description.{Description}
 use Rattle.vm_desc.specs.declared.handler.Handler.{Handler}
 use Rattle.vm_desc.specs.Contexts.{first_context}
@@ -60,12 +61,12 @@ run-numbered w k ms follow = subst IsNumbered (sym (reads_journals w k ms)) (num
 
 pub few-contexts : (d : Description) (meaning : Meaning) → HasFewContexts (machine_of d meaning)
 few-contexts d meaning h c is = by (slice_get d.handlers.items h.0) refl is.below where
-  by : (o : Option Handler) → slice_get d.handlers.items h.0 ≡ o → c.0 < first_context d.handlers.items h.0 + contexts_of o → c.0 < 16
+  by : (o : Option Handler) → slice_get d.handlers.items h.0 ≡ o → c.0 < first_context d.handlers.items h.0 + contexts_of o → c.0 < CONTEXTS_MAX
   by None none below = let from : first_context d.handlers.items h.0 ≤ c.0 = is.from in absurd (omega arith)
   by (Some x) some below =
       let within = first_context-within d.handlers.items h.0 x (slice_get_within d.handlers.items h.0 x some) in
       let same = ap (λ (y : Handler). y.contexts) (get_or_from_slice_get d.handlers.items h.0 x x some) in
-      let high : context_count d ≤ 16 = (bounds_of d).contexts_high in
+      let high : context_count d ≤ CONTEXTS_MAX = (bounds_of d).contexts_high in
       omega arith
 
 -- ---- who waits

@@ -1,5 +1,5 @@
 -- Whatever is due is of lines, nodes, handlers and links of the world.
-use Rattle.std.proofs.Common.{◌≡◌, ◌<◌, ◌≤◌, ℕ, zero, suc, ◌+◌, Bool, true, false, not, ◌&&◌, List, [], ◌∷◌, ◌++◌, length, map, subst, arith, inl, inr}
+use Rattle.std.proofs.Common.{◌≡◌, ◌<◌, ◌≤◌, ℕ, zero, suc, ◌+◌, Bool, true, false, List, [], ◌∷◌, ◌++◌, length, map, subst, arith, inl, inr}
 use Rattle.std.specs.Prelude.{Option, Some, None, slice_get, All, if◌then◌else◌}
 use Rattle.std.specs.List.{flat_map, range_with_len}
 use Rattle.std.specs.Option.{option_map_or}
@@ -17,11 +17,11 @@ use Rattle.script_reader.specs.World.{IsRightWorld, IsRightLink, IsRightPlanned}
 use Rattle.world_rules.specs.Cause.{Cause}
 use Rattle.world_rules.specs.Cause as event
 use Rattle.world_rules.specs.World.{World, PlannedLine, handlers, receiver, leaves, links_from, period_of, line_planned, world_of}
-use Rattle.world_rules.specs.Effect.{begun_length, is_owing, event_node}
-use Rattle.world_rules.specs.State.{Moment, WorldState, Scheduled, Sending, sendings, is_lost, deliveries, packets_of, next_period, of_interval, new_interval, new_pump, answers_due, still_pumps, node_at, effect_at, node_after, schedules, start_node, lines_from, first_of, world_start, state}
+use Rattle.world_rules.specs.Effect.{begun_length, event_node}
+use Rattle.world_rules.specs.State.{Moment, WorldState, Scheduled, Sending, sendings, is_lost, deliveries, packets_of, next_period, of_interval, new_interval, new_pump, answers_due, node_at, effect_at, node_after, schedules, start_node, lines_from, first_of, world_start, state}
 use Rattle.world_rules.specs.Run.{HaveCome}
 use Rattle.world_laws.proofs.Among.{Among, among-append, among-unfilter, among-flat_map, among-un_of_time}
-use Rattle.world_laws.proofs.Due.{at, due-from}
+use Rattle.world_laws.proofs.Due.{at, due-from, pumps_anew, InPart, in_period, in_interval, in_delivery, in_pump, in_answer, parted}
 use Rattle.world_laws.proofs.Points.{among-filter_map, among-next}
 
 -- the line, the node, the handler and the link of a cause are the world's
@@ -115,36 +115,16 @@ answers-placed w node time r called (Seen store ∷ told) x below h = answers-pl
 answers-placed w node time r called (Void cause ∷ told) x below h = answers-placed w node time r called told x below h
 
 new-placed : (w : World) (s : WorldState) (m : Moment) (x : Scheduled) → HasEnds w → IsPlaced w m.cause → Among x (schedules w s m) → IsPlaced w x.cause
-new-placed w s m x ends placed h = elim (among-append x A (B ++ (C ++ (D ++ E))) h) [
-  | inl a ↦ period-placed w m.time x m.cause placed a
-  | inr h1 ↦ elim (among-append x B (C ++ (D ++ E)) h1) [
-    | inl b ↦ begun-placed w (event_node w m.cause) (node_after w (node_at w s m) m).timer x (begun_length (node_at w s m) (effect_at w s m)) below b
-    | inr h2 ↦ elim (among-append x C (D ++ E) h2) [
-      | inl c ↦ delivery-placed w (event_node w m.cause) m.time x (sendings w s (event_node w m.cause) (packets_of w s m)) c
-      | inr h3 ↦ elim (among-append x D E h3) [
-        | inl d ↦ pump-placed w (event_node w m.cause) m.time x (not (still_pumps m.cause (effect_at w s m) (node_at w s m)) && is_owing w (node_after w (node_at w s m) m).exchange) below d
-        | inr e ↦ answers-placed w (event_node w m.cause) m.time (node_after w (node_at w s m) m).reading (node_at w s m).called m.told x below e
-      ]
-    ]
-  ]
-] where
+new-placed w s m x ends placed h = by (parted w s m x h) where
   below : event_node w m.cause < w.nodes
   below = placed-node w m.cause ends placed
 
-  A : List Scheduled
-  A = next_period w m.cause m.time
-
-  B : List Scheduled
-  B = new_interval (event_node w m.cause) (begun_length (node_at w s m) (effect_at w s m)) (node_after w (node_at w s m) m).timer
-
-  C : List Scheduled
-  C = flat_map (deliveries w (event_node w m.cause) m.time) (sendings w s (event_node w m.cause) (packets_of w s m))
-
-  D : List Scheduled
-  D = new_pump w (event_node w m.cause) m.time (not (still_pumps m.cause (effect_at w s m) (node_at w s m)) && is_owing w (node_after w (node_at w s m) m).exchange)
-
-  E : List Scheduled
-  E = answers_due w (event_node w m.cause) m.time (node_after w (node_at w s m) m).reading (node_at w s m).called m.told
+  by : InPart w s m x → IsPlaced w x.cause
+  by (in_period a) = period-placed w m.time x m.cause placed a
+  by (in_interval a) = begun-placed w (event_node w m.cause) (node_after w (node_at w s m) m).timer x (begun_length (node_at w s m) (effect_at w s m)) below a
+  by (in_delivery a) = delivery-placed w (event_node w m.cause) m.time x (sendings w s (event_node w m.cause) (packets_of w s m)) a
+  by (in_pump a) = pump-placed w (event_node w m.cause) m.time x (pumps_anew w s m) below a
+  by (in_answer a) = answers-placed w (event_node w m.cause) m.time (node_after w (node_at w s m) m).reading (node_at w s m).called m.told x below a
 
 -- ---- along a run
 

@@ -25,13 +25,13 @@ use Rattle.script_reader.specs.declared.world.Planned.{Planned}
 use Rattle.script_reader.specs.declared.world.What.{What}
 use Rattle.script_reader.specs.declared.world.What.TheVariants as what
 use Rattle.world_rules.specs.World.{PlannedLine, Inject, want_of, line_planned}
-use Rattle.world_laws.proofs.Origins.{among-get}
+use Rattle.world_laws.proofs.Among.{all-at}
 use Rattle.world_images.specs.Versions.{InjectsAt}
 use Rattle.hop_bound.specs.Premises.{IsInjectedProgram, IsRightScript}
 use Rattle.hop_bound.proofs.Premises.{injected_are_versions}
 use Rattle.world_states.specs.Coming.{code_world}
 use Rattle.world_states.specs.Sound.{IsProgramOfWhat, AreProgramsOfWorld}
-use Rattle.world_states.proofs.Heard.{all-among, AreProgramsFit}
+use Rattle.world_states.proofs.Heard.{AreProgramsFit}
 
 -- ---- the programs of lines
 
@@ -41,16 +41,13 @@ pub record HasProgram (d : Description) (p : HeldProgram) : Type 0 where
   pub right : IsRightProgram d program
   pub is : held_as program ≡ p
 
-at-place : {X : Type 0} (P : X → Type 0) (xs : List X) (i : ℕ) (x : X) → All P xs → slice_get xs i ≡ Some x → P x
-at-place P xs i x all is = all-among P xs x all (among-get xs i x is)
-
 wanted : (d : Description) (ps : List Program) (x : What) (p : HeldProgram) → AreRightPrograms d ps → IsProgramOfWhat ps x → want_of (program_at ps) x ≡ Inject p → HasProgram d p
 wanted d ps (what.Inject program handler version) p right of is =
     let same : program_at ps program ≡ p = cc in
     subst (HasProgram d) same (found (slice_get ps program) refl of) where
       found : (o : Option Program) → slice_get ps program ≡ o → IsSomeAnd o (λ (q : Program). (q.handler ≡ handler) × (q.version ≡ version)) → HasProgram d (held_or_none o)
       found None is_at none = absurd none
-      found (Some q) is_at some = record { program = q; right = at-place (IsRightProgram d) ps program q right is_at; is = refl }
+      found (Some q) is_at some = record { program = q; right = all-at (IsRightProgram d) ps program q right is_at; is = refl }
 wanted d ps (what.Post handler payload) p right of is = cc
 wanted d ps what.Show p right of is = cc
 wanted d ps what.Reset p right of is = cc
@@ -75,14 +72,14 @@ injected-program d ps program version handler right of = found (slice_get ps pro
   found : (o : Option Program) → slice_get ps program ≡ o → IsSomeAnd o (λ (q : Program). (q.handler ≡ handler) × (q.version ≡ version)) → IsInjectedProgram handler version (held_or_none o)
   found None is_at none = absurd none
   found (Some q) is_at some =
-      let own = at-place (IsRightProgram d) ps program q right is_at in
+      let own = all-at (IsRightProgram d) ps program q right is_at in
       record { handler_is = some.0; version_is = some.1; capsule = own.capsule; is_capsule = own.is_capsule; image_is = own.image }
 
 pub right-script : (d : Description) (script : Script) (ps : List Program) → AreProgramsOfWorld d script ps → IsRightScript d script (program_at ps)
 right-script d script ps right = record {
   right = right.world;
   programs_are = λ i program version handler l stands is.
-      injected-program d ps program version handler right.programs (subst (IsProgramOfWhat ps) is (at-place (λ (e : Planned). IsProgramOfWhat ps e.what) script.events i l right.each stands));
+      injected-program d ps program version handler right.programs (subst (IsProgramOfWhat ps) is (all-at (λ (e : Planned). IsProgramOfWhat ps e.what) script.events i l right.each stands));
 }
 
 -- ---- bytes of an image

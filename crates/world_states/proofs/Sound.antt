@@ -1,6 +1,7 @@
 -- What stands between the events of a right world with right programs.
 use Rattle.std.proofs.Common.{◌≡◌, ◌<◌, ℕ, List, [], ◌∷◌, refl, sym, ◌∙◌, ap, subst, inl, inr}
 use Rattle.std.specs.Prelude.{ℤ}
+use Rattle.mate_num.specs.declared.bounds.TheConstants.{CONTEXTS_MAX}
 use Rattle.mate_num.specs.declared.id.ContextId.{ContextId}
 use Rattle.vm_desc.specs.declared.description.Description.{Description}
 use Rattle.vm_desc.specs.Shapes.{shape_of}
@@ -85,7 +86,7 @@ alone w ms time node c inv value right come well a =
     record {
       waits = awaits.waits;
       context = awaits.context;
-      small = subst (λ (x : ContextId). x.0 < 16) awaits.context (run-small w node ms right.few well.follow inv awaits.waits);
+      small = subst (λ (x : ContextId). x.0 < CONTEXTS_MAX) awaits.context (run-small w node ms right.few well.follow inv awaits.waits);
       alone = λ other waits context. run-apart w node ms well.follow other inv waits awaits.waits (context ∙ sym awaits.context);
     }
 

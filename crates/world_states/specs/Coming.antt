@@ -1,5 +1,6 @@
 -- What an event that comes to a node finds there.
 use Rattle.std.specs.Prelude.{◌≡◌, ◌≢◌, ℕ, ◌+◌, ◌<◌, List, [], length}
+use Rattle.mate_num.specs.declared.bounds.TheConstants.{CONTEXTS_MAX}
 use Rattle.mate_num.specs.declared.id.ContextId.{ContextId}
 use Rattle.mate_journal.specs.Machine.{HeldProgram}
 use Rattle.mate_journal.specs.Journal.{Reading, held}
@@ -36,7 +37,7 @@ pub record IsTaken (w : World) (n : Node) (p : HeldProgram) : Type 0 where
 pub record AwaitsAlone (r : Reading) (c : ContextId) (inv : ℕ) : Type 0 where
   pub waits : IsWaiting r inv
   pub context : (r.invocations inv).context ≡ c
-  pub small : c.0 < 16
+  pub small : c.0 < CONTEXTS_MAX
   pub alone : (other : ℕ) → IsWaiting r other → (r.invocations other).context ≡ c → other ≡ inv
 
 -- an answer comes to the invocation that waits in its context, a packet is right for the machine, and an interval ends at its end

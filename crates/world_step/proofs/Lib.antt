@@ -1,10 +1,3 @@
 pub mod NodeLemmas
 pub mod MoteLemmas
 pub mod AnswerLemmas
-pub mod EffectLemmas
-pub mod ImageLemmas
-pub mod PostLemmas
-pub mod FewLemmas
-pub mod HearLemmas
-pub mod LineLemmas
-pub mod CauseLemmas

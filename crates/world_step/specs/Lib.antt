@@ -1,3 +1,2 @@
 pub mod Motes
 pub mod Answering
-pub mod Handling

@@ -18,7 +18,7 @@ ghost use Rattle.call_waits.specs.Waiting.{WaitApart, WaitsWithin, IsAwaitedBy, 
 ghost use Rattle.world_step.specs.Answering.{answer_item, answer_items, with_call, told_by_entries};
 
 use mate_journal::{Entry, Stamped};
-use mate_num::{ContextId, FunId, NoMemory};
+use mate_num::{CONTEXTS_MAX, ContextId, FunId, NoMemory};
 use node_core::Node;
 use radio_sim::{Event, Radio};
 use script_reader::Series;
@@ -26,12 +26,9 @@ use vm_desc::Description;
 use world_air::schedule;
 use world_calls::Calls;
 
-/// How many contexts a machine has at most.
-const CONTEXTS: u8 = 16;
-
 /// Whether the invocation waits in the context.
 fn waits_in(node: &Node, ctx: ContextId, inv: u32) -> bool
-    requires { ctx.0 < 16 }
+    requires { ctx.0 < CONTEXTS_MAX }
     ensures there { result ≡ true → ((heard_of node.now).invocations inv).context ≡ ctx }
     ensures found { WaitApart (heard_of node.now) → IsWaiting (heard_of node.now) inv → ((heard_of node.now).invocations inv).context ≡ ctx → result ≡ true }
 {
@@ -45,7 +42,7 @@ fn waits_in(node: &Node, ctx: ContextId, inv: u32) -> bool
 fn context_of(node: &Node, inv: u32) -> Option<ContextId>
     ensures { WaitApart (heard_of node.now) → WaitsWithin (heard_of node.now) inv → result ≡ Some ((heard_of node.now).invocations inv).context }
 {
-    for ctx in 0..CONTEXTS {
+    for ctx in 0..CONTEXTS_MAX as u8 {
         if waits_in(node, ContextId(ctx), inv) {
             return Some(ContextId(ctx));
         }

@@ -3,10 +3,8 @@
 
 pub mod answers;
 pub mod effect;
-pub mod handling;
 pub mod mote;
 
 pub use answers::schedule_answers;
 pub use effect::Effect;
-pub use handling::handle;
 pub use mote::Mote;

@@ -1,6 +1,7 @@
 //! A node of a world with its timer, its exchange and its calls, and what events do to it.
 
 ghost use Rattle.std.specs.Prelude.{◌≡◌, ◌+◌, ◌<◌, ◌≤◌, ℕ, true, List, length, All, OnOk, IfOk, ◌⊎◌};
+ghost use Rattle.mate_num.specs.declared.bounds.TheConstants.{CONTEXTS_MAX};
 ghost use Rattle.mate_journal.specs.NodeScript.{Occasion, Answers, ShowsOnce};
 ghost use Rattle.node_invariant.specs.Meaning.{machine_in, clock_of};
 ghost use Rattle.node_calls.specs.Calls.{NobodyWaits};
@@ -74,7 +75,7 @@ impl Mote {
 
     /// The call that the context waits with is answered. Where none waits nothing is done.
     pub fn answer(&mut self, ctx: ContextId, value: i16, at: Stamp) -> Result<(), NoMemory>
-        requires context { ctx.0 < 16 }
+        requires context { ctx.0 < CONTEXTS_MAX }
         requires tellable { IsTellable self.old.node at }
         ensures { OnOk result (NobodyWaits (heard_of self.old.node) ctx ⊎ TellsAlone at (Pacing (λ _. Answers (heard_of self.old.node) ctx value)) self.old self.new) }
     {

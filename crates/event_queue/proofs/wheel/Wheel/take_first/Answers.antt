@@ -1,7 +1,7 @@
 use Rattle.std.proofs.Common.{◌≡◌, ◌∙◌, sym, ap, ℕ}
 use Rattle.std.specs.Prelude.{slice_get, None}
 use Rattle.event_queue.specs.Links.{list_at}
-use Rattle.event_queue.specs.Wheel.{near, due}
+use Rattle.event_queue.specs.Wheel.{near, wheel_due}
 use Rattle.event_queue.proofs.WheelLemmas.{due_none, not_some}
 use Rattle.event_queue.proofs.wheel.Wheel.take_first.Goals as goal
 
@@ -12,4 +12,4 @@ returns-clause-none g c =
     let group = g.T.Grouped.group_of in
     let nothing : slice_get (list_at w.chains (near w.at)) 0 ≡ None =
     ap (λ (s : ℕ). slice_get (list_at w.chains s) 0) (sym c.near_list.ensures.value) ∙ sym c.first.ensures.value ∙ not_some c.first.result c.loop-self-test.ensures in
-    sym (kept.same c.args.self.now.at) ∙ ap (λ (t : ℕ). due group w t) (sym kept.at) ∙ due_none group w kept.right nothing
+    sym (kept.same c.args.self.now.at) ∙ ap (λ (t : ℕ). wheel_due group w t) (sym kept.at) ∙ due_none group w kept.right nothing

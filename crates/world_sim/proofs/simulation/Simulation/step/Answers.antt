@@ -4,7 +4,7 @@ use Rattle.world_rules.specs.State.{state}
 use Rattle.world_step.specs.declared.mote.Mote.{Mote}
 use Rattle.world_states.specs.Coming.{code_world}
 use Rattle.world_event.specs.Performing.{MayPerform, Performed}
-use Rattle.world_sim.proofs.StepLemmas.{placed, may-perform, has-more, stands-after, found-at, well-of}
+use Rattle.world_sim.proofs.StepLemmas.{placed, of-mote, has-more, stands-after, well-of}
 use Rattle.world_sim.proofs.simulation.Simulation.step.Goals as goal
 
 pub node_of-number-requires : goal.node_of-number-requires
@@ -24,61 +24,43 @@ index_mut-mote-requires c =
 
 pub perform-requires-clause-may : goal.perform-requires-clause-may
 perform-requires-clause-may c =
-    let below = (placed c.args.desc.now c.args.world.now c.args.programs.now c.args.event.now c.args.at c.args.self.now (c.states_are_sound.ensures.next c.args.desc.now c.args.world.now c.args.programs.now c.requires.right)
-    (c.states_are_sound.ensures.dues c.args.desc.now c.args.world.now c.args.programs.now c.requires.right) c.requires.stands).low in
-    let is = c.node_of-number.ensures in
-    let count = c.requires.stands.nodes in
-    let low : c.node_of-number.result < c.args.world.now.nodes = omega (arith, below, is) in
-    let found = found-at c.args.self.now.motes.items c.from.result c.node_of-number.result c.index_mut-mote.result.now c.from.ensures (omega (arith, low, count)) c.index_mut-mote.ensures.value in (
-      c.requires.stands.moments,
-      c.requires.stands.cause,
-      may-perform c.args.desc.now c.args.world.now c.args.programs.now c.args.event.now c.args.at c.args.self.now c.node_of-number.result c.index_mut-mote.result.now c.requires.stands c.node_of-number.ensures low found,
-    )
+    let own = of-mote c.args.desc.now c.args.world.now c.args.programs.now c.args.event.now c.args.at c.args.self.now c.from.result c.node_of-number.result c.index_mut-mote.result.now
+    (c.states_are_sound.ensures.next c.args.desc.now c.args.world.now c.args.programs.now c.requires.right) (c.states_are_sound.ensures.dues c.args.desc.now c.args.world.now c.args.programs.now c.requires.right)
+    c.requires.stands c.node_of-number.ensures c.from.ensures c.index_mut-mote.ensures.value in
+    (c.requires.stands.moments, c.requires.stands.cause, own.may)
 
 pub overflow_sub-told : goal.overflow_sub-told
 overflow_sub-told c =
-    let below = (placed c.args.desc.now c.args.world.now c.args.programs.now c.args.event.now c.args.at c.args.self.now (c.states_are_sound.ensures.next c.args.desc.now c.args.world.now c.args.programs.now c.requires.right)
-    (c.states_are_sound.ensures.dues c.args.desc.now c.args.world.now c.args.programs.now c.requires.right) c.requires.stands).low in
-    let is = c.node_of-number.ensures in
-    let count = c.requires.stands.nodes in
-    let low : c.node_of-number.result < c.args.world.now.nodes = omega (arith, below, is) in
-    let found = found-at c.args.self.now.motes.items c.from.result c.node_of-number.result c.index_mut-mote.result.now c.from.ensures (omega (arith, low, count)) c.index_mut-mote.ensures.value in
-    let may = may-perform c.args.desc.now c.args.world.now c.args.programs.now c.args.event.now c.args.at c.args.self.now c.node_of-number.result c.index_mut-mote.result.now c.requires.stands c.node_of-number.ensures low found in
-    let p = c.in_ok-perform.ensures c.requires.stands.moments c.requires.stands.cause may in
+    let own = of-mote c.args.desc.now c.args.world.now c.args.programs.now c.args.event.now c.args.at c.args.self.now c.from.result c.node_of-number.result c.index_mut-mote.result.now
+    (c.states_are_sound.ensures.next c.args.desc.now c.args.world.now c.args.programs.now c.requires.right) (c.states_are_sound.ensures.dues c.args.desc.now c.args.world.now c.args.programs.now c.requires.right)
+    c.requires.stands c.node_of-number.ensures c.from.ensures c.index_mut-mote.ensures.value in
+    let p = c.in_ok-perform.ensures c.requires.stands.moments c.requires.stands.cause own.may in
     let more = (has-more (code_world c.args.desc.now c.args.world.now c.args.programs.now) c.requires.stands.moments c.requires.stands.cause c.node_of-number.result c.args.event.now c.args.at c.args.self.now.radio c.perform.new.radio
-    c.index_mut-mote.result.now c.perform.new.mote may p).told_more in
+    c.index_mut-mote.result.now c.perform.new.mote own.may p).told_more in
     let old = ap length (c.entries-entries.ensures ∙ ap (λ l. l.entries) c.log.ensures.same) in
     let new = ap length (c.entries.ensures ∙ ap (λ l. l.entries) c.log-2.ensures.same) in
     omega (arith, more, old, new)
 
 pub overflow_sub-aired : goal.overflow_sub-aired
 overflow_sub-aired c =
-    let below = (placed c.args.desc.now c.args.world.now c.args.programs.now c.args.event.now c.args.at c.args.self.now (c.states_are_sound.ensures.next c.args.desc.now c.args.world.now c.args.programs.now c.requires.right)
-    (c.states_are_sound.ensures.dues c.args.desc.now c.args.world.now c.args.programs.now c.requires.right) c.requires.stands).low in
-    let is = c.node_of-number.ensures in
-    let count = c.requires.stands.nodes in
-    let low : c.node_of-number.result < c.args.world.now.nodes = omega (arith, below, is) in
-    let found = found-at c.args.self.now.motes.items c.from.result c.node_of-number.result c.index_mut-mote.result.now c.from.ensures (omega (arith, low, count)) c.index_mut-mote.ensures.value in
-    let may = may-perform c.args.desc.now c.args.world.now c.args.programs.now c.args.event.now c.args.at c.args.self.now c.node_of-number.result c.index_mut-mote.result.now c.requires.stands c.node_of-number.ensures low found in
-    let p = c.in_ok-perform.ensures c.requires.stands.moments c.requires.stands.cause may in
+    let own = of-mote c.args.desc.now c.args.world.now c.args.programs.now c.args.event.now c.args.at c.args.self.now c.from.result c.node_of-number.result c.index_mut-mote.result.now
+    (c.states_are_sound.ensures.next c.args.desc.now c.args.world.now c.args.programs.now c.requires.right) (c.states_are_sound.ensures.dues c.args.desc.now c.args.world.now c.args.programs.now c.requires.right)
+    c.requires.stands c.node_of-number.ensures c.from.ensures c.index_mut-mote.ensures.value in
+    let p = c.in_ok-perform.ensures c.requires.stands.moments c.requires.stands.cause own.may in
     let more = (has-more (code_world c.args.desc.now c.args.world.now c.args.programs.now) c.requires.stands.moments c.requires.stands.cause c.node_of-number.result c.args.event.now c.args.at c.args.self.now.radio c.perform.new.radio
-    c.index_mut-mote.result.now c.perform.new.mote may p).aired_more in
+    c.index_mut-mote.result.now c.perform.new.mote own.may p).aired_more in
     let old = ap length c.air-air.ensures in
     let new = ap length c.air.ensures in
     omega (arith, more, old, new)
 
 pub returns : goal.returns
 returns c =
-    let below = (placed c.args.desc.now c.args.world.now c.args.programs.now c.args.event.now c.args.at c.args.self.now (c.states_are_sound.ensures.next c.args.desc.now c.args.world.now c.args.programs.now c.requires.right)
-    (c.states_are_sound.ensures.dues c.args.desc.now c.args.world.now c.args.programs.now c.requires.right) c.requires.stands).low in
-    let is = c.node_of-number.ensures in
-    let count = c.requires.stands.nodes in
-    let low : c.node_of-number.result < c.args.world.now.nodes = omega (arith, below, is) in
-    let found = found-at c.args.self.now.motes.items c.from.result c.node_of-number.result c.index_mut-mote.result.now c.from.ensures (omega (arith, low, count)) c.index_mut-mote.ensures.value in
-    let may = may-perform c.args.desc.now c.args.world.now c.args.programs.now c.args.event.now c.args.at c.args.self.now c.node_of-number.result c.index_mut-mote.result.now c.requires.stands c.node_of-number.ensures low found in
-    let p = c.in_ok-perform.ensures c.requires.stands.moments c.requires.stands.cause may in
+    let own = of-mote c.args.desc.now c.args.world.now c.args.programs.now c.args.event.now c.args.at c.args.self.now c.from.result c.node_of-number.result c.index_mut-mote.result.now
+    (c.states_are_sound.ensures.next c.args.desc.now c.args.world.now c.args.programs.now c.requires.right) (c.states_are_sound.ensures.dues c.args.desc.now c.args.world.now c.args.programs.now c.requires.right)
+    c.requires.stands c.node_of-number.ensures c.from.ensures c.index_mut-mote.ensures.value in
+    let p = c.in_ok-perform.ensures c.requires.stands.moments c.requires.stands.cause own.may in
     let more = has-more (code_world c.args.desc.now c.args.world.now c.args.programs.now) c.requires.stands.moments c.requires.stands.cause c.node_of-number.result c.args.event.now c.args.at c.args.self.now.radio c.perform.new.radio
-    c.index_mut-mote.result.now c.perform.new.mote may p in
+    c.index_mut-mote.result.now c.perform.new.mote own.may p in
     let told = more.told_more in
     let aired = more.aired_more in
     let records = more.records in
@@ -87,7 +69,7 @@ returns c =
     let new = ap length (c.entries.ensures ∙ ap (λ l. l.entries) c.log-2.ensures.same) in
     let air_old = ap length c.air-air.ensures in
     let air_new = ap length c.air.ensures in
-    stands-after c.args.desc.now c.args.world.now c.args.programs.now c.args.event.now c.args.at c.args.self.now _ c.node_of-number.result c.index_mut-mote.result.now c.perform.new.mote c.requires.stands low may p
+    stands-after c.args.desc.now c.args.world.now c.args.programs.now c.args.event.now c.args.at c.args.self.now _ c.node_of-number.result c.index_mut-mote.result.now c.perform.new.mote c.requires.stands own.low own.may p
     (well-of c.args.desc.now c.perform.new.mote.node _ p.mote.is.description c.log-2.ensures.keeps p.mote.journal)
     (ap (λ (n : ℕ). set c.args.self.now.motes.items n c.perform.new.mote) c.from.ensures)
     (omega (arith, told, aired, records, before, old, new, air_old, air_new))

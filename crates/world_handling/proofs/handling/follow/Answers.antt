@@ -1,0 +1,55 @@
+use Rattle.std.proofs.Common.{◌≡◌, ◌<◌, ℕ, List, length, Some, refl, sym, ◌∙◌, ap, subst, get_or}
+use Rattle.std.specs.Prelude.{◌⊎◌, Option, slice_get}
+use Rattle.std.proofs.lemmas.Option.{slice_get_read}
+use Rattle.std.proofs.lemmas.Result.{IfOk-weaker}
+use Rattle.mate_journal.specs.declared.program.Program.{Program}
+use Rattle.node_programs.specs.Right.{IsRightProgram}
+use Rattle.node_programs.specs.ScriptSteps.{program_at, held_or_none}
+use Rattle.node_programs.specs.Sources.{held_as}
+use Rattle.script_reader.specs.World.{IsRightWhat}
+use Rattle.script_reader.specs.declared.world.What.{What}
+use Rattle.world_rules.specs.Effect.{of_line}
+use Rattle.world_rules.specs.World.{Inject, Post, Show, ResetNode, want_of}
+use Rattle.world_step.specs.Motes.{ResetsMote, InstallsImage, LeavesImage}
+use Rattle.world_handling.specs.Handling.{DoesBy}
+use Rattle.world_handling.proofs.HearLemmas.{does-inject}
+use Rattle.world_handling.proofs.LineLemmas.{by-want, does-post, does-show, does-reset}
+use Rattle.world_handling.proofs.handling.follow.Goals as goal
+
+pub returns-in-Inject-clause-does : goal.returns-in-Inject-clause-does
+returns-in-Inject-clause-does c =
+    let ps = c.args.programs.now in
+    let old = c.args.mote.now in
+    let d = old.node.description in
+    let at = c.args.at in
+    let place = c.in-Inject.program in
+    let x : Program = c.index-as_slice-program.result in
+    let R : What → Type 0 = λ what. IsRightWhat d (length ps) what in
+    let right = subst R c.in-Inject.is c.requires.what in
+    let is : x ≡ get_or ps place x = c.index-as_slice-program.is ∙ ap (λ (xs : List Program). get_or xs place x) c.as_slice.ensures in
+    let there : slice_get ps place ≡ Some x = slice_get_read ps (length ps) place x refl right.program_high is in
+    let program : IsRightProgram d x = subst (IsRightProgram d) (sym is) (c.requires.programs place x right.program_high) in
+    let below : x.handler.0 < length d.handlers.items = subst (λ (k : ℕ). k < length d.handlers.items) program.handler program.of_machine.handler in
+    let want : want_of (program_at ps) c.args.what.now ≡ Inject (held_as x) = ap (want_of (program_at ps)) c.in-Inject.is ∙ ap (λ (o : Option Program). Inject (held_or_none o)) there in
+    IfOk-weaker c.install.result (λ r. InstallsImage at x.handler x.version x.image.items old c.install.new.self r ⊎ LeavesImage x.handler x.version x.image.items old c.install.new.self r)
+    (DoesBy at (λ _ _. of_line (want_of (program_at ps) c.args.what.now)) old c.install.new.self)
+    (λ r installs. by-want ps c.args.what.now (Inject (held_as x)) at old c.install.new.self r want (does-inject at old c.install.new.self r (held_as x) below installs)) c.install.ensures
+
+pub returns-in_ok-post-in-Post-clause-does : goal.returns-in_ok-post-in-Post-clause-does
+returns-in_ok-post-in-Post-clause-does c =
+    let h = c.in-Post.handler in
+    let payload = c.in-Post.payload in
+    by-want c.args.programs.now c.args.what.now (Post h payload) c.args.at c.args.mote.now c.post.new.self c.none.result (ap (want_of (program_at c.args.programs.now)) c.in-Post.is)
+    (does-post c.args.at c.args.mote.now c.post.new.self c.none.result h payload c.in_ok-post-in-Post.ensures c.none.ensures)
+
+pub returns-in_ok-show-in-Show-clause-does : goal.returns-in_ok-show-in-Show-clause-does
+returns-in_ok-show-in-Show-clause-does c =
+    by-want c.args.programs.now c.args.what.now Show c.args.at c.args.mote.now c.show.new.self c.none-in-Show.result (ap (want_of (program_at c.args.programs.now)) c.in-Show.is)
+    (does-show c.args.at c.args.mote.now c.show.new.self c.none-in-Show.result c.in_ok-show-in-Show.ensures c.none-in-Show.ensures)
+
+pub returns-in-Reset-clause-does : goal.returns-in-Reset-clause-does
+returns-in-Reset-clause-does c =
+    let old = c.args.mote.now in
+    let new = c.reset.new.self in
+    IfOk-weaker c.reset.result (ResetsMote c.args.at old new) (DoesBy c.args.at (λ _ _. of_line (want_of (program_at c.args.programs.now) c.args.what.now)) old new)
+    (λ r x. by-want c.args.programs.now c.args.what.now ResetNode c.args.at old new r (ap (want_of (program_at c.args.programs.now)) c.in-Reset.is) (does-reset c.args.at old new r x)) c.reset.ensures

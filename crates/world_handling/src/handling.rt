@@ -1,0 +1,234 @@
+//! An event on a node: what comes to it, and what it does beyond the node's journal, before the node has its turns.
+
+ghost use Rattle.std.specs.Prelude.{◌≡◌, ◌<◌, ◌≤◌, ℕ, [], ◌∷◌, length, slice_get, All, IfOk, OnOk};
+ghost use Rattle.mate_journal.specs.declared.air.Air.TheVariants.{Got};
+ghost use Rattle.node_invariant.specs.Meaning.{machine_in};
+ghost use Rattle.node_core.specs.View.{heard_of};
+ghost use Rattle.node_core.specs.Calls.{Pacing};
+ghost use Rattle.node_programs.specs.Right.{AreRightPrograms};
+ghost use Rattle.node_programs.specs.ScriptSteps.{program_at};
+ghost use Rattle.packet_codec.specs.Bytes.{packet_bytes};
+ghost use Rattle.packet_codec.specs.Packet.{IsRight, HasRanges};
+ghost use Rattle.packet_codec.specs.declared.packet.Packet.{Packet as RadioPacket};
+ghost use Rattle.script_reader.specs.World.{IsRightWorld, IsRightWhat};
+ghost use Rattle.world_rules.specs.Cause.{Cause};
+ghost use Rattle.world_rules.specs.Effect.{Node as NodeState, of_line, of_packet};
+ghost use Rattle.world_rules.specs.Run.{Occasions};
+ghost use Rattle.world_rules.specs.World.{want_of, is_receiver as receives};
+ghost use Rattle.world_air.specs.Air.{radio_event};
+ghost use Rattle.world_step.specs.Motes.{IsTellable, TellsAlone};
+ghost use Rattle.world_states.specs.Coming.{code_world, MayComeTo};
+ghost use Rattle.world_handling.specs.Handling.{IsMoteOf, IsFitEvent, IsOpenExchange, IsPaced, Handled, DoesBy, IsFragmentOf, receivers_below};
+
+use mate_journal::{Air, Programs};
+use mate_num::{HandlerId, NoMemory, PacketBytes, Payload, Stamp};
+use packet_codec::{Packet, decode};
+use radio_sim::Event;
+use radio_sim::wire::copy_of;
+use script_reader::{Link, What, World};
+use vm_desc::{Description, HandlerKind};
+use world_step::{Effect, Mote};
+
+/// What the event does to its node, before the node has its turns. After `NoMemory` nothing is said of the node.
+pub fn handle(
+    mote: &mut Mote,
+    desc: &Description,
+    world: &World,
+    programs: &Programs,
+    event: &Event,
+    at: Stamp,
+) -> Result<Effect, NoMemory>
+    requires machine { mote.old.node.description ≡ desc.now }
+    requires world { IsRightWorld desc.now world.now }
+    requires programs { AreRightPrograms desc.now programs.now }
+    requires files { length programs.now ≡ length world.now.files }
+    requires event { IsFitEvent desc.now world.now mote.old.timer at.time event.now }
+    requires is_open { IsOpenExchange mote.old.exchange }
+    requires handlers { length mote.old.exchange.handlers ≡ length desc.now.handlers.items }
+    requires tellable { IsTellable mote.old.node at }
+    requires few { length mote.old.node.log.entries < 1000000000 }
+    requires paced { IsPaced mote.old.node }
+    requires hour { at.time ≤ 3600000 }
+    requires within { mote.old.timer.running.begin ≤ at.time }
+    ensures handled { IfOk result (λ r. (k : ℕ) (n : NodeState) (c : Cause) → IsMoteOf (code_world desc.now world.now programs.now) k n mote.old
+        → radio_event (code_world desc.now world.now programs.now) c ≡ event.now → MayComeTo (code_world desc.now world.now programs.now) n at.time c
+        → Handled (code_world desc.now world.now programs.now) k n c at mote.old mote.new r) }
+    ensures right { IfOk result (λ r. All (IsRight (length desc.now.handlers.items)) r.sends.items) }
+{
+    match event {
+        Event::Planned(line) => {
+            let planned = &world.events.as_slice()[*line as usize];
+            follow(mote, &planned.what, programs, at)
+        }
+        Event::Period { handler, .. } => {
+            mote.post(*handler, &Payload::new(), at)?;
+            Ok(Effect::none())
+        }
+        Event::Fire { .. } => Ok(mote.fire(world.suppress)),
+        Event::Expire { .. } => Ok(mote.expire(at.time)),
+        Event::Pump { .. } => Ok(mote.pump()),
+        Event::Due { ctx, value, .. } => {
+            mote.answer(*ctx, *value, at)?;
+            Ok(Effect::none())
+        }
+        Event::Deliver {
+            link,
+            number,
+            bytes,
+        } => {
+            let link = &world.links.as_slice()[*link as usize];
+            receive(mote, desc, link, *number, bytes, at)
+        }
+    }
+}
+
+/// A line of the script comes to the node.
+fn follow(mote: &mut Mote, what: &What, programs: &Programs, at: Stamp) -> Result<Effect, NoMemory>
+    requires what { IsRightWhat mote.old.node.description (length programs.now) what.now }
+    requires programs { AreRightPrograms mote.old.node.description programs.now }
+    requires handlers { length mote.old.exchange.handlers ≡ length mote.old.node.description.handlers.items }
+    requires tellable { IsTellable mote.old.node at }
+    requires hour { at.time ≤ 3600000 }
+    requires within { mote.old.timer.running.begin ≤ at.time }
+    ensures does { IfOk result (DoesBy at (λ _ _. of_line (want_of (program_at programs.now) what.now)) mote.old mote.new) }
+    ensures silent { IfOk result (λ r. r.sends.items ≡ []) }
+{
+    match what {
+        What::Inject { program, .. } => {
+            let program = &programs.as_slice()[*program as usize];
+            mote.install(program.handler, program.version, &program.image, at)
+        }
+        What::Post { handler, payload } => {
+            mote.post(*handler, payload, at)?;
+            Ok(Effect::none())
+        }
+        What::Show => {
+            mote.show(at)?;
+            Ok(Effect::none())
+        }
+        What::Reset => mote.reset(at),
+        What::Noise { bytes } => Ok(Effect::noted(Air::Noise {
+            bytes: copy_of(bytes),
+        })),
+    }
+}
+
+/// The packet of this number comes to the node over the link.
+fn receive(
+    mote: &mut Mote,
+    desc: &Description,
+    link: &Link,
+    number: u32,
+    bytes: &PacketBytes,
+    at: Stamp,
+) -> Result<Effect, NoMemory>
+    requires machine { mote.old.node.description ≡ desc.now }
+    requires is_open { IsOpenExchange mote.old.exchange }
+    requires handlers { length mote.old.exchange.handlers ≡ length desc.now.handlers.items }
+    requires tellable { IsTellable mote.old.node at }
+    requires few { length mote.old.node.log.entries < 1000000000 }
+    requires paced { IsPaced mote.old.node }
+    requires hour { at.time ≤ 3600000 }
+    requires within { mote.old.timer.running.begin ≤ at.time }
+    ensures does { IfOk result (λ r. (packet : RadioPacket) → IsRight (length desc.now.handlers.items) packet → HasRanges packet → bytes.now.items ≡ packet_bytes desc.now.vm_id packet
+        → DoesBy at (λ w n. record (of_packet w n.exchange packet) { first = Got number link.now.from ∷ [] }) mote.old mote.new r) }
+    ensures right { IfOk result (λ r. All (IsRight (length desc.now.handlers.items)) r.sends.items) }
+{
+    let Ok(packet) = decode(desc, bytes.as_slice()) else {
+        return Ok(Effect::none());
+    };
+    let mut effect = hear(mote, desc, &packet, at)?;
+    effect.first = Some(Air::Got {
+        number,
+        from: link.from,
+    });
+    Ok(effect)
+}
+
+/// The node hears a packet.
+fn hear(mote: &mut Mote, desc: &Description, packet: &Packet, at: Stamp) -> Result<Effect, NoMemory>
+    requires machine { mote.old.node.description ≡ desc.now }
+    requires packet { IsRight (length desc.now.handlers.items) packet.now }
+    requires is_open { IsOpenExchange mote.old.exchange }
+    requires handlers { length mote.old.exchange.handlers ≡ length desc.now.handlers.items }
+    requires tellable { IsTellable mote.old.node at }
+    requires few { length mote.old.node.log.entries < 1000000000 }
+    requires paced { IsPaced mote.old.node }
+    requires hour { at.time ≤ 3600000 }
+    requires within { mote.old.timer.running.begin ≤ at.time }
+    ensures does { IfOk result (DoesBy at (λ w n. of_packet w n.exchange packet.now) mote.old mote.new) }
+    ensures right { IfOk result (λ r. All (IsRight (length desc.now.handlers.items)) r.sends.items) }
+{
+    match packet {
+        Packet::Vector { .. } => Ok(mote.hear_vector(packet, at)),
+        Packet::Status { .. } => {
+            mote.exchange.hear(packet);
+            Ok(Effect::none())
+        }
+        Packet::Fragment { version, .. } => hear_fragment(mote, packet, *version, at),
+        Packet::App { payload } => {
+            mote.exchange.hear(packet);
+            post_received(mote, desc, payload, at)?;
+            Ok(Effect::none())
+        }
+    }
+}
+
+/// The node hears a fragment of this version, and installs the image that is whole with it.
+fn hear_fragment(
+    mote: &mut Mote,
+    packet: &Packet,
+    version: u32,
+    at: Stamp,
+) -> Result<Effect, NoMemory>
+    requires packet { IsRight (length mote.old.exchange.handlers) packet.now }
+    requires fragment { IsFragmentOf version packet.now }
+    requires is_open { IsOpenExchange mote.old.exchange }
+    requires tellable { IsTellable mote.old.node at }
+    requires hour { at.time ≤ 3600000 }
+    requires within { mote.old.timer.running.begin ≤ at.time }
+    ensures does { IfOk result (DoesBy at (λ w n. of_packet w n.exchange packet.now) mote.old mote.new) }
+    ensures silent { IfOk result (λ r. r.sends.items ≡ []) }
+{
+    let heard = mote.exchange.hear(packet);
+    let Some(handler) = heard.complete else {
+        return Ok(Effect::none());
+    };
+    match mote.exchange.complete(handler) {
+        Some(image) => mote.install(handler, version, &image, at),
+        None => Ok(Effect::none()),
+    }
+}
+
+/// A message is posted to the handlers that receive messages, in their order.
+fn post_received(
+    mote: &mut Mote,
+    desc: &Description,
+    payload: &Payload,
+    at: Stamp,
+) -> Result<(), NoMemory>
+    requires machine { mote.old.node.description ≡ desc.now }
+    requires tellable { IsTellable mote.old.node at }
+    requires few { length mote.old.node.log.entries < 1000000000 }
+    requires paced { IsPaced mote.old.node }
+    ensures { OnOk result (TellsAlone at (Pacing (Occasions (machine_in desc.now) payload.now (receivers_below desc.now (length desc.now.handlers.items)) (heard_of mote.old.node))) mote.old mote.new) }
+{
+    for h in 0..desc.handlers.len() as u8 {
+        if is_receiver(desc, HandlerId(h)) {
+            // How many entries a post makes is known from what the whole journal keeps.
+            let _ = mote.node.log();
+            mote.post(HandlerId(h), payload, at)?;
+        }
+    }
+    Ok(())
+}
+
+/// Whether messages go to the handler.
+fn is_receiver(desc: &Description, handler: HandlerId) -> bool
+    ensures { result ≡ receives (slice_get desc.now.handlers.items handler.0) }
+{
+    match desc.handlers.as_slice().get(usize::from(handler.0)) {
+        Some(handler) => matches!(handler.kind, HandlerKind::Receive),
+        None => false,
+    }
+}

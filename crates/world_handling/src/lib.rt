@@ -1,0 +1,6 @@
+//! An event's own part: what comes to a node of a world, by the event.
+#![tactic(auto)]
+
+pub mod handling;
+
+pub use handling::handle;

@@ -1,0 +1,3 @@
+pub mod WorldWords
+pub mod WorldLines
+pub mod Draft
