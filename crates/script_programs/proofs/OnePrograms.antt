@@ -1,11 +1,11 @@
 -- A script's file has one script or one refusal, and so have the files that it names programs.
-use Rattle.std.proofs.Common.{◌≡◌, ◌⊎◌, inl, inr, ℕ, Bool, List, [], ◌∷◌, ◌++◌, Option, Some, None, option_to_list, Result, Ok, Err, refl, sym, ◌∙◌, ap, subst}
+use Rattle.std.proofs.Common.{◌≡◌, inl, inr, ℕ, Bool, List, [], ◌∷◌, ◌++◌, Option, Some, None, option_to_list, Result, Ok, Err, sym, ◌∙◌, ap, subst}
 use Rattle.std.specs.Global.{Vec}
 use Rattle.std.specs.Prelude.{⊤}
 use Rattle.std.proofs.lemmas.List.{append-nil}
 use Rattle.arrayvec.specs.ArrayVec.{ArrayVec}
 use Rattle.mate_num.specs.declared.id.HandlerId.{HandlerId}
-use Rattle.capsule_codec.specs.Image.{CapsuleParts, capsule_parts, image_of}
+use Rattle.capsule_codec.specs.Image.{CapsuleParts, image_of}
 use Rattle.capsule_codec.specs.declared.capsule.Capsule.{Capsule}
 use Rattle.code_verifier.specs.Verified.{VerifiedCode}
 use Rattle.mate_files.specs.Files.{Names}
@@ -15,16 +15,13 @@ use Rattle.ts_syntax.specs.declared.checked.Checked.{Checked}
 use Rattle.script_reader.specs.NodeScript.{node_script_in}
 use Rattle.script_reader.specs.Steps.{NodeScript}
 use Rattle.script_reader.specs.declared.fault.Cause.{Cause}
-use Rattle.script_reader.specs.declared.fault.ScriptFault.TheVariants.{BadLine}
 use Rattle.script_reader.specs.declared.steps.Step.{Step}
 use Rattle.script_reader.specs.declared.steps.Step.TheVariants as step
 use Rattle.source_code.specs.declared.code.CompiledScript.{CompiledScript}
 use Rattle.vm_desc.specs.declared.description.Description.{Description}
 use Rattle.mate_refusals.specs.declared.refusal.Refusal.{Refusal}
-use Rattle.mate_refusals.specs.declared.refusal.Refusal.TheVariants.{NoMemory}
-use Rattle.mate_steps.specs.OneAnswer.{Alike, AnswersAgree, steady}
-use Rattle.mate_steps.specs.Parts.{Folder}
-use Rattle.mate_steps.specs.Steps.{obtained, ◌▸◌}
+use Rattle.mate_steps.specs.OneAnswer.{AnswersAgree, steady}
+use Rattle.mate_steps.specs.Steps.{obtained}
 use Rattle.mate_steps.proofs.OneAnswer.{then_agrees, judged_agrees, SameBytes, file_agrees}
 use Rattle.mate_steps.proofs.OneCapsule.{SameCapsule, capsule_agrees}
 use Rattle.mate_steps.proofs.OneSource.{SameCompiled, source_agrees}

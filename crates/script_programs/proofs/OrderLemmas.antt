@@ -1,12 +1,12 @@
 -- The steps of a script that was read name its files in order.
-use Rattle.std.proofs.Common.{◌≡◌, ℕ, ◌+◌, Bool, true, false, List, [], ◌∷◌, ◌++◌, length, Option, Some, None, Result, Ok, Err, refl, sym, ◌∙◌, ap, subst}
+use Rattle.std.proofs.Common.{◌≡◌, ℕ, ◌+◌, Bool, true, false, List, [], ◌∷◌, ◌++◌, length, Option, Some, None, Result, Ok, Err, refl, sym, ◌∙◌, subst}
 use Rattle.std.specs.Prelude.{if◌then◌else◌, codes, slice_index}
 use Rattle.std.specs.Str.{bytes_eq}
 use Rattle.std.proofs.lemmas.List.{length_push}
 use Rattle.vm_desc.specs.declared.description.Description.{Description}
 use Rattle.script_reader.specs.Lines.{words_of, lines, is_skipped}
 use Rattle.script_reader.specs.NodeReader.{files_after}
-use Rattle.script_reader.specs.NodeScript.{Said, Progress, an_install, a_load, a_post, a_step, an_answer, alone, behind, a_line, with_file, with_said, when_said, after_line, nothing_yet, node_script_in}
+use Rattle.script_reader.specs.NodeScript.{Said, Progress, an_install, a_load, a_post, a_step, an_answer, behind, a_line, with_file, with_said, when_said, after_line, nothing_yet, node_script_in}
 use Rattle.script_reader.specs.Script.{numbered, script_from}
 use Rattle.script_reader.specs.Steps.{NodeScript}
 use Rattle.script_reader.specs.Words.{Taken, Reading, ◌>>=◌, and_then, give, found, a_word, nothing_more, a_number, a_value, a_payload, a_handler, a_version, a_context}
@@ -14,7 +14,6 @@ use Rattle.script_reader.specs.declared.fault.Cause.{Cause}
 use Rattle.script_reader.specs.declared.fault.Cause.TheVariants.{Word, Range}
 use Rattle.script_reader.specs.declared.fault.ScriptFault.{ScriptFault}
 use Rattle.script_reader.specs.declared.steps.Step.{Step}
-use Rattle.script_reader.specs.declared.steps.Step.TheVariants as step
 use Rattle.script_programs.specs.Numbers.{file_of, NamesNext, IsNumbered, NamesInOrder}
 
 -- ---- readings

@@ -1,5 +1,5 @@
 -- Programs that come from files are right.
-use Rattle.std.proofs.Common.{◌≡◌, ℕ, ◌<◌, Bool, true, false, List, Option, None, Result, Ok, Err, refl, sym, ◌∙◌, ap, subst}
+use Rattle.std.proofs.Common.{◌≡◌, ℕ, Bool, true, false, List, Option, None, Result, Ok, Err, refl, sym, ◌∙◌, ap, subst}
 use Rattle.std.specs.Prelude.{IsOk, IfSome, drop, length, if◌then◌else◌, nat_lt}
 use Rattle.arrayvec.specs.ArrayVec.{ArrayVec}
 use Rattle.mate_num.specs.declared.bounds.TheConstants.{CODE_MAX}
@@ -13,10 +13,8 @@ use Rattle.mate_code.specs.Run.{Code, code_run}
 use Rattle.mate_code.specs.Table.{table_of}
 use Rattle.mate_code.specs.Verification.{Marks, Refusal, TooLong, verification}
 use Rattle.ts_syntax.specs.Statement.{Block}
-use Rattle.ts_syntax.specs.Checked.{tree_of}
 use Rattle.ts_meaning.specs.Meaning.{run_of}
 use Rattle.ts_meaning.specs.Uses.{uses_of}
-use Rattle.ts_translation.specs.Laws.{RunsAsItsScript}
 use Rattle.ts_translation.specs.Translation as translation
 use Rattle.capsule_codec.specs.Image.{CapsuleParts, image_of, IsCapsule, IsOfMachine}
 use Rattle.code_verifier.specs.Verified.{VerifiedCode, IsVerifiedCode, marks_of}

@@ -1,12 +1,12 @@
 -- The laws of the loop over a script's steps.
-use Rattle.std.proofs.Common.{◌≡◌, inr, refl, Ok, Err, None, Some, [], ℕ, suc, ◌+◌, ◌<◌, Bool, List, ◌∷◌, ◌++◌, get_or, drop, length, option_to_list, Option, Result, sym, ◌∙◌, ap, subst, add-one, drop-cons}
+use Rattle.std.proofs.Common.{◌≡◌, inr, refl, true, false, Ok, Err, None, Some, [], ℕ, suc, ◌+◌, ◌<◌, Bool, List, ◌∷◌, ◌++◌, get_or, drop, length, option_to_list, Option, Result, sym, ◌∙◌, ap, subst, add-one, drop-cons}
 use Rattle.vm_desc.specs.declared.description.Description.{Description}
 use Rattle.mate_journal.specs.declared.program.Program.{Program}
 use Rattle.mate_refusals.specs.declared.refusal.Refusal.{Refusal}
 use Rattle.mate_refusals.specs.declared.refusal.Refusal.TheVariants.{NoMemory}
 use Rattle.mate_steps.specs.Parts.{Folder}
 use Rattle.mate_steps.specs.Steps.{Then, stops}
-use Rattle.script_programs.specs.Programs.{gives_program, step_program, programs_after, script_programs, Owing}
+use Rattle.script_programs.specs.Programs.{gives_program, names_file, step_program, programs_after, script_programs, Owing}
 use Rattle.script_reader.specs.Steps.{NodeScript}
 use Rattle.script_reader.specs.declared.steps.Step.{Step}
 use Rattle.script_reader.specs.declared.steps.Step.TheVariants as step
@@ -35,6 +35,17 @@ step_wants f d fold names step.Run = refl
 step_wants f d fold names (step.Answer ctx value) = refl
 step_wants f d fold names step.Show = refl
 step_wants f d fold names step.Reset = refl
+
+-- a step that names no file gives no program
+pub gives-nothing : (f : Folder) (d : Description) (fold : Bool) (names : List (List ℕ)) (x : Step) → names_file x ≡ false → step_program f d fold names x (Ok None)
+gives-nothing f d fold names (step.Install h version k) is = absurd (let e : true ≡ false = is in cc)
+gives-nothing f d fold names (step.Load k) is = absurd (let e : true ≡ false = is in cc)
+gives-nothing f d fold names (step.Post h payload) is = tt
+gives-nothing f d fold names (step.Step ctx n) is = tt
+gives-nothing f d fold names step.Run is = tt
+gives-nothing f d fold names (step.Answer ctx value) is = tt
+gives-nothing f d fold names step.Show is = tt
+gives-nothing f d fold names step.Reset is = tt
 
 -- a step that names a program answers with its refusal, as a `?` does
 pub gives-stops : (given : Result Program Refusal → Type 0) (e : Refusal) (answer : Result (Option Program) Refusal) → given (Err e) → IsErrAnd answer (λ y. y ≡ e) → gives_program given answer

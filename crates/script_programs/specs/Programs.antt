@@ -1,5 +1,5 @@
 -- The programs of the files that a node script names, in the order of its steps.
-use Rattle.std.specs.Prelude.{◌≡◌, ℕ, Bool, List, [], ◌∷◌, ◌++◌, slice_index_or, Option, Some, None, option_to_list, Result, Ok, Err, ⊤}
+use Rattle.std.specs.Prelude.{◌≡◌, ℕ, Bool, true, false, List, [], ◌∷◌, ◌++◌, slice_index_or, Option, Some, None, option_to_list, Result, Ok, Err, ⊤}
 use Rattle.mate_num.specs.declared.id.HandlerId.{HandlerId}
 use Rattle.capsule_codec.specs.Image.{capsule_parts, image_of}
 use Rattle.capsule_codec.specs.declared.capsule.Capsule.{Capsule}
@@ -51,6 +51,17 @@ abbrev pub gives_none : Result (Option Program) Refusal → Type 0
 gives_none (Ok None) = ⊤
 gives_none (Ok (Some p)) = ⊥
 gives_none (Err r) = r ≡ NoMemory
+
+-- a step names a file
+abbrev pub names_file : Step → Bool
+names_file (step.Install h version k) = true
+names_file (step.Load k) = true
+names_file (step.Post h payload) = false
+names_file (step.Step ctx n) = false
+names_file step.Run = false
+names_file (step.Answer ctx value) = false
+names_file step.Show = false
+names_file step.Reset = false
 
 -- the program that a step of the script names
 abbrev pub step_program : Folder → Description → Bool → List (List ℕ) → Step → Result (Option Program) Refusal → Type 0

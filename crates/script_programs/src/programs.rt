@@ -6,7 +6,7 @@ ghost use Rattle.mate_steps.specs.Parts.{ReadsFiles};
 ghost use Rattle.node_programs.specs.Right.{IsRightProgram};
 ghost use Rattle.node_programs.specs.ScriptSteps.{AreProgramsOf};
 ghost use Rattle.script_programs.specs.Numbers.{NamesInOrder};
-ghost use Rattle.script_programs.specs.Programs.{installed, loaded, step_program, script_programs};
+ghost use Rattle.script_programs.specs.Programs.{installed, loaded, names_file, step_program, script_programs};
 ghost use Rattle.script_reader.specs.Steps.{IsRightStep, IsRightSteps};
 
 use capsule_codec::{Capsule, encode};
@@ -38,10 +38,27 @@ pub fn programs_of<F: Files>(
     let names = script.files();
     let steps = script.steps();
     for step in steps {
-        let program = step_program(alloc, files, desc, fold, names, step)?;
-        push(&mut programs, program)?;
+        if names_file(step) {
+            let program = step_program(alloc, files, desc, fold, names, step)?;
+            push(&mut programs, program)?;
+        }
     }
     Ok(programs)
+}
+
+/// Whether the step names a file. Most steps of a long script name none, and nothing as large as a program is moved for them.
+fn names_file(step: &Step) -> bool
+    ensures { result ≡ names_file step.now }
+{
+    match step {
+        Step::Install { .. } | Step::Load { .. } => true,
+        Step::Post { .. }
+        | Step::Step { .. }
+        | Step::Run
+        | Step::Answer { .. }
+        | Step::Show
+        | Step::Reset => false,
+    }
 }
 
 /// Appends a program, if there is one.
@@ -142,11 +159,12 @@ fn loaded<F: Files>(
     ensures reads { ReadsFiles (F.contents files.old) (F.steady files.old) (F.faults files.old) (F.contents files.new) (F.steady files.new) (F.faults files.new) result }
     ensures right { IfOk result (IsRightProgram desc.now) }
 {
-    let (capsule, _code) = capsule_of(alloc, files, desc, name)?;
+    let held = capsule_of(alloc, files, desc, name)?;
+    let capsule = &held.capsule;
     Ok(Program {
         handler: capsule.handler,
         version: capsule.version,
         source: None,
-        image: encode(&capsule),
+        image: encode(capsule),
     })
 }

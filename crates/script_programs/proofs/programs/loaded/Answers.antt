@@ -1,6 +1,8 @@
-use Rattle.std.proofs.Common.{refl, None}
+use Rattle.std.proofs.Common.{◌≡◌, Ok, None, refl, subst, sym}
 use Rattle.capsule_codec.specs.Image.{capsule_parts}
 use Rattle.mate_journal.specs.declared.program.Program.{Program}
+use Rattle.mate_steps.specs.CapsuleFiles.{capsule}
+use Rattle.mate_steps.specs.declared.capsule_file.VerifiedCapsule.{VerifiedCapsule}
 use Rattle.mate_steps.specs.Parts.{Folder}
 use Rattle.mate_steps.specs.Steps.{goes_on}
 use Rattle.mate_steps.proofs.Laws.{stops_by}
@@ -8,18 +10,24 @@ use Rattle.script_programs.proofs.EachLemmas.{capsule-text}
 use Rattle.script_programs.proofs.RightLemmas.{IsRightProgram-loaded}
 use Rattle.script_programs.proofs.programs.loaded.Goals as goal
 
-pub returns-in_err-capsule-clause-does : goal.returns-in_err-capsule-clause-does
-returns-in_err-capsule-clause-does g c = stops_by c.in_err-capsule.field-0.0 c.from_residual.result c.in_err-capsule.ensures.does c.from_residual.ensures.1
+pub returns-in_err-held-clause-does : goal.returns-in_err-held-clause-does
+returns-in_err-held-clause-does g c = stops_by c.in_err-held.field-0.0 c.from_residual.result c.in_err-held.ensures.does c.from_residual.ensures.1
 
 pub returns-clause-does : goal.returns-clause-does
 returns-clause-does g c =
-    goes_on (c.in_ok-capsule.capsule, c.in_ok-capsule._code) c.in_ok-capsule.ensures.does
+    let f : Folder = record { told = g.F.Files.contents c.args.files.now; steady = g.F.Files.steady c.args.files.now } in
+    let held : VerifiedCapsule = c.deref.result.now in
+    let same : c.deref.result.now ≡ c.in_ok-held.held.value = cc in
+    let Is : VerifiedCapsule → Type 0 = λ h. capsule f c.args.desc.now c.args.name.now (Ok (h.capsule, h.code)) in
+    goes_on (held.capsule, held.code) (subst Is (sym same) c.in_ok-held.ensures.does)
     (record { handler = refl; version_is = refl; source = refl; image = c.encode.ensures.bytes })
 
 pub returns-clause-right : goal.returns-clause-right
 returns-clause-right g c =
     let f : Folder = record { told = g.F.Files.contents c.args.files.now; steady = g.F.Files.steady c.args.files.now } in
-    let x = c.in_ok-capsule.capsule in
-    let text = capsule-text f c.args.desc.now c.args.name.now (x, c.in_ok-capsule._code) c.in_ok-capsule.ensures.does in
-    let p : Program = record { handler = x.handler; version = x.version; source = None; image = c.encode.result } in
-    IsRightProgram-loaded c.args.desc.now c.in_ok-capsule._code (capsule_parts x) p text.1.is_verified text.1.is_for.shape_is text.1.is_for.bytes_are c.encode.ensures.fits text.1.is_for.of_machine refl refl refl c.encode.ensures.bytes
+    let held : VerifiedCapsule = c.deref.result.now in
+    let same : c.deref.result.now ≡ c.in_ok-held.held.value = cc in
+    let Is : VerifiedCapsule → Type 0 = λ h. capsule f c.args.desc.now c.args.name.now (Ok (h.capsule, h.code)) in
+    let text = capsule-text f c.args.desc.now c.args.name.now (held.capsule, held.code) (subst Is (sym same) c.in_ok-held.ensures.does) in
+    let p : Program = record { handler = held.capsule.handler; version = held.capsule.version; source = None; image = c.encode.result } in
+    IsRightProgram-loaded c.args.desc.now held.code (capsule_parts held.capsule) p text.1.is_verified text.1.is_for.shape_is text.1.is_for.bytes_are c.encode.ensures.fits text.1.is_for.of_machine refl refl refl c.encode.ensures.bytes

@@ -1,6 +1,6 @@
-use Rattle.std.proofs.Common.{◌≡◌, ℕ, ◌+◌, ◌<◌, List, [], ◌++◌, option_to_list, length, get_or, drop, Ok, Err, refl, sym, ◌∙◌, ap, subst, arith}
+use Rattle.std.proofs.Common.{◌≡◌, ℕ, ◌+◌, ◌<◌, List, [], ◌++◌, option_to_list, Option, None, length, get_or, drop, Ok, Err, refl, sym, ◌∙◌, ap, subst, arith}
 use Rattle.std.specs.Prelude.{All, IsErrAnd}
-use Rattle.std.proofs.lemmas.List.{drop_all}
+use Rattle.std.proofs.lemmas.List.{append-nil, drop_all}
 use Rattle.mate_journal.specs.declared.program.Program.{Program}
 use Rattle.mate_refusals.specs.declared.refusal.Refusal.{Refusal}
 use Rattle.mate_refusals.specs.declared.refusal.Refusal.TheVariants.{NoMemory}
@@ -9,9 +9,10 @@ use Rattle.mate_steps.specs.Steps.{goes_on}
 use Rattle.mate_steps.proofs.Laws.{stops_by, moved}
 use Rattle.node_programs.specs.Right.{IsRightProgram}
 use Rattle.script_reader.specs.declared.steps.Step.{Step}
-use Rattle.script_programs.specs.Programs.{step_program, programs_after, script_programs}
-use Rattle.script_programs.proofs.StepLaws.{at_step, step_wants, All-with}
+use Rattle.script_programs.specs.Programs.{step_program, programs_after, script_programs, Owing}
+use Rattle.script_programs.proofs.StepLaws.{at_step, gives-nothing, step_wants, All-with}
 use Rattle.script_programs.proofs.EachLemmas.{are_made}
+use Rattle.script_programs.proofs.programs.programs_of.Goals.{then-names_file+in_ok-program+in_ok-push, else-names_file}
 use Rattle.script_programs.proofs.programs.programs_of.Goals as goal
 
 pub returns-in_err-program-clause-does : goal.returns-in_err-program-clause-does
@@ -50,28 +51,44 @@ loop-step-preserved g c =
     let s = c.args.script.now in
     let i = c.loop-step.step-index in
     let x : Step = c.step-item.result in
-    let o = c.in_ok-program.program in
     let r = c.loop-step.invariant.reads in
-    let t = c.in_ok-program.ensures.reads in
     let low : i < length s.steps = subst (λ (l : List Step). i < length l) c.steps-steps.ensures c.loop-step-test.true in
     let is : x ≡ get_or s.steps i x = c.step-item.is ∙ ap (λ (l : List Step). get_or l i x) c.steps-steps.ensures in
-    let items : c.push.new.programs ≡ c.loop-step.programs ++ option_to_list o = c.in_ok-push.ensures.items in
-    let does = subst (λ (names : List (List ℕ)). step_program f d c.args.fold names x (Ok o)) c.files-names.ensures
-    (moved (λ h. step_program h d c.args.fold c.files-names.result.now x (Ok o)) r c.in_ok-program.ensures.does) in
-    record {
-      owing = record {
-        owed = λ answer left.
-            at_step f d c.args.fold s c.loop-step.programs i x x low is c.loop-step.invariant.owing answer
-            (goes_on o does (subst (λ (ps : List Program). programs_after f d c.args.fold s.files ps (drop (i + 1) s.steps) answer) items left));
-      };
-      reads = record {
-        same_told = t.same_told ∙ r.same_told;
-        same_steady = t.same_steady ∙ r.same_steady;
-        later = omega (arith, r.later, t.later);
-        counted = λ unread. absurd unread;
-      };
-      right = subst (All (IsRightProgram d)) (sym items) (All-with (IsRightProgram d) c.loop-step.programs o c.loop-step.invariant.right c.in_ok-program.ensures.right);
-    }
+    let owing : (o : Option Program) → c.if-names_file.programs ≡ c.loop-step.programs ++ option_to_list o → step_program f d c.args.fold s.files x (Ok o)
+    → Owing f d c.args.fold s c.if-names_file.programs (drop (i + 1) s.steps) =
+    λ o items does. record {
+      owed = λ answer left.
+          at_step f d c.args.fold s c.loop-step.programs i x x low is c.loop-step.invariant.owing answer
+          (goes_on o does (subst (λ (ps : List Program). programs_after f d c.args.fold s.files ps (drop (i + 1) s.steps) answer) items left));
+    } in
+    elim c.if-names_file.branch [
+      | then-names_file+in_ok-program+in_ok-push w ↦
+          (let o = w.in_ok-program.program in
+          let t = w.in_ok-program.ensures.reads in
+          let items = w.programs-is ∙ w.in_ok-push.ensures.items in
+          record {
+            owing = owing o items
+                (subst (λ (names : List (List ℕ)). step_program f d c.args.fold names x (Ok o)) c.files-names.ensures
+                (moved (λ h. step_program h d c.args.fold c.files-names.result.now x (Ok o)) r w.in_ok-program.ensures.does));
+            reads = record {
+              same_told = ap g.F.Files.contents w.files-is ∙ t.same_told ∙ r.same_told;
+              same_steady = ap g.F.Files.steady w.files-is ∙ t.same_steady ∙ r.same_steady;
+              later = omega (arith, r.later, t.later, ap g.F.Files.faults w.files-is);
+              counted = λ unread. absurd unread;
+            };
+            right = subst (All (IsRightProgram d)) (sym items) (All-with (IsRightProgram d) c.loop-step.programs o c.loop-step.invariant.right w.in_ok-program.ensures.right);
+          })
+      | else-names_file w ↦ record {
+        owing = owing None (w.programs-is ∙ sym (append-nil c.loop-step.programs)) (gives-nothing f d c.args.fold s.files x (sym c.names_file.ensures ∙ w.if-names_file.false));
+        reads = record {
+          same_told = ap g.F.Files.contents w.files-is ∙ r.same_told;
+          same_steady = ap g.F.Files.steady w.files-is ∙ r.same_steady;
+          later = omega (arith, r.later, ap g.F.Files.faults w.files-is);
+          counted = λ unread. absurd unread;
+        };
+        right = subst (All (IsRightProgram d)) (sym w.programs-is) c.loop-step.invariant.right;
+      }
+    ]
 
 pub returns-clause-programs : goal.returns-clause-programs
 returns-clause-programs g c =

@@ -1,11 +1,9 @@
-use Rattle.std.proofs.Common.{ℕ, List, [], length, Option, Some, Result, Ok, Err, refl, sym, ◌∙◌, subst}
+use Rattle.std.proofs.Common.{ℕ, List, [], length, Some, Ok, Err, sym, ◌∙◌, subst}
 use Rattle.std.proofs.lemmas.List.{get_or_default}
 use Rattle.mate_journal.specs.declared.program.Program.{Program}
-use Rattle.mate_refusals.specs.declared.refusal.Refusal.{Refusal}
 use Rattle.mate_steps.specs.Parts.{Folder}
 use Rattle.script_reader.specs.Steps.{IsRightStep}
 use Rattle.script_reader.specs.declared.steps.Step.{Step}
-use Rattle.script_reader.specs.declared.steps.Step.TheVariants as step
 use Rattle.script_programs.specs.Programs.{installed, loaded, name_at, step_program}
 use Rattle.script_programs.proofs.StepLaws.{gives-stops}
 use Rattle.script_programs.proofs.programs.step_program.Goals as goal
