@@ -2,7 +2,9 @@
 #![tactic(auto)]
 
 mod bytes;
+mod marked;
 mod tables;
 
 pub use bytes::{bytes_of, in_one_line};
-pub use tables::print_table;
+pub use marked::marked_bytes;
+pub use tables::{description, print_cases, print_table};

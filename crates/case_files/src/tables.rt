@@ -28,8 +28,25 @@ pub fn print_table<F: Fn(Global, &Description, &str) -> Result<String, AllocErro
     Ok(())
 }
 
+/// Prints a table whose cases need no machine: its name behind `##`, and each line with its answer behind ` => `.
+pub fn print_cases<F: Fn(Global, &str) -> Result<String, AllocError>>(
+    rt: &(impl Files + Print + AllocGlobal),
+    table: &str,
+    answer: F,
+) -> io::Result<()>
+    requires { F.IsAlwaysCallable answer }
+{
+    println!(rt; "## {table}")?;
+    let lines = fs::read_to_string(rt, table)?;
+    for line in lines.lines() {
+        let answer = answer(rt.alloc(), line)?;
+        println!(rt; "{line} => {answer}")?;
+    }
+    Ok(())
+}
+
 /// The built-in machine, or the one that the file of this name describes; None where that is refused.
-fn description(rt: &(impl Files + AllocGlobal), name: &str) -> io::Result<Option<Description>> {
+pub fn description(rt: &(impl Files + AllocGlobal), name: &str) -> io::Result<Option<Description>> {
     if name == "builtin" {
         return Ok(Some(builtin()));
     }

@@ -4,6 +4,7 @@
 
 pub mod folds;
 pub mod machines;
+pub mod refusals;
 pub mod rights;
 pub mod runs;
 pub mod texts;

@@ -1,11 +1,11 @@
-//! Bodies that exclude wrong bodies of `is_right`.
+//! Bodies that exclude wrong bodies of `is_right` and `push`.
 
-ghost use Rattle.std.specs.Prelude.{◌≡◌, false, pos, negsuc};
-ghost use Rattle.ts_syntax.specs.TreeOf.{block_tree};
+ghost use Rattle.std.specs.Prelude.{◌≡◌, ◌∷◌, [], false, pos, negsuc, OnOk};
+ghost use Rattle.ts_syntax.specs.TreeOf.{block_tree, block_trees, stmt_tree};
 ghost use Rattle.language_callers.specs.Scripts.{ninth_private, call_in_limit, with_step};
 
-use mate_num::{FunId, Shape};
-use ts_syntax::{CBlock, CVar, is_right};
+use mate_num::{FunId, NoMemory, Shape};
+use ts_syntax::{CBlock, CStmt, CVar, is_right};
 
 pub fn a_ninth_private_is_wrong(shape: &Shape, body: &CBlock) -> bool
     requires { block_tree body.now ≡ ninth_private }
@@ -33,4 +33,14 @@ pub fn the_lowest_step_is_wrong(shape: &Shape, body: &CBlock, variable: CVar) ->
     ensures { result ≡ false }
 {
     is_right(shape, body)
+}
+
+pub fn a_pushed_statement_is_in_the_block(
+    block: &mut CBlock,
+    statement: CStmt,
+) -> Result<(), NoMemory>
+    requires { block_trees block.old ≡ [] }
+    ensures { OnOk result (block_trees block.new ≡ stmt_tree statement ∷ []) }
+{
+    block.push(statement)
 }

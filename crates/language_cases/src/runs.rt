@@ -17,15 +17,27 @@ pub fn answer(alloc: Global, machine: &Description, case: &str) -> Result<String
     let Ok(turns) = turns.parse::<u32>() else {
         return "no turns".to_string(alloc);
     };
+    match accepted(alloc, machine, source)? {
+        Ok(script) => run(alloc, machine, &script, msg, answers, turns),
+        Err(refusal) => Ok(refusal),
+    }
+}
+
+/// The run of a script with a message and answers.
+fn run(
+    alloc: Global,
+    machine: &Description,
+    script: &Checked,
+    msg: &str,
+    answers: &str,
+    turns: u32,
+) -> Result<String, AllocError> {
     let msg = numbers(alloc, msg)?;
     let Ok(msg) = Payload::try_from(msg.as_slice()) else {
         return "a long message".to_string(alloc);
     };
     let answers = numbers(alloc, answers)?;
-    match accepted(alloc, machine, source)? {
-        Ok(script) => played(alloc, machine, &script, &msg, answers.as_slice(), turns),
-        Err(refusal) => Ok(refusal),
-    }
+    played(alloc, machine, script, &msg, answers.as_slice(), turns)
 }
 
 fn numbers(alloc: Global, text: &str) -> Result<Vec<i16>, AllocError> {

@@ -1,7 +1,7 @@
 //! Bodies that are right for one machine, and asked of another.
 
 use crate::sources::accepted;
-use crate::texts::bytes_of;
+use case_files::marked_bytes;
 use mate_num::{FunId, Shape, VarId};
 use std::alloc::{AllocError, Global};
 use ts_syntax::{CArgs, CBlock, CExpr, CForHead, CStmt, CVar, is_right};
@@ -14,7 +14,7 @@ pub fn answer(alloc: Global, machine: &Description, case: &str) -> Result<String
     let Some((other, source)) = case.split_once(" | ") else {
         return "not two parts".to_string(alloc);
     };
-    let Ok(other) = read(alloc, bytes_of(alloc, other)?.as_slice()) else {
+    let Ok(other) = read(alloc, marked_bytes(alloc, other)?.as_slice()) else {
         return "no machine".to_string(alloc);
     };
     match accepted(alloc, machine, source)? {
@@ -25,22 +25,13 @@ pub fn answer(alloc: Global, machine: &Description, case: &str) -> Result<String
 
 /// Whether a body or a shape of that name, which no text spells, is right.
 pub fn unspelled(alloc: Global, machine: &Description, name: &str) -> Result<String, AllocError> {
-    let shape = shape(machine);
     let mut body = CBlock::new(alloc);
-    let call = CExpr::Call(FunId(0), CArgs::new(alloc));
-    let pushed = match name {
-        "private 7" => body.push(CStmt::Set(CVar::Private(7), call)),
-        "private 8" => body.push(CStmt::Set(CVar::Private(8), call)),
-        "call in a limit" => body.push(counting(alloc, call, 1)),
-        "step 1" => body.push(counting(alloc, CExpr::MsgSize, 1)),
-        "step 0" => body.push(counting(alloc, CExpr::MsgSize, 0)),
-        "step -32767" => body.push(counting(alloc, CExpr::MsgSize, -32767)),
-        "step -32768" => body.push(counting(alloc, CExpr::MsgSize, -32768)),
-        _ => Ok(()),
-    };
-    if pushed.is_err() {
-        return "no memory".to_string(alloc);
+    if let Some(statement) = statement(alloc, name) {
+        if body.push(statement).is_err() {
+            return "no memory".to_string(alloc);
+        }
     }
+    let shape = shape(machine);
     let shared = if name == "17 shared variables" {
         17
     } else {
@@ -52,6 +43,24 @@ pub fn unspelled(alloc: Global, machine: &Description, name: &str) -> Result<Str
         functions: shape.functions,
     };
     format!(in alloc; "{}", is_right(&shape, &body))
+}
+
+/// The one statement of a body of that name, if it has one.
+fn statement(alloc: Global, name: &str) -> Option<CStmt> {
+    match name {
+        "private 7" => Some(CStmt::Set(CVar::Private(7), first_call(alloc))),
+        "private 8" => Some(CStmt::Set(CVar::Private(8), first_call(alloc))),
+        "call in a limit" => Some(counting(alloc, first_call(alloc), 1)),
+        "step 1" => Some(counting(alloc, CExpr::MsgSize, 1)),
+        "step 0" => Some(counting(alloc, CExpr::MsgSize, 0)),
+        "step -32767" => Some(counting(alloc, CExpr::MsgSize, -32767)),
+        "step -32768" => Some(counting(alloc, CExpr::MsgSize, -32768)),
+        _ => None,
+    }
+}
+
+fn first_call(alloc: Global) -> CExpr {
+    CExpr::Call(FunId(0), CArgs::new(alloc))
 }
 
 /// `for a = 0 to to step step next a`

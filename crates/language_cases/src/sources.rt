@@ -1,6 +1,6 @@
 //! Sources and what they are for a machine.
 
-use crate::texts::bytes_of;
+use case_files::marked_bytes;
 use std::alloc::{AllocError, Global};
 use ts_source::{SourceRefusal, accept};
 use ts_syntax::Checked;
@@ -20,7 +20,7 @@ pub fn accepted(
     machine: &Description,
     source: &str,
 ) -> Result<Result<Checked, String>, AllocError> {
-    let bytes = bytes_of(alloc, source)?;
+    let bytes = marked_bytes(alloc, source)?;
     if bytes.len() > 1_048_576 {
         return Ok(Err("too long".to_string(alloc)?));
     }

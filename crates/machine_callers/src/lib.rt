@@ -4,6 +4,7 @@
 pub mod capsules;
 pub mod code;
 pub mod examples;
+pub mod lines;
 pub mod numbers;
 pub mod parts;
 pub mod queues;

@@ -9,7 +9,8 @@ use case_files::in_one_line;
 use mate_files::{MemSink, SinkFault};
 use mate_journal::{Air, Aired, Airs, Entry, NodeLog, NodeLogs, Report, Stamped};
 use mate_num::{NoMemory, Stamp, Store};
-use report_text::{brief, write, write_end};
+use report_summary::brief;
+use report_text::{write, write_end};
 use std::alloc::{AllocError, Global};
 use vm_desc::Description;
 

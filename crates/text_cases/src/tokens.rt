@@ -1,6 +1,6 @@
 //! Texts and their tokens.
 
-use crate::texts::bytes_of;
+use case_files::marked_bytes;
 use std::alloc::{AllocError, Global};
 use ts_lexer::{TokenFault, tokens};
 use ts_syntax::{Token, TokenKind};
@@ -10,7 +10,7 @@ const PRINTED: usize = 100;
 
 /// The tokens of a text with their places, names quoted; the number of them where they are over 100; or the first fault.
 pub fn answer(alloc: Global, case: &str) -> Result<String, AllocError> {
-    let bytes = bytes_of(alloc, case)?;
+    let bytes = marked_bytes(alloc, case)?;
     if bytes.len() > 1_048_576 {
         return "too long".to_string(alloc);
     }

@@ -1,9 +1,9 @@
-//! The bytes that the text of a case stands for.
+//! The bytes that a text with marks stands for.
 
 use std::alloc::{AllocError, Global};
 
 /// The bytes of a text in which `⏎` stands for the end of a line, `⟨3×ab⟩` for `ababab`, and `⟨255⟩` for that byte.
-pub fn bytes_of(alloc: Global, text: &str) -> Result<Vec<u8>, AllocError> {
+pub fn marked_bytes(alloc: Global, text: &str) -> Result<Vec<u8>, AllocError> {
     let text = text.replace(alloc, "⏎", "\n")?;
     let mut bytes = Vec::new(alloc);
     for piece in text.split("⟩") {

@@ -1,13 +1,13 @@
 //! Sources as scripts with procedures.
 
-use crate::texts::bytes_of;
+use case_files::marked_bytes;
 use std::alloc::{AllocError, Global};
 use ts_parser::{SourceFault, parse_procedures, tokens_in};
 use ts_syntax::{Dialect, ProcScript};
 
 /// That a source is a script with procedures, or its first fault.
 pub fn answer(alloc: Global, case: &str) -> Result<String, AllocError> {
-    let bytes = bytes_of(alloc, case)?;
+    let bytes = marked_bytes(alloc, case)?;
     match script(alloc, bytes.as_slice()) {
         Ok(_) => "accepted".to_string(alloc),
         Err(SourceFault::BadByte { place }) => format!(in alloc; "byte {place}"),

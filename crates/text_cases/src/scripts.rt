@@ -1,6 +1,6 @@
 //! Sources as scripts, without a machine.
 
-use crate::texts::bytes_of;
+use case_files::marked_bytes;
 use mate_files::MemSink;
 use std::alloc::{AllocError, Global};
 use ts_parser::{SourceFault, parse, tokens};
@@ -9,7 +9,7 @@ use ts_syntax::Script;
 
 /// That a source is a script, or its first fault.
 pub fn answer(alloc: Global, case: &str) -> Result<String, AllocError> {
-    let bytes = bytes_of(alloc, case)?;
+    let bytes = marked_bytes(alloc, case)?;
     match script(alloc, bytes.as_slice()) {
         Ok(_) => "script".to_string(alloc),
         Err(SourceFault::Unexpected { place }) => format!(in alloc; "unexpected {place}"),
@@ -33,7 +33,7 @@ pub fn printed(alloc: Global, case: &str) -> Result<String, AllocError> {
     let Some((call, source)) = case.split_once(" | ") else {
         return "not two parts".to_string(alloc);
     };
-    let Ok(script) = script(alloc, bytes_of(alloc, source)?.as_slice()) else {
+    let Ok(script) = script(alloc, marked_bytes(alloc, source)?.as_slice()) else {
         return "no script".to_string(alloc);
     };
     let mut out = MemSink::new(alloc);

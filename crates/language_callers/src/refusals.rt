@@ -1,0 +1,35 @@
+//! Refusals that exclude wrong lines of `refuse`.
+
+ghost use Rattle.std.specs.Prelude.{◌++◌, codes, decimal};
+ghost use Rattle.mate_refusals.specs.declared.status.Status.TheVariants.{BadSource, FileFault};
+ghost use Rattle.language_callers.specs.Refused.{TellsAs};
+
+use mate_files::Sink;
+use mate_num::Text;
+use mate_refusals::{Cause, ExpansionCause, Refusal, Status, Unread};
+use ts_compiler::CompileFault;
+
+pub fn a_deep_script_is_told_with_its_depth<E: Sink>(err: &mut E, name: Text, need: u32) -> Status
+    ensures { TellsAs BadSource (codes "bad source " ++ name ++ codes " " ++ (codes "depth " ++ decimal need ++ codes "\n"))
+        (E.written err.old) (E.faults err.old) (E.written err.new) (E.faults err.new) result }
+{
+    Refusal::InFile(name, Cause::Code(CompileFault::StackDepth { need })).refuse(err)
+}
+
+pub fn a_reserved_name_is_told_with_its_place<E: Sink>(
+    err: &mut E,
+    name: Text,
+    place: u32,
+) -> Status
+    ensures { TellsAs BadSource (codes "bad source " ++ name ++ codes " " ++ (codes "reserved " ++ decimal place ++ codes "\n"))
+        (E.written err.old) (E.faults err.old) (E.written err.new) (E.faults err.new) result }
+{
+    Refusal::InFile(name, Cause::Expansion(ExpansionCause::Reserved { place })).refuse(err)
+}
+
+pub fn a_large_file_is_told_by_its_name<E: Sink>(err: &mut E, name: Text) -> Status
+    ensures { TellsAs FileFault (codes "file large " ++ name ++ codes "\n")
+        (E.written err.old) (E.faults err.old) (E.written err.new) (E.faults err.new) result }
+{
+    Refusal::InFile(name, Cause::Unread(Unread::Large)).refuse(err)
+}
