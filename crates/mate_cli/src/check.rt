@@ -1,14 +1,12 @@
 //! The command `check`.
 
-ghost use Rattle.std.specs.Prelude.{◌≡◌, IfOk, IfSome};
+ghost use Rattle.std.specs.Prelude.{◌≡◌, IfOk};
 ghost use Rattle.mate_cli.specs.Outputs.{CanBeWritten};
 ghost use Rattle.mate_steps.specs.Parts.{ReadsFiles};
 ghost use Rattle.mate_cli.specs.Check.{check};
 
-use crate::document::{Document, Listing};
+use crate::document::Document;
 use crate::output::Output;
-use capsule_codec::Capsule;
-use code_verifier::Verified;
 use mate_files::Files;
 use mate_refusals::Refusal;
 use mate_steps::{capsule_of, machine_of};
@@ -27,16 +25,6 @@ pub fn output<F: Files>(
     ensures writable { IfOk result CanBeWritten }
 {
     let desc = machine_of(alloc, files, vm)?;
-    let (capsule, code) = capsule_of(alloc, files, &desc, name)?;
-    let Some(listing) = boxed(alloc, capsule, code) else {
-        return Err(Refusal::NoMemory);
-    };
-    Ok(Output::Document(Document::Listing(desc, listing)))
-}
-
-/// None comes for want of memory.
-fn boxed(alloc: Global, capsule: Capsule, code: Verified) -> Option<Box<Listing>>
-    ensures { IfSome result (λ listing. listing.value ≡ record { capsule = capsule; code = code }) }
-{
-    Box::new(alloc, Listing { capsule, code }).ok()
+    let capsule = capsule_of(alloc, files, &desc, name)?;
+    Ok(Output::Document(Document::Listing(desc, capsule)))
 }

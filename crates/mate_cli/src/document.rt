@@ -6,24 +6,16 @@ ghost use Rattle.mate_cli.specs.Documents.{script_line};
 ghost use Rattle.mate_files.specs.Sink.{Puts};
 ghost use Rattle.ts_syntax.specs.Seen.{source_of};
 
-use capsule_codec::Capsule;
 use capsule_listing::print_capsule;
-use code_verifier::Verified;
 use mate_files::{Pen, Sink, SinkFault};
 use mate_journal::Report;
 use mate_num::Image;
+use mate_steps::VerifiedCapsule;
 use ts_printer::print;
 use ts_syntax::Script;
 use vm_desc::Description;
 
-/// A capsule of a machine, with its verified code.
-#[derive(Drop)]
-pub struct Listing {
-    pub capsule: Capsule,
-    pub code: Verified,
-}
-
-/// What the text of a document is made from. A listing is boxed: it is far larger than the others.
+/// What the text of a document is made from. A capsule with its code is boxed: it is far larger than the others.
 #[derive(Drop)]
 pub enum Document {
     /// The summary of a report of this machine.
@@ -33,7 +25,7 @@ pub enum Document {
     /// The image of a capsule, in hexadecimal digits.
     Capsule(Image),
     /// The text of a capsule of this machine.
-    Listing(Description, Box<Listing>),
+    Listing(Description, Box<VerifiedCapsule>),
     /// The tokens of a plain script, in one line.
     Expansion(Script),
 }
@@ -48,12 +40,10 @@ impl Document {
         ensures { Puts (S.written out.old) (S.faults out.old) (S.written out.new) (S.faults out.new) result (document_text self.now) }
     {
         match self {
-            Document::Summary(desc, report) => report_text::brief(desc, report, out),
+            Document::Summary(desc, report) => report_summary::brief(desc, report, out),
             Document::OpcodeTable(desc) => opcode_gen::print_table(desc, out),
             Document::Capsule(image) => write_image(image, out),
-            Document::Listing(desc, listing) => {
-                print_capsule(desc, &listing.capsule, &listing.code, out)
-            }
+            Document::Listing(desc, held) => { print_capsule(desc, &held.capsule, &held.code, out) }
             Document::Expansion(script) => write_script(script, out),
         }
     }

@@ -1,7 +1,9 @@
 -- What a file is that should hold a capsule in hexadecimal digits: a capsule of the machine with code that the verifier takes, or the first refusal.
-use Rattle.std.specs.Prelude.{◌≡◌, ℕ, List, Result, Ok, Err}
+use Rattle.std.specs.Prelude.{◌≡◌, ℕ, List, Option, Some, None, Result, Ok, Err, ⊤}
+use Rattle.std.specs.declared.alloc.Global.{Global}
+use Rattle.std.specs.declared.boxed.Box.{Box}
 use Rattle.arrayvec.specs.ArrayVec.{ArrayVec}
-use Rattle.capsule_codec.specs.Image.{CapsuleParts, capsule_parts, image_of}
+use Rattle.capsule_codec.specs.Image.{CapsuleParts, capsule_parts, image_of, IsOfMachine}
 use Rattle.capsule_codec.specs.Reading.{capsule_in}
 use Rattle.capsule_codec.specs.HexText.{image_in}
 use Rattle.capsule_codec.specs.declared.capsule.Capsule.{Capsule}
@@ -16,6 +18,7 @@ use Rattle.vm_desc.specs.declared.description.Description.{Description}
 use Rattle.mate_refusals.specs.declared.cause.Cause.TheVariants as cause
 use Rattle.mate_refusals.specs.declared.refusal.Refusal.{Refusal}
 use Rattle.mate_refusals.specs.declared.refusal.Refusal.TheVariants.{InFile}
+use Rattle.mate_steps.specs.declared.capsule_file.VerifiedCapsule.{VerifiedCapsule}
 use Rattle.mate_steps.specs.Parts.{Folder, file}
 use Rattle.mate_steps.specs.Steps.{judged, ◌▸◌}
 use Rattle.mate_refusals.specs.declared.capsule_cause.CapsuleCause.{CapsuleCause}
@@ -54,10 +57,21 @@ RefusesText d text (Digits fault) = image_in text ≡ Err fault
 RefusesText d text (Image fault) = SpellsNoCapsule d text fault
 RefusesText d text (Code fault) = SpellsUnverified d text fault
 
--- the capsule that a text spells with its verified code, or why there is none
-abbrev pub ReadsText : Description → List ℕ → Result (Capsule × VerifiedCode) CapsuleCause → Type 0
-ReadsText d text (Ok pair) = SpellsVerified d text (capsule_parts pair.0) pair.1
+-- the capsule that a text spells, before its code is verified, or why there is none
+abbrev pub ReadsCapsule : Description → List ℕ → Result Capsule CapsuleCause → Type 0
+ReadsCapsule d text (Ok c) = SpellsCapsule d text (capsule_parts c) × IsOfMachine d (capsule_parts c)
+ReadsCapsule d text (Err r) = RefusesText d text r
+
+-- the capsule that a text spells with its verified code, or why there is none; or memory is wanting
+abbrev pub ReadsText : Description → List ℕ → Result (Option (Box VerifiedCapsule Global)) CapsuleCause → Type 0
+ReadsText d text (Ok (Some c)) = SpellsVerified d text (capsule_parts c.value.capsule) c.value.code
+ReadsText d text (Ok None) = ⊤
 ReadsText d text (Err r) = RefusesText d text r
+
+-- what the program holds of a capsule with its verified code
+abbrev pub held_pair : Result (Box VerifiedCapsule Global) Refusal → Result (Capsule × VerifiedCode) Refusal
+held_pair (Ok c) = Ok (c.value.capsule, c.value.code)
+held_pair (Err r) = Err r
 
 -- ---- steps
 

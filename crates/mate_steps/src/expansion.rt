@@ -9,6 +9,7 @@ use crate::parts::read_file;
 use mate_files::Files;
 use mate_refusals::{Cause, ExpansionCause, Refusal, in_file};
 use std::alloc::Global;
+use std::mem;
 use ts_procs::{PScript, ProcFault, expand, read};
 use ts_syntax::Script;
 
@@ -27,7 +28,10 @@ fn expanded_bytes(alloc: Global, name: &str, bytes: &[u8]) -> Result<Script, Ref
     ensures { expanded_bytes name.now bytes.now result }
 {
     let script = script_with_procedures(alloc, name, bytes)?;
-    expanded_script(alloc, name, &script)
+    let plain = expanded_script(alloc, name, &script);
+    // a command ends soon behind it: its memory goes back as a whole, and not node by node
+    mem::forget(script);
+    plain
 }
 
 /// The script with procedures that the bytes of the source `name` spell.

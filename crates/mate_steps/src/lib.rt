@@ -6,7 +6,7 @@ pub mod expansion;
 pub mod parts;
 pub mod source;
 
-pub use capsule_file::capsule_of;
+pub use capsule_file::{VerifiedCapsule, capsule_of};
 pub use expansion::expansion_of;
 pub use parts::{machine_of, read_file};
 pub use source::{accepted, source_of};
