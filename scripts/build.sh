@@ -3,7 +3,7 @@
 #
 # A program is named by a sum over all that it is made from: the texts of the crates that it stands on, HANDLES and the
 # kit. So one that exists under its name is never old, whatever the times of files say. Crates are copied to a folder of
-# the user's cache and proved there, side by side: the checkout may be read-only, and may be edited meanwhile.
+# the user's cache, and scripts/prove-crates proves them there: the checkout may be read-only, and may be edited meanwhile.
 set -u
 name=mate
 
@@ -68,39 +68,25 @@ times_of() {
     } 2>/dev/null | cksum
 }
 
-# Copies the texts that the program is made from to $2, and drops there what is no longer part of it.
+# Copies all that the program is made from to $2.
 copy_texts() {
-    mkdir -p "$2/crates" && cp -p "$1/HANDLES" "$2/" || return 1
-    : >"$2/crates.txt.new"
+    rm -rf "$2/crates" && mkdir -p "$2/crates" && cp -p "$1/HANDLES" "$2/" && kit_line >"$2/kit" || return 1
+    : >"$2/crates.txt"
     for crate in $(needed_crates "$1"); do
-        mkdir -p "$2/crates/$crate" || return 1
+        mkdir "$2/crates/$crate" || return 1
         for part in src specs proofs; do
-            rm -rf "$2/crates/$crate/$part"
             [ ! -d "$1/crates/$crate/$part" ] || cp -Rp "$1/crates/$crate/$part" "$2/crates/$crate/" || return 1
         done
-        chmod -R u+w "$2/crates/$crate" || return 1
-        grep "^$crate *[: ]" "$1/crates.txt" >>"$2/crates.txt.new"
+        grep "^$crate *[: ]" "$1/crates.txt" >>"$2/crates.txt"
     done
-    mv "$2/crates.txt.new" "$2/crates.txt"
+    chmod -R u+w "$2/crates"
 }
 
-# One job a processor, and one for each 2.5 GB of free memory.
+# $MATE_JOBS, or one job a processor, and one for each 2.5 GB of free memory.
 jobs() {
-    awk -v most="$(nproc)" '/^MemAvailable/ { jobs = int($2 / 2500000) } END { print jobs < 1 ? 1 : jobs < most ? jobs : most }' /proc/meminfo
-}
-
-# Proves the copied crates side by side, with a line for each, and then builds the program.
-prove() {
-    cd "$work" || return 1
-    count=$(needed_crates "$work" | wc -l)
-    say "proving $count crates on $(jobs) processors (the first time takes some minutes)"
-    rt all check --jobs "$(jobs)" 2>&1 </dev/null | tee "$work/log" | awk -v name="$name" -v count="$count" '
-        /^== summary/ { done = 1 }
-        /^== / && !done { printf "%s: proving %d of %d: %s\n", name, ++n, count, $2 | "cat >&2"; fflush("cat >&2") }'
-    cd "$work/crates/$name" || return 1
-    rm -f "out/$name"
-    rt run -- --help >>"$work/log" 2>&1 </dev/null
-    [ -x "out/$name" ]
+    awk -v most="$(nproc)" -v asked="${MATE_JOBS-}" '
+        /^MemAvailable/ { jobs = int($2 / 2500000) }
+        END { print (asked + 0 > 0 ? int(asked) : jobs < 1 ? 1 : jobs < most ? jobs : most) }' /proc/meminfo
 }
 
 # Builds the program whose texts are those of the checkout by now; $cache/lock is held.
@@ -112,18 +98,14 @@ build() {
     sum=$(sum_of "$work")
     [ ! -x "$cache/$sum/$name" ] || return 0
     # in a process group of its own, so that a stopped script stops all that it started
-    setsid sh "$top/scripts/build.sh" prove "$work" &
+    setsid python3 "$top/scripts/prove-crates" "$work" "$name" "$(jobs)" &
     prover=$!
     trap 'env kill -TERM -- "-$prover" 2>/dev/null; exit 130' INT TERM HUP
     wait "$prover"
     status=$?
     trap - INT TERM HUP
-    if [ "$status" -ne 0 ]; then
-        tail -n 40 "$work/log" >&2
-        say "the build failed; its log is $work/log"
-        return 1
-    fi
-    mkdir -p "$cache/$sum" && cp "$work/crates/$name/out/$name" "$cache/$sum/$name.new" && mv "$cache/$sum/$name.new" "$cache/$sum/$name"
+    [ "$status" -eq 0 ] || { say "the build failed"; return 1; }
+    mkdir -p "$cache/$sum" && cp "$work/rooms/$name/crates/$name/out/$name" "$cache/$sum/$name.new" && mv "$cache/$sum/$name.new" "$cache/$sum/$name"
 }
 
 build_program() {
@@ -147,8 +129,3 @@ build_program() {
         echo "$times $sum" >"$cache/last.$$" && mv "$cache/last.$$" "$cache/last"
     fi
 }
-
-if [ "${1-}" = prove ] && [ $# -eq 2 ] && [ "${0##*/}" = build.sh ]; then
-    work=$2
-    prove
-fi
