@@ -14,18 +14,17 @@ const OUT_BLOCK: usize = 65_536;
 
 fn main(rt: HostRuntime) -> ExitCode {
     let mut err = OsSink::new(rt.stderr());
-    let status = match (
-        words(&rt),
-        BufWriter::with_capacity(rt.alloc(), OUT_BLOCK, io::writer(&rt)),
-    ) {
-        (Ok(words), Ok(writer)) => {
-            let mut files = OsFiles::new(rt.alloc(), &rt);
-            let mut out = OsSink::new(writer);
-            let status = mate(rt.alloc(), &words, &mut files, &mut out, &mut err);
-            flushed(status, out.into_inner(), &mut err)
-        }
-        (Err(refusal), _) => refusal.refuse(&mut err),
-        (_, Err(_)) => Refusal::NoMemory.refuse(&mut err),
+    let status = match words(&rt) {
+        Ok(words) => match BufWriter::with_capacity(rt.alloc(), OUT_BLOCK, io::writer(&rt)) {
+            Ok(writer) => {
+                let mut files = OsFiles::new(rt.alloc(), &rt);
+                let mut out = OsSink::new(writer);
+                let status = mate(rt.alloc(), &words, &mut files, &mut out, &mut err);
+                flushed(status, out.into_inner(), &mut err)
+            }
+            Err(_) => Refusal::NoMemory.refuse(&mut err),
+        },
+        Err(refusal) => refusal.refuse(&mut err),
     };
     ExitCode::from(status.code())
 }
