@@ -57,12 +57,16 @@ impl<T> Items<T> {
         self.items.as_slice()
     }
 
-    /// Appends `item`. `NoMemory` leaves the list as it was.
+    /// Appends `item`. `NoMemory` leaves the list as it was. The first item takes room for itself alone, since many
+    /// lists have but one, as the blocks and the arguments of a script.
     pub fn push(&mut self, item: T) -> Result<(), NoMemory>
     where
         T: Drop,
         ensures { MatchResult result (λ _. self.new ≡ self.old ++ item ∷ []) (λ _. self.new ≡ self.old) }
     {
+        if self.items.is_empty() {
+            self.items.reserve_exact(1)?;
+        }
         self.items.push(item)?;
         Ok(())
     }

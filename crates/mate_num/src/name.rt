@@ -1,26 +1,30 @@
 //! Names of handlers, functions, variables, buffers and devices.
 
-ghost use Rattle.std.specs.Prelude.{◌≡◌, ℕ, ◌<◌, ◌≤◌, List, [], length, MatchOption, IsUtf8, IfOk, Some};
+ghost use Rattle.std.specs.Prelude.{◌≡◌, ℕ, ◌<◌, ◌≤◌, ◌==◌, List, [], length, MatchOption, IsUtf8, IfOk, Some};
+ghost use Rattle.std.specs.Cmp.{partial_equiv_from_equiv};
+ghost use Rattle.std.specs.Cmp.Lexicographic.{pointwise, nat_list_eq_equiv};
 ghost use Rattle.mate_num.specs.Names.{IsName};
 
-use arrayvec::ArrayVec;
 use std::fmt;
 use std::marker::Model;
 
 /// A text of at most 16 bytes. Contracts see its bytes.
-#[derive(PartialEq, Eq, Debug, Drop)]
+#[derive(Drop)]
 pub struct Name {
-    bytes: ArrayVec<u8, 16>,
+    // The text's bytes, and any others behind them. A name is small, since a source's tokens and trees hold many.
+    bytes: [u8; 16],
+    // How many of them are the text's.
+    len: u8,
 }
 
 impl Model for Name {
+    ghost use Rattle.std.specs.Prelude.{◌≡◌, ◌≤◌, ℕ, List, length, take, IsUtf8};
+
     ghost Value = { List ℕ };
 
-    ghost view = { λ n. n.bytes.items };
+    ghost view = { λ n. take n.len n.bytes };
 
-    ghost invariant = { λ n. IsUtf8 n.bytes.items };
-
-    ghost inverse = { λ bytes. record { bytes = record { items = bytes } } };
+    ghost invariant = { λ n. (n.len ≤ 16) × (length n.bytes ≡ 16) × IsUtf8 (take n.len n.bytes) };
 }
 
 impl Name {
@@ -31,10 +35,16 @@ impl Name {
     pub fn new(text: &str) -> Option<Name>
         ensures { MatchOption result (16 < length text.now) (λ name. name ≡ text.now) }
     {
-        match ArrayVec::try_from(text.as_bytes()) {
-            Ok(bytes) => Some(Name { bytes }),
-            Err(_) => None,
+        let text = text.as_bytes();
+        if text.len() > Name::MAX {
+            return None;
         }
+        let mut bytes = [0; 16];
+        bytes[..text.len()].copy_from_slice(text);
+        Some(Name {
+            bytes,
+            len: text.len() as u8,
+        })
     }
 
     /// The name that these bytes spell; None exactly where they are more than 16 or not UTF-8.
@@ -51,14 +61,14 @@ impl Name {
         ensures value { result.now ≡ self.now }
         ensures fits { length self.now ≤ 16 }
     {
-        self.bytes.as_slice()
+        &self.bytes[..self.len as usize]
     }
 
     pub fn as_str(&self) -> &str
         ensures value { result.now ≡ self.now }
         ensures fits { length self.now ≤ 16 }
     {
-        let Ok(text) = str::from_utf8(self.bytes.as_slice()) else {
+        let Ok(text) = str::from_utf8(&self.bytes[..self.len as usize]) else {
             unreachable!()
         };
         text
@@ -68,11 +78,26 @@ impl Name {
     pub fn copy(&self) -> Name
         ensures { result ≡ self.now }
     {
-        let Ok(bytes) = ArrayVec::try_from(self.bytes.as_slice()) else {
-            unreachable!()
-        };
-        Name { bytes }
+        Name {
+            bytes: self.bytes,
+            len: self.len,
+        }
     }
+}
+
+/// Two names are equal exactly where their bytes are.
+impl PartialEq for Name {
+    ghost eq = { pointwise ◌==◌ };
+
+    ghost laws = { partial_equiv_from_equiv nat_list_eq_equiv };
+
+    fn eq(&self, other: &Name) -> bool {
+        self.as_bytes() == other.as_bytes()
+    }
+}
+
+impl Eq for Name {
+    ghost laws = { nat_list_eq_equiv };
 }
 
 impl Default for Name {
@@ -80,7 +105,8 @@ impl Default for Name {
 
     fn default() -> Name {
         Name {
-            bytes: ArrayVec::new(),
+            bytes: [0; 16],
+            len: 0,
         }
     }
 }
@@ -90,5 +116,13 @@ impl fmt::Display for Name {
 
     fn fmt<W: fmt::Write>(&self, f: &mut fmt::Formatter<W>) -> fmt::Result {
         f.write_str(self.as_str())
+    }
+}
+
+impl fmt::Debug for Name {
+    fn fmt<W: fmt::Write>(&self, f: &mut fmt::Formatter<W>) -> fmt::Result {
+        f.debug_struct("Name")
+            .field("bytes", &self.as_bytes())
+            .finish()
     }
 }

@@ -1,1 +1,2 @@
 pub mod ExprLemmas
+pub mod OperatorLemmas

@@ -6,7 +6,7 @@ ghost use Rattle.ts_lexer.specs.Answers.{Cuts, CutsIn};
 use crate::fault::TokenFault;
 use crate::spans::{
     begins_with_letter, digits_len, is_blank, is_digit, is_letter, line_len, literal_value,
-    name_len, sign, word,
+    name_len, name_text, sign, word,
 };
 use mate_num::{Items, Name};
 use std::alloc::Global;
@@ -106,9 +106,7 @@ impl<'a> Scanner<'a> {
             let place = from + Name::MAX as u32;
             return Err(TokenFault::BadByte { place });
         }
-        let Ok(text) = str::from_utf8(self.take(len)) else {
-            unreachable!()
-        };
+        let text = name_text(self.take(len));
         self.push(word(self.dialect, text), from)
     }
 

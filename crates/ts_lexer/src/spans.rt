@@ -48,6 +48,14 @@ pub fn name_len(bytes: &[u8]) -> usize
         .count()
 }
 
+/// Bytes that can stand in names, as a text. Each is ASCII, so nothing is tested when it runs.
+pub fn name_text(bytes: &[u8]) -> &str
+    requires { Passes in_name bytes.now }
+    ensures { result.now ≡ bytes.now }
+{
+    unsafe { str::from_utf8_unchecked(bytes) }
+}
+
 /// How many of the first bytes are digits.
 pub fn digits_len(bytes: &[u8]) -> usize
     ensures { result ≡ prefix_len is_digit bytes.now }

@@ -3,6 +3,5 @@ pub mod Examples
 pub mod FromTree
 pub mod GrammarLemmas
 pub mod ListLemmas
-pub mod RightLemmas
 pub mod SeenLemmas
 pub mod ToTree

@@ -7,7 +7,7 @@ use mate_num::{BufId, FunId, NoMemory, VarId};
 use std::alloc::Global;
 
 /// A variable that can be set.
-#[derive(Clone, Copy, PartialEq, Eq, Debug)]
+#[derive(Clone, Copy, Debug)]
 pub enum CVar {
     /// A shared variable.
     Shared(VarId),

@@ -5,7 +5,7 @@ use crate::word::Word;
 use mate_num::Items;
 
 /// What a declaration makes of a name.
-#[derive(Clone, Copy, PartialEq, Eq, Debug)]
+#[derive(Clone, Copy)]
 pub enum DeclKind {
     Shared,
     Private,
@@ -13,7 +13,7 @@ pub enum DeclKind {
 }
 
 /// A name that is declared.
-#[derive(PartialEq, Eq, Debug, Drop)]
+#[derive(Drop)]
 pub struct Decl {
     pub kind: DeclKind,
     pub word: Word,

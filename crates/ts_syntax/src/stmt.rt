@@ -5,7 +5,7 @@ use crate::word::Word;
 use mate_num::Items;
 
 /// The literal after `step`.
-#[derive(Clone, Copy, PartialEq, Eq, Debug)]
+#[derive(Clone, Copy)]
 pub struct Step {
     /// Whether `-` stands before the literal.
     pub minus: bool,

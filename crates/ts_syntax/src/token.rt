@@ -3,7 +3,7 @@
 use mate_num::{Items, Name};
 
 /// What a token is: a keyword, a sign, a name or a literal.
-#[derive(PartialEq, Eq, Debug, Drop)]
+#[derive(Debug, Drop)]
 pub enum TokenKind {
     Shared,
     Private,
@@ -66,7 +66,7 @@ pub enum TokenKind {
 }
 
 /// A token; its text is the source from `from` to before `to`, both counted in bytes.
-#[derive(PartialEq, Eq, Debug, Drop)]
+#[derive(Drop)]
 pub struct Token {
     pub kind: TokenKind,
     pub from: u32,

@@ -3,7 +3,7 @@
 use mate_num::Name;
 
 /// A name as it stands in a source.
-#[derive(PartialEq, Eq, Debug, Drop)]
+#[derive(Drop)]
 pub struct Word {
     pub name: Name,
     /// The place of its first byte in the source.

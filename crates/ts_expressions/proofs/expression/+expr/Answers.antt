@@ -1,13 +1,14 @@
-use Rattle.std.proofs.Common.{sym, ◌∙◌, ap, arith}
+use Rattle.std.proofs.Common.{length, sym, ◌∙◌, ap, arith}
 use Rattle.ts_expressions.specs.Boxed.{boxed_tree}
 use Rattle.ts_syntax.specs.Seen.{trees_of}
 use Rattle.ts_syntax.specs.Spelling.{kinds}
 use Rattle.ts_syntax.specs.declared.token.TokenKind.TheVariants as kind
-use Rattle.ts_machine.specs.Machine.{first_and, in_and, in_inverse, expr_due, give, have_inverse, have_and}
+use Rattle.ts_machine.specs.Machine.{in_product, first_sum, in_sum, first_compare, in_compare, first_and, in_and, in_inverse, first_or, in_or, expr_due, give, have_product, have_sum, have_inverse, have_and, have}
 use Rattle.ts_machine.specs.Parsing.{reads, noted_then, of_operand, called, called_with}
 use Rattle.ts_machine.proofs.Turns.{inverse_is_read, inverse_is_first, inverse_is_next}
 use Rattle.ts_machine.proofs.Parts.{starts_shorter}
 use Rattle.ts_expressions.proofs.ExprLemmas.{not_read, and_read, call_read, variable_read, comma_read, arguments_closed, trees_more, call_halts, comparison_read}
+use Rattle.ts_expressions.proofs.OperatorLemmas.{product_read, sum_read, or_read, product_over, and_over, sum_over, sum_alone, comparison_sign_read}
 use Rattle.ts_expressions.proofs.expression.+expr.Goals as goal
 
 pub arguments-returns-in_default-after-clause-reads : goal.arguments-returns-in_default-after-clause-reads
@@ -60,3 +61,49 @@ inversion-returns-clause-reads t c =
     λ k. not_read k c.in-Some.ensures ∙ c.in_ok-of.ensures.reads (in_inverse k)
     ∙ inverse_is_read (boxed_tree c.in_ok-of.of) k (kinds c.in_ok-of.rest.now) (noted_then c.in_ok-of.rest.now)
     ∙ ap (λ x. reads c.in_ok-of.rest.now (have_inverse x k)) (sym c.in_ok-inverse.ensures)
+
+pub disjunction-loop-behind-init : goal.disjunction-loop-behind-init
+disjunction-loop-behind-init t c = (
+  c.in_ok-left.ensures.shorter,
+  λ k. c.in_ok-left.ensures.reads (first_or k) ∙ and_over (boxed_tree c.in_ok-left.left) (first_or k) c.in_ok-left.rest.now c.in_ok-left.ensures.over,
+)
+
+pub disjunction-loop-behind-preserved : goal.disjunction-loop-behind-preserved
+disjunction-loop-behind-preserved t c = (
+  omega (arith, starts_shorter kind.Or c.in-Some.ensures, c.in_ok-right.ensures.shorter, c.loop-behind.invariant.0),
+  λ k. c.loop-behind.invariant.1 k ∙ or_read (boxed_tree c.loop-behind.left) k c.in-Some.ensures ∙ c.in_ok-right.ensures.reads (in_or (boxed_tree c.loop-behind.left) k)
+      ∙ and_over (boxed_tree c.in_ok-right.right) (in_or (boxed_tree c.loop-behind.left) k) c.in_ok-right.then.now c.in_ok-right.ensures.over
+      ∙ ap (λ x. reads c.in_ok-right.then.now (have x k)) (sym c.in_ok-left-2.ensures),
+)
+
+pub sum-loop-op-init : goal.sum-loop-op-init
+sum-loop-op-init t c = (
+  c.in_ok-left.ensures.shorter,
+  λ k. c.in_ok-left.ensures.reads (first_sum k) ∙ product_over (boxed_tree c.in_ok-left.left) (first_sum k) c.in_ok-left.rest.now c.in_ok-left.ensures.over,
+)
+
+pub sum-loop-op-preserved : goal.sum-loop-op-preserved
+sum-loop-op-preserved t c = (
+  omega (arith, ap length c.in-Some.ensures.are, c.in_ok-right.ensures.shorter, c.loop-op.invariant.0),
+  λ k. c.loop-op.invariant.1 k ∙ sum_read (boxed_tree c.loop-op.left) k c.in-Some.ensures ∙ c.in_ok-right.ensures.reads (in_sum c.in-Some.op (boxed_tree c.loop-op.left) k)
+      ∙ product_over (boxed_tree c.in_ok-right.right) (in_sum c.in-Some.op (boxed_tree c.loop-op.left) k) c.in_ok-right.then.now c.in_ok-right.ensures.over
+      ∙ ap (λ x. reads c.in_ok-right.then.now (have_sum x k)) (sym c.in_ok-left-2.ensures),
+)
+
+pub product-loop-op-preserved : goal.product-loop-op-preserved
+product-loop-op-preserved t c = (
+  omega (arith, ap length c.in-Some.ensures.are, c.in_ok-right.ensures.shorter, c.loop-op.invariant.0),
+  λ k. c.loop-op.invariant.1 k ∙ product_read (boxed_tree c.loop-op.left) k c.in-Some.ensures ∙ c.in_ok-right.ensures.reads (in_product c.in-Some.op (boxed_tree c.loop-op.left) k)
+      ∙ ap (λ x. reads c.in_ok-right.then.now (have_product x k)) (sym c.in_ok-left-2.ensures),
+)
+
+pub comparison-returns-in_default-clause-reads : goal.comparison-returns-in_default-clause-reads
+comparison-returns-in_default-clause-reads t c =
+    λ k. c.in_ok-left.ensures.reads (first_compare k) ∙ sum_alone (boxed_tree c.in_ok-left.left) k c.in_ok-left.rest.now c.in_ok-left.ensures.over c.in_default.ensures
+
+pub comparison-returns-clause-reads : goal.comparison-returns-clause-reads
+comparison-returns-clause-reads t c =
+    λ k. c.in_ok-left.ensures.reads (first_compare k) ∙ comparison_sign_read (boxed_tree c.in_ok-left.left) k c.in-Some.ensures
+    ∙ c.in_ok-right.ensures.reads (in_compare c.in-Some.op (boxed_tree c.in_ok-left.left) k)
+    ∙ sum_over c.in-Some.op (boxed_tree c.in_ok-left.left) (boxed_tree c.in_ok-right.right) k c.in_ok-right.rest.now c.in_ok-right.ensures.over
+    ∙ ap (λ x. reads c.in_ok-right.rest.now (have_inverse x k)) (sym c.in_ok-two.ensures)

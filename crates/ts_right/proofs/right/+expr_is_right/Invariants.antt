@@ -2,7 +2,7 @@ use Rattle.std.proofs.Common.{◌≡◌, drop, map}
 use Rattle.ts_syntax.specs.Expression.{arguments}
 use Rattle.ts_syntax.specs.Right.{are_right}
 use Rattle.ts_syntax.specs.TreeOf.{expr_tree}
-use Rattle.ts_syntax.proofs.right.+expr_is_right.Given as goal
+use Rattle.ts_right.proofs.right.+expr_is_right.Given as goal
 
 -- the arguments are right where the rest of them is
 abbrev pub invariant-args_are_right-loop-arg : goal.invariant-args_are_right-loop-arg

@@ -5,9 +5,8 @@ ghost use Rattle.ts_syntax.specs.Expression.{arguments};
 ghost use Rattle.ts_syntax.specs.Right.{is_right as is_right_for, argument_count, is_shared, is_buffer, is_variable, is_call, is_send, is_step, is_head, is_right_expr, are_right, is_right_stmt, is_right_block};
 ghost use Rattle.ts_syntax.specs.TreeOf.{expr_tree, args_trees, stmt_tree, block_tree};
 
-use crate::checked_expr::{CArgs, CExpr};
-use crate::checked_stmt::{CBlock, CForHead, CStmt, CVar};
 use mate_num::{BufId, FunId, Shape, VarId};
+use ts_syntax::{CArgs, CBlock, CExpr, CForHead, CStmt, CVar};
 
 /// Whether a body is right for a shape: the shape is within the limits of a machine, each name is in
 /// range, each call has its function's arguments, no call stands in the limit of a `for`, and each step is

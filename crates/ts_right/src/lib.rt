@@ -1,0 +1,6 @@
+//! The test that a checked body is right for a machine's shape.
+#![tactic(auto)]
+
+pub mod right;
+
+pub use right::is_right;
