@@ -2,3 +2,4 @@ pub mod SinkLemmas
 pub mod PenLemmas
 mod HexPieces
 mod WriteTurns
+mod ReadLemmas

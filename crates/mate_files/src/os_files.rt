@@ -1,5 +1,5 @@
 //! Files outside the program.
-ghost use Rattle.std.specs.Prelude.{◌≡◌, ◌≤◌, ◌+◌, ◌⊎◌, ℕ, IfOk, IfErr, length};
+ghost use Rattle.std.specs.Prelude.{◌≡◌, ◌≤◌, ◌<◌, ◌+◌, ◌++◌, ◌⊎◌, ℕ, List, IfOk, IfErr, length};
 ghost use Rattle.std.specs.Io.KnownBytes.{Consumes, IsAtEnd};
 
 use super::files::{FILE_MAX, Files, FilesFault};
@@ -7,8 +7,10 @@ use std::alloc::Global;
 use std::io::Read;
 use std::{fs, rt};
 
-// How many bytes are read at a time.
-const PIECE: usize = 4096;
+// How many bytes the first read of a file takes, and how many a read takes at most.
+const FIRST_READ: usize = 4_096;
+
+const LONGEST_READ: usize = 65_536;
 
 /// The files of the folder that the program runs in, read through the runtime `R`.
 ///
@@ -95,18 +97,43 @@ fn read_front<F: Read>(alloc: Global, file: &mut F) -> Result<Vec<u8>, FilesFaul
     ensures refusal { IfErr result (λ fault. (fault ≡ FilesFault.Failed) ⊎ (fault ≡ FilesFault.NoMemory)) }
 {
     let mut bytes = Vec::new(alloc);
-    let mut piece = [0u8; PIECE];
     while bytes.len() <= FILE_MAX {
-        let room = PIECE.min(FILE_MAX + 1 - bytes.len());
-        let Ok(taken) = file.read(&mut piece[..room]) else {
-            return Err(FilesFault::Failed);
-        };
-        if taken == 0 {
+        let most = next_read(bytes.len());
+        if read_more(file, &mut bytes, most)? == 0 {
             break;
-        }
-        if bytes.extend_from_slice(&piece[..taken]).is_err() {
-            return Err(FilesFault::NoMemory);
         }
     }
     Ok(bytes)
+}
+
+// How many bytes the next read takes at most, where `held` were read: about as many as those, so that a long file takes few
+// reads and a short one little room.
+fn next_read(held: usize) -> usize
+    requires { held ≤ FILE_MAX }
+    ensures some { 0 < result }
+    ensures few { held + result ≤ FILE_MAX + 1 }
+{
+    held.clamp(FIRST_READ, LONGEST_READ)
+        .min(FILE_MAX + 1 - held)
+}
+
+// Reads up to `most` bytes, in one read, behind those in `bytes`; 0 come only at the end of `file`. After a fault `bytes`
+// may hold what no file gave.
+fn read_more<F: Read>(file: &mut F, bytes: &mut Vec<u8>, most: usize) -> Result<usize, FilesFault>
+    requires some { 0 < most }
+    requires few { length bytes.old.items + most ≤ FILE_MAX + 1 }
+    ensures appends { IfOk result (λ count. (more : List ℕ) × (bytes.new.items ≡ bytes.old.items ++ more) × (length more ≡ count) × (count ≤ most)
+        × Consumes (F.remaining file.old) (F.remaining file.new) more) }
+    ensures end { IfOk result (λ count. count ≡ 0 → IsAtEnd (F.remaining file.new)) }
+    ensures refusal { IfErr result (λ fault. (fault ≡ FilesFault.Failed) ⊎ (fault ≡ FilesFault.NoMemory)) }
+{
+    let held = bytes.len();
+    if bytes.resize(held + most, 0).is_err() {
+        return Err(FilesFault::NoMemory);
+    }
+    let Ok(count) = file.read(&mut bytes[held..]) else {
+        return Err(FilesFault::Failed);
+    };
+    bytes.truncate(held + count);
+    Ok(count)
 }

@@ -6,6 +6,7 @@ use Rattle.std.proofs.lemmas.Bool.{cases_Bool, cond-true, cond-false, eqb-true}
 use Rattle.std.proofs.lemmas.Grind.{flat_map-append}
 use Rattle.std.proofs.lemmas.List.Elements.{All-nil, All-cons, All-head, All-tail, All-push, All-append, All-same, All-map, All-contains, Contains-append_left, Contains-push}
 use Rattle.arrayvec.specs.ArrayVec.{ArrayVec}
+use Rattle.vm_desc.proofs.ListLemmas.{AllPairs-head, AllPairs-tail}
 use Rattle.vm_desc.specs.declared.description.Description.{Description}
 use Rattle.mate_num.specs.declared.call.Stamp.{Stamp}
 use Rattle.mate_num.specs.declared.store.Store.{Store}
@@ -145,19 +146,13 @@ grows d node event l x g h r =
           (record { tidy = g.tidy; full = g.full; upto = later-upto event x.stamp.event l.entries h g.upto })
     ]
 
-pub pairs-head : {A : Type 0} (R : A → A → Type 0) (x : A) (xs : List A) → AllPairs R (x ∷ xs) → All (R x) xs
-pairs-head R x xs h = λ k d q. h 0 (suc k) d (omega arith) (omega (arith, q))
-
-pairs-tail : {A : Type 0} (R : A → A → Type 0) (x : A) (xs : List A) → AllPairs R (x ∷ xs) → AllPairs R xs
-pairs-tail R x xs h = λ i j d p q. h (suc i) (suc j) d (omega (arith, p)) (omega (arith, q))
-
 log-grows : (d : Description) (node event : ℕ) (l : Log) (ls : List Line) → IsGrowing d event l → All (λ (x : Line). event ≤ x.stamp.event) ls → AllPairs StandsBehind ls → All (IsSound d) ls
     → IsTidyLog d (fold (log_after node) l ls) × HasFullImages (fold (log_after node) l ls)
 log-grows d node event l [] g above o s = (g.tidy, g.full)
 log-grows d node event l (x ∷ ls) g above o s =
     let next = grows d node event l x g (All-head (λ (y : Line). event ≤ y.stamp.event) x ls above) (All-head (IsSound d) x ls s).right.told in
-    let behind = pairs-head StandsBehind x ls o in
-    log-grows d node x.stamp.event (log_after node l x) ls next (λ k e q. (behind k e q).event) (pairs-tail StandsBehind x ls o) (All-tail (IsSound d) x ls s)
+    let behind = AllPairs-head StandsBehind x ls o in
+    log-grows d node x.stamp.event (log_after node l x) ls next (λ k e q. (behind k e q).event) (AllPairs-tail StandsBehind x ls o) (All-tail (IsSound d) x ls s)
 
 none-grows : (d : Description) → IsGrowing d 0 no_log
 none-grows d = record {
@@ -247,7 +242,7 @@ air-rises-told l (told.Shown s) airs is behind r = r
 air-rises : (ls : List Line) → AllPairs StandsBehind ls → IsRising 0 (air_told ls)
 air-rises [] o = record { events = tt; nodes = tt }
 air-rises (l ∷ ls) o =
-    air-rises-told l l.told (air_told ls) refl (λ on. air-behind l ls on (pairs-head StandsBehind l ls o)) (air-rises ls (pairs-tail StandsBehind l ls o))
+    air-rises-told l l.told (air_told ls) refl (λ on. air-behind l ls on (AllPairs-head StandsBehind l ls o)) (air-rises ls (AllPairs-tail StandsBehind l ls o))
 
 -- ---- marks
 

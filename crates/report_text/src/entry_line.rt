@@ -27,8 +27,14 @@ pub fn entry_line<S: Sink>(
     ensures { Prints (S.written out.old) (S.faults out.old) pen.old.result (S.written out.new) (S.faults out.new) pen.new.result (entry_line desc.now log.now node stamped.now) }
 {
     stamp_words(pen, out, stamped.stamp, node);
-    entry_words(pen, out, desc, log, &stamped.entry);
-    pen.text(out, "\n");
+    match &stamped.entry {
+        Entry::Start { inv } => last_invocation(pen, out, " start", *inv),
+        Entry::Halt { inv } => last_invocation(pen, out, " halt", *inv),
+        entry => {
+            entry_words(pen, out, desc, log, entry);
+            pen.text(out, "\n");
+        }
+    }
 }
 
 fn entry_words<S: Sink>(
@@ -105,6 +111,19 @@ fn invocation<S: Sink>(pen: &mut Pen, out: &mut S, verb: &str, inv: u32)
     ensures { Prints (S.written out.old) (S.faults out.old) pen.old.result (S.written out.new) (S.faults out.new) pen.new.result (verb.now ++ number inv) }
 {
     let mut chunk = Chunk::new();
+    chunk.number(inv as u64);
+    chunk.byte(b' ');
+    chunk.text(verb.as_bytes());
+    pen.bytes(out, chunk.as_slice());
+}
+
+/// The same at the end of a line.
+fn last_invocation<S: Sink>(pen: &mut Pen, out: &mut S, verb: &str, inv: u32)
+    requires { length verb.now ≤ 16 }
+    ensures { Prints (S.written out.old) (S.faults out.old) pen.old.result (S.written out.new) (S.faults out.new) pen.new.result (verb.now ++ number inv ++ codes "\n") }
+{
+    let mut chunk = Chunk::new();
+    chunk.byte(b'\n');
     chunk.number(inv as u64);
     chunk.byte(b' ');
     chunk.text(verb.as_bytes());

@@ -1,12 +1,11 @@
 -- A line of a node script, and its end.
-use Rattle.std.proofs.Common.{◌≡◌, ℕ, ◌+◌, ◌<◌, ◌≤◌, Bool, true, false, cond, List, [], ◌∷◌, length, replicate, Result, Ok, Err, OnOk, IfOk, IfErr, lit<, refl, sym, ◌∙◌, ap, subst, arith}
+use Rattle.std.proofs.Common.{◌≡◌, ℕ, ◌+◌, ◌<◌, ◌≤◌, false, List, [], ◌∷◌, length, replicate, Result, Ok, Err, OnOk, IfOk, IfErr, lit<, refl, sym, ◌∙◌, ap, subst, arith}
 use Rattle.vm_desc.specs.declared.description.Description.{Description}
 use Rattle.script_reader.specs.declared.fault.Cause.{Cause}
 use Rattle.script_reader.specs.declared.fault.ScriptFault.{ScriptFault}
 use Rattle.script_reader.specs.declared.fault.ScriptFault.TheVariants.{BadLine, NoMemory}
 use Rattle.script_reader.specs.Lines.{lines, words_of, is_skipped}
 use Rattle.script_reader.specs.Script.{Follows}
-use Rattle.script_reader.specs.Words.{Taken}
 use Rattle.script_reader.specs.Steps.{IsRightSteps}
 use Rattle.script_reader.specs.NodeScript.{Said, Progress, a_line, with_said, when_said, after_line, nothing_yet, node_script_in}
 use Rattle.script_reader.specs.declared.node.Said.{Said as Line}

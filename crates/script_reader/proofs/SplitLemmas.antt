@@ -1,8 +1,7 @@
 -- The first word and the first line of a text, and what is left behind them.
-use Rattle.std.proofs.Common.{◌≡◌, ℕ, ◌+◌, ◌<◌, ◌≤◌, Bool, true, false, ◌==◌, not, cond, List, [], ◌∷◌, length, take, drop, filter, zero, suc, ◌-◌, take_all, refl, sym, ◌∙◌, ap, one-add, arith}
+use Rattle.std.proofs.Common.{◌≡◌, ℕ, ◌+◌, ◌<◌, ◌≤◌, Bool, true, false, ◌==◌, not, cond, List, [], ◌∷◌, length, take, drop, filter, suc, ◌-◌, take_all, refl, sym, ◌∙◌, ap, one-add, arith}
 use Rattle.std.specs.Prelude.{nat_eq, slice_index_or}
 use Rattle.std.specs.List.{prefix_len, slice_split, onto_first}
-use Rattle.std.proofs.lemmas.List.Sums.{prefix_len-le-length}
 use Rattle.std.proofs.lemmas.List.Folds.{length-prefix_len}
 use Rattle.std.specs.Str.Lines.{lines, lines_of_parts, strip_carriage_return}
 use Rattle.script_reader.specs.Lines.{is_blank, is_some_part, words_of, is_skipped}

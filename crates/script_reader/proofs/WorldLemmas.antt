@@ -1,5 +1,5 @@
 -- The series of a world, with one changed.
-use Rattle.std.proofs.Common.{◌≡◌, ℕ, zero, suc, ◌<◌, ℤ, List, [], ◌∷◌, ◌++◌, length, slice_index_or, slice_set, Result, Ok, Err, MatchResult, refl, sym, ◌∙◌, ap, arith}
+use Rattle.std.proofs.Common.{◌≡◌, ℕ, zero, suc, ◌<◌, ℤ, List, [], ◌∷◌, ◌++◌, length, slice_index_or, slice_set, Result, Ok, Err, MatchResult, ◌∙◌, ap, arith}
 use Rattle.script_reader.specs.declared.world.Series.{Series}
 use Rattle.script_reader.specs.World.{with_values}
 

@@ -56,6 +56,15 @@ an_answer d = do
 abbrev pub alone : Step → Reading Said
 alone s = give (record { step = s; file = None })
 
+-- what stands behind the first words of the lines that name no file, no handler and no number of instructions
+unfoldable pub behind_others : Description → List ℕ → Reading Said
+behind_others d verb =
+    if bytes_eq verb (codes "run") then alone step.Run
+    else if bytes_eq verb (codes "answer") then an_answer d
+    else if bytes_eq verb (codes "show") then alone step.Show
+    else if bytes_eq verb (codes "reset") then alone step.Reset
+    else found (Err Word)
+
 -- what stands behind a line's first word
 unfoldable pub behind : Description → List ℕ → ℕ → List ℕ → Reading Said
 behind d newest files verb =
@@ -63,11 +72,7 @@ behind d newest files verb =
     else if bytes_eq verb (codes "load") then a_load files
     else if bytes_eq verb (codes "post") then a_post d
     else if bytes_eq verb (codes "step") then a_step d
-    else if bytes_eq verb (codes "run") then alone step.Run
-    else if bytes_eq verb (codes "answer") then an_answer d
-    else if bytes_eq verb (codes "show") then alone step.Show
-    else if bytes_eq verb (codes "reset") then alone step.Reset
-    else found (Err Word)
+    else behind_others d verb
 
 -- a whole line
 unfoldable pub a_line : Description → List ℕ → ℕ → Reading Said

@@ -1,6 +1,5 @@
 -- The steps of a node script, and which are right for a machine.
-use Rattle.std.specs.Prelude.{◌≡◌, ℕ, ◌<◌, ◌≤◌, ℤ, List, length, All, AllPairs, FitsSigned}
-use Rattle.std.specs.Int.{w16}
+use Rattle.std.specs.Prelude.{◌≡◌, ℕ, ◌<◌, ◌≤◌, ℤ, List, length, All, AllPairs}
 use Rattle.mate_num.specs.declared.id.HandlerId.{HandlerId}
 use Rattle.vm_desc.specs.declared.description.Description.{Description}
 use Rattle.vm_desc.specs.Whole.{context_count}

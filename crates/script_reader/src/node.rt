@@ -4,13 +4,14 @@ ghost use Rattle.std.specs.Prelude.{◌≡◌, ◌<◌, ◌≤◌, ◌^◌, ℕ,
 ghost use Rattle.script_reader.specs.Lines.{words_of};
 ghost use Rattle.script_reader.specs.Words.{Reads};
 ghost use Rattle.script_reader.specs.Steps.{IsRightSteps};
-ghost use Rattle.script_reader.specs.NodeScript.{an_install, a_load, a_post, a_step, an_answer, behind, a_line, with_said, newest_after, after_line, node_script_in};
+ghost use Rattle.script_reader.specs.NodeScript.{an_install, a_load, a_post, a_step, an_answer, behind, behind_others, a_line, with_said, newest_after, after_line, node_script_in};
 ghost use Rattle.script_reader.specs.Script.{Answers, Follows};
 ghost use Rattle.script_reader.specs.NodeReader.{progress_of, said_of, IsRightSaid, KeepsProgress};
 ghost use Rattle.vm_desc.specs.declared.description.Description.{Description};
 
 use crate::fault::{Cause, ScriptFault};
 use crate::lines::Lines;
+use crate::message::Message;
 use crate::newest::{newest_of, note_newest};
 use crate::steps::{Step, Steps};
 use crate::words::Words;
@@ -152,26 +153,39 @@ fn behind<'a>(
         post_in(desc, words)
     } else if verb == b"step".as_slice() {
         step_in(desc, words)
-    } else if verb == b"run".as_slice() {
-        Ok(Said {
-            step: Step::Run,
-            file: None,
-        })
+    } else {
+        behind_others(desc, verb, words)
+    }
+}
+
+// The same of the lines that name no file, no handler and no number of instructions.
+#[tactic(auto, unfolding(crate::specs::NodeScript::behind_others))]
+fn behind_others<'a>(
+    desc: &Description,
+    verb: &[u8],
+    words: &mut Words<'a>,
+) -> Result<Said<'a>, Cause>
+    ensures value { Reads said_of (behind_others desc.now verb.now) (words_of words.old) result (words_of words.new) }
+    ensures right { IfOk result (λ said. (newest : List ℕ) (files : ℕ) → IsRightSaid desc.now newest files (said_of said)) }
+{
+    if verb == b"run".as_slice() {
+        Ok(alone(Step::Run))
     } else if verb == b"answer".as_slice() {
         answer_in(desc, words)
     } else if verb == b"show".as_slice() {
-        Ok(Said {
-            step: Step::Show,
-            file: None,
-        })
+        Ok(alone(Step::Show))
     } else if verb == b"reset".as_slice() {
-        Ok(Said {
-            step: Step::Reset,
-            file: None,
-        })
+        Ok(alone(Step::Reset))
     } else {
         Err(Cause::Word)
     }
+}
+
+// A step that names no file.
+fn alone<'a>(step: Step) -> Said<'a>
+    ensures { said_of result ≡ record { step = step; file = None } }
+{
+    Said { step, file: None }
 }
 
 #[tactic(auto, unfolding(crate::specs::NodeScript::an_install))]
@@ -217,7 +231,10 @@ fn post_in<'a>(desc: &Description, words: &mut Words<'a>) -> Result<Said<'a>, Ca
 {
     let handler = words.handler(desc)?;
     let payload = words.payload()?;
-    let step = Step::Post { handler, payload };
+    let step = Step::Post {
+        handler,
+        payload: Message::of(&payload),
+    };
     Ok(Said { step, file: None })
 }
 

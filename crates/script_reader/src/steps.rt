@@ -3,12 +3,13 @@
 ghost use Rattle.std.specs.Prelude.{◌≡◌, ◌∷◌, ◌++◌, [], OnErr, OnOk};
 ghost use Rattle.script_reader.specs.declared.steps.Step.{Step};
 
-use mate_num::{ContextId, HandlerId, Items, NoMemory, Payload, Text, Texts};
+use crate::message::Message;
+use mate_num::{ContextId, HandlerId, Items, NoMemory, Text, Texts};
 use std::alloc::Global;
 use std::marker::Model;
 
 /// What a node is to do next. A `program` is the position of a file among those that the script names.
-#[derive(PartialEq, Eq, Debug, Drop)]
+#[derive(Debug, Drop)]
 pub enum Step {
     /// Compile the file, and install it under this version, from 1 on.
     Install {
@@ -23,7 +24,7 @@ pub enum Step {
     /// Post an event for the handler.
     Post {
         handler: HandlerId,
-        payload: Payload,
+        payload: Message,
     },
     /// Give the context a turn of at most `n` instructions, from 1 to 1,000,000.
     Step {
@@ -42,6 +43,9 @@ pub enum Step {
     /// Reset the node.
     Reset,
 }
+
+// A script has up to hundreds of thousands of steps.
+const _: () = prove!(size_of::<Step>() <= 24);
 
 /// The steps of a script in order, and the names of the files of its installs and loads, in order.
 #[derive(Drop)]

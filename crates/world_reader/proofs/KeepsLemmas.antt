@@ -1,5 +1,5 @@
 -- What a line adds keeps a world right.
-use Rattle.std.proofs.Common.{◌≡◌, ℕ, suc, ◌+◌, ◌<◌, ◌≤◌, ℤ, Bool, true, false, ◌==◌, ◌&&◌, ◌||◌, not, cond, List, [], ◌∷◌, ◌++◌, length, get_or, slice_get, slice_set, Option, Some, None, IfOk, refl, sym, ◌∙◌, ap, subst, inl, inr, arith, append_assoc, length-append, get_or-set_same, get_or-set_other}
+use Rattle.std.proofs.Common.{◌≡◌, ℕ, ◌+◌, ◌<◌, ◌≤◌, ℤ, Bool, true, false, ◌==◌, ◌&&◌, ◌||◌, not, cond, List, [], ◌∷◌, ◌++◌, length, get_or, slice_get, slice_set, Option, Some, None, IfOk, refl, sym, ◌∙◌, ap, subst, inl, inr, arith, append_assoc, length-append, get_or-set_same, get_or-set_other}
 use Rattle.std.specs.List.{All, AllPairs}
 use Rattle.std.proofs.lemmas.Bool.Decides.{eqb_tells, nat_tests}
 use Rattle.std.proofs.lemmas.Bool.{and_parts}
@@ -27,6 +27,7 @@ use Rattle.script_reader.proofs.StepLemmas.{length-with_file, files_grow}
 use Rattle.world_lines.specs.declared.stage.Stage.{Stage}
 use Rattle.world_lines.specs.declared.stage.Stage.TheVariants as stage
 use Rattle.world_lines.specs.WorldLines.{WorldSaid, SaysNodes, SaysRandom, SaysUntil, SaysSuppress, SaysLink, SaysSeries, SaysPlanned, WorldProgress, is_linked, is_free}
+use Rattle.vm_desc.proofs.ListLemmas.{AllPairs-head, AllPairs-tail}
 use Rattle.world_lines.specs.Draft.{is_of_pair, HasNoLists, IsBare, IsNotedAt, KeepsWorld, IsRightEvent, IsRightWorldSaid}
 use Rattle.world_reader.specs.WorldScript.{turned_back, links_of, with_series, newest_with, with_told, no_world, world_at_end, HasPlace}
 
@@ -34,12 +35,6 @@ use Rattle.world_reader.specs.WorldScript.{turned_back, links_of, with_series, n
 
 none_in : {X : Type 0} (P : X → Type 0) (xs : List X) → xs ≡ [] → All P xs
 none_in P xs none = λ i d h. absurd (omega (arith, ap length none))
-
-pairs_tail : {X : Type 0} (R : X → X → Type 0) (x : X) (xs : List X) → AllPairs R (x ∷ xs) → AllPairs R xs
-pairs_tail R x xs pairs = λ i j d h k. pairs (suc i) (suc j) d (omega arith) (omega arith)
-
-pairs_head : {X : Type 0} (R : X → X → Type 0) (x : X) (xs : List X) → AllPairs R (x ∷ xs) → All (R x) xs
-pairs_head R x xs pairs = λ i d h. pairs 0 (suc i) d (omega arith) (omega arith)
 
 -- ---- links
 
@@ -116,11 +111,11 @@ other_pair s r other node fun = absurd (let f : r.fun.0 ≡ s.fun.0 = ap (λ x. 
 
 pairs_with : (s : Series) (series : List Series) → AllPairs AreOtherSeries series → AllPairs AreOtherSeries (with_series s series)
 pairs_with s [] pairs = AllPairs-cons AreOtherSeries s [] (none_in (AreOtherSeries s) [] refl) (λ i j d h k. absurd (omega arith))
-pairs_with s (r ∷ series) pairs = by (is_of_pair s.node s.fun.0 r) refl (pairs_with s series (pairs_tail AreOtherSeries r series pairs))
+pairs_with s (r ∷ series) pairs = by (is_of_pair s.node s.fun.0 r) refl (pairs_with s series (AllPairs-tail AreOtherSeries r series pairs))
   where
     by : (b : Bool) → is_of_pair s.node s.fun.0 r ≡ b → AllPairs AreOtherSeries (with_series s series) → AllPairs AreOtherSeries (cond b (record r { values = r.values ++ s.values } ∷ series) (r ∷ with_series s series))
-    by true e rest = AllPairs-cons AreOtherSeries (record r { values = r.values ++ s.values }) series (pairs_head AreOtherSeries r series pairs) (pairs_tail AreOtherSeries r series pairs)
-    by false e rest = AllPairs-cons AreOtherSeries r (with_series s series) (all_with (AreOtherSeries r) s series (λ t more h. h) (pairs_head AreOtherSeries r series pairs) (other_pair s r e)) rest
+    by true e rest = AllPairs-cons AreOtherSeries (record r { values = r.values ++ s.values }) series (AllPairs-head AreOtherSeries r series pairs) (AllPairs-tail AreOtherSeries r series pairs)
+    by false e rest = AllPairs-cons AreOtherSeries r (with_series s series) (all_with (AreOtherSeries r) s series (λ t more h. h) (AllPairs-head AreOtherSeries r series pairs) (other_pair s r e)) rest
 
 longer : (d : Description) (nodes : ℕ) (s : Series) (more : List ℤ) → IsRightSeries d nodes s → IsRightSeries d nodes (record s { values = s.values ++ more })
 longer d nodes s more r = record { node_high = r.node_high; senses = r.senses; some = let len : length (s.values ++ more) ≡ length s.values + length more = length-append s.values more in omega (arith, r.some) }

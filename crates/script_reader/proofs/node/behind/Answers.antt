@@ -10,5 +10,5 @@ returns-then-eq-3-clause-right c = right_with c.args.desc.now c.post_in.result c
 pub returns-then-eq-4-clause-right : goal.returns-then-eq-4-clause-right
 returns-then-eq-4-clause-right c = right_with c.args.desc.now c.step_in.result c.args.newest.now c.args.files c.step_in.ensures.right
 
-pub returns-then-eq-6-clause-right : goal.returns-then-eq-6-clause-right
-returns-then-eq-6-clause-right c = right_with c.args.desc.now c.answer_in.result c.args.newest.now c.args.files c.answer_in.ensures.right
+pub returns-else-eq-4-clause-right : goal.returns-else-eq-4-clause-right
+returns-else-eq-4-clause-right c = right_with c.args.desc.now c.behind_others.result c.args.newest.now c.args.files c.behind_others.ensures.right

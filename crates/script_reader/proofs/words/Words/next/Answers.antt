@@ -1,4 +1,4 @@
-use Rattle.std.proofs.Common.{◌<◌, length, ◌∙◌, sym, arith}
+use Rattle.std.proofs.Common.{sym, arith}
 use Rattle.std.proofs.lemmas.Bool.Decides.{nat_tests}
 use Rattle.script_reader.proofs.SplitLemmas.{IsCut, a_word_is_next, no_word_is_next}
 use Rattle.script_reader.proofs.words.Words.next.Goals as goal

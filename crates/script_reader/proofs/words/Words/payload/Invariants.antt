@@ -1,4 +1,4 @@
-use Rattle.std.proofs.Common.{◌≡◌, ℕ, ◌-◌, ◌≤◌, length, take, drop}
+use Rattle.std.proofs.Common.{◌-◌, length}
 use Rattle.script_reader.specs.Lines.{words_of}
 use Rattle.script_reader.proofs.PayloadLemmas.{IsReadTo}
 use Rattle.script_reader.proofs.words.Words.payload.Given as goal
