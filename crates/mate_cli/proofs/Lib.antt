@@ -1,3 +1,4 @@
 pub mod OneCommand
 pub mod OneNode
 pub mod OneCall
+mod MachineLemmas

@@ -16,6 +16,9 @@ use Rattle.mate_cli.specs.declared.output.Output.{Output}
 abbrev pub capsule_hex : Description → HandlerId → ℕ → ArrayVec ℕ → List ℕ
 capsule_hex d h version code = encode_lower (image_of (record { vm_id = d.vm_id; handler = h.0; version = version; code = code.items })) ++ codes "\n"
 
+-- the image of a source's capsule for a machine
+abbrev pub source_image : Folder → Bool → Description → (h : List ℕ) → ℕ → List ℕ → Result Output Refusal → Type 0
+source_image f fold d h version name = handler d h ▸ λ k. source f d fold name ▸ λ c. writes (capsule_hex d k version c.code)
+
 abbrev pub compile : Folder → Bool → (vm h : List ℕ) → ℕ → List ℕ → Result Output Refusal → Type 0
-compile f fold vm h version name =
-    machine f vm ▸ λ d. handler d h ▸ λ k. source f d fold name ▸ λ c. writes (capsule_hex d k version c.code)
+compile f fold vm h version name = machine f vm ▸ λ d. source_image f fold d h version name

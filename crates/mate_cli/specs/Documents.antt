@@ -20,7 +20,7 @@ script_line s = text_of (source_spelled s) ++ codes "\n"
 abbrev pub document_text : Document → List ℕ
 document_text (document.Summary d r) = brief d r
 document_text (document.OpcodeTable d) = table_text d
-document_text (document.Capsule image) = encode_lower image.items ++ codes "\n"
+document_text (document.Capsule image) = encode_lower image.value.items ++ codes "\n"
 document_text (document.Listing d l) = capsule_text d (capsule_parts l.value.capsule) l.value.code.code
 document_text (document.Expansion s) = script_line (source_of s)
 

@@ -5,11 +5,12 @@ ghost use Rattle.mate_cli.specs.Outputs.{CanBeWritten};
 ghost use Rattle.mate_steps.specs.Parts.{ReadsFiles};
 ghost use Rattle.mate_cli.specs.Check.{check};
 
+use crate::boxed_machine::BoxedMachine;
 use crate::document::Document;
 use crate::output::Output;
 use mate_files::Files;
 use mate_refusals::Refusal;
-use mate_steps::{capsule_of, machine_of};
+use mate_steps::capsule_of;
 use std::alloc::Global;
 
 /// The text of the capsule in a file.
@@ -24,7 +25,7 @@ pub fn output<F: Files>(
     ensures reads { ReadsFiles (F.contents files.old) (F.steady files.old) (F.faults files.old) (F.contents files.new) (F.steady files.new) (F.faults files.new) result }
     ensures writable { IfOk result CanBeWritten }
 {
-    let desc = machine_of(alloc, files, vm)?;
-    let capsule = capsule_of(alloc, files, &desc, name)?;
-    Ok(Output::Document(Document::Listing(desc, capsule)))
+    let machine = BoxedMachine::named(alloc, files, vm)?;
+    let capsule = capsule_of(alloc, files, machine.description(), name)?;
+    Ok(Output::Document(Document::Listing(machine, capsule)))
 }

@@ -6,6 +6,7 @@ ghost use Rattle.mate_cli.specs.Documents.{script_line};
 ghost use Rattle.mate_files.specs.Sink.{Puts};
 ghost use Rattle.ts_syntax.specs.Seen.{source_of};
 
+use crate::boxed_machine::BoxedMachine;
 use capsule_listing::print_capsule;
 use mate_files::{Pen, Sink, SinkFault};
 use mate_journal::Report;
@@ -13,19 +14,18 @@ use mate_num::Image;
 use mate_steps::VerifiedCapsule;
 use ts_printer::print;
 use ts_syntax::Script;
-use vm_desc::Description;
 
-/// What the text of a document is made from. A capsule with its code is boxed: it is far larger than the others.
+/// What the text of a document is made from. What is large is boxed.
 #[derive(Drop)]
 pub enum Document {
     /// The summary of a report of this machine.
-    Summary(Description, Report),
+    Summary(BoxedMachine, Report),
     /// The opcode table of this machine.
-    OpcodeTable(Description),
+    OpcodeTable(BoxedMachine),
     /// The image of a capsule, in hexadecimal digits.
-    Capsule(Image),
+    Capsule(Box<Image>),
     /// The text of a capsule of this machine.
-    Listing(Description, Box<VerifiedCapsule>),
+    Listing(BoxedMachine, Box<VerifiedCapsule>),
     /// The tokens of a plain script, in one line.
     Expansion(Script),
 }
@@ -40,10 +40,14 @@ impl Document {
         ensures { Puts (S.written out.old) (S.faults out.old) (S.written out.new) (S.faults out.new) result (document_text self.now) }
     {
         match self {
-            Document::Summary(desc, report) => report_summary::brief(desc, report, out),
-            Document::OpcodeTable(desc) => opcode_gen::print_table(desc, out),
+            Document::Summary(machine, report) => {
+                report_summary::brief(machine.description(), report, out)
+            }
+            Document::OpcodeTable(machine) => opcode_gen::print_table(machine.description(), out),
             Document::Capsule(image) => write_image(image, out),
-            Document::Listing(desc, held) => { print_capsule(desc, &held.capsule, &held.code, out) }
+            Document::Listing(machine, held) => {
+                print_capsule(machine.description(), &held.capsule, &held.code, out)
+            }
             Document::Expansion(script) => write_script(script, out),
         }
     }

@@ -8,13 +8,13 @@ ghost use Rattle.mate_cli.specs.Outputs.{CanBeWritten};
 ghost use Rattle.mate_steps.specs.Parts.{ReadsFiles};
 ghost use Rattle.node_programs.specs.ScriptSteps.{AreProgramsOf};
 
+use crate::boxed_machine::BoxedMachine;
 use crate::document::Document;
 use crate::output::Output;
 use mate_commands::ScriptRun;
 use mate_files::Files;
 use mate_journal::{Programs, Report, RunFault};
 use mate_refusals::Refusal;
-use mate_steps::machine_of;
 use report_text::node_report_is_tidy;
 use run_steps::run_steps;
 use script_programs::{programs_of, script_of};
@@ -33,13 +33,14 @@ pub fn output<F: Files>(
     ensures reads { ReadsFiles (F.contents files.old) (F.steady files.old) (F.faults files.old) (F.contents files.new) (F.steady files.new) (F.faults files.new) result }
     ensures writable { IfOk result CanBeWritten }
 {
-    let desc = machine_of(alloc, files, words.machine)?;
-    let script = script_of(alloc, files, &desc, words.script)?;
-    let programs = programs_of(alloc, files, &desc, words.fold, &script)?;
+    let machine = BoxedMachine::named(alloc, files, words.machine)?;
+    let desc = machine.description();
+    let script = script_of(alloc, files, desc, words.script)?;
+    let programs = programs_of(alloc, files, desc, words.fold, &script)?;
     if words.brief {
-        summary(alloc, desc, &script, &programs)
+        summary(alloc, machine, &script, &programs)
     } else {
-        Ok(Output::Run(desc, script, programs))
+        Ok(Output::Run(machine, script, programs))
     }
 }
 
@@ -47,17 +48,17 @@ pub fn output<F: Files>(
 #[inline(never)]
 fn summary(
     alloc: Global,
-    desc: Description,
+    machine: BoxedMachine,
     script: &Steps,
     programs: &Programs,
 ) -> Result<Output, Refusal>
-    requires { AreProgramsOf desc script.now programs.now }
-    ensures does { run_output true desc script.now programs.now result }
+    requires { AreProgramsOf machine script.now programs.now }
+    ensures does { run_output true machine script.now programs.now result }
     ensures memory { IfErr result (λ r. r ≡ NoMemory) }
     ensures writable { IfOk result CanBeWritten }
 {
-    let report = reported(alloc, &desc, script, programs)?;
-    Ok(Output::Document(Document::Summary(desc, report)))
+    let report = reported(alloc, machine.description(), script, programs)?;
+    Ok(Output::Document(Document::Summary(machine, report)))
 }
 
 /// The report of a script's run, whole or until its log is full.

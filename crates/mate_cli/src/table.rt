@@ -5,11 +5,11 @@ ghost use Rattle.mate_cli.specs.Outputs.{CanBeWritten};
 ghost use Rattle.mate_steps.specs.Parts.{ReadsFiles};
 ghost use Rattle.mate_cli.specs.Table.{opcode_table};
 
+use crate::boxed_machine::BoxedMachine;
 use crate::document::Document;
 use crate::output::Output;
 use mate_files::Files;
 use mate_refusals::Refusal;
-use mate_steps::machine_of;
 use std::alloc::Global;
 
 /// The opcode table of a machine.
@@ -19,6 +19,6 @@ pub fn output<F: Files>(alloc: Global, files: &mut F, vm: &str) -> Result<Output
     ensures reads { ReadsFiles (F.contents files.old) (F.steady files.old) (F.faults files.old) (F.contents files.new) (F.steady files.new) (F.faults files.new) result }
     ensures writable { IfOk result CanBeWritten }
 {
-    let desc = machine_of(alloc, files, vm)?;
-    Ok(Output::Document(Document::OpcodeTable(desc)))
+    let machine = BoxedMachine::named(alloc, files, vm)?;
+    Ok(Output::Document(Document::OpcodeTable(machine)))
 }

@@ -39,10 +39,9 @@ use Rattle.mate_journal.specs.Journal.{Told, Installed, Seen, Reading, held, hea
 use Rattle.journal_laws.specs.Growth.{AddsImage, last_is_seen}
 use Rattle.journal_laws.proofs.Append.{heard_all-append, journal_of-add_image}
 use Rattle.mate_num.specs.declared.store.Store.{Store}
-use Rattle.node_contexts.specs.declared.handlers.Handlers.{Handlers}
 use Rattle.node_contexts.specs.declared.handlers.Held.{Held}
 use Rattle.node_contexts.specs.At.{AreIdle}
-use Rattle.node_contexts.specs.Programs.{held_at, version_in}
+use Rattle.node_contexts.specs.Programs.{HeldPrograms, held_at, version_in}
 use Rattle.node_invariant.specs.declared.parts.Parts.{Parts}
 use Rattle.node_invariant.specs.Meaning.{machine_in, clock_of, code_in, code_of}
 use Rattle.node_invariant.specs.Fits.{program_of, IsHeld, AreInstalled}
@@ -171,13 +170,14 @@ module _ (d : Description) (old new : Parts) (stamp : Stamp) (h : HandlerId) (x 
       (tidily held_now of_machine is) room
 
 -- the image and the program take their places, and all is cleared
-pub RestsAgain-begun : (d : Description) (old mid : Parts) (pushed : OpenView) (handlers : Handlers) (at_ : Stamp) (h : HandlerId) (x : Held) → Rests d old → IsTimely at_ old.log.all → last_is_seen false (journal_of old.log.all) ≡ true → IsHeld d x → h.0 < length d.handlers.items
-    → length old.handlers.programs ≡ 8 → IsInstalledIn old.log.all h x.version x.image at_ pushed.all → old.log.all.spare ≤ pushed.all.spare + 1 → IsCleared d (record old { log = pushed }) mid → handlers.programs ≡ set mid.handlers.programs h.0 (Some x)
+pub RestsAgain-begun : (d : Description) (old mid : Parts) (pushed : OpenView) (handlers : HeldPrograms) (at_ : Stamp) (h : HandlerId) (x : Held) → Rests d old → IsTimely at_ old.log.all → last_is_seen false (journal_of old.log.all) ≡ true → IsHeld d x → h.0 < length d.handlers.items
+    → length mid.handlers.programs ≡ 8 → IsInstalledIn old.log.all h x.version x.image at_ pushed.all → old.log.all.spare ≤ pushed.all.spare + 1 → IsCleared d (record old { log = pushed }) mid → handlers.programs ≡ set mid.handlers.programs h.0 (Some x)
     → RestsAgain d old (record mid { handlers = handlers }) at_ (λ told. told ≡ Installed (program_of h x) ∷ [])
 RestsAgain-begun d old mid pushed handlers at_ h x rests timely seen held_now of_machine eight is room cleared set_now =
     let log_is : mid.log.all ≡ pushed.all = ap (λ (s : Parts). s.log.all) cleared.same in
     let P : Log → Type 0 = λ l. IsInstalledIn old.log.all h x.version x.image at_ l in
     let Q : Log → Type 0 = λ l. old.log.all.spare ≤ l.spare + 1 in
+    let places : length old.handlers.programs ≡ 8 = sym (ap (λ (s : Parts). length s.handlers.programs) cleared.same) ∙ eight in
     RestsAgain-installed d old (record mid { handlers = handlers }) at_ h x rests timely seen held_now of_machine (let high = (bounds_of d).handlers_high in omega arith) cleared.idle cleared.zero (ap (λ (s : Parts). s.posts) cleared.same)
     (set_now ∙ ap (λ (s : Parts). set s.handlers.programs h.0 (Some x)) cleared.same) (subst P (sym log_is) is) (subst Q (sym log_is) room)
 

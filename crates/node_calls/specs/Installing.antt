@@ -1,7 +1,9 @@
 -- What bytes are to a node that should install them: a capsule with right code, newer than what it holds; or the first refusal.
-use Rattle.std.specs.Prelude.{◌≡◌, ℕ, ◌<◌, ◌≤◌, List, Ok, Err, length}
+use Rattle.std.specs.Prelude.{◌≡◌, ℕ, ◌<◌, ◌≤◌, List, Result, Ok, Err, MatchResult, ⊤, length}
+use Rattle.mate_num.specs.declared.call.Stamp.{Stamp}
 use Rattle.mate_num.specs.declared.id.HandlerId.{HandlerId}
-use Rattle.capsule_codec.specs.Image.{CapsuleParts}
+use Rattle.capsule_codec.specs.declared.capsule.Capsule.{Capsule as DecodedCapsule}
+use Rattle.capsule_codec.specs.Image.{CapsuleParts, capsule_parts, image_of, IsOfMachine}
 use Rattle.capsule_codec.specs.Reading.{capsule_in}
 use Rattle.code_verifier.specs.Faults.{refusal_of}
 use Rattle.code_verifier.specs.declared.fault.VerifyFault.{VerifyFault}
@@ -15,7 +17,10 @@ use Rattle.mate_journal.specs.Journal.{Told, Reading, held}
 use Rattle.mate_journal.specs.NodeScript.{Installs}
 use Rattle.mate_journal.specs.Pace.{Pace}
 use Rattle.node_invariant.specs.Meaning.{machine_in, clock_of}
+use Rattle.node_invariant.specs.declared.parts.Parts.{Parts}
+use Rattle.node_invariant.specs.Keeps.{reading}
 use Rattle.node_invariant.specs.Fits.{IsHeld, program_of}
+use Rattle.node_calls.specs.Calls.{RestsAgain, AtPace}
 use Rattle.node_calls.specs.declared.installing.InstallFault.{InstallFault}
 use Rattle.node_calls.specs.declared.installing.InstallFault.TheVariants.{Capsule, Code, NotNewer}
 use Rattle.node_calls.specs.declared.installing.Installable.{Installable}
@@ -54,9 +59,11 @@ Refuses d r bytes (Capsule fault) = capsule_in d bytes ≡ Err fault
 Refuses d r bytes (Code fault) = IsUnverified d bytes fault
 Refuses d r bytes (NotNewer version) = IsNoNewer d r bytes version
 
--- the refusal doesn't rest on what the node holds
-abbrev pub RefusesBytes : Description → List ℕ → InstallFault → Type 0
-RefusesBytes d bytes fault = (r : Reading) → Refuses d r bytes fault
+-- the bytes are read as this capsule of the machine
+pub record IsReadAs (d : Description) (bytes : List ℕ) (c : DecodedCapsule) : Type 0 where
+  pub decoded : capsule_in d bytes ≡ Ok (capsule_parts c)
+  pub image : bytes ≡ image_of (capsule_parts c)
+  pub of_machine : IsOfMachine d (capsule_parts c)
 
 -- the bytes are a right capsule, newer than what the node held, and its program was installed with these entries
 pub record InstallsBytes (d : Description) (r : Reading) (bytes : List ℕ) (p : Pace) (told : List Told) : Type 0 where
@@ -71,3 +78,11 @@ pub record IsInstallable (d : Description) (bytes : List ℕ) (i : Installable) 
   pub is_held : IsHeld d i.held
   pub program : program_of i.handler i.held ≡ program_by capsule bytes
   pub handler : i.handler.0 < length d.handlers.items
+
+-- ---- what an install leaves
+
+-- the entries of an install, and a node that rests; or the first refusal, and all as it was
+abbrev pub InstallGives : Description → Parts → Parts → List ℕ → Stamp → Result ⊤ InstallFault → Type 0
+InstallGives d old new bytes at result = MatchResult result
+    (λ _. RestsAgain d old new at (AtPace d old (InstallsBytes d (reading d old.log.all) bytes)))
+    (λ fault. Refuses d (reading d old.log.all) bytes fault × (new ≡ old))

@@ -1,23 +1,26 @@
 //! Installs: a newer capsule takes the place of a handler's program, and an era begins.
 
-ghost use Rattle.std.specs.Prelude.{◌≡◌, ◌<◌, ◌≤◌, ◌∷◌, [], true, false, length, MatchResult};
+ghost use Rattle.std.specs.Prelude.{◌≡◌, ◌<◌, ◌≤◌, ◌∷◌, [], true, false, length};
 ghost use Rattle.mate_journal.specs.Journal.{journal_of, Installed};
 ghost use Rattle.journal_laws.specs.Growth.{last_is_seen};
+ghost use Rattle.vm_desc.specs.Shapes.{shape_of};
+ghost use Rattle.code_verifier.specs.Verified.{IsVerificationOf};
+ghost use Rattle.lock_inference.specs.Locks.{AreLocksOf};
 ghost use Rattle.node_invariant.specs.Fits.{IsHeld, program_of};
-ghost use Rattle.node_invariant.specs.Keeps.{reading, IsTimely};
+ghost use Rattle.node_invariant.specs.Keeps.{IsTimely};
 ghost use Rattle.node_invariant.specs.Meaning.{machine_in};
 ghost use Rattle.node_grants.specs.Starting.{Rests};
-ghost use Rattle.node_calls.specs.Calls.{RestsAgain, AtPace};
-ghost use Rattle.node_calls.specs.Installing.{RefusesBytes, Refuses, IsInstallable, InstallsBytes};
+ghost use Rattle.node_calls.specs.Calls.{RestsAgain};
+ghost use Rattle.node_calls.specs.Installing.{IsInstallable, IsReadAs, InstallGives};
 
 use crate::era::clear;
 use crate::posting::post_in;
 use crate::showing::seen_in;
-use capsule_codec::{CapsuleFault, decode};
-use code_verifier::{VerifyFault, verify};
+use capsule_codec::{Capsule, CapsuleFault, decode};
+use code_verifier::{Verified, VerifyFault, verify};
 use lock_inference::locks;
 use mate_code::Table;
-use mate_num::{HANDLERS_MAX, HandlerId, Image, Payload, Stamp};
+use mate_num::{HandlerId, Image, LockSet, Payload, Stamp};
 use node_contexts::Held;
 use node_invariant::Parts;
 use vm_desc::{Description, HandlerKind, shape};
@@ -33,28 +36,6 @@ pub enum InstallFault {
     NotNewer { held: u32 },
 }
 
-impl From<CapsuleFault> for InstallFault {
-    ghost use Rattle.std.specs.Prelude.{◌≡◌};
-    ghost use Rattle.node_calls.specs.declared.installing.InstallFault.TheVariants.{Capsule};
-
-    ghost from_gives = { λ fault refusal. refusal ≡ Capsule fault };
-
-    fn from(fault: CapsuleFault) -> InstallFault {
-        InstallFault::Capsule(fault)
-    }
-}
-
-impl From<VerifyFault> for InstallFault {
-    ghost use Rattle.std.specs.Prelude.{◌≡◌};
-    ghost use Rattle.node_calls.specs.declared.installing.InstallFault.TheVariants.{Code};
-
-    ghost from_gives = { λ fault refusal. refusal ≡ Code fault };
-
-    fn from(fault: VerifyFault) -> InstallFault {
-        InstallFault::Code(fault)
-    }
-}
-
 /// A program that can be installed for the handler.
 #[derive(Drop)]
 struct Installable {
@@ -62,18 +43,25 @@ struct Installable {
     held: Held,
 }
 
-/// The program that the bytes are, with the locks that its code takes; or why they are none.
-fn read_program(description: &Description, bytes: &[u8]) -> Result<Installable, InstallFault>
-    ensures { MatchResult result (IsInstallable description.now bytes.now) (λ fault. RefusesBytes description.now bytes.now fault) }
+/// The program of the capsule that the bytes are.
+#[inline(never)]
+fn program_in(
+    description: &Description,
+    bytes: &[u8],
+    capsule: &Capsule,
+    code: Verified,
+    locks: LockSet,
+) -> Installable
+    requires read { IsReadAs description.now bytes.now capsule.now }
+    requires verified { IsVerificationOf (shape_of description.now) capsule.now.code.items code }
+    requires locks { AreLocksOf (shape_of description.now) code.code locks }
+    ensures { IsInstallable description.now bytes.now result }
 {
-    let capsule = decode(description, bytes)?;
-    let table = Table::of(&shape(description));
-    let code = verify(&table, description, capsule.code.as_slice())?;
-    let locks = locks(description, &code);
+    let _description = description;
     let Ok(image) = Image::try_from(bytes) else {
         unreachable!()
     };
-    Ok(Installable {
+    Installable {
         handler: capsule.handler,
         held: Held {
             version: capsule.version,
@@ -81,17 +69,11 @@ fn read_program(description: &Description, bytes: &[u8]) -> Result<Installable, 
             code,
             locks,
         },
-    })
-}
-
-/// The programs of the handlers have one place each.
-fn programs_have_places(programs: &[Option<Held>; HANDLERS_MAX])
-    ensures { length programs.now ≡ HANDLERS_MAX }
-{
-    let _ = programs[7].is_some();
+    }
 }
 
 /// An era begins with the program in place of what the handler had.
+#[inline(never)]
 fn begin(description: &Description, parts: &mut Parts, program: Installable, at: Stamp)
     requires rests { Rests description.now parts.old }
     requires timely { IsTimely at parts.old.log.all }
@@ -103,7 +85,6 @@ fn begin(description: &Description, parts: &mut Parts, program: Installable, at:
     ensures again { RestsAgain description.now parts.old parts.new at (λ told. told ≡ Installed (program_of program.handler program.held) ∷ []) }
     ensures gone { parts.new.log.gone ≡ parts.old.log.gone }
 {
-    programs_have_places(&parts.handlers.programs);
     parts.log.push_install(
         at,
         program.handler,
@@ -125,6 +106,67 @@ fn runs_once(description: &Description, handler: HandlerId) -> bool
     }
 }
 
+/// The program is installed, where it is newer than what the node holds.
+#[inline(never)]
+fn install_program(
+    description: &Description,
+    parts: &mut Parts,
+    bytes: &[u8],
+    program: Installable,
+    at: Stamp,
+) -> Result<(), InstallFault>
+    requires rests { Rests description.now parts.old }
+    requires timely { IsTimely at parts.old.log.all }
+    requires room { 4 ≤ parts.old.log.all.spare }
+    requires few { length parts.old.log.all.entries < 4000000000 }
+    requires installable { IsInstallable description.now bytes.now program }
+    ensures installs { InstallGives description.now parts.old parts.new bytes.now at result }
+    ensures gone { parts.new.log.gone ≡ parts.old.log.gone }
+{
+    let _bytes = bytes;
+    let handler = program.handler;
+    let held = parts.handlers.version(handler);
+    if program.held.version <= held {
+        return Err(InstallFault::NotNewer { held });
+    }
+    seen_in(description, parts, at);
+    begin(description, parts, program, at);
+    if runs_once(description, handler) {
+        let _ = post_in(description, parts, handler, &Payload::new(), at);
+    }
+    Ok(())
+}
+
+/// The program of the capsule that the bytes are is installed, where it is newer than what the node holds. A program is large:
+/// each call that moves it or its code stands for itself, so that the stack holds few copies at once.
+#[inline(never)]
+fn install_code(
+    description: &Description,
+    parts: &mut Parts,
+    bytes: &[u8],
+    capsule: &Capsule,
+    code: Verified,
+    at: Stamp,
+) -> Result<(), InstallFault>
+    requires rests { Rests description.now parts.old }
+    requires timely { IsTimely at parts.old.log.all }
+    requires room { 4 ≤ parts.old.log.all.spare }
+    requires few { length parts.old.log.all.entries < 4000000000 }
+    requires read { IsReadAs description.now bytes.now capsule.now }
+    requires verified { IsVerificationOf (shape_of description.now) capsule.now.code.items code }
+    ensures installs { InstallGives description.now parts.old parts.new bytes.now at result }
+    ensures gone { parts.new.log.gone ≡ parts.old.log.gone }
+{
+    let locks = locks(description, &code);
+    install_program(
+        description,
+        parts,
+        bytes,
+        program_in(description, bytes, capsule, code, locks),
+        at,
+    )
+}
+
 /// The capsule of the machine that the bytes are is installed for its handler, where it is newer than what the node holds:
 /// the store is told, all live invocations are cut, all shared variables are 0, all buffers are empty, and a handler of the
 /// kind `once` is then posted with an empty payload.
@@ -140,21 +182,17 @@ pub fn install_in(
     requires timely { IsTimely at parts.old.log.all }
     requires room { 4 ≤ parts.old.log.all.spare }
     requires few { length parts.old.log.all.entries < 4000000000 }
-    ensures installs { MatchResult result
-        (λ _. RestsAgain description.now parts.old parts.new at (AtPace description.now parts.old (InstallsBytes description.now (reading description.now parts.old.log.all) bytes.now)))
-        (λ fault. Refuses description.now (reading description.now parts.old.log.all) bytes.now fault × (parts.new ≡ parts.old)) }
+    ensures installs { InstallGives description.now parts.old parts.new bytes.now at result }
     ensures gone { parts.new.log.gone ≡ parts.old.log.gone }
 {
-    let program = read_program(description, bytes)?;
-    let handler = program.handler;
-    let held = parts.handlers.version(handler);
-    if program.held.version <= held {
-        return Err(InstallFault::NotNewer { held });
+    let decoded = decode(description, bytes);
+    let capsule = match &decoded {
+        Ok(capsule) => capsule,
+        Err(fault) => return Err(InstallFault::Capsule(*fault)),
+    };
+    let table = Table::of(&shape(description));
+    match verify(&table, description, capsule.code.as_slice()) {
+        Ok(code) => install_code(description, parts, bytes, capsule, code, at),
+        Err(fault) => Err(InstallFault::Code(fault)),
     }
-    seen_in(description, parts, at);
-    begin(description, parts, program, at);
-    if runs_once(description, handler) {
-        let _ = post_in(description, parts, handler, &Payload::new(), at);
-    }
-    Ok(())
 }

@@ -3,6 +3,10 @@ use Rattle.std.specs.Prelude.{ℕ, List, Option, Some, None, slice_index_or}
 use Rattle.mate_num.specs.declared.id.HandlerId.{HandlerId}
 use Rattle.node_contexts.specs.declared.handlers.Held.{Held}
 
+-- what is held for the handlers, by their numbers
+pub record HeldPrograms : Type 0 where
+  pub programs : List (Option Held)
+
 abbrev pub Programs : Type 0
 Programs = HandlerId → Option Held
 

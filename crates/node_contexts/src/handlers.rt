@@ -1,11 +1,13 @@
 //! What is installed for each handler.
 
-ghost use Rattle.std.specs.Prelude.{◌≡◌, ◌<◌, Some, slice_set};
+ghost use Rattle.std.specs.Prelude.{◌≡◌, ◌<◌, Some, None, length, slice_set, IfOk};
 ghost use Rattle.std.specs.Option.{option_copied};
 ghost use Rattle.mate_num.specs.declared.id.HandlerId.{HandlerId as Handler};
 
 use code_verifier::Verified;
-use mate_num::{HANDLERS_MAX, HandlerId, Image, LockSet};
+use mate_num::{HANDLERS_MAX, HandlerId, Image, LockSet, NoMemory};
+use std::alloc::Global;
+use std::marker::Model;
 
 /// A program as it is installed: its version and image, its verified code, and the locks that it takes.
 #[derive(Drop)]
@@ -16,22 +18,39 @@ pub struct Held {
     pub locks: LockSet,
 }
 
-/// The program of each handler.
+/// The program of each handler. Contracts see the list of them.
+///
+/// Programs are large, so they stand on the heap; each handler has its place there from the start, so that an install takes
+/// no memory.
 #[derive(Drop)]
 pub struct Handlers {
-    pub programs: [Option<Held>; HANDLERS_MAX],
+    programs: Vec<Option<Held>>,
+}
+
+impl Model for Handlers {
+    ghost use Rattle.std.specs.Prelude.{◌≡◌, length};
+    ghost use Rattle.node_contexts.specs.Programs.{HeldPrograms};
+    ghost use Rattle.mate_num.specs.declared.bounds.TheConstants.{HANDLERS_MAX};
+
+    ghost Value = { HeldPrograms };
+
+    ghost view = { λ h. record { programs = h.programs.items } };
+
+    ghost invariant = { λ h. length h.programs.items ≡ HANDLERS_MAX };
 }
 
 impl Handlers {
     ghost use Rattle.node_contexts.specs.Programs.{held_at, version_in};
 
-    /// Nothing is installed.
-    pub fn new() -> Handlers
-        ensures { (h : Handler) → held_at result.programs h ≡ None }
+    /// Nothing is installed. No other call takes memory.
+    pub fn new(alloc: Global) -> Result<Handlers, NoMemory>
+        ensures { IfOk result (λ handlers. (h : Handler) → held_at handlers.programs h ≡ None) }
     {
-        Handlers {
-            programs: Default::default(),
+        let mut programs = Vec::with_capacity(alloc, HANDLERS_MAX)?;
+        for _place in 0..HANDLERS_MAX {
+            programs.push(None)?;
         }
+        Ok(Handlers { programs })
     }
 
     /// What is installed for the handler; None also for a number of no handler.
@@ -47,7 +66,8 @@ impl Handlers {
     /// The program is installed in place of what was.
     pub fn install(&mut self, handler: HandlerId, held: Held)
         requires { handler.0 < HANDLERS_MAX }
-        ensures { self.new.programs ≡ slice_set self.old.programs handler.0 (Some held) }
+        ensures installed { self.new.programs ≡ slice_set self.old.programs handler.0 (Some held) }
+        ensures places { length self.old.programs ≡ HANDLERS_MAX }
     {
         self.programs[usize::from(handler.0)] = Some(held);
     }

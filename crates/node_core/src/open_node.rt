@@ -73,7 +73,7 @@ impl OpenNode {
                     description.buffers.len() as u8,
                 ),
                 contexts: Contexts::new(alloc)?,
-                handlers: Handlers::new(),
+                handlers: Handlers::new(alloc)?,
                 posts: 0,
                 log: OpenLog::new(alloc),
             },

@@ -23,7 +23,8 @@ use Rattle.mate_journal.specs.declared.report.TheConstants.{RECORDS_MAX}
 use Rattle.journal_laws.specs.Growth.{last_stamp}
 use Rattle.journal_laws.proofs.Append.{journal_of-same, journal_of-empty}
 use Rattle.journal_laws.proofs.FewLemmas.{run-few}
-use Rattle.journal_laws.proofs.ScriptRuns.{HaveMade-push, told_by-at, AreOfEvent-at}
+use Rattle.mate_journal.proofs.JournalLemmas.{told_by-at}
+use Rattle.journal_laws.proofs.ScriptRuns.{HaveMade-push, AreOfEvent-at}
 use Rattle.vm_desc.specs.Shapes.{shape_of}
 use Rattle.node_invariant.specs.Meaning.{machine_in, clock_of, meaning_of}
 use Rattle.node_invariant.specs.Keeps.{reading, event_at, IsTimely}
@@ -87,10 +88,6 @@ map-append : {A B : Type 0} (f : A → B) (xs ys : List A) → map f (xs ++ ys) 
 map-append f [] ys = refl
 map-append f (x ∷ xs) ys = ap (λ zs. f x ∷ zs) (map-append f xs ys)
 
--- what is told by new entries
-told-new : (at : Stamp) (told : List Told) → told_by (map (event_at at) told) ≡ told
-told-new at told = told_by-at at told
-
 heard-is : (d : Description) (v : NodeView) → v.description ≡ d → heard_of v ≡ heard_all (machine_in d) (nothing_heard (machine_in d)) (journal_of v.log)
 unfolding reading
 heard-is d v is = ap (λ (x : Description). reading x v.log) is
@@ -109,7 +106,7 @@ one-more d ps done step old new h few t =
     let by_description : Makes (clock_of d) (machine_in d) (heard_of old) h.pace (step_of ps step) t.told made.0 =
     subst (λ (x : Description). Makes (clock_of x) (machine_in x) (heard_of old) h.pace (step_of ps step) t.told made.0) h.description made.1 in
     let makes : Makes (clock_of d) (machine_in d) (heard_all (machine_in d) (nothing_heard (machine_in d)) (journal_of old.log)) h.pace (step_of ps step) (told_by front) made.0 =
-    subst (λ (ts : List Told). Makes (clock_of d) (machine_in d) (heard_all (machine_in d) (nothing_heard (machine_in d)) (journal_of old.log)) h.pace (step_of ps step) ts made.0) (sym (told-new at t.told))
+    subst (λ (ts : List Told). Makes (clock_of d) (machine_in d) (heard_all (machine_in d) (nothing_heard (machine_in d)) (journal_of old.log)) h.pace (step_of ps step) ts made.0) (sym (told_by-at at t.told))
     (subst (λ (r : Reading). Makes (clock_of d) (machine_in d) r h.pace (step_of ps step) t.told made.0) (heard-is d old h.description) by_description) in
     let P : List node.Step → List Event → Type 0 = λ steps es. HaveMade (clock_of d) (machine_in d) 0 1 (nothing_heard (machine_in d)) no_pace steps es made.0 in
     record {
@@ -209,7 +206,7 @@ whole-run d ps steps old new h t =
         made = h.made;
         ends = (
           refl,
-          subst (λ (ts : List Told). ShowsOnce k m (heard_all m (nothing_heard m) (journal_of old.log)) h.pace ts) (sym (told-new at t.told)) by_heard,
+          subst (λ (ts : List Told). ShowsOnce k m (heard_all m (nothing_heard m) (journal_of old.log)) h.pace ts) (sym (told_by-at at t.told)) by_heard,
           subst (λ (n : ℕ). AreOfEvent n last) (ap suc (sym count)) (AreOfEvent-at (suc (length steps)) t.told),
         );
       },

@@ -82,7 +82,7 @@ pub(crate) fn make_step(node: &mut OpenNode, step: &Step, programs: &Programs, a
         Step::Install { program, .. } => install_file(node, programs, *program, at),
         Step::Load { program } => install_file(node, programs, *program, at),
         Step::Post { handler, payload } => {
-            let _ = node.post(*handler, payload, at);
+            let _ = node.post(*handler, &payload.payload(), at);
         }
         Step::Step { ctx, n } => take_turn(node, *ctx, *n, at),
         Step::Run => node.settle(at),

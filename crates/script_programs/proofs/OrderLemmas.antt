@@ -6,7 +6,7 @@ use Rattle.std.proofs.lemmas.List.{length_push}
 use Rattle.vm_desc.specs.declared.description.Description.{Description}
 use Rattle.script_reader.specs.Lines.{words_of, lines, is_skipped}
 use Rattle.script_reader.specs.NodeReader.{files_after}
-use Rattle.script_reader.specs.NodeScript.{Said, Progress, an_install, a_load, a_post, a_step, an_answer, behind, a_line, with_file, with_said, when_said, after_line, nothing_yet, node_script_in}
+use Rattle.script_reader.specs.NodeScript.{Said, Progress, an_install, a_load, a_post, a_step, an_answer, behind_others, behind, a_line, with_file, with_said, when_said, after_line, nothing_yet, node_script_in}
 use Rattle.script_reader.specs.Script.{numbered, script_from}
 use Rattle.script_reader.specs.Steps.{NodeScript}
 use Rattle.script_reader.specs.Words.{Taken, Reading, ◌>>=◌, and_then, give, found, a_word, nothing_more, a_number, a_value, a_payload, a_handler, a_version, a_context}
@@ -76,17 +76,21 @@ an_answer-names d n = Gives-behind (NamesFile n) (a_context d) _ (λ ctx. Gives-
 no_word-names : (n : ℕ) → Gives (NamesFile n) (found (Err Word))
 no_word-names n words t is = cc
 
+behind_others-names : (d : Description) (n : ℕ) (verb : List ℕ) → Gives (NamesFile n) (behind_others d verb)
+unfolding behind_others
+behind_others-names d n verb =
+    Gives-if (NamesFile n) (bytes_eq verb (codes "run")) _ _ (Gives-give (NamesFile n) _ refl)
+    (Gives-if (NamesFile n) (bytes_eq verb (codes "answer")) _ _ (an_answer-names d n)
+    (Gives-if (NamesFile n) (bytes_eq verb (codes "show")) _ _ (Gives-give (NamesFile n) _ refl)
+    (Gives-if (NamesFile n) (bytes_eq verb (codes "reset")) _ _ (Gives-give (NamesFile n) _ refl) (no_word-names n))))
+
 behind-names : (d : Description) (newest : List ℕ) (n : ℕ) (verb : List ℕ) → Gives (NamesFile n) (behind d newest n verb)
 unfolding behind
 behind-names d newest n verb =
     Gives-if (NamesFile n) (bytes_eq verb (codes "install")) _ _ (an_install-names d newest n)
     (Gives-if (NamesFile n) (bytes_eq verb (codes "load")) _ _ (a_load-names n)
     (Gives-if (NamesFile n) (bytes_eq verb (codes "post")) _ _ (a_post-names d n)
-    (Gives-if (NamesFile n) (bytes_eq verb (codes "step")) _ _ (a_step-names d n)
-    (Gives-if (NamesFile n) (bytes_eq verb (codes "run")) _ _ (Gives-give (NamesFile n) _ refl)
-    (Gives-if (NamesFile n) (bytes_eq verb (codes "answer")) _ _ (an_answer-names d n)
-    (Gives-if (NamesFile n) (bytes_eq verb (codes "show")) _ _ (Gives-give (NamesFile n) _ refl)
-    (Gives-if (NamesFile n) (bytes_eq verb (codes "reset")) _ _ (Gives-give (NamesFile n) _ refl) (no_word-names n))))))))
+    (Gives-if (NamesFile n) (bytes_eq verb (codes "step")) _ _ (a_step-names d n) (behind_others-names d n verb))))
 
 a_line-names : (d : Description) (newest : List ℕ) (n : ℕ) → Gives (NamesFile n) (a_line d newest n)
 unfolding a_line

@@ -1,10 +1,13 @@
-use Rattle.std.proofs.Common.{refl}
+use Rattle.std.proofs.Common.{Ok, Err, refl, subst}
+use Rattle.vm_desc.specs.declared.description.Description.{Description}
 use Rattle.mate_steps.specs.Steps.{goes_on}
 use Rattle.mate_steps.proofs.Laws.{stops_by}
+use Rattle.mate_cli.specs.Node.{reported}
 use Rattle.mate_cli.proofs.node.summary.Goals as goal
 
 pub returns-in_err-report-clause-does : goal.returns-in_err-report-clause-does
-returns-in_err-report-clause-does c = stops_by c.in_err-report.field-0.0 c.from_residual.result c.in_err-report.ensures.does c.from_residual.ensures.1
+returns-in_err-report-clause-does c = stops_by c.in_err-report.field-0.0 c.from_residual.result
+    (subst (λ (d : Description). reported d c.args.script.now c.args.programs.now (Err c.in_err-report.field-0.0)) c.description.ensures c.in_err-report.ensures.does) c.from_residual.ensures.1
 
 pub returns-clause-does : goal.returns-clause-does
-returns-clause-does c = goes_on c.in_ok-report.report c.in_ok-report.ensures.does refl
+returns-clause-does c = goes_on c.in_ok-report.report (subst (λ (d : Description). reported d c.args.script.now c.args.programs.now (Ok c.in_ok-report.report)) c.description.ensures c.in_ok-report.ensures.does) refl

@@ -1,5 +1,6 @@
 use Rattle.std.proofs.Common.{sym, subst}
-use Rattle.mate_cli.specs.Ends.{Sinks, IsOutputWritten}
+use Rattle.mate_cli.specs.Ends.{Sinks, IsOutputWritten, IsRunWritten}
+use Rattle.vm_desc.specs.declared.description.Description.{Description}
 use Rattle.mate_cli.specs.declared.output.Output.{Output}
 use Rattle.mate_cli.proofs.output.write_output.Goals as goal
 
@@ -17,4 +18,5 @@ returns-in-Run g c =
       err = g.E.Sink.written c.write_run.new.err;
       err_faults = g.E.Sink.faults c.write_run.new.err;
     } in
-    subst (λ (o : Output). IsOutputWritten o s t c.write_run.result) (sym c.in-Run.is) c.write_run.ensures
+    subst (λ (o : Output). IsOutputWritten o s t c.write_run.result) (sym c.in-Run.is)
+    (subst (λ (d : Description). IsRunWritten d c.in-Run.script c.in-Run.programs s t c.write_run.result) c.description.ensures c.write_run.ensures)

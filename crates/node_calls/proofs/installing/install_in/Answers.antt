@@ -1,35 +1,12 @@
--- The capsule is refused, or the store and the install are told, and then the post of a handler that runs once.
-use Rattle.std.proofs.Common.{refl, sym}
-use Rattle.std.proofs.lemmas.Result.{err_from_is_err_and}
-use Rattle.node_invariant.specs.Keeps.{reading}
-use Rattle.node_calls.proofs.EraLemmas.{seen-last}
-use Rattle.node_calls.proofs.InstallLemmas.{IsNoNewer-from, newer-than, RestsAgain-once, RestsAgain-once_none}
+-- The code of the capsule that the bytes are is refused.
+use Rattle.std.proofs.Common.{Result, refl, subst}
+use Rattle.capsule_codec.specs.declared.capsule.Capsule.{Capsule}
+use Rattle.capsule_codec.specs.declared.decoding.CapsuleFault.{CapsuleFault}
+use Rattle.capsule_codec.specs.Reading.{GivesCapsule, capsule_in}
+use Rattle.node_calls.proofs.InstallLemmas.{IsUnverified-from}
 use Rattle.node_calls.proofs.installing.install_in.Goals as goal
 
-pub returns-in_err-program-clause-installs : goal.returns-in_err-program-clause-installs
-returns-in_err-program-clause-installs c =
-    let e = err_from_is_err_and c.from_residual.result c.from_residual.ensures.1 in
-    rw (e.1, e.2) (c.in_err-program.ensures (reading c.args.description.now c.args.parts.now.log.all), refl)
-
-pub returns-then-program-held-clause-installs : goal.returns-then-program-held-clause-installs
-returns-then-program-held-clause-installs c =
-    (IsNoNewer-from c.args.description.now c.args.parts.now c.args.bytes.now c.in_ok-program.program c.version-held.result c.requires.rests c.in_ok-program.ensures c.version-held.ensures c.if-program-held.true, refl)
-
-pub begin-requires-clause-seen : goal.begin-requires-clause-seen
-begin-requires-clause-seen c =
-    let told = c.seen_in.ensures.tells.again in
-    seen-last c.args.parts.now.log.all c.seen_in.new.parts.log.all c.args.at told.adds.told c.args.parts.now.heap told.adds.grows told.adds.made
-
-pub begin-requires-clause-handler : goal.begin-requires-clause-handler
-begin-requires-clause-handler c = c.in_ok-program.ensures.handler
-
-pub returns-then-runs_once-clause-installs : goal.returns-then-runs_once-clause-installs
-returns-then-runs_once-clause-installs c =
-    RestsAgain-once c.args.description.now c.args.parts.now c.seen_in.new.parts c.begin.new.parts c.args.at c.args.bytes.now c.in_ok-program.program c.in_ok-program.ensures
-    (newer-than c.args.description.now c.args.parts.now c.in_ok-program.program c.version-held.result c.requires.rests c.version-held.ensures c.if-program-held.false) c.seen_in.ensures.tells c.begin.ensures.again
-    c.post_in.new.parts c.new.result c.post_in.result (sym c.if-runs_once.ensures) c.new.ensures c.post_in.ensures.again
-
-pub returns-else-runs_once-clause-installs : goal.returns-else-runs_once-clause-installs
-returns-else-runs_once-clause-installs c =
-    RestsAgain-once_none c.args.description.now c.args.parts.now c.seen_in.new.parts c.begin.new.parts c.args.at c.args.bytes.now c.in_ok-program.program c.in_ok-program.ensures
-    (newer-than c.args.description.now c.args.parts.now c.in_ok-program.program c.version-held.result c.requires.rests c.version-held.ensures c.if-program-held.false) c.seen_in.ensures.tells c.begin.ensures.again (sym c.if-runs_once.ensures)
+pub returns-in-Err-verify-clause-installs : goal.returns-in-Err-verify-clause-installs
+returns-in-Err-verify-clause-installs c =
+    let P : Result Capsule CapsuleFault → Type 0 = λ r. GivesCapsule r (capsule_in c.args.description.now c.args.bytes.now) in
+    (IsUnverified-from c.args.description.now c.args.bytes.now c.as_slice.result.now c.in-Ok.capsule c.in-Err-verify.fault (subst P c.in-Ok.is c.decode-decoded.ensures.value) c.as_slice.ensures.value c.in-Err-verify.ensures, refl)

@@ -1,4 +1,5 @@
-use Rattle.std.proofs.Common.{sym, subst}
+use Rattle.std.proofs.Common.{ℤ, sym, subst}
+use Rattle.arrayvec.specs.ArrayVec.{ArrayVec}
 use Rattle.mate_num.specs.declared.bounds.TheConstants.{CODE_MAX}
 use Rattle.std.specs.Prelude.{◌+◌, ◌*◌}
 use Rattle.script_reader.specs.declared.steps.Step.{Step}
@@ -17,9 +18,10 @@ pub returns-in-Post-clause-tells : goal.returns-in-Post-clause-tells
 returns-in-Post-clause-tells c =
     let v = c.args.node.now.node in
     let P : Step → Type 0 = λ s. Tells v c.post.new.self.node c.args.at (MakesOn v (step_of c.args.programs.now s)) in
+    let Q : ArrayVec ℤ → Type 0 = λ payload. Tells v c.post.new.self.node c.args.at (Pacing (λ _. PostGives (machine_in v.description) (heard_of v) c.in-Post.handler payload c.post.result)) in
     subst P (sym c.in-Post.is)
     (Tells-by v c.post.new.self.node c.args.at (Pacing (λ _. PostGives (machine_in v.description) (heard_of v) c.in-Post.handler c.in-Post.payload c.post.result)) (MakesOn v (Post c.in-Post.handler c.in-Post.payload))
-    (λ p told q x. (Occasion-given (machine_in v.description) (heard_of v) c.in-Post.handler c.in-Post.payload c.post.result told x.0, x.1)) c.post.ensures.tells)
+    (λ p told q x. (Occasion-given (machine_in v.description) (heard_of v) c.in-Post.handler c.in-Post.payload c.post.result told x.0, x.1)) (subst Q c.payload.ensures c.post.ensures.tells))
 
 pub returns-in-Run-clause-tells : goal.returns-in-Run-clause-tells
 returns-in-Run-clause-tells c =
