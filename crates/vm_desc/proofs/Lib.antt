@@ -1,1 +1,2 @@
 pub mod DescriptionLemmas
+pub mod ListLemmas

@@ -4,5 +4,3 @@ pub mod Contexts
 pub mod Shapes
 pub mod Whole
 pub mod Bounds
-pub mod Keys
-pub mod Rules

@@ -7,8 +7,8 @@ use Rattle.toml.specs.View.{view, items_view, array_view}
 use Rattle.toml.proofs.Views.{view-Array}
 use Rattle.toml.specs.declared.value.Value.{Value, Array}
 use Rattle.vm_fields.specs.Fields.{list_up_to, item_count, tables_in, are_tables}
-use Rattle.vm_desc.specs.declared.key.Key.{Key}
-use Rattle.vm_desc.specs.declared.fault.DescFault.TheVariants.{OverLimit}
+use Rattle.vm_rules.specs.declared.key.Key.{Key}
+use Rattle.vm_rules.specs.declared.fault.DescFault.TheVariants.{OverLimit}
 
 pub item_count-view : (vs : List Value) → item_count (items_view vs) ≡ length vs
 item_count-view [] = refl

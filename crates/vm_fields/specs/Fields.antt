@@ -8,9 +8,9 @@ use Rattle.toml.specs.View.{view, table_view}
 use Rattle.toml.specs.declared.value.Value.{Value}
 use Rattle.toml.specs.Data.{Data, Items, no_items, item, Members, as_integer, as_str, as_array, as_table, get_member}
 use Rattle.vm_desc.specs.Names.{between, name_of}
-use Rattle.vm_desc.specs.declared.key.Key.{Key}
-use Rattle.vm_desc.specs.declared.fault.DescFault.{DescFault}
-use Rattle.vm_desc.specs.declared.fault.DescFault.TheVariants.{BadField, OverLimit}
+use Rattle.vm_rules.specs.declared.key.Key.{Key}
+use Rattle.vm_rules.specs.declared.fault.DescFault.{DescFault}
+use Rattle.vm_rules.specs.declared.fault.DescFault.TheVariants.{BadField, OverLimit}
 
 infixl 10 ◌>>=◌
 abbrev pub ◌>>=◌ : {A B : Type 0} → Result A DescFault → (A → Result B DescFault) → Result B DescFault

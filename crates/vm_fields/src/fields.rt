@@ -12,7 +12,7 @@ use arrayvec::ArrayVec;
 use mate_num::Name;
 use toml::value::Array;
 use toml::{Table, Value};
-use vm_desc::{DescFault, Key, name_of};
+use vm_rules::{DescFault, Key, name_of};
 
 /// The value at `word`, if there is one.
 pub fn at<'a>(table: &'a Table, word: &str) -> Option<&'a Value>

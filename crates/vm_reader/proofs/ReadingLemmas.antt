@@ -8,8 +8,8 @@ use Rattle.toml.specs.Parse.{parse_document}
 use Rattle.vm_desc.specs.Names.{is_name}
 use Rattle.vm_desc.specs.Limits.{Parts, is_valid, is_handler, is_function, is_trickle, is_radio, context_sum, duplicate_of, round_time, longest}
 use Rattle.vm_reader.specs.Text.{description_of, of_document, ReadsDescription}
-use Rattle.vm_desc.specs.declared.fault.DescFault.TheVariants.{NotToml, BadField, OverLimit, Duplicate, SlowImax, NoMemory}
-use Rattle.vm_desc.specs.declared.fault.DescFault.{DescFault}
+use Rattle.vm_rules.specs.declared.fault.DescFault.TheVariants.{NotToml, BadField, OverLimit, Duplicate, SlowImax, NoMemory}
+use Rattle.vm_rules.specs.declared.fault.DescFault.{DescFault}
 use Rattle.vm_desc.specs.declared.description.Description.{Description}
 use Rattle.vm_desc.specs.Whole.{parts_of}
 use Rattle.vm_fields.specs.Fields.{GivesField}

@@ -14,8 +14,9 @@ use mate_num::{DeviceId, Name};
 use toml::value::Array;
 use toml::{Table, Value};
 use vm_desc::settings::doubled;
-use vm_desc::{DescFault, FunKind, Function, Handler, HandlerKind, Key, RadioSet, TrickleSet};
+use vm_desc::{FunKind, Function, Handler, HandlerKind, RadioSet, TrickleSet};
 use vm_fields::fields::{allowed, at, name, number, tables, taken, within};
+use vm_rules::{DescFault, Key};
 
 /// The handlers in `value`: one to eight.
 #[tactic(auto, unfolding(crate::specs::Reading::handlers_at))]

@@ -13,10 +13,11 @@ use crate::opening::Opening;
 use crate::parts::{functions_in, handlers_in, radio_in, trickle_in};
 use std::alloc::Global;
 use toml::Table;
-use vm_desc::rules::{few_contexts, in_time, no_repeat};
-use vm_desc::{DescFault, Description, Key, RadioSet, TrickleSet};
+use vm_desc::{Description, RadioSet, TrickleSet};
 use vm_fields::fields::{at, names, number, section};
 use vm_fields::known::{Place, members_are_known};
+use vm_rules::rules::{few_contexts, in_time, no_repeat};
+use vm_rules::{DescFault, Key};
 
 /// The description in `bytes`, a TOML document. `DescFault` says when each refusal comes; of
 /// several the first in its order is given, and `NoMemory` may come in place of any answer.

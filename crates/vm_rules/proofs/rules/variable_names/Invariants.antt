@@ -1,5 +1,5 @@
 use Rattle.std.proofs.Common.{◌≡◌, ◌++◌, take}
-use Rattle.vm_desc.proofs.rules.variable_names.Given as goal
+use Rattle.vm_rules.proofs.rules.variable_names.Given as goal
 
 abbrev pub invariant-loop-name : goal.invariant-loop-name
 invariant-loop-name l = l.names.items ≡ take l.name-index l.shared

@@ -1,9 +1,9 @@
 -- The rules on the parts of a description together, each with its refusal.
 use Rattle.std.specs.Prelude.{ℕ, List, nat_lt, if◌then◌else◌, Option, Some, None, Result, Ok, Err}
 use Rattle.vm_desc.specs.Limits.{context_sum}
-use Rattle.vm_desc.specs.declared.key.Key.TheVariants as key
-use Rattle.vm_desc.specs.declared.fault.DescFault.{DescFault}
-use Rattle.vm_desc.specs.declared.fault.DescFault.TheVariants.{OverLimit, Duplicate, SlowImax}
+use Rattle.vm_rules.specs.declared.key.Key.TheVariants as key
+use Rattle.vm_rules.specs.declared.fault.DescFault.{DescFault}
+use Rattle.vm_rules.specs.declared.fault.DescFault.TheVariants.{OverLimit, Duplicate, SlowImax}
 use Rattle.vm_desc.specs.declared.handler.Handler.{Handler}
 
 -- at most 16 contexts in all

@@ -31,7 +31,7 @@ pub enum Key {
 }
 
 impl Key {
-    ghost use Rattle.vm_desc.specs.Keys.{word_of};
+    ghost use Rattle.vm_rules.specs.Keys.{word_of};
 
     /// The key as a text names it, with the table that it stands in.
     pub fn word(self) -> &'static str

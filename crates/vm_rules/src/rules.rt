@@ -3,16 +3,14 @@
 ghost use Rattle.std.specs.Prelude.{◌≡◌, ◌≤◌, ◌++◌, length, map, None, OnOk, IsTrue};
 ghost use Rattle.vm_desc.specs.Names.{first_repeat};
 ghost use Rattle.vm_desc.specs.Limits.{context_sum, is_trickle, is_radio, duplicate_among, round_time, longest};
-ghost use Rattle.vm_desc.specs.Rules.{few_contexts, no_repeat, in_time};
+ghost use Rattle.vm_rules.specs.Rules.{few_contexts, no_repeat, in_time};
 
 use crate::fault::DescFault;
-use crate::function::Function;
-use crate::handler::Handler;
 use crate::key::Key;
 use crate::names::first_repeat;
-use crate::settings::{RadioSet, TrickleSet};
 use arrayvec::ArrayVec;
 use mate_num::Name;
+use vm_desc::{Function, Handler, RadioSet, TrickleSet};
 
 /// Whether the handlers have at most 16 contexts in all.
 pub fn few_contexts(handlers: &ArrayVec<Handler, 8>) -> Result<(), DescFault>

@@ -1,7 +1,7 @@
 -- The words of the keys.
 use Rattle.std.specs.Prelude.{ℕ, List, codes}
-use Rattle.vm_desc.specs.declared.key.Key.{Key}
-use Rattle.vm_desc.specs.declared.key.Key.TheVariants as key
+use Rattle.vm_rules.specs.declared.key.Key.{Key}
+use Rattle.vm_rules.specs.declared.key.Key.TheVariants as key
 
 -- a key as a text names it
 abbrev pub word_of : Key → List ℕ
