@@ -6,8 +6,9 @@ use Rattle.ts_syntax.specs.Seen.{acts, procedure_of}
 use Rattle.ts_syntax.specs.Tree.{Act, Acts, Procedure, ProcedureSource, Source}
 use Rattle.proc_names.specs.Heads.{parameter_count}
 use Rattle.proc_expansion.specs.declared.extent.Extent.{Extent}
-use Rattle.proc_expansion.specs.Expansion.{Callee, Hiding, nothing_hidden, callees, expanded_acts, parameter_decls, expansion}
-use Rattle.proc_expansion.specs.Extent.{acts_count, acts_depth}
+use Rattle.proc_renaming.specs.Renaming.{Hiding, nothing_hidden, parameter_decls}
+use Rattle.proc_expansion.specs.Expansion.{Callee, callees, expanded_acts, expansion}
+use Rattle.proc_expansion.specs.Extent.{acts_depth}
 use Rattle.proc_expansion.specs.Extents.{extent_of}
 use Rattle.proc_expansion.specs.Plan.{bodies_of}
 use Rattle.proc_expansion.proofs.ExtentLemmas.{acts_depth-le, bodies_all}
@@ -25,17 +26,7 @@ whole_is procs n h b s past hides is_body are =
     ∙ ap (λ (b : Acts). expanded_acts (bodies_of procs) nothing_hidden b) is_body
     ∙ ap (λ (ps : List Procedure). expanded_acts (callees ps) nothing_hidden s.body) are
 
-pub measured_whole : (procs : List Proc) (b : Acts) (s : ProcedureSource) (e : Extent) → ((h : Hiding) → e ≡ extent_of (expanded_acts (bodies_of procs) h b)) → b ≡ s.body
-    → map procedure_of procs ≡ s.procs → e ≡ extent_of (whole_of s)
-measured_whole procs b s e measured is_body are =
-    measured nothing_hidden
-    ∙ ap (λ (b : Acts). extent_of (expanded_acts (bodies_of procs) nothing_hidden b)) is_body
-    ∙ ap (λ (ps : List Procedure). extent_of (expanded_acts (callees ps) nothing_hidden s.body)) are
-
--- within the first limit, the count and the depth are exact
-pub exact_count : (xs : List Act) (e : Extent) → e ≡ extent_of xs → e.count ≤ 10000 → acts_count (acts xs) ≤ 10000
-exact_count xs e is small = omega (arith, small, ap (λ (e : Extent). e.count) is)
-
+-- within the first limit, the depth is exact
 pub exact_depth : (xs : List Act) (e : Extent) → e ≡ extent_of xs → e.count ≤ 10000 → e.depth ≡ acts_depth (acts xs)
 exact_depth xs e is small = omega (arith, small, ap (λ (e : Extent). e.count) is, ap (λ (e : Extent). e.depth) is, acts_depth-le (acts xs))
 

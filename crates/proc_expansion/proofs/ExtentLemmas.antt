@@ -11,7 +11,8 @@ use Rattle.ts_syntax.specs.Seen.{acts, act_of, acts_of, procedure_of}
 use Rattle.ts_syntax.specs.declared.word.Word.{Word}
 use Rattle.proc_names.specs.NameFaults.{argument_total}
 use Rattle.proc_expansion.specs.declared.extent.Extent.{Extent}
-use Rattle.proc_expansion.specs.Expansion.{Hiding, first_trees, assigned, Callee, callee, body_called, expanded_act, expanded_acts}
+use Rattle.proc_renaming.specs.Renaming.{Hiding, assigned}
+use Rattle.proc_expansion.specs.Expansion.{first_trees, Callee, callee, body_called, expanded_act, expanded_acts}
 use Rattle.proc_expansion.specs.Extent.{act_count, acts_count, act_depth, acts_depth}
 use Rattle.proc_expansion.specs.Extents.{extent_of, body_extents}
 use Rattle.proc_expansion.specs.Plan.{bodies_of}

@@ -1,6 +1,5 @@
 pub mod InOrderLemmas
 pub mod CalleeLemmas
 pub mod ExtentLemmas
-pub mod RenamingLemmas
 pub mod WritingLemmas
 pub mod ExpandLemmas

@@ -7,7 +7,7 @@ use Rattle.proc_names.specs.Places.{declared_as}
 use Rattle.proc_expansion.specs.declared.pending.Pending.{Pending}
 use Rattle.proc_expansion.specs.InOrder.{declared_in_order}
 use Rattle.proc_expansion.specs.Expansion.{expanded_acts}
-use Rattle.proc_expansion.specs.Hidden.{hiding_of}
+use Rattle.proc_renaming.specs.Hidden.{hiding_of}
 use Rattle.proc_expansion.specs.Plan.{bodies_of}
 
 -- what pending statements become

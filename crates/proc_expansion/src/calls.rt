@@ -1,23 +1,22 @@
 //! A `do`: the assignments of its arguments, and the body of its procedure.
 
-ghost use Rattle.std.specs.Prelude.{◌≡◌, ◌≤◌, ◌<◌, ◌+◌, ◌++◌, ◌^◌, length, map, take, IfOk, OnOk};
+ghost use Rattle.std.specs.Prelude.{◌≡◌, ◌≤◌, ◌<◌, ◌+◌, ◌++◌, map, take, IfOk};
 ghost use Rattle.ts_syntax.specs.Seen.{act_of, acts, trees_of};
 ghost use Rattle.ts_syntax.specs.Tree.{run_procedure};
 ghost use Rattle.proc_names.specs.Places.{declared_as};
-ghost use Rattle.proc_expansion.specs.Expansion.{expanded_act, assigned, body_called};
+ghost use Rattle.proc_expansion.specs.Expansion.{body_called};
 ghost use Rattle.proc_expansion.specs.Extent.{acts_depth};
-ghost use Rattle.proc_expansion.specs.Hidden.{hiding_of};
+ghost use Rattle.proc_renaming.specs.Hidden.{hiding_of};
 ghost use Rattle.proc_expansion.specs.Plan.{bodies_of};
 ghost use Rattle.proc_expansion.specs.Pending.{left_if, steps_if, steps_of_bodies, act_steps};
 
-use crate::hidden::Hidden;
-use crate::numbers::parameter_name;
 use crate::pending::Pending;
 use crate::plan::Plan;
-use crate::renaming::expression;
 use mate_num::NoMemory;
+use proc_renaming::Hidden;
+use proc_renaming::statements::assignments;
 use std::alloc::Global;
-use ts_syntax::{Args, Block, Expr, Stmt, Word};
+use ts_syntax::{Args, Block, Word};
 
 /// Appends the assignments of a `do`, and answers the body of its procedure if it has statements.
 pub(crate) fn call<'a>(
@@ -49,7 +48,7 @@ pub(crate) fn call<'a>(
     let first = plan.firsts[place];
     let args = args.as_slice();
     let args = &args[..args.len().min(params.len())];
-    assign(alloc, hidden, name.place, first, args, written)?;
+    assignments(alloc, hidden, name.place, first, args, written)?;
     if plan.extents[place].count == 0 {
         return Ok(None);
     }
@@ -58,25 +57,4 @@ pub(crate) fn call<'a>(
         count: place,
         hidden: Hidden::of(alloc, first, params)?,
     }))
-}
-
-// Appends an assignment for each argument, the first of them to the variable of this number.
-fn assign(
-    alloc: Global,
-    hidden: &Hidden,
-    place: u32,
-    first: u32,
-    args: &[Expr],
-    written: &mut Block,
-) -> Result<(), NoMemory>
-    requires { first + length args.now ≤ 2 ^ 32 }
-    ensures { let made = assigned (hiding_of hidden.now) place first (trees_of args.now) in
-        OnOk result (map act_of written.new ≡ map act_of written.old ++ made) }
-{
-    for (index, arg) in args.iter().enumerate() {
-        let name = parameter_name(first + index as u32);
-        let value = expression(alloc, hidden, arg)?;
-        written.push(Stmt::Set(Word { name, place }, value))?;
-    }
-    Ok(())
 }

@@ -1,13 +1,19 @@
 //! The expansion of a whole script.
 
+ghost use Rattle.std.specs.Prelude.{◌≡◌, ◌≤◌, min, map, IfOk};
+ghost use Rattle.ts_syntax.specs.Seen.{procedure_of, source_of};
 ghost use Rattle.proc_names.specs.Named.{written_of};
 ghost use Rattle.proc_expansion.specs.Answer.{Expands};
+ghost use Rattle.proc_expansion.specs.Expansion.{expansion};
+ghost use Rattle.proc_expansion.specs.Extent.{acts_count, acts_depth};
 
-use crate::hidden::Hidden;
-use crate::numbers::declarations;
+use crate::extent::{Extent, block_extent};
 use crate::plan::Plan;
 use crate::statements::block;
+use mate_num::NoMemory;
 use proc_names::{PScript, ProcFault};
+use proc_renaming::Hidden;
+use proc_renaming::numbers::declarations;
 use std::alloc::Global;
 use ts_syntax::Script;
 
@@ -27,9 +33,8 @@ pub const DEPTH_MAX: u32 = 32;
 pub fn expand(alloc: Global, script: &PScript) -> Result<Script, ProcFault>
     ensures { Expands (written_of script.now) result }
 {
-    let procs = script.procs().as_slice();
-    let plan = Plan::of(alloc, procs)?;
-    let extent = plan.extent(script.body());
+    let plan = Plan::of(alloc, script.procs().as_slice())?;
+    let extent = whole_extent(&plan, script);
     if extent.count > STATEMENTS_MAX {
         return Err(ProcFault::TooLarge {
             count: extent.count,
@@ -40,13 +45,36 @@ pub fn expand(alloc: Global, script: &PScript) -> Result<Script, ProcFault>
             depth: extent.depth,
         });
     }
+    Ok(written(alloc, &plan, script)?)
+}
+
+// How large the expansion is, by a plan of the script's procedures.
+fn whole_extent(plan: &Plan, script: &PScript) -> Extent
+    requires { map procedure_of plan.now.heads.procs.now ≡ (written_of script.now).procs }
+    ensures count { result.count ≡ min 1000000 (acts_count (expansion (written_of script.now)).body) }
+    ensures depth { result.count ≤ 10000 → result.depth ≡ acts_depth (expansion (written_of script.now)).body }
+{
+    block_extent(
+        &plan.heads,
+        plan.extents.as_slice(),
+        plan.heads.procs.len(),
+        script.body(),
+    )
+}
+
+// The plain script, by a plan of the script's procedures.
+fn written<'a>(alloc: Global, plan: &Plan<'a>, script: &'a PScript) -> Result<Script, NoMemory>
+    requires planned { map procedure_of plan.now.heads.procs.now ≡ (written_of script.now).procs }
+    requires shallow { acts_depth (expansion (written_of script.now)).body ≤ 32 }
+    ensures { IfOk result (λ new. source_of new ≡ expansion (written_of script.now)) }
+{
     let decls = declarations(alloc, script.decls().as_slice(), plan.parameters)?;
     let hidden = Hidden::of(alloc, 0, &[])?;
     let body = block(
         alloc,
-        &plan,
-        extent.depth,
-        procs.len(),
+        plan,
+        DEPTH_MAX + 1,
+        plan.heads.procs.len(),
         &hidden,
         script.body().as_slice(),
     )?;

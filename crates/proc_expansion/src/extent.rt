@@ -1,9 +1,10 @@
 //! How large the expansions of bodies are, by those of the procedures declared before.
 
-ghost use Rattle.std.specs.Prelude.{◌≡◌, ◌≤◌, min, map, take, length, IfOk};
+ghost use Rattle.std.specs.Prelude.{◌≡◌, min, take, IfOk};
 ghost use Rattle.ts_syntax.specs.Seen.{act_of, acts_of, trees_of};
 ghost use Rattle.proc_names.specs.Places.{declared_as};
-ghost use Rattle.proc_expansion.specs.Expansion.{Hiding, expanded_act, expanded_acts, body_called};
+ghost use Rattle.proc_renaming.specs.Renaming.{Hiding};
+ghost use Rattle.proc_expansion.specs.Expansion.{expanded_act, expanded_acts, body_called};
 ghost use Rattle.proc_expansion.specs.Extents.{extent_of as extent_of_acts, body_extents};
 ghost use Rattle.proc_expansion.specs.Plan.{bodies_of};
 
@@ -17,7 +18,7 @@ pub(crate) const COUNT_MAX: u32 = 1_000_000;
 
 /// How large statements are: how many there are, those inside blocks counted, up to `COUNT_MAX`; and how deep their blocks
 /// nest, up to `u32::MAX`.
-#[derive(Clone, Copy, PartialEq, Eq, Debug)]
+#[derive(Clone, Copy)]
 pub struct Extent {
     pub count: u32,
     pub depth: u32,

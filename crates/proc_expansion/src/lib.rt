@@ -4,12 +4,8 @@
 mod calls;
 pub mod expanding;
 mod extent;
-mod forms;
-mod hidden;
-mod numbers;
 mod pending;
 mod plan;
-mod renaming;
 mod stack;
 mod statements;
 

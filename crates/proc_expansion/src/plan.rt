@@ -6,11 +6,11 @@ ghost use Rattle.proc_names.specs.Heads.{parameter_count};
 ghost use Rattle.proc_expansion.specs.Extents.{body_extents};
 ghost use Rattle.proc_expansion.specs.Plan.{bodies_of, firsts_of};
 
-use crate::extent::{Extent, block_extent, extents};
+use crate::extent::{Extent, extents};
 use mate_num::NoMemory;
 use proc_names::Heads;
 use std::alloc::Global;
-use ts_syntax::{Block, Proc};
+use ts_syntax::Proc;
 
 /// The procedures of a script, with the number of each one's first parameter, the extent of its body, and how many parameters
 /// they have.
@@ -27,10 +27,6 @@ pub(crate) struct Plan<'a> {
 }
 
 impl<'a> Plan<'a> {
-    ghost use Rattle.ts_syntax.specs.Seen.{acts_of};
-    ghost use Rattle.proc_expansion.specs.Expansion.{Hiding, expanded_acts};
-    ghost use Rattle.proc_expansion.specs.Extents.{extent_of};
-
     pub(crate) fn of(alloc: Global, procs: &'a [Proc]) -> Result<Plan<'a>, NoMemory>
         requires { parameter_count (map procedure_of procs.now) < 2 ^ 32 }
         ensures { IfOk result (λ plan. plan.heads.procs.now ≡ procs.now) }
@@ -44,19 +40,6 @@ impl<'a> Plan<'a> {
             extents,
             parameters,
         })
-    }
-
-    /// The extent of the expansion of the script's statements.
-    pub(crate) fn extent(&self, body: &Block) -> Extent
-        ensures { let known = bodies_of self.now.heads.procs.now in
-            (h : Hiding) → result ≡ extent_of (expanded_acts known h (acts_of body.now)) }
-    {
-        block_extent(
-            &self.heads,
-            self.extents.as_slice(),
-            self.heads.procs.len(),
-            body,
-        )
     }
 }
 

@@ -20,7 +20,8 @@ use Rattle.ts_checker.specs.Checks.{checked_expr, checked_args, checked_block}
 use Rattle.ts_meaning.specs.State.{ScriptState, Evaluation, Done, Over, then_do, value_or_fault, with_variable, first_ten, next_answer, call_answered}
 use Rattle.ts_meaning.specs.Meaning.{applied, value_of, values_of, run_block}
 use Rattle.proc_names.specs.NameFaults.{expr_fault, args_fault, argument_total}
-use Rattle.proc_expansion.specs.Expansion.{Hiding, parameter_name, renamed_expr, assigned, first_trees, Callee}
+use Rattle.proc_renaming.specs.Renaming.{Hiding, parameter_name, renamed_expr, assigned}
+use Rattle.proc_expansion.specs.Expansion.{first_trees, Callee}
 use Rattle.proc_meaning.specs.Frames.{Runs, values_checked, with_frame, frame_dropped, in_own_frame}
 use Rattle.proc_meaning.proofs.StateLemmas.{Layout, HasRoom, Stands, called_layout, set_below, frame_made, frame_put_back}
 use Rattle.proc_meaning.proofs.EvaluationLemmas.{with_privates, OverAlike, Alike, MeansValue}

@@ -21,7 +21,7 @@ use Rattle.ts_checker.specs.Checks.{variable_expression, Called, sends, calls, a
 use Rattle.ts_meaning.specs.Meaning.{run_stmt}
 use Rattle.proc_names.specs.declared.fault.ProcFault.{ProcFault}
 use Rattle.proc_names.specs.NameFaults.{◌<|>◌, word_fault, expr_fault, args_fault}
-use Rattle.proc_expansion.specs.Expansion.{Hiding, renamed, renamed_expr, renamed_args}
+use Rattle.proc_renaming.specs.Renaming.{Hiding, renamed, renamed_expr, renamed_args}
 use Rattle.proc_meaning.proofs.StateLemmas.{Layout}
 use Rattle.proc_meaning.proofs.EvaluationLemmas.{MeansValue, MeansValues, SameVariable, means_variable, means_number, means_item, means_size, means_msg_item, means_msg_size, means_call, means_send, means_negative, means_inverse, means_two, means_none, means_argument}
 use Rattle.proc_meaning.proofs.StatementLemmas.{MeansRun, runs_do, runs_send}

@@ -21,7 +21,7 @@ use Rattle.ts_scope.specs.Refusal.{◌>>=◌, unless_refused}
 use Rattle.ts_scope.specs.Names.{ScriptNames, symbol_of, is_private_symbol, private_count, listed, made, with_name, declare, declare_all, as_variable, as_buffer, variable, function}
 use Rattle.proc_names.specs.declared.fault.ProcFault.TheVariants.{Reserved}
 use Rattle.proc_names.specs.NameFaults.{is_reserved, refused_if, word_fault}
-use Rattle.proc_expansion.specs.Expansion.{parameter_name, renamed_as, renamed, nothing_hidden, parameter_decls}
+use Rattle.proc_renaming.specs.Renaming.{parameter_name, renamed_as, renamed, nothing_hidden, parameter_decls}
 use Rattle.proc_meaning.specs.Frames.{parameter_entries, names_within}
 use Rattle.proc_meaning.proofs.StateLemmas.{Layout}
 use Rattle.proc_meaning.proofs.EvaluationLemmas.{SameVariable}

@@ -26,7 +26,8 @@ use Rattle.proc_names.specs.Places.{declared_as}
 use Rattle.proc_names.specs.Heads.{parameter_count}
 use Rattle.proc_names.specs.NameFaults.{◌<|>◌, refused_if, word_fault, expr_fault, args_fault, argument_total, call_fault, act_fault, acts_fault, params_fault, procedure_fault, procedures_fault, decls_fault, name_fault}
 use Rattle.proc_expansion.specs.InOrder.{declared_in_order}
-use Rattle.proc_expansion.specs.Expansion.{Hiding, nothing_hidden, parameter_name, renamed, renamed_expr, renamed_args, first_trees, assigned, body_called, expanded_act, expanded_acts, Callee, callee, callees, parameter_decls}
+use Rattle.proc_renaming.specs.Renaming.{Hiding, nothing_hidden, parameter_name, renamed, renamed_expr, renamed_args, assigned, parameter_decls}
+use Rattle.proc_expansion.specs.Expansion.{first_trees, body_called, expanded_act, expanded_acts, Callee, callee, callees}
 use Rattle.proc_meaning.specs.Frames.{Runs, call_run, values_checked, names_within, act_run, acts_run, procedure_runs, script_run}
 use Rattle.proc_meaning.specs.FrameLaw.{RunsAsExpanded, RunsAsAnswered}
 use Rattle.proc_meaning.proofs.StateLemmas.{Layout, HasRoom, Stands}

@@ -1,13 +1,12 @@
 //! Why a script with procedures is refused.
 
 use mate_num::{Name, NoMemory};
-use std::alloc::AllocFailed;
 
 /// Why a script with procedures is refused. A place is the offset in bytes of a word's first byte in the source.
 ///
 /// The text comes first, with the first of its faults; then the names, from left to right by place, where at one name
 /// `Reserved` comes before `NoProc` and `Again`, and these before `Params`; and then the size of the expansion, before its depth.
-#[derive(PartialEq, Eq, Debug, Drop)]
+#[derive(Debug, Drop)]
 pub enum ProcFault {
     /// A byte that begins no token, the 17th byte of a name, or a letter or `_` directly behind a literal.
     BadByte { place: u32 },
@@ -43,17 +42,6 @@ impl From<NoMemory> for ProcFault {
     ghost from_gives = { λ _ fault. fault ≡ NoMemory };
 
     fn from(_error: NoMemory) -> ProcFault {
-        ProcFault::NoMemory
-    }
-}
-
-impl<T: Drop> From<AllocFailed<T>> for ProcFault {
-    ghost use Rattle.std.specs.Prelude.{◌≡◌};
-    ghost use Rattle.proc_names.specs.declared.fault.ProcFault.TheVariants.{NoMemory};
-
-    ghost from_gives = { λ _ fault. fault ≡ NoMemory };
-
-    fn from(_error: AllocFailed<T>) -> ProcFault {
         ProcFault::NoMemory
     }
 }

@@ -8,9 +8,10 @@ use Rattle.ts_syntax.specs.Seen.{act_of, acts_of, trees_of, procedure_of}
 use Rattle.proc_names.specs.Heads.{parameter_count}
 use Rattle.proc_names.specs.Places.{declared_as}
 use Rattle.proc_expansion.specs.declared.extent.Extent.{Extent}
-use Rattle.proc_expansion.specs.Expansion.{Callee, callee, assigned, body_called}
+use Rattle.proc_renaming.specs.Renaming.{assigned}
+use Rattle.proc_expansion.specs.Expansion.{Callee, callee, body_called}
 use Rattle.proc_expansion.specs.Extents.{extent_of}
-use Rattle.proc_expansion.specs.Hidden.{hiding_of}
+use Rattle.proc_renaming.specs.Hidden.{hiding_of}
 use Rattle.proc_expansion.specs.Pending.{body_steps, acts_steps, steps_of_bodies}
 use Rattle.proc_expansion.specs.Plan.{bodies_of}
 use Rattle.proc_expansion.proofs.InOrderLemmas.{none_named, one_named}
@@ -31,8 +32,8 @@ index-first-requires c =
     let len : c.args.plan.now.firsts.len ≡ length c.args.plan.now.firsts.items = c.args.plan.now.firsts.ok.0 in
     omega (arith, h, len)
 
-pub assign-requires : goal.assign-requires
-assign-requires c =
+pub assignments-requires : goal.assignments-requires
+assignments-requires c =
     let procs : List Proc = c.args.plan.now.heads.procs.now in
     let p : Proc = c.index-plan-place.result in
     let number : c.index-first.result.now ≡ count_before procs c.in-Some.place =
@@ -58,12 +59,12 @@ returns-then-index-eq0-clause-wrote c =
     extents-at procs c.args.plan.now.extents.items c.in-Some.place p c.index.result.now c.args.plan.now.measured c.in-Some.ensures.within c.index-plan-place.is c.index.ensures in
     let empty : this.body ≡ [] = none_counted this.body (sym (ap (λ (e : Extent). e.count) extent) ∙ c.if-index-eq0.true) in
     call_written (hiding_of c.args.hidden.now) c.args.name.now c.args.args.now this
-    (declared_as (take c.args.count (bodies_of procs)) c.args.name.now.name) c.index-first.result.now c.min.result [] (map act_of c.args.written.now) (map act_of c.assign.new.written)
+    (declared_as (take c.args.count (bodies_of procs)) c.args.name.now.name) c.index-first.result.now c.min.result [] (map act_of c.args.written.now) (map act_of c.assignments.new.written)
     (one_named callee procs c.args.count c.args.name.now.name c.in-Some.place p c.in-Some.ensures.value c.in-Some.ensures.below c.in-Some.ensures.within c.index-plan-place.is)
     (first_at procs c.in-Some.place p c.args.plan.now.firsts.items c.index-first.result.now c.args.plan.now.numbered c.in-Some.ensures.within c.index-plan-place.is c.index-first.ensures)
     (c.min.ensures ∙ ap (λ (xs : List Expr). min (length xs) (length c.as_slice-params.result.now)) c.as_slice-args.ensures ∙ ap (min (length c.args.args.now)) params)
     (sym empty)
-    (c.in_ok-assign.ensures ∙ ap (λ (xs : List Expr). map act_of c.args.written.now ++ assigned (hiding_of c.args.hidden.now) c.args.name.now.place c.index-first.result.now (trees_of (take c.min.result xs))) c.as_slice-args.ensures)
+    (c.in_ok-assignments.ensures ∙ ap (λ (xs : List Expr). map act_of c.args.written.now ++ assigned (hiding_of c.args.hidden.now) c.args.name.now.place c.index-first.result.now (trees_of (take c.min.result xs))) c.as_slice-args.ensures)
 
 pub of-requires : goal.of-requires
 of-requires c =
@@ -84,14 +85,14 @@ returns-clause-wrote c =
     first_at procs c.in-Some.place p c.args.plan.now.firsts.items c.index-first.result.now c.args.plan.now.numbered c.in-Some.ensures.within c.index-plan-place.is c.index-first.ensures in
     let are : c.as_slice-params.result.now ≡ p.params = c.as_slice-params.ensures ∙ ap (λ (q : Proc). q.params) (sym c.index-plan-place.is) in
     call_written (hiding_of c.args.hidden.now) c.args.name.now c.args.args.now this
-    (declared_as (take c.args.count (bodies_of procs)) c.args.name.now.name) c.index-first.result.now c.min.result _ (map act_of c.args.written.now) (map act_of c.assign.new.written)
+    (declared_as (take c.args.count (bodies_of procs)) c.args.name.now.name) c.index-first.result.now c.min.result _ (map act_of c.args.written.now) (map act_of c.assignments.new.written)
     (one_named callee procs c.args.count c.args.name.now.name c.in-Some.place p c.in-Some.ensures.value c.in-Some.ensures.below c.in-Some.ensures.within c.index-plan-place.is)
     number
     (c.min.ensures ∙ ap (λ (xs : List Expr). min (length xs) (length c.as_slice-params.result.now)) c.as_slice-args.ensures ∙ ap (min (length c.args.args.now)) (ap length are))
     (body_left procs c.in-Some.place p c.as_slice.result.now (hiding_of c.in_ok-of.field-0)
     (c.in_ok-of.ensures ∙ ap (λ n. hides n c.as_slice-params.result.now) number ∙ ap (hides (count_before procs c.in-Some.place)) are)
     (c.as_slice.ensures ∙ ap (λ (q : Proc). q.body) (sym c.index-plan-place.is)))
-    (c.in_ok-assign.ensures ∙ ap (λ (xs : List Expr). map act_of c.args.written.now ++ assigned (hiding_of c.args.hidden.now) c.args.name.now.place c.index-first.result.now (trees_of (take c.min.result xs))) c.as_slice-args.ensures)
+    (c.in_ok-assignments.ensures ∙ ap (λ (xs : List Expr). map act_of c.args.written.now ++ assigned (hiding_of c.args.hidden.now) c.args.name.now.place c.index-first.result.now (trees_of (take c.min.result xs))) c.as_slice-args.ensures)
 
 pub returns-clause-steps : goal.returns-clause-steps
 returns-clause-steps c =

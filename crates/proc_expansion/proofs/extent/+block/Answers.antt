@@ -2,7 +2,8 @@ use Rattle.std.proofs.Common.{rules, ◌≡◌, ◌∙◌, List, ap, sym, arith,
 use Rattle.ts_syntax.specs.declared.stmt.Stmt.{the_lemmas}
 use Rattle.ts_syntax.specs.Seen.{tree_of, act_of, acts_of}
 use Rattle.ts_syntax.specs.Tree.{Act, if_else}
-use Rattle.proc_expansion.specs.Expansion.{Callee, renamed_expr, expanded_act, expanded_acts}
+use Rattle.proc_renaming.specs.Renaming.{renamed_expr}
+use Rattle.proc_expansion.specs.Expansion.{Callee, expanded_act, expanded_acts}
 use Rattle.proc_expansion.specs.Extents.{extent_of as extent_of_acts}
 use Rattle.proc_expansion.specs.Plan.{bodies_of}
 use Rattle.proc_expansion.proofs.ExtentLemmas.{if_else_measured, joined_from}

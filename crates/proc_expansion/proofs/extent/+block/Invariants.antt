@@ -1,6 +1,7 @@
 use Rattle.std.proofs.Common.{◌≡◌, ◌≤◌, take, drop}
 use Rattle.ts_syntax.specs.Seen.{acts_of}
-use Rattle.proc_expansion.specs.Expansion.{Hiding, expanded_acts}
+use Rattle.proc_renaming.specs.Renaming.{Hiding}
+use Rattle.proc_expansion.specs.Expansion.{expanded_acts}
 use Rattle.proc_expansion.specs.Extents.{extent_of}
 use Rattle.proc_expansion.specs.Plan.{bodies_of}
 use Rattle.proc_expansion.proofs.ExtentLemmas.{joined}

@@ -2,7 +2,7 @@ use Rattle.std.proofs.Common.{◌≡◌, ◌+◌, ◌*◌, ◌++◌, ◌≤◌, 
 use Rattle.ts_syntax.specs.Seen.{act_of, acts_of, acts}
 use Rattle.proc_expansion.specs.Expansion.{expanded_acts}
 use Rattle.proc_expansion.specs.Extent.{acts_depth}
-use Rattle.proc_expansion.specs.Hidden.{hiding_of}
+use Rattle.proc_renaming.specs.Hidden.{hiding_of}
 use Rattle.proc_expansion.specs.Pending.{left_if, left_on, steps_on}
 use Rattle.proc_expansion.specs.Plan.{bodies_of}
 use Rattle.proc_expansion.proofs.statements.+block.Given as goal
@@ -26,13 +26,10 @@ decreases-bodies-loop-pending l = steps_on l.plan.heads.procs.now l.stack.items
 
 -- a block within a statement nests less deep
 abbrev pub decreases-block : goal.decreases-block
-decreases-block l = 4 * l.depth + 3
+decreases-block l = 3 * l.depth
 
 abbrev pub decreases-bodies : goal.decreases-bodies
-decreases-bodies l = 4 * l.depth + 2
-
-abbrev pub decreases-advance : goal.decreases-advance
-decreases-advance l = 4 * l.depth + 1
+decreases-bodies l = 3 * l.depth + 2
 
 abbrev pub decreases-statement : goal.decreases-statement
-decreases-statement l = 4 * l.depth
+decreases-statement l = 3 * l.depth + 1

@@ -1,0 +1,2 @@
+pub mod RenamingLemmas
+pub mod WrittenLemmas
