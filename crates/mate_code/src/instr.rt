@@ -9,7 +9,7 @@ use mate_num::{BufId, FunId, VarId};
 
 /// One instruction. A number that names a variable, a buffer, a function or a place may be out of range:
 /// only verified code has all of them in range.
-#[derive(Clone, Copy, PartialEq, Eq, Default, Debug)]
+#[derive(Clone, Copy, Default)]
 pub enum Instr {
     /// Ends the run.
     #[default]

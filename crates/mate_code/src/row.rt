@@ -89,7 +89,8 @@ pub struct Row {
 
 impl Kind {
     /// The kind's row. The columns are those of `Row`, in their order: the opcode, the name, what stands after the opcode,
-    /// how many values it pops and pushes, where a run goes on, and what it names.
+    /// how many values it pops and pushes, where a run goes on, and what it names. A row by `plain` or `of_buffer` leaves out
+    /// the columns that all of its sort share.
     pub fn row(self) -> Row
         ensures { row_in result ≡ row_of self }
     {
@@ -101,37 +102,67 @@ impl Kind {
             Kind::SetS => columns(Base(0x04), "SETS", Byte, Values(1), 0, Next, SetsVariable),
             Kind::GetP => columns(Base(0x05), "GETP", Byte, Values(0), 1, Next, Private),
             Kind::SetP => columns(Base(0x06), "SETP", Byte, Values(1), 0, Next, Private),
-            Kind::Add => columns(Base(0x07), "ADD", Absent, Values(2), 1, Next, Nothing),
-            Kind::Sub => columns(Base(0x08), "SUB", Absent, Values(2), 1, Next, Nothing),
-            Kind::Mul => columns(Base(0x09), "MUL", Absent, Values(2), 1, Next, Nothing),
-            Kind::Div => columns(Base(0x0a), "DIV", Absent, Values(2), 1, Next, Nothing),
-            Kind::Mod => columns(Base(0x0b), "MOD", Absent, Values(2), 1, Next, Nothing),
-            Kind::Neg => columns(Base(0x0c), "NEG", Absent, Values(1), 1, Next, Nothing),
-            Kind::Not => columns(Base(0x0d), "NOT", Absent, Values(1), 1, Next, Nothing),
-            Kind::And => columns(Base(0x0e), "AND", Absent, Values(2), 1, Next, Nothing),
-            Kind::Or => columns(Base(0x0f), "OR", Absent, Values(2), 1, Next, Nothing),
-            Kind::Eq => columns(Base(0x10), "EQ", Absent, Values(2), 1, Next, Nothing),
-            Kind::Ne => columns(Base(0x11), "NE", Absent, Values(2), 1, Next, Nothing),
-            Kind::Lt => columns(Base(0x12), "LT", Absent, Values(2), 1, Next, Nothing),
-            Kind::Gt => columns(Base(0x13), "GT", Absent, Values(2), 1, Next, Nothing),
-            Kind::Le => columns(Base(0x14), "LE", Absent, Values(2), 1, Next, Nothing),
-            Kind::Ge => columns(Base(0x15), "GE", Absent, Values(2), 1, Next, Nothing),
+            Kind::Add => plain(0x07, "ADD", 2, 1),
+            Kind::Sub => plain(0x08, "SUB", 2, 1),
+            Kind::Mul => plain(0x09, "MUL", 2, 1),
+            Kind::Div => plain(0x0a, "DIV", 2, 1),
+            Kind::Mod => plain(0x0b, "MOD", 2, 1),
+            Kind::Neg => plain(0x0c, "NEG", 1, 1),
+            Kind::Not => plain(0x0d, "NOT", 1, 1),
+            Kind::And => plain(0x0e, "AND", 2, 1),
+            Kind::Or => plain(0x0f, "OR", 2, 1),
+            Kind::Eq => plain(0x10, "EQ", 2, 1),
+            Kind::Ne => plain(0x11, "NE", 2, 1),
+            Kind::Lt => plain(0x12, "LT", 2, 1),
+            Kind::Gt => plain(0x13, "GT", 2, 1),
+            Kind::Le => plain(0x14, "LE", 2, 1),
+            Kind::Ge => plain(0x15, "GE", 2, 1),
             Kind::Jz => columns(Base(0x16), "JZ", Word, Values(1), 0, Branches, Nothing),
             Kind::Jmp => columns(Base(0x17), "JMP", Word, Values(0), 0, Jumps, Nothing),
             Kind::Back => columns(Base(0x18), "BACK", Word, Values(0), 0, Returns, Nothing),
-            Kind::Drop => columns(Base(0x19), "DROP", Absent, Values(1), 0, Next, Nothing),
-            Kind::MsgGet => columns(Base(0x1a), "MSGGET", Absent, Values(1), 1, Next, Nothing),
-            Kind::MsgSize => columns(Base(0x1b), "MSGSIZE", Absent, Values(0), 1, Next, Nothing),
-            Kind::BGet => columns(Group(0x1c), "BGET", Byte, Values(1), 1, Next, GetsBuffer),
-            Kind::BSet => columns(Group(0x1d), "BSET", Byte, Values(2), 0, Next, SetsBuffer),
-            Kind::BAdd => columns(Group(0x1e), "BADD", Byte, Values(1), 0, Next, SetsBuffer),
-            Kind::BTake => columns(Group(0x1f), "BTAKE", Byte, Values(0), 1, Next, SetsBuffer),
-            Kind::BSize => columns(Group(0x20), "BSIZE", Byte, Values(0), 1, Next, GetsBuffer),
-            Kind::BClear => columns(Group(0x21), "BCLEAR", Byte, Values(0), 0, Next, SetsBuffer),
+            Kind::Drop => plain(0x19, "DROP", 1, 0),
+            Kind::MsgGet => plain(0x1a, "MSGGET", 1, 1),
+            Kind::MsgSize => plain(0x1b, "MSGSIZE", 0, 1),
+            Kind::BGet => of_buffer(0x1c, "BGET", 1, 1, GetsBuffer),
+            Kind::BSet => of_buffer(0x1d, "BSET", 2, 0, SetsBuffer),
+            Kind::BAdd => of_buffer(0x1e, "BADD", 1, 0, SetsBuffer),
+            Kind::BTake => of_buffer(0x1f, "BTAKE", 0, 1, SetsBuffer),
+            Kind::BSize => of_buffer(0x20, "BSIZE", 0, 1, GetsBuffer),
+            Kind::BClear => of_buffer(0x21, "BCLEAR", 0, 0, SetsBuffer),
             Kind::Fun(f) => columns(Function(f, false), "", Absent, Args(f), 1, Next, Calls(f)),
             Kind::FunBuf(f) => columns(Function(f, true), "", Byte, Values(0), 1, Next, Sends(f)),
         }
     }
+}
+
+// The row of a kind with no operand, which goes on at the next place and names nothing.
+fn plain(opcode: u8, name: &'static str, pops: u8, pushes: u8) -> Row
+    ensures { row_in result ≡ columns (Opcode.Base opcode) name.now OperandForm.Absent (Pops.Values pops) pushes Way.Next Access.Nothing }
+{
+    columns(
+        Base(opcode),
+        name,
+        Absent,
+        Values(pops),
+        pushes,
+        Next,
+        Nothing,
+    )
+}
+
+// The row of a kind whose operand is a buffer.
+fn of_buffer(opcode: u8, name: &'static str, pops: u8, pushes: u8, access: Access) -> Row
+    ensures { row_in result ≡ columns (Opcode.Group opcode) name.now OperandForm.Byte (Pops.Values pops) pushes Way.Next access }
+{
+    columns(
+        Group(opcode),
+        name,
+        Byte,
+        Values(pops),
+        pushes,
+        Next,
+        access,
+    )
 }
 
 // The row of these columns.

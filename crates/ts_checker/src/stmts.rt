@@ -56,18 +56,38 @@ fn statement(alloc: Global, scope: &Scope, stmt: &Stmt) -> Result<CStmt, CheckFa
             };
             Ok(CStmt::If(test, body, other))
         }
-        Stmt::For(head, body, next) => {
-            let checked = for_head(alloc, scope, head)?;
-            let body = block(alloc, scope, body)?;
-            scope.closes(&head.var, next)?;
-            Ok(CStmt::For(checked, body))
-        }
-        Stmt::While(test, body) => {
-            let test = expression(alloc, scope, true, test)?;
-            Ok(CStmt::While(test, block(alloc, scope, body)?))
-        }
+        Stmt::For(head, body, next) => for_next(alloc, scope, body, head, next),
+        Stmt::While(test, body) => while_do(alloc, scope, body, test),
         Stmt::Run(word, _) => Err(no_procedure(word)),
     }
+}
+
+#[inline(never)]
+#[cycle(block)]
+fn for_next(
+    alloc: Global,
+    scope: &Scope,
+    body: &Block,
+    head: &ForHead,
+    next: &Word,
+) -> Result<CStmt, CheckFault>
+    ensures { let from = tree_of head.now.from in
+        let to = tree_of head.now.to in
+        GivesChecked stmt_tree result (checked_stmt (scope_names scope.now) (given.for_next head.now.var from to head.now.step (acts_of body.now) next.now)) }
+{
+    let checked = for_head(alloc, scope, head)?;
+    let body = block(alloc, scope, body)?;
+    scope.closes(&head.var, next)?;
+    Ok(CStmt::For(checked, body))
+}
+
+#[inline(never)]
+#[cycle(block)]
+fn while_do(alloc: Global, scope: &Scope, body: &Block, test: &Expr) -> Result<CStmt, CheckFault>
+    ensures { GivesChecked stmt_tree result (checked_stmt (scope_names scope.now) (given.while_do (tree_of test.now) (acts_of body.now))) }
+{
+    let test = expression(alloc, scope, true, test)?;
+    Ok(CStmt::While(test, block(alloc, scope, body)?))
 }
 
 #[inline(never)]

@@ -1,6 +1,6 @@
 //! What the evaluator holds, and how it reads and changes that.
 
-use crate::operators::{append, set_item, take_last};
+use crate::operators::{append, item, set_item, take_last};
 use mate_num::{
     BufId, Call, Calls, End, FaultKind, FunId, Outcome, PRIVATES, Payload, Store, VarId, copy_of,
 };
@@ -40,8 +40,8 @@ impl From<FaultKind> for Stop {
 
 impl<'a> Evaluator<'a> {
     ghost use Rattle.std.specs.Prelude.{◌≡◌, ◌<◌, ◌≤◌, [], length, OnOk, pos};
-    ghost use Rattle.mate_num.specs.Store.{value_at, buffer_at, appended, item_set, last_of};
-    ghost use Rattle.ts_meaning.specs.State.{private_at, variable_at, with_variable, with_buffer, buffer_changed, moved, next_answer, begun_state, go_back, Done};
+    ghost use Rattle.mate_num.specs.Store.{value_at, buffer_at, item_of, appended, item_set, last_of};
+    ghost use Rattle.ts_meaning.specs.State.{value_or_fault, private_at, variable_at, with_variable, with_buffer, buffer_changed, moved, next_answer, begun_state, go_back, Done};
     ghost use Rattle.ts_meaning.specs.Meaning.{outcome_at};
     ghost use Rattle.ts_meaning.specs.Follows.{state_of, FollowsMeaning};
 
@@ -111,6 +111,21 @@ impl<'a> Evaluator<'a> {
             None => &[],
             Some(values) => values.as_slice(),
         }
+    }
+
+    /// The value at an index of a buffer.
+    pub(crate) fn item(&self, buffer: BufId, index: i16) -> Result<i16, Stop>
+        ensures { let values = buffer_at self.now.store buffer.0 in
+            FollowsMeaning (value_or_fault (item_of values index)) self.now result self.now }
+    {
+        Ok(item(self.buffer(buffer), index)?)
+    }
+
+    /// The value at an index of the message.
+    pub(crate) fn message_item(&self, index: i16) -> Result<i16, Stop>
+        ensures { FollowsMeaning (value_or_fault (item_of self.now.msg.now.items index)) self.now result self.now }
+    {
+        Ok(item(self.msg.as_slice(), index)?)
     }
 
     /// How many values a buffer holds.

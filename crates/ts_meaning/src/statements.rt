@@ -2,15 +2,16 @@
 
 ghost use Rattle.std.specs.Prelude.{◌≡◌, ◌≤◌};
 ghost use Rattle.mate_num.specs.Number.{is_truth};
-ghost use Rattle.ts_syntax.specs.Statement.{For, While};
-ghost use Rattle.ts_syntax.specs.TreeOf.{expr_tree, stmt_tree, block_tree};
+ghost use Rattle.ts_syntax.specs.Expression.{arguments};
+ghost use Rattle.ts_syntax.specs.Statement.{Set, SetItem, Append, Do, DoSend, For, While};
+ghost use Rattle.ts_syntax.specs.TreeOf.{expr_tree, args_trees, stmt_tree, block_tree};
 ghost use Rattle.ts_meaning.specs.State.{loop_does};
 ghost use Rattle.ts_meaning.specs.Meaning.{value_of, run_stmt, run_block, while_round, for_round, is_within};
 ghost use Rattle.ts_meaning.specs.Follows.{FollowsMeaning};
 
 use crate::evaluator::{Evaluator, Stop};
-use mate_num::Num16;
-use ts_syntax::{CBlock, CExpr, CForHead, CStmt};
+use mate_num::{BufId, FunId, Num16};
+use ts_syntax::{CArgs, CBlock, CExpr, CForHead, CStmt, CVar};
 
 fn is_true(value: i16) -> bool
     ensures { result ≡ is_truth value }
@@ -29,39 +30,65 @@ fn is_within_limit(step: i16, value: i16, limit: i16) -> bool
 }
 
 impl Evaluator<'_> {
+    fn assign(&mut self, variable: CVar, value: &CExpr) -> Result<(), Stop>
+        ensures follows { FollowsMeaning (run_stmt (Set variable (expr_tree value.now))) self.old result self.new }
+        ensures turns { self.new.turns ≡ self.old.turns }
+    {
+        let value = self.value(value)?;
+        self.set(variable, value);
+        Ok(())
+    }
+
+    fn assign_item(&mut self, buffer: BufId, index: &CExpr, value: &CExpr) -> Result<(), Stop>
+        ensures follows { FollowsMeaning (run_stmt (SetItem buffer (expr_tree index.now) (expr_tree value.now))) self.old result self.new }
+        ensures turns { self.new.turns ≡ self.old.turns }
+    {
+        let index = self.value(index)?;
+        let value = self.value(value)?;
+        self.set_item(buffer, index, value)
+    }
+
+    fn append_value(&mut self, buffer: BufId, value: &CExpr) -> Result<(), Stop>
+        ensures follows { FollowsMeaning (run_stmt (Append buffer (expr_tree value.now))) self.old result self.new }
+        ensures turns { self.new.turns ≡ self.old.turns }
+    {
+        let value = self.value(value)?;
+        self.append(buffer, value)
+    }
+
+    // A call whose result is dropped.
+    fn call_alone(&mut self, fun: FunId, args: &CArgs) -> Result<(), Stop>
+        ensures follows { FollowsMeaning (run_stmt (Do fun (arguments (args_trees args.now)))) self.old result self.new }
+        ensures turns { self.new.turns ≡ self.old.turns }
+    {
+        let _ = self.call(fun, args)?;
+        Ok(())
+    }
+
+    fn send_alone(&mut self, fun: FunId, buffer: BufId) -> Result<(), Stop>
+        ensures follows { FollowsMeaning (run_stmt (DoSend fun buffer)) self.old result self.new }
+        ensures turns { self.new.turns ≡ self.old.turns }
+    {
+        let _ = self.ask(fun, self.payload(buffer))?;
+        Ok(())
+    }
+
     #[cycle(stmt)]
     fn stmt(&mut self, stmt: &CStmt) -> Result<(), Stop>
         ensures follows { FollowsMeaning (run_stmt (stmt_tree stmt.now)) self.old result self.new }
         ensures turns { self.new.turns ≤ self.old.turns }
     {
         match stmt {
-            CStmt::Set(variable, value) => {
-                let value = self.value(value)?;
-                self.set(*variable, value);
-                Ok(())
-            }
-            CStmt::SetItem(buffer, index, value) => {
-                let index = self.value(index)?;
-                let value = self.value(value)?;
-                self.set_item(*buffer, index, value)
-            }
-            CStmt::Append(buffer, value) => {
-                let value = self.value(value)?;
-                self.append(*buffer, value)
-            }
+            CStmt::Set(variable, value) => self.assign(*variable, value),
+            CStmt::SetItem(buffer, index, value) => self.assign_item(*buffer, index, value),
+            CStmt::Append(buffer, value) => self.append_value(*buffer, value),
             CStmt::Take(variable, buffer) => self.take(*variable, *buffer),
             CStmt::Clear(buffer) => {
                 self.clear(*buffer);
                 Ok(())
             }
-            CStmt::Do(fun, args) => {
-                let _ = self.call(*fun, args)?;
-                Ok(())
-            }
-            CStmt::SendBuf(fun, buffer) => {
-                let _ = self.ask(*fun, self.payload(*buffer))?;
-                Ok(())
-            }
+            CStmt::Do(fun, args) => self.call_alone(*fun, args),
+            CStmt::SendBuf(fun, buffer) => self.send_alone(*fun, *buffer),
             CStmt::If(test, body, other) => {
                 let test = self.value(test)?;
                 if is_true(test) {

@@ -8,7 +8,7 @@ ghost use Rattle.ts_meaning.specs.Meaning.{value_of, values_of};
 ghost use Rattle.ts_meaning.specs.Follows.{FollowsMeaning};
 
 use crate::evaluator::{Evaluator, Stop};
-use crate::operators::{apply, item};
+use crate::operators::apply;
 use mate_num::{BufId, FunId, Num16, Payload};
 use ts_syntax::{BinOp, CArgs, CExpr};
 
@@ -36,12 +36,12 @@ impl Evaluator<'_> {
             CExpr::Private(private) => Ok(self.private(*private)),
             CExpr::Item(buffer, index) => {
                 let index = self.value(index)?;
-                Ok(item(self.buffer(*buffer), index)?)
+                self.item(*buffer, index)
             }
             CExpr::Size(buffer) => Ok(self.size(*buffer)),
             CExpr::MsgItem(index) => {
                 let index = self.value(index)?;
-                Ok(item(self.msg.as_slice(), index)?)
+                self.message_item(index)
             }
             CExpr::MsgSize => Ok(self.msg.len() as i16),
             CExpr::Call(fun, args) => self.call(*fun, args),

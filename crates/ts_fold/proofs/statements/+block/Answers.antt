@@ -34,15 +34,15 @@ statement-returns-in-If-default-default-Some t c =
     let b : Block = block_tree c.in-If-default-default-Some.other in
     let seen : stmt_tree c.args.stmt.now ≡ IfElse e a b = search (rules, the_lemmas) in
     let old : List Statement = block_trees c.args.into.now in
-    let new : List Statement = block_trees c.push-in-None-decision.new.self in
+    let new : List Statement = block_trees c.push-in-None.new.self in
     let test : CExpr = c.in_ok-test-in-If-default-default-Some.test in
-    let body : CBlock = c.in_ok-body-in-None-decision.body in
-    let other : CBlock = c.in_ok-other-in-None-decision.other in
+    let body : CBlock = c.in_ok-body-in-None.body in
+    let other : CBlock = c.in_ok-other-in-None.other in
     let folded_other : block_trees other ≡ folded_stmts b =
-    first_of (cc (c.in-If-default-default-Some.other-is, c.in_ok-other-in-None-decision.ensures), search (rules, the_lemmas)) in
-    on_ok c.push-in-None-decision.result (new ≡ old ++ stmt_tree (If test body (Some other)) ∷ []) (new ≡ old ++ folded_stmt (stmt_tree c.args.stmt.now))
+    first_of (cc (c.in-If-default-default-Some.other-is, c.in_ok-other-in-None.ensures), search (rules, the_lemmas)) in
+    on_ok c.push-in-None.result (new ≡ old ++ stmt_tree (If test body (Some other)) ∷ []) (new ≡ old ++ folded_stmt (stmt_tree c.args.stmt.now))
     (λ pushed. if_else_stays e (expr_tree test) a b (block_trees body) (block_trees other) old new
-    c.in_ok-test-in-If-default-default-Some.ensures c.in_ok-body-in-None-decision.ensures folded_other
-    (sym c.in-None-decision.ensures) (pushed ∙ ap (λ (x : Statement). old ++ x ∷ []) (made test body other))
+    c.in_ok-test-in-If-default-default-Some.ensures c.in_ok-body-in-None.ensures folded_other
+    (sym c.in-None.ensures) (pushed ∙ ap (λ (x : Statement). old ++ x ∷ []) (made test body other))
     ∙ ap (λ (x : Statement). old ++ folded_stmt x) (sym seen))
-    c.push-in-None-decision.ensures.pushed
+    c.push-in-None.ensures.pushed
