@@ -2,6 +2,7 @@
 #![tactic(auto)]
 
 pub mod capsule_file;
+mod causes;
 pub mod expansion;
 pub mod parts;
 pub mod source;

@@ -6,9 +6,10 @@ ghost use Rattle.vm_desc.specs.Shapes.{shape_of};
 ghost use Rattle.mate_steps.specs.Parts.{ReadsFiles};
 ghost use Rattle.mate_steps.specs.Sources.{source, compiled_bytes, accepted, compiled, tree_in};
 
+use crate::causes::source_cause;
 use crate::parts::read_file;
 use mate_files::Files;
-use mate_refusals::{Cause, Refusal, SourceCause, in_file};
+use mate_refusals::{Cause, Refusal, in_file};
 use source_code::{CodeFault, CompiledScript, compiled_script};
 use std::alloc::Global;
 use ts_source::accept;
@@ -62,7 +63,7 @@ pub fn accepted(
 {
     match accept(alloc, desc, bytes) {
         Ok(script) => Ok(script),
-        Err(refusal) => match SourceCause::of(refusal) {
+        Err(refusal) => match source_cause(refusal) {
             Some(cause) => Err(in_file(alloc, name, Cause::Source(cause))),
             None => Err(Refusal::NoMemory),
         },

@@ -25,5 +25,8 @@ pub fn accept(alloc: Global, desc: &Description, bytes: &[u8]) -> Result<Checked
         let tokens = tokens(alloc, bytes)?;
         parse(alloc, &tokens, bytes.len() as u32)?
     };
-    Ok(check(alloc, desc, &script)?)
+    match check(alloc, desc, &script) {
+        Ok(checked) => Ok(checked),
+        Err(fault) => Err(SourceRefusal::Meaning(fault)),
+    }
 }

@@ -22,14 +22,3 @@ impl From<SourceFault> for SourceRefusal {
         SourceRefusal::Spelling(fault)
     }
 }
-
-impl From<CheckFault> for SourceRefusal {
-    ghost use Rattle.std.specs.Prelude.{◌≡◌};
-    ghost use Rattle.ts_source.specs.declared.refusal.SourceRefusal.TheVariants.{Meaning};
-
-    ghost from_gives = { λ fault refusal. refusal ≡ Meaning fault };
-
-    fn from(fault: CheckFault) -> SourceRefusal {
-        SourceRefusal::Meaning(fault)
-    }
-}
