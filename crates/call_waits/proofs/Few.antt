@@ -12,23 +12,13 @@ use Rattle.mate_journal.specs.Machine.{Machine}
 use Rattle.mate_journal.specs.Journal.{Told, Started, Asked, Ended, Phase, Unposted, Queued, Ready, Waiting, Over, is_live, Invocation, Reading, heard}
 use Rattle.mate_journal.specs.WellFormed.{MayFollow}
 use Rattle.journal_laws.proofs.Changed.{changed-here}
+use Rattle.journal_laws.proofs.FewLemmas.{entries_left, left_at}
 use Rattle.journal_laws.proofs.Moves.{started-Moves, asked-Moves, ended-Moves}
 use Rattle.call_waits.specs.Waiting.{AreFollowing}
 use Rattle.call_waits.proofs.Apart.{LiveApart, LiveSmall}
 use Rattle.call_waits.proofs.Settling.{IsOfTurn, AreOfTurns}
 
--- ---- what an invocation may still tell while turns settle
-
--- a queued one its start and a mark, a ready one a mark
-abbrev entries_left : Phase → ℕ
-entries_left Unposted = 0
-entries_left Queued = 2
-entries_left Ready = 1
-entries_left (Waiting f args) = 0
-entries_left Over = 0
-
-abbrev left_at : Reading → ℕ → ℕ
-left_at r n = entries_left (r.invocations n).phase
+-- ---- where an invocation stands that may still tell anything while turns settle
 
 abbrev place : Reading → ℕ → ℕ
 place r n = (r.invocations n).context.0

@@ -15,16 +15,13 @@ use Rattle.mate_journal.specs.WellFormed.{MayFollow, NotBefore, IsInTime, start,
 use Rattle.mate_journal.specs.Serial.{EndsAsRun, RunsSoFar, IsSerial}
 use Rattle.mate_journal.specs.Stores.{ShowsStore, SeenBeforeEras, ShowsStores, is_seen, IsSeenBefore}
 use Rattle.mate_journal.specs.Grants.{AllHeldBack, IsGranted, start_of, GrantsInOrder}
+pub use Rattle.mate_journal.proofs.JournalLemmas.{heard_all-append}
 use Rattle.journal_laws.specs.Growth.{event_of, IsNamedBelow, AreNamedBelow, NamesInLog, IsPushed, AddsImage, AddsStore, last_stamp, last_start, last_is_seen, BeforeEachEntry, GrantsBefore}
 use Rattle.mate_journal.specs.declared.entry.Entry.{Entry}
 use Rattle.mate_journal.specs.declared.entry.Entry.TheVariants as entry
 use Rattle.mate_journal.specs.declared.entry.Stamped.{Stamped}
 
 -- ---- what was heard
-
-pub heard_all-append : (m : Machine) (r : Reading) (es fs : List Event) → heard_all m r (es ++ fs) ≡ heard_all m (heard_all m r es) fs
-heard_all-append m r [] fs = refl
-heard_all-append m r (e ∷ es) fs = heard_all-append m (heard m r e.told) es fs
 
 pub heard_all-push : (m : Machine) (r : Reading) (es : List Event) (e : Event) → heard_all m r (es ++ e ∷ []) ≡ heard m (heard_all m r es) e.told
 heard_all-push m r es e = heard_all-append m r es (e ∷ [])

@@ -17,6 +17,7 @@ use Rattle.mate_journal.specs.Pace.{Pace, no_pace}
 use Rattle.mate_journal.specs.Turns.{Clock, entry_at, Turn, IsTurn, mark_of, after_turn, AreTurns, told_in}
 use Rattle.mate_journal.specs.NodeScript.{Step, Install, Post, StepIn, Run, Answer, Show, ResetNode, Occasion, Installs, IsNotNewer, Answers, IsNotWaiting, Makes, HaveMade}
 use Rattle.mate_journal.specs.declared.report.TheConstants.{RECORDS_MAX}
+use Rattle.mate_journal.proofs.JournalLemmas.{told_by-append}
 use Rattle.journal_laws.proofs.Moves.{Moves, Joins, started-Moves, asked-Moves, answered-Moves, ended-Moves, posted-Joins}
 use Rattle.journal_laws.proofs.Apart.{IsNumbered, live_posted, numbered-step, nothing_heard-orderly}
 
@@ -36,10 +37,6 @@ outside-append : (ts more : List Told) → outside (ts ++ more) ≡ outside ts +
 outside-append [] more = omega arith
 outside-append (t ∷ ts) more = let h = outside-append ts more in omega (arith, h)
 
-told_by-append : (es fs : List Event) → told_by (es ++ fs) ≡ told_by es ++ told_by fs
-told_by-append [] fs = refl
-told_by-append (e ∷ es) fs = ap (λ ts. e.told ∷ ts) (told_by-append es fs)
-
 one-at_most : (t : Told) → from_outside t ≤ 1
 one-at_most (Started n) = omega arith
 one-at_most (Asked n f args) = omega arith
@@ -58,12 +55,13 @@ outside-all (e ∷ es) = let h = outside-all es in let one = one-at_most e.told 
 
 -- ---- what an invocation may still tell by itself
 
-abbrev weight : Phase → ℕ
-weight Unposted = 0
-weight Queued = 2
-weight Ready = 1
-weight (Waiting f args) = 0
-weight Over = 0
+-- a queued one its start and a mark, a ready one a mark
+abbrev pub entries_left : Phase → ℕ
+entries_left Unposted = 0
+entries_left Queued = 2
+entries_left Ready = 1
+entries_left (Waiting f args) = 0
+entries_left Over = 0
 
 -- f 0 + .. + f (n - 1)
 abbrev total : (ℕ → ℕ) → ℕ → ℕ
@@ -91,36 +89,36 @@ total-moved f g (suc n) k below others = elim (eqb_tells n k) [ inl t ↦ here t
   there : n ≢ k → total g n + f k ≡ total f n + g k → total g (suc n) + f k ≡ total f (suc n) + g k
   there other h = let last = others n other in omega (arith, h, last)
 
-abbrev weight_at : Reading → ℕ → ℕ
-weight_at r n = weight (r.invocations n).phase
+abbrev pub left_at : Reading → ℕ → ℕ
+left_at r n = entries_left (r.invocations n).phase
 
 abbrev owing : Reading → ℕ
-owing r = total (weight_at r) (suc r.posts)
+owing r = total (left_at r) (suc r.posts)
 
 -- an invocation moves
-owing-moves : (r s : Reading) (n : ℕ) (phase was : Phase) → Moves r s n phase → (r.invocations n).phase ≡ was → n ≤ r.posts → owing s + weight was ≡ owing r + weight phase
+owing-moves : (r s : Reading) (n : ℕ) (phase was : Phase) → Moves r s n phase → (r.invocations n).phase ≡ was → n ≤ r.posts → owing s + entries_left was ≡ owing r + entries_left phase
 owing-moves r s n phase was moves is posted =
-    let moved = total-moved (weight_at r) (weight_at s) (suc r.posts) n (omega (arith, posted)) (λ j other. ap (λ (i : Invocation). weight i.phase) (moves.others j other)) in
-    let before : weight_at r n ≡ weight was = ap weight is in
-    let after : weight_at s n ≡ weight phase = ap weight moves.here in
-    let posts : owing s ≡ total (weight_at s) (suc r.posts) = ap (λ (k : ℕ). total (weight_at s) (suc k)) moves.posts in
+    let moved = total-moved (left_at r) (left_at s) (suc r.posts) n (omega (arith, posted)) (λ j other. ap (λ (i : Invocation). entries_left i.phase) (moves.others j other)) in
+    let before : left_at r n ≡ entries_left was = ap entries_left is in
+    let after : left_at s n ≡ entries_left phase = ap entries_left moves.here in
+    let posts : owing s ≡ total (left_at s) (suc r.posts) = ap (λ (k : ℕ). total (left_at s) (suc k)) moves.posts in
     omega (arith, moved, before, after, posts)
 
 -- one is posted
 owing-joins : (r s : Reading) (n : ℕ) → Joins r s n → n ≡ suc r.posts → owing s ≡ owing r + 2
 owing-joins r s n joins next =
-    let same = total-same (weight_at r) (weight_at s) (suc r.posts) (λ j below. ap (λ (i : Invocation). weight i.phase) (joins.others j (λ e. omega (arith, below, next, e)))) in
-    let here : weight_at s n ≡ 2 = ap weight joins.here in
-    let last : weight_at s (suc r.posts) ≡ weight_at s n = ap (weight_at s) (sym next) in
-    let posts : owing s ≡ total (weight_at s) (suc (suc r.posts)) = ap (λ (k : ℕ). total (weight_at s) (suc k)) (joins.posts ∙ next) in
+    let same = total-same (left_at r) (left_at s) (suc r.posts) (λ j below. ap (λ (i : Invocation). entries_left i.phase) (joins.others j (λ e. omega (arith, below, next, e)))) in
+    let here : left_at s n ≡ 2 = ap entries_left joins.here in
+    let last : left_at s (suc r.posts) ≡ left_at s n = ap (left_at s) (sym next) in
+    let posts : owing s ≡ total (left_at s) (suc (suc r.posts)) = ap (λ (k : ℕ). total (left_at s) (suc k)) (joins.posts ∙ next) in
     omega (arith, same, here, last, posts)
 
-cut-weight : (phase : Phase) → weight (if is_live phase then Over else phase) ≤ weight phase
-cut-weight Unposted = omega arith
-cut-weight Queued = omega arith
-cut-weight Ready = omega arith
-cut-weight (Waiting f args) = omega arith
-cut-weight Over = omega arith
+cut-entries_left : (phase : Phase) → entries_left (if is_live phase then Over else phase) ≤ entries_left phase
+cut-entries_left Unposted = omega arith
+cut-entries_left Queued = omega arith
+cut-entries_left Ready = omega arith
+cut-entries_left (Waiting f args) = omega arith
+cut-entries_left Over = omega arith
 
 live : (r : Reading) (n : ℕ) (phase : Phase) → IsNumbered r → (r.invocations n).phase ≡ phase → is_live phase ≡ true → n ≤ r.posts
 live r n phase numbered is lives = live_posted r n numbered (ap is_live is ∙ lives)
@@ -136,8 +134,8 @@ owing-step m r (Answered n value) follows numbered =
     let e = owing-moves r (heard m r (Answered n value)) n Ready (Waiting follows.fun follows.args) (answered-Moves m r n value) follows.waits (live r n (Waiting follows.fun follows.args) numbered follows.waits refl) in omega (arith, e)
 owing-step m r (Ended n how) follows numbered =
     let e = owing-moves r (heard m r (Ended n how)) n Over Ready (ended-Moves m r n how) follows.0 (live r n Ready numbered follows.0 refl) in omega (arith, e)
-owing-step m r (Installed p) follows numbered = let e = total-below (weight_at r) (weight_at (heard m r (Installed p))) (suc r.posts) (λ k. cut-weight (r.invocations k).phase) in omega (arith, e)
-owing-step m r Reset follows numbered = let e = total-below (weight_at r) (weight_at (heard m r Reset)) (suc r.posts) (λ k. cut-weight (r.invocations k).phase) in omega (arith, e)
+owing-step m r (Installed p) follows numbered = let e = total-below (left_at r) (left_at (heard m r (Installed p))) (suc r.posts) (λ k. cut-entries_left (r.invocations k).phase) in omega (arith, e)
+owing-step m r Reset follows numbered = let e = total-below (left_at r) (left_at (heard m r Reset)) (suc r.posts) (λ k. cut-entries_left (r.invocations k).phase) in omega (arith, e)
 owing-step m r (Seen store) follows numbered = omega arith
 owing-step m r (Void cause) follows numbered = omega arith
 

@@ -53,11 +53,6 @@ HaveMade-push k m records n r p (first ∷ steps) es q step front then made room
           (subst (λ (s : Reading). Makes k m s q step (told_by front) then) (heard-parts m r es made.1 made.2 made.4) makes),
     )
 
--- what events of one stamp tell
-pub told_by-at : (at : Stamp) (told : List Told) → told_by (map (λ t. record { stamp = at; told = t }) told) ≡ told
-told_by-at at [] = refl
-told_by-at at (t ∷ ts) = ap (λ (rest : List Told). t ∷ rest) (told_by-at at ts)
-
 -- they are all of its event, at time 0
 pub AreOfEvent-at : (n : ℕ) (told : List Told) → AreOfEvent n (map (λ t. record { stamp = record { event = n; time = 0 }; told = t }) told)
 AreOfEvent-at n [] = All-nil (λ (e : Event). e.stamp ≡ record { event = n; time = 0 })

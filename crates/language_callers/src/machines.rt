@@ -1,9 +1,13 @@
-//! Calls that exclude wrong bodies of the crate `vm_desc`.
+//! Calls that exclude wrong bodies of the crates `vm_desc` and `vm_rules`.
 
-ghost use Rattle.std.specs.Prelude.{◌≡◌, [], codes};
+ghost use Rattle.std.specs.Prelude.{◌≡◌, ◌≤◌, [], ◌∷◌, codes, length, Ok, false};
+ghost use Rattle.vm_desc.specs.declared.function.Function.{Function as Called};
+ghost use Rattle.vm_desc.specs.declared.function.FunKind.TheVariants.{Act};
 
-use mate_num::Shape;
-use vm_desc::{Key, TrickleSet, builtin, shape};
+use mate_num::{HandlerId, Shape};
+use vm_desc::{Description, RadioSet, TrickleSet, builtin, shape};
+use vm_rules::rules::in_time;
+use vm_rules::{DescFault, Key};
 
 pub fn the_builtin_machine_has_one_context() -> u8
     ensures { result ≡ 1 }
@@ -27,4 +31,29 @@ pub fn a_period_is_a_handlers_key() -> &'static str
     ensures { result.now ≡ codes "handler.period" }
 {
     Key::HandlerPeriod.word()
+}
+
+pub fn a_round_may_take_the_whole_interval() -> Result<(), DescFault>
+    ensures { result ≡ Ok tt }
+{
+    let trickle = TrickleSet {
+        imin: 28,
+        doublings: 0,
+        k: 1,
+    };
+    in_time(1, trickle, RadioSet { delay: 2, gap: 1 })
+}
+
+pub fn an_actuator_pops_its_values(desc: &Description) -> Shape
+    ensures { (f : Called) → desc.now.functions.items ≡ f ∷ [] → f.kind ≡ Act 3 → result.functions.items ≡ record { args = 3; send = false; device = f.device } ∷ [] }
+{
+    shape(desc)
+}
+
+/// Its first context is not the last one of the handler before it.
+pub fn the_second_handler_has_its_first_context(desc: &Description) -> HandlerId
+    requires { 2 ≤ length desc.now.handlers.items }
+    ensures { result.0 ≡ 1 }
+{
+    desc.handler_of(desc.first_context(HandlerId(1)))
 }

@@ -1,11 +1,11 @@
-//! The parts of a node: its heap, its ring of ready contexts, its pending calls and its locks.
+//! The parts of a node: its heap, its ring of ready contexts and its pending calls.
 
-ghost use Rattle.std.specs.Prelude.{◌≡◌, pos, Ok, Err, Some, None, IfOk, false};
-ghost use Rattle.mate_num.specs.declared.call.FaultKind.TheVariants.{Index, BufferEmpty};
+ghost use Rattle.std.specs.Prelude.{◌≡◌, [], ◌∷◌, pos, length, Ok, Err, Some, None, IfOk, true, false};
+ghost use Rattle.mate_num.specs.Store.{buffer_at, payload};
+ghost use Rattle.mate_num.specs.declared.call.FaultKind.TheVariants.{Index, BufferEmpty, BufferFull};
 
 use context_sched::Ring;
-use lock_manager::Locks;
-use mate_num::{BufId, ContextId, FaultKind, FunId, LockSet, NoMemory, Payload, VarId};
+use mate_num::{BufId, ContextId, FaultKind, FunId, NoMemory, Payload, VarId};
 use node_heap::Heap;
 use split_phase::Pending;
 use std::alloc::Global;
@@ -42,6 +42,14 @@ pub fn a_taken_value_is_gone() -> Result<i16, FaultKind>
     heap.append(BufId(0), 5)?;
     heap.take(BufId(0))?;
     heap.take(BufId(0))
+}
+
+pub fn ten_values_leave_no_room(heap: &mut Heap) -> Result<(), FaultKind>
+    requires one { length heap.old.buffers.items ≡ 1 }
+    requires ten { length (buffer_at heap.old 0) ≡ 10 }
+    ensures { result ≡ Err BufferFull }
+{
+    heap.append(BufId(0), 5)
 }
 
 pub fn the_size_is_no_index() -> Result<i16, FaultKind>
@@ -90,6 +98,15 @@ pub fn a_removed_context_has_no_turn(alloc: Global) -> Result<Option<ContextId>,
     Ok(ring.next())
 }
 
+pub fn a_ready_context_is_found_behind_another(alloc: Global) -> Result<bool, NoMemory>
+    ensures { IfOk result (λ found. found ≡ true) }
+{
+    let mut ring = Ring::new(alloc)?;
+    ring.ready(ContextId(7));
+    ring.ready(ContextId(3));
+    Ok(ring.contains(ContextId(3)))
+}
+
 pub fn a_cleared_ring_has_no_turn(alloc: Global) -> Result<Option<ContextId>, NoMemory>
     ensures { IfOk result (λ ctx. ctx ≡ None) }
 {
@@ -107,6 +124,16 @@ pub fn a_call_is_answered_at_its_context() -> bool
     pending.asked(ContextId(4)).is_some()
 }
 
+pub fn a_call_waits_with_its_arguments() -> Option<(FunId, Payload)>
+    ensures { result ≡ Some (record { 0 = 1 }, payload (pos 5 ∷ [])) }
+{
+    let mut args = Payload::new();
+    args.push(5);
+    let mut pending = Pending::new();
+    pending.ask(ContextId(3), FunId(1), args);
+    pending.asked(ContextId(3))
+}
+
 pub fn a_cancelled_call_is_gone() -> bool
     ensures { result ≡ false }
 {
@@ -114,13 +141,4 @@ pub fn a_cancelled_call_is_gone() -> bool
     pending.ask(ContextId(3), FunId(1), Payload::new());
     pending.cancel();
     pending.answer(ContextId(3)).is_ok()
-}
-
-pub fn a_cleared_waiter_is_gone() -> bool
-    ensures { result ≡ false }
-{
-    let mut locks = Locks::new();
-    locks.enqueue(ContextId(3), LockSet::empty());
-    locks.clear();
-    locks.is_waiting(ContextId(3))
 }

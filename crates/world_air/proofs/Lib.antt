@@ -1,3 +1,4 @@
 pub mod WalkLemmas
 pub mod AirLemmas
 pub mod ChangeLemmas
+pub mod StartLemmas

@@ -1,2 +1,3 @@
 pub mod Air
 pub mod Changes
+pub mod Starting

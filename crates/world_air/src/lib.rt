@@ -3,6 +3,8 @@
 
 pub mod changes;
 pub mod sends;
+pub mod start;
 
 pub use changes::{Ends, cancel, note_first, note_interval, schedule, schedule_interval};
 pub use sends::{send_all, send_messages};
+pub use start::{begin_node, schedule_lines};

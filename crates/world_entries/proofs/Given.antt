@@ -15,6 +15,7 @@ use Rattle.mate_num.specs.declared.call.Stamp.{Stamp}
 use Rattle.mate_journal.specs.Machine.{Machine, HeldProgram}
 use Rattle.mate_journal.specs.Journal.{Told, Posted, Dropped, Started, Asked, Answered, Ended, Installed, Reset, Seen, Void, Reading, heard, heard_told, told_by, whole_run}
 use Rattle.mate_journal.specs.Journal.{Event as Entered}
+use Rattle.mate_journal.proofs.JournalLemmas.{told_by-at}
 use Rattle.mate_journal.specs.Grants.{IsStart}
 use Rattle.mate_journal.specs.Pace.{Pace, paced_all}
 use Rattle.mate_journal.specs.NodeScript.{Occasion}
@@ -119,17 +120,13 @@ events_give_theirs w before m come =
 
 -- ---- journals
 
-told-stamped : (at : Stamp) (told : List Told) → told_by (map (λ t. record { stamp = at; told = t }) told) ≡ told
-told-stamped at [] = refl
-told-stamped at (t ∷ told) = ap (λ (ts : List Told). t ∷ ts) (told-stamped at told)
-
 -- what a journal tells with one event more
 told-more : (w : World) (k : ℕ) (m : Moment) (before : List Moment) → told_by (journal w k (m ∷ before)) ≡ told_by (journal w k before) ++ (if k == event_node w m.cause then m.told else [])
 told-more w k m before =
     map-append (λ (e : Entered). e.told) (journal w k before) (if k == event_node w m.cause then map (λ t. record { stamp = stamp_of m before; told = t }) m.told else [])
     ∙ ap (λ (ts : List Told). told_by (journal w k before) ++ ts) (by (k == event_node w m.cause)) where
       by : (b : Bool) → told_by (if b then map (λ t. record { stamp = stamp_of m before; told = t }) m.told else []) ≡ (if b then m.told else [])
-      by true = told-stamped (stamp_of m before) m.told
+      by true = told_by-at (stamp_of m before) m.told
       by false = refl
 
 pub journals_tell_what_came : (w : World) → JournalsTellWhatCame w

@@ -2,7 +2,7 @@
 use Rattle.std.proofs.Common.{◌≡◌, ℕ, zero, suc, ◌+◌, ◌*◌, ◌<◌, ◌≤◌, Bool, true, false, List, [], ◌∷◌, ◌++◌, length, map, refl, sym, ◌∙◌, ap, arith, inl, inr, length-append}
 use Rattle.std.specs.Prelude.{ℤ, All, if◌then◌else◌, slice_get}
 use Rattle.std.proofs.lemmas.Bool.Decides.{eqb_tells}
-use Rattle.std.proofs.lemmas.List.{length-map, map-append}
+use Rattle.std.proofs.lemmas.List.{length-map}
 use Rattle.std.proofs.lemmas.List.Elements.{All-head, All-tail}
 use Rattle.arrayvec.specs.ArrayVec.{ArrayVec}
 use Rattle.mate_num.specs.declared.call.Stamp.{Stamp}
@@ -15,7 +15,7 @@ use Rattle.mate_journal.specs.Pace.{Pace, paced_all}
 use Rattle.mate_journal.specs.WellFormed.{MayFollow}
 use Rattle.journal_laws.proofs.Moves.{Moves, Joins, started-Moves, asked-Moves, answered-Moves, ended-Moves, posted-Joins}
 use Rattle.journal_laws.proofs.Apart.{IsNumbered, live_posted, numbered-step, queued_live, nothing_heard-orderly}
-use Rattle.journal_laws.proofs.ScriptRuns.{told_by-at}
+use Rattle.mate_journal.proofs.JournalLemmas.{told_by-append, told_by-at}
 use Rattle.node_grants.specs.Totals.{total}
 use Rattle.node_grants.proofs.TotalLemmas.{total-less}
 use Rattle.node_core.specs.Calls.{Pacing}
@@ -95,7 +95,7 @@ others-append [] us = omega arith
 others-append (t ∷ ts) us = let rest = others-append ts us in omega (arith, rest)
 
 told_by-behind : (es : List Event) (at : Stamp) (ts : List Told) → told_by (es ++ map (event_at at) ts) ≡ told_by es ++ ts
-told_by-behind es at ts = map-append (λ (e : Event). e.told) es (map (event_at at) ts) ∙ ap (λ (us : List Told). told_by es ++ us) (told_by-at at ts)
+told_by-behind es at ts = told_by-append es (map (event_at at) ts) ∙ ap (λ (us : List Told). told_by es ++ us) (told_by-at at ts)
 
 abbrev queued : Phase → ℕ
 queued Unposted = 0

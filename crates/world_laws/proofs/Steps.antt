@@ -6,6 +6,7 @@ use Rattle.std.proofs.lemmas.Bool.Decides.{eqb_tells}
 use Rattle.mate_journal.specs.Machine.{Machine}
 use Rattle.mate_journal.specs.Journal.{Told, Reading, nothing_heard, heard, heard_all}
 use Rattle.mate_journal.specs.Journal.{Event as Entered}
+use Rattle.mate_journal.proofs.JournalLemmas.{heard_all-append}
 use Rattle.mate_num.specs.declared.call.Stamp.{Stamp}
 use Rattle.world_rules.specs.World.{World, handlers}
 use Rattle.world_rules.specs.Effect.{Node, event_node}
@@ -22,10 +23,6 @@ use Rattle.world_laws.proofs.Points.{nodes-here, nodes-other}
 hear-stamped : (m : Machine) (r : Reading) (at : Stamp) (told : List Told) → heard_all m r (map (λ (t : Told). record { stamp = at; told = t }) told) ≡ heard_told m r told
 hear-stamped m r at [] = refl
 hear-stamped m r at (t ∷ told) = hear-stamped m (heard m r t) at told
-
-heard-append : (m : Machine) (r : Reading) (es fs : List Entered) → heard_all m r (es ++ fs) ≡ heard_all m (heard_all m r es) fs
-heard-append m r [] fs = refl
-heard-append m r (e ∷ es) fs = heard-append m (heard m r e.told) es fs
 
 -- the journal of a node of which the event isn't
 pub journal-other : (w : World) (k : ℕ) (m : Moment) (before : List Moment) → k ≢ event_node w m.cause → journal w k (m ∷ before) ≡ journal w k before
@@ -50,7 +47,7 @@ reads_journals w k (m ∷ before) = elim (eqb_tells k (event_node w m.cause)) [
       ap (λ (n : Node). n.reading) (nodes-here w (state w before) m)
       ∙ ap (λ (r : Reading). heard_told w.machine r m.told) earlier
       ∙ sym (hear-stamped w.machine (heard_all w.machine (nothing_heard w.machine) (journal w (event_node w m.cause) before)) (stamp_of m before) m.told)
-      ∙ sym (heard-append w.machine (nothing_heard w.machine) (journal w (event_node w m.cause) before) (map (λ (t : Told). record { stamp = stamp_of m before; told = t }) m.told))
+      ∙ sym (heard_all-append w.machine (nothing_heard w.machine) (journal w (event_node w m.cause) before) (map (λ (t : Told). record { stamp = stamp_of m before; told = t }) m.told))
       ∙ ap (heard_all w.machine (nothing_heard w.machine)) (sym (journal-here w m before))
 
 -- an event that was performed leads on

@@ -4,6 +4,7 @@ use Rattle.std.specs.List.{All, AllPairs, range_with_len}
 use Rattle.std.proofs.lemmas.List.{map_push, append_assoc}
 use Rattle.std.proofs.lemmas.List.Elements.{All-nil, All-cons, All-tail}
 use Rattle.std.proofs.lemmas.List.Kept.{AllPairs-cons}
+use Rattle.vm_desc.proofs.ListLemmas.{AllPairs-head, AllPairs-tail}
 
 range_push : (a n : ℕ) → range_with_len a (suc n) ≡ range_with_len a n ++ (a + n) ∷ []
 range_push a zero = ap (λ x. x ∷ []) (omega arith)
@@ -31,12 +32,6 @@ replicate_push before n x = ap (λ k. before ++ replicate k x) (add-one n) ∙ a
 
 -- ---- what holds of each item, and of each two
 
-pub pairs_tail : {X : Type 0} (R : X → X → Type 0) (x : X) (xs : List X) → AllPairs R (x ∷ xs) → AllPairs R xs
-pairs_tail R x xs pairs = λ i j d h k. pairs (suc i) (suc j) d (omega arith) (omega arith)
-
-pub pairs_head : {X : Type 0} (R : X → X → Type 0) (x : X) (xs : List X) → AllPairs R (x ∷ xs) → All (R x) xs
-pairs_head R x xs pairs = λ i d h. pairs 0 (suc i) d (omega arith) (omega arith)
-
 pub no_pairs : {X : Type 0} (R : X → X → Type 0) → AllPairs R []
 no_pairs R = λ i j d h k. absurd (omega arith)
 
@@ -61,5 +56,5 @@ append_all P (x ∷ xs) ys front back = All-cons P x (xs ++ ys) (all_front P x x
 pub pairs_append : {X : Type 0} (R : X → X → Type 0) (xs ys : List X) → AllPairs R xs → AllPairs R ys → All (λ x. All (R x) ys) xs → AllPairs R (xs ++ ys)
 pairs_append R [] ys front back across = back
 pairs_append R (x ∷ xs) ys front back across =
-    AllPairs-cons R x (xs ++ ys) (append_all (R x) xs ys (pairs_head R x xs front) (all_front (λ x. All (R x) ys) x xs across))
-    (pairs_append R xs ys (pairs_tail R x xs front) back (All-tail (λ x. All (R x) ys) x xs across))
+    AllPairs-cons R x (xs ++ ys) (append_all (R x) xs ys (AllPairs-head R x xs front) (all_front (λ x. All (R x) ys) x xs across))
+    (pairs_append R xs ys (AllPairs-tail R x xs front) back (All-tail (λ x. All (R x) ys) x xs across))

@@ -38,8 +38,9 @@ use Rattle.world_step.specs.declared.mote.Mote.{Mote}
 use Rattle.world_event.specs.Performing.{IsRadioAfter, IsMoteAfter}
 use Rattle.world_event.proofs.PieceLemmas.{due-timed}
 use Rattle.world_event.proofs.FinishLemmas.{stands-added}
-use Rattle.world_sim.specs.Starting.{beginning, planned_items, period_item, first_periods, first_items, first_air, HaveBegun}
-use Rattle.world_sim.proofs.StartLemmas.{planned-are}
+use Rattle.world_air.specs.Starting.{beginning, planned_items, period_item, first_periods, first_items}
+use Rattle.world_air.proofs.StartLemmas.{planned-are}
+use Rattle.world_sim.specs.Starting.{first_air, HaveBegun}
 
 -- ---- first periods
 

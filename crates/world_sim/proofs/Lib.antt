@@ -1,4 +1,3 @@
-pub mod StartLemmas
 pub mod BeginLemmas
 pub mod ReportLemmas
 pub mod StepLemmas

@@ -1,56 +1,16 @@
--- A world before its first event.
-use Rattle.std.specs.Prelude.{◌≡◌, ℕ, suc, ◌+◌, ◌<◌, List, [], ◌∷◌, ◌++◌, length, map, slice_get, IsSomeAnd}
+-- The nodes of a world before its first event.
+use Rattle.std.specs.Prelude.{◌≡◌, ℕ, ◌<◌, List, [], length, map, slice_get, IsSomeAnd}
 use Rattle.std.specs.List.{flat_map, range_with_len}
-use Rattle.mate_num.specs.declared.call.Stamp.{Stamp}
-use Rattle.mate_num.specs.declared.id.HandlerId.{HandlerId}
-use Rattle.vm_desc.specs.declared.description.Description.{Description}
-use Rattle.vm_desc.specs.declared.handler.Handler.{Handler}
-use Rattle.vm_desc.specs.declared.handler.HandlerKind.{HandlerKind}
-use Rattle.vm_desc.specs.declared.handler.HandlerKind.TheVariants as kind
-use Rattle.script_reader.specs.declared.world.Planned.{Planned}
 use Rattle.mate_journal.specs.declared.air.Air.TheVariants as air
 use Rattle.mate_journal.specs.declared.air.Aired.{Aired}
-use Rattle.event_queue.specs.declared.queue.Timed.{Timed}
-use Rattle.radio_sim.specs.declared.event.Event.{Event}
-use Rattle.radio_sim.specs.declared.event.Event.TheVariants as radio
 use Rattle.radio_sim.specs.Radio.{Ether}
-use Rattle.trickle_timer.specs.Timer.{Timer}
 use Rattle.world_rules.specs.World.{World}
 use Rattle.world_rules.specs.State.{first_of}
 use Rattle.world_air.specs.Air.{aired_at, timed_events}
 use Rattle.world_air.specs.Changes.{AddsToAir}
+use Rattle.world_air.specs.Starting.{beginning}
 use Rattle.world_event.specs.Performing.{IsMoteAfter}
 use Rattle.world_step.specs.declared.mote.Mote.{Mote}
-
--- the stamp of what stands before the first event
-abbrev pub beginning : Stamp
-beginning = record { event = 0; time = 0 }
-
--- ---- what is due at first, as items of the radio's agenda
-
--- the lines of a script, from this number on
-abbrev pub planned_items : ℕ → List Planned → List (Timed Event)
-planned_items i [] = []
-planned_items i (p ∷ ps) = record { time = p.time; item = radio.Planned i } ∷ planned_items (suc i) ps
-
--- the first period of a handler, if it is a timer's
-abbrev pub period_item : ℕ → HandlerId → HandlerKind → List (Timed Event)
-period_item node h kind.Plain = []
-period_item node h (kind.Timer period) = record { time = period; item = radio.Period node h } ∷ []
-period_item node h kind.Receive = []
-period_item node h kind.Once = []
-
--- those of handlers, from this number on
-abbrev pub first_periods : ℕ → ℕ → List Handler → List (Timed Event)
-first_periods node i [] = []
-first_periods node i (h ∷ hs) = period_item node (record { 0 = i }) h.kind ++ first_periods node (suc i) hs
-
--- the point and the end of a node's first interval, and its first periods
-abbrev pub first_items : Description → ℕ → Timer → List (Timed Event)
-first_items d node t =
-    record { time = t.running.point; item = radio.Fire node } ∷ record { time = t.running.begin + t.running.length; item = radio.Expire node } ∷ [] ++ first_periods node 0 d.handlers.items
-
--- ---- the nodes
 
 -- the first interval of a node
 abbrev pub first_air : World → ℕ → Aired

@@ -1,30 +1,28 @@
 //! A world between its events: the radio, the nodes, and how many records stand.
 
-ghost use Rattle.std.specs.Prelude.{◌≡◌, ◌<◌, ◌∷◌, [], List, length, IfOk, OnOk};
+ghost use Rattle.std.specs.Prelude.{◌≡◌, ◌<◌, ◌≤◌, ◌∷◌, [], List, IfOk, OnOk};
 ghost use Rattle.script_reader.specs.World.{IsRightWorld};
 ghost use Rattle.mate_journal.specs.declared.program.Program.{Program as ProgramOfFile};
 ghost use Rattle.mate_journal.specs.declared.air.Air.TheVariants as air;
 ghost use Rattle.world_air.specs.Air.{aired_at};
 ghost use Rattle.world_air.specs.Changes.{AddsToAir};
+ghost use Rattle.world_air.specs.Starting.{beginning, first_items};
+ghost use Rattle.world_step.specs.Motes.{BeginsMote};
 ghost use Rattle.world_states.specs.Coming.{code_world};
 ghost use Rattle.world_states.specs.Sound.{AreProgramsOfWorld};
-ghost use Rattle.world_sim.specs.Starting.{beginning, planned_items, first_items, first_periods, period_item};
+ghost use Rattle.world_sim.specs.Starting.{HaveBegun};
 ghost use Rattle.world_sim.specs.Running.{StandsAfter, StandsAtNext, NamesPart, named_node};
 
 use mate_journal::Programs;
-use mate_num::{HandlerId, NoMemory, Stamp};
+use mate_num::{NoMemory, Stamp};
 use radio_sim::{Event, Radio};
 use script_reader::World;
 use std::alloc::Global;
-use trickle_timer::Trickle;
-use vm_desc::{Description, HandlerKind};
-use world_air::{note_interval, schedule, schedule_interval};
+use vm_desc::Description;
+use world_air::{begin_node, schedule_lines};
 use world_event::perform;
 use world_states::states_are_sound;
 use world_step::Mote;
-
-/// The stamp of what stands before the first event.
-const BEGINNING: Stamp = Stamp { event: 0, time: 0 };
 
 /// A world between two of its events.
 #[derive(Drop)]
@@ -48,12 +46,7 @@ impl Simulation {
     {
         let mut radio = Radio::new(alloc, world, desc)?;
         schedule_lines(&mut radio, world)?;
-        let mut motes = Vec::new(alloc);
-        for node in 0..world.nodes {
-            let mote = Mote::new(alloc, desc, world.random, node)?;
-            begin_node(&mut radio, desc, node, &mote.timer)?;
-            motes.push(mote)?;
-        }
+        let motes = begin_motes(alloc, desc, world, &mut radio)?;
         Ok(Simulation {
             radio,
             motes,
@@ -96,63 +89,40 @@ impl Simulation {
     }
 }
 
-/// The lines of the script are due, in their order.
-fn schedule_lines(radio: &mut Radio, world: &World) -> Result<(), NoMemory>
-    requires now { radio.old.agenda.now ≡ 0 }
-    requires few { length world.now.events < 4000000000 }
-    ensures { OnOk result (AddsToAir radio.old radio.new [] (planned_items 0 world.now.events)) }
-{
-    for (line, planned) in world.events.as_slice().iter().enumerate() {
-        schedule(radio, planned.time, Event::Planned(line as u32))?;
-    }
-    Ok(())
-}
-
-/// The first interval of a node begins, and its first periods are due.
-fn begin_node(
-    radio: &mut Radio,
+/// The nodes of the world before its first event, in order: the first events of each are due.
+fn begin_motes(
+    alloc: Global,
     desc: &Description,
-    node: u8,
-    timer: &Trickle,
-) -> Result<(), NoMemory>
-    requires { radio.old.agenda.now ≡ 0 }
-    ensures { OnOk result (AddsToAir radio.old radio.new (aired_at beginning node (air.Interval timer.now.running.length) ∷ []) (first_items desc.now node timer.now)) }
-{
-    note_interval(radio, node, BEGINNING, Some(timer.length()))?;
-    schedule_interval(radio, node, timer.point(), timer.begin() + timer.length())?;
-    schedule_periods(radio, desc, node)?;
-    Ok(())
-}
-
-/// The first period of each timer handler of a node is due.
-fn schedule_periods(radio: &mut Radio, desc: &Description, node: u8) -> Result<(), NoMemory>
-    requires { radio.old.agenda.now ≡ 0 }
-    ensures { OnOk result (AddsToAir radio.old radio.new [] (first_periods node 0 desc.now.handlers.items)) }
-{
-    for (h, handler) in desc.handlers.as_slice().iter().enumerate() {
-        schedule_period(radio, node, HandlerId(h as u8), handler.kind)?;
-    }
-    Ok(())
-}
-
-/// The first period of a handler is due, if it is a timer's.
-fn schedule_period(
+    world: &World,
     radio: &mut Radio,
-    node: u8,
-    handler: HandlerId,
-    kind: HandlerKind,
-) -> Result<(), NoMemory>
-    requires { radio.old.agenda.now ≡ 0 }
-    ensures { OnOk result (AddsToAir radio.old radio.new [] (period_item node handler kind)) }
+) -> Result<Vec<Mote>, NoMemory>
+    requires nodes { world.now.nodes ≤ 64 }
+    requires now { radio.old.agenda.now ≡ 0 }
+    ensures { IfOk result (λ motes. (ps : List ProgramOfFile) → HaveBegun (code_world desc.now world.now ps) world.now.nodes radio.old radio.new motes.items) }
 {
-    match kind {
-        HandlerKind::Plain => Ok(()),
-        HandlerKind::Timer { period } => {
-            schedule(radio, period, Event::Period { node, handler })
-        }
-        HandlerKind::Receive => Ok(()),
-        HandlerKind::Once => Ok(()),
+    let mut motes = Vec::new(alloc);
+    for node in 0..world.nodes {
+        motes.push(begin_mote(alloc, desc, world.random, node, radio)?)?;
     }
+    Ok(motes)
+}
+
+/// The node before the first event: its first events are due.
+fn begin_mote(
+    alloc: Global,
+    desc: &Description,
+    random: u64,
+    node: u8,
+    radio: &mut Radio,
+) -> Result<Mote, NoMemory>
+    requires node { node < 64 }
+    requires now { radio.old.agenda.now ≡ 0 }
+    ensures begins { IfOk result (BeginsMote desc.now random node) }
+    ensures adds { IfOk result (λ mote. AddsToAir radio.old radio.new (aired_at beginning node (air.Interval mote.timer.running.length) ∷ []) (first_items desc.now node mote.timer)) }
+{
+    let mote = Mote::new(alloc, desc, random, node)?;
+    begin_node(radio, desc, node, &mote.timer)?;
+    Ok(mote)
 }
 
 /// The node that an event is of.

@@ -1,0 +1,31 @@
+//! What comes to a node with its timer and its exchange.
+
+ghost use Rattle.std.specs.Prelude.{◌≡◌, ◌≤◌, ℕ, List, [], length};
+ghost use Rattle.arrayvec.specs.ArrayVec.{ArrayVec};
+ghost use Rattle.packet_codec.specs.Packet.{IsRight};
+ghost use Rattle.packet_codec.specs.declared.packet.Packet.TheVariants.{Vector};
+ghost use Rattle.trickle_timer.specs.Intervals.{Consistent, at_point};
+ghost use Rattle.trickle_timer.specs.declared.timer.Fire.TheVariants.{Keep};
+ghost use Rattle.capsule_exchange.specs.Happenings.{Happening, held_versions};
+ghost use Rattle.capsule_exchange.specs.Knowledge.{knowledge};
+ghost use Rattle.world_step.specs.Motes.{timed};
+
+use mate_num::Stamp;
+use packet_codec::Packet;
+use world_step::{Effect, Mote};
+
+pub fn a_silent_point_sends_nothing(mote: &mut Mote, suppress: bool) -> Effect
+    ensures { (n : ℕ) (hs : List Happening) → mote.old.exchange ≡ knowledge n hs → at_point mote.old.timer.set mote.old.timer.running suppress ≡ Keep → result.sends.items ≡ [] }
+{
+    mote.fire(suppress)
+}
+
+pub fn a_consistent_vector_counts(mote: &mut Mote, packet: &Packet, at: Stamp) -> Effect
+    requires right { IsRight (length mote.old.exchange.handlers) packet.now }
+    requires hour { at.time ≤ 3600000 }
+    requires within { mote.old.timer.running.begin ≤ at.time }
+    ensures { (n : ℕ) (hs : List Happening) (versions : ArrayVec ℕ) → mote.old.exchange ≡ knowledge n hs → packet.now ≡ Vector versions → versions.items ≡ held_versions n hs
+        → mote.new.timer ≡ timed mote.old.timer at.time Consistent }
+{
+    mote.hear_vector(packet, at)
+}
