@@ -8,7 +8,7 @@ use vm_reader::read;
 
 /// Prints a table: its name behind `==`, and each line of the file of this name with its answer behind ` => `. A line has
 /// the name of a machine, a space, and the case; a case that can't be read has an answer of its own.
-pub fn print_table<F: Fn(Global, &Description, &str) -> Result<String, AllocError>>(
+pub fn print_table<F: Fn(Global, &str, &Description, &str) -> Result<String, AllocError>>(
     rt: &(impl Files + Print + AllocGlobal),
     table: &str,
     answer: F,
@@ -20,7 +20,7 @@ pub fn print_table<F: Fn(Global, &Description, &str) -> Result<String, AllocErro
     for line in lines.lines() {
         let (machine, case) = line.split_once(' ').unwrap_or((line, ""));
         let answer = match description(rt, machine)? {
-            Some(desc) => answer(rt.alloc(), &desc, case)?,
+            Some(desc) => answer(rt.alloc(), table, &desc, case)?,
             None => "no machine".to_string(rt.alloc())?,
         };
         println!(rt; "{line} => {answer}")?;
@@ -28,18 +28,18 @@ pub fn print_table<F: Fn(Global, &Description, &str) -> Result<String, AllocErro
     Ok(())
 }
 
-/// Prints a table whose cases need no machine: its name behind `##`, and each line with its answer behind ` => `.
-pub fn print_cases<F: Fn(Global, &str) -> Result<String, AllocError>>(
+/// Prints a table whose cases have no name of a machine: its name behind `==`, and each line with its answer behind ` => `.
+pub fn print_cases<F: Fn(Global, &str, &str) -> Result<String, AllocError>>(
     rt: &(impl Files + Print + AllocGlobal),
     table: &str,
     answer: F,
 ) -> io::Result<()>
     requires { F.IsAlwaysCallable answer }
 {
-    println!(rt; "## {table}")?;
+    println!(rt; "== {table}")?;
     let lines = fs::read_to_string(rt, table)?;
     for line in lines.lines() {
-        let answer = answer(rt.alloc(), line)?;
+        let answer = answer(rt.alloc(), table, line)?;
         println!(rt; "{line} => {answer}")?;
     }
     Ok(())

@@ -2,35 +2,8 @@
 
 use crate::machines::Machines;
 use crate::texts::bytes_of;
-use mate_cli::mate;
-use mate_files::{MemFiles, MemSink};
+use command_answers::{Ended, Setting, run, unread};
 use std::alloc::{AllocError, Global};
-
-/// The files and the sinks that a case is run on.
-#[derive(Drop)]
-struct Setting {
-    files: MemFiles,
-    out: MemSink,
-    err: MemSink,
-}
-
-impl Setting {
-    fn new(alloc: Global) -> Setting {
-        Setting {
-            files: MemFiles::new(alloc),
-            out: MemSink::new(alloc),
-            err: MemSink::new(alloc),
-        }
-    }
-}
-
-/// How a case ends.
-#[derive(Drop)]
-struct Ended {
-    status: u8,
-    written: String,
-    told: String,
-}
 
 /// The status of a case, and what was written and told; a case that can't be read has an answer of its own.
 pub fn answer(alloc: Global, machines: &Machines, case: &str) -> Result<String, AllocError> {
@@ -87,44 +60,6 @@ fn outcome(
         return unread(alloc);
     }
     run(alloc, &mut setting, words)
-}
-
-/// Runs the words in a setting.
-fn run(alloc: Global, setting: &mut Setting, words: &str) -> Result<Ended, AllocError> {
-    let words = words_of(alloc, words)?;
-    let Setting { files, out, err } = setting;
-    let status = mate(alloc, &words, files, out, err).code();
-    let (Ok(written), Ok(told)) = (str::from_utf8(out.bytes()), str::from_utf8(err.bytes())) else {
-        return unread(alloc);
-    };
-    Ok(Ended {
-        status,
-        written: written.to_string(alloc)?,
-        told: told.to_string(alloc)?,
-    })
-}
-
-/// Of a case that can't be read, or whose answer is no text.
-fn unread(alloc: Global) -> Result<Ended, AllocError> {
-    Ok(Ended {
-        status: 255,
-        written: String::new(alloc),
-        told: "no case\n".to_string(alloc)?,
-    })
-}
-
-/// The words of a line, with single spaces between them; an empty line has none.
-fn words_of(alloc: Global, line: &str) -> Result<Vec<String>, AllocError> {
-    let mut words = Vec::new(alloc);
-    if line.is_empty() {
-        return Ok(words);
-    }
-    for word in line.split(' ') {
-        if words.push(word.to_string(alloc)?).is_err() {
-            return Err(AllocError);
-        }
-    }
-    Ok(words)
 }
 
 /// Takes a part of a case: a file, the expansion of one, or a call that is to fail. False where it is none of these.

@@ -11,7 +11,6 @@
 
 mod cases;
 mod machines;
-mod runs;
 mod texts;
 
 use crate::machines::Machines;
@@ -49,11 +48,6 @@ fn main(rt: HostRuntime) -> io::Result<()> {
             let answer = cases::answer(rt.alloc(), &machines, case)?;
             print!(rt; "{case}\n{answer}")?;
         }
-    }
-    let lines = fs::read_to_string(&rt, "runs")?;
-    for source in lines.lines() {
-        let answer = runs::answer(rt.alloc(), machines.mixed.as_str(), source)?;
-        println!(rt; "{source} => {answer}")?;
     }
     Ok(())
 }

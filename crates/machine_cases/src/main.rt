@@ -1,19 +1,18 @@
-//! Cases of a machine's code, its verification and its runs: each line of a table with its answer.
+//! Cases of numbers, locks and a node's parts, of descriptions, of code, and of capsules: each line of a table with its answer.
 #![tactic(auto)]
 
-mod code;
-mod kinds;
-mod opcodes;
-mod runs;
-mod verdicts;
-
-use case_files::print_table;
+use case_files::{print_cases, print_table};
 use std::io;
 
 fn main(rt: HostRuntime) -> io::Result<()> {
-    print_table(&rt, "code", code::answer)?;
-    print_table(&rt, "kinds", kinds::answer)?;
-    print_table(&rt, "opcodes", opcodes::answer)?;
-    print_table(&rt, "runs", runs::answer)?;
-    print_table(&rt, "verdicts", verdicts::answer)
+    for table in part_answers::TABLES {
+        print_cases(&rt, table, part_answers::answer)?;
+    }
+    for table in machine_answers::DESCRIPTIONS {
+        print_cases(&rt, table, machine_answers::description_answer)?;
+    }
+    for table in machine_answers::TABLES {
+        print_table(&rt, table, machine_answers::answer)?;
+    }
+    Ok(())
 }

@@ -1,19 +1,18 @@
-//! Cases of packets, timers, exchanges and streams: each line of a table with its answer.
+//! Cases of packets, timers, exchanges and streams, of the radio, and of worlds: each line of a table with its answer.
 #![tactic(auto)]
-
-mod exchanges;
-mod frames;
-mod neighbours;
-mod packets;
-mod timers;
 
 use case_files::print_table;
 use std::io;
 
 fn main(rt: HostRuntime) -> io::Result<()> {
-    print_table(&rt, "packets", packets::answer)?;
-    print_table(&rt, "timers", timers::answer)?;
-    print_table(&rt, "neighbours", neighbours::answer)?;
-    print_table(&rt, "exchanges", exchanges::answer)?;
-    print_table(&rt, "frames", frames::answer)
+    for table in network_answers::TABLES {
+        print_table(&rt, table, network_answers::answer)?;
+    }
+    for table in radio_answers::TABLES {
+        print_table(&rt, table, radio_answers::answer)?;
+    }
+    for table in world_answers::TABLES {
+        print_table(&rt, table, world_answers::answer)?;
+    }
+    Ok(())
 }

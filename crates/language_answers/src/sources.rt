@@ -1,0 +1,38 @@
+//! Sources and what they are for a machine.
+
+use case_files::marked_bytes;
+use std::alloc::{AllocError, Global};
+use ts_source::{SourceRefusal, accept};
+use ts_syntax::Checked;
+use vm_desc::Description;
+
+/// The checked tree of a source, or its first refusal.
+pub fn tree(alloc: Global, machine: &Description, source: &str) -> Result<String, AllocError> {
+    match accepted(alloc, machine, source)? {
+        Ok(script) => format!(in alloc; "{:?}", script.body()),
+        Err(refusal) => Ok(refusal),
+    }
+}
+
+/// The checked script of a source, or the text of its first refusal.
+pub fn accepted(
+    alloc: Global,
+    machine: &Description,
+    source: &str,
+) -> Result<Result<Checked, String>, AllocError> {
+    let bytes = marked_bytes(alloc, source)?;
+    if bytes.len() > 1_048_576 {
+        return Ok(Err("too long".to_string(alloc)?));
+    }
+    match accept(alloc, machine, bytes.as_slice()) {
+        Ok(script) => Ok(Ok(script)),
+        Err(refusal) => Ok(Err(words_of(alloc, refusal)?)),
+    }
+}
+
+fn words_of(alloc: Global, refusal: SourceRefusal) -> Result<String, AllocError> {
+    match refusal {
+        SourceRefusal::Meaning(fault) => format!(in alloc; "{fault}"),
+        SourceRefusal::Spelling(fault) => format!(in alloc; "{fault:?}"),
+    }
+}

@@ -1,0 +1,40 @@
+//! The answers to cases of scripts, reports, logs and command lines.
+#![tactic(auto)]
+
+mod command_lines;
+mod logs;
+mod report_lines;
+mod report_texts;
+mod reports;
+mod scripts;
+
+use std::alloc::{AllocError, Global};
+use vm_desc::Description;
+
+/// The tables of cases. Each is named for the module that answers it.
+pub const TABLES: [&str; 6] = [
+    "scripts",
+    "report_lines",
+    "reports",
+    "report_texts",
+    "logs",
+    "command_lines",
+];
+
+/// The answer to a case of a table, for a machine.
+pub fn answer(
+    alloc: Global,
+    table: &str,
+    desc: &Description,
+    case: &str,
+) -> Result<String, AllocError> {
+    match table {
+        "scripts" => scripts::answer(alloc, desc, case),
+        "report_lines" => report_lines::answer(alloc, desc, case),
+        "reports" => reports::answer(alloc, desc, case),
+        "report_texts" => report_texts::answer(alloc, desc, case),
+        "logs" => logs::answer(alloc, case),
+        "command_lines" => command_lines::answer(alloc, case),
+        _ => "no table".to_string(alloc),
+    }
+}
