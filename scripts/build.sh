@@ -105,7 +105,7 @@ build() {
     status=$?
     trap - INT TERM HUP
     [ "$status" -eq 0 ] || { say "the build failed"; return 1; }
-    mkdir -p "$cache/$sum" && cp "$work/rooms/$name/crates/$name/out/$name" "$cache/$sum/$name.new" && mv "$cache/$sum/$name.new" "$cache/$sum/$name"
+    mkdir -p "$cache/$sum" && cp "$work/built/$name" "$cache/$sum/$name.new" && mv "$cache/$sum/$name.new" "$cache/$sum/$name"
 }
 
 build_program() {
