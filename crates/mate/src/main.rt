@@ -12,8 +12,14 @@ use std::{env, io};
 /// How many bytes are written to the output at once.
 const OUT_BLOCK: usize = 65_536;
 
+/// How many bytes of stack the deepest source takes, whatever the command.
+const STACK: usize = 196_608;
+
 fn main(rt: HostRuntime) -> ExitCode {
     let mut err = OsSink::new(rt.stderr());
+    if !has_stack() {
+        return ExitCode::from(Refusal::NoMemory.refuse(&mut err).code());
+    }
     let status = match words(&rt) {
         Ok(words) => match BufWriter::with_capacity(rt.alloc(), OUT_BLOCK, io::writer(&rt)) {
             Ok(writer) => {
@@ -50,4 +56,15 @@ fn words(rt: &(impl Env + AllocGlobal)) -> Result<Vec<String>, Refusal> {
         words.push(word).map_err(|_| Refusal::NoMemory)?;
     }
     Ok(words)
+}
+
+/// Takes the stack that the deepest source needs, before the heap or a file takes what a limit of the address space leaves: where
+/// it can't be had, the system ends the program here, and never later. What is written is read back, so that it is written.
+#[inline(never)]
+fn has_stack() -> bool {
+    let mut room = [0; STACK / 8];
+    for place in 0..room.len() {
+        room[place] = place;
+    }
+    room[room.len() / 2] == room.len() / 2
 }
