@@ -1,7 +1,7 @@
 use Rattle.std.proofs.Common.{take, All}
 use Rattle.script_reader.specs.declared.world.Planned.{Planned}
 use Rattle.world_states.specs.Sound.{IsProgramOfWhat}
-use Rattle.world_cases.proofs.programs.have_theirs.Given as goal
+use Rattle.run_answers.proofs.programs.have_theirs.Given as goal
 
 abbrev pub invariant-loop-planned : goal.invariant-loop-planned
 invariant-loop-planned l = All (λ (p : Planned). IsProgramOfWhat l.programs p.what) (take l.planned-index l.events)
