@@ -17,7 +17,7 @@ const STACK: usize = 196_608;
 
 fn main(rt: HostRuntime) -> ExitCode {
     let mut err = OsSink::new(rt.stderr());
-    if !has_stack() {
+    if stack_middle() != STACK / 16 {
         return ExitCode::from(Refusal::NoMemory.refuse(&mut err).code());
     }
     let status = match words(&rt) {
@@ -59,12 +59,13 @@ fn words(rt: &(impl Env + AllocGlobal)) -> Result<Vec<String>, Refusal> {
 }
 
 /// Takes the stack that the deepest source needs, before the heap or a file takes what a limit of the address space leaves: where
-/// it can't be had, the system ends the program here, and never later. What is written is read back, so that it is written.
+/// it can't be had, the system ends the program here, and never later. Each place is written with its number, and the one in the
+/// middle is read back, so that no compiler leaves it out.
 #[inline(never)]
-fn has_stack() -> bool {
+fn stack_middle() -> usize {
     let mut room = [0; STACK / 8];
     for place in 0..room.len() {
         room[place] = place;
     }
-    room[room.len() / 2] == room.len() / 2
+    room[room.len() / 2]
 }
