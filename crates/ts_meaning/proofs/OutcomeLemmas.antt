@@ -1,10 +1,8 @@
 -- How a part of a run that is done came about, and how many arguments a call gets.
-use Rattle.std.proofs.Common.{◌≡◌, suc, ◌≤◌, ℤ, List, [], ◌∷◌, length, refl, ap, ◌∙◌}
-use Rattle.std.proofs.lemmas.List.{take_all}
-use Rattle.mate_num.specs.Store.{payload}
+use Rattle.std.proofs.Common.{◌≡◌, suc, ℤ, List, [], ◌∷◌, length, refl, ap, ◌∙◌}
 use Rattle.ts_syntax.specs.Expression.{Arguments, no_arguments, argument}
 use Rattle.ts_syntax.specs.Right.{argument_count}
-use Rattle.ts_meaning.specs.State.{ScriptState, Evaluation, Done, Over, then_do, first_ten}
+use Rattle.ts_meaning.specs.State.{ScriptState, Evaluation, Done, Over, then_do}
 use Rattle.ts_meaning.specs.Meaning.{value_of, values_of}
 
 -- the first part is done with a value, and then the second one
@@ -29,7 +27,3 @@ values_of-length (argument x es) s after values e =
     let last : Done (one.value ∷ more.value) more.middle ≡ Done values after = more.second in
     let all : values ≡ one.value ∷ more.value = cc in
     ap length all ∙ ap suc (values_of-length es one.middle more.middle more.value more.first)
-
--- at most ten values all have room
-pub first_ten-short : (values : List ℤ) → length values ≤ 10 → first_ten values ≡ payload values
-first_ten-short values h = ap payload (take_all 10 values h)

@@ -1,4 +1,3 @@
 pub mod State
 pub mod Meaning
 pub mod Uses
-pub mod Follows

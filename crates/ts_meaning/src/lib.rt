@@ -1,11 +1,6 @@
-//! What a TinyScript script means, and the plain evaluator that gives it.
+//! What a TinyScript script means, as a definition, and what its operators give.
 #![tactic(auto)]
 
-mod evaluator;
 mod operators;
-pub mod run;
-mod statements;
-mod values;
 
 pub use operators::apply;
-pub use run::play;

@@ -2,9 +2,9 @@ use Rattle.std.proofs.Common.{◌≡◌, ◌≤◌, [], drop, length, map}
 use Rattle.ts_syntax.specs.Expression.{arguments}
 use Rattle.ts_syntax.specs.TreeOf.{expr_tree}
 use Rattle.ts_meaning.specs.Meaning.{values_of}
-use Rattle.ts_meaning.specs.Follows.{state_of}
-use Rattle.ts_meaning.proofs.ArgumentLemmas.{gathered}
-use Rattle.ts_meaning.proofs.evaluator.Evaluator.+value.Given as goal
+use Rattle.ts_play.specs.Follows.{state_of}
+use Rattle.ts_play.proofs.ArgumentLemmas.{gathered}
+use Rattle.ts_play.proofs.evaluator.Evaluator.+value.Given as goal
 
 -- all the values are those so far and those of the rest; no turn was paid
 abbrev pub invariant-values-loop-arg : goal.invariant-values-loop-arg

@@ -1,9 +1,9 @@
 -- How the evaluator's results stand for outcomes.
 use Rattle.std.specs.Prelude.{◌≡◌, Result, Ok, Err, ⊤}
 use Rattle.ts_meaning.specs.State.{ScriptState, Evaluation, Done, Over}
-use Rattle.ts_meaning.specs.declared.evaluator.Evaluator.{Evaluator}
-use Rattle.ts_meaning.specs.declared.evaluator.Stop.{Stop}
-use Rattle.ts_meaning.specs.declared.evaluator.Stop.TheVariants.{Ended, OutOfMemory}
+use Rattle.ts_play.specs.declared.evaluator.Evaluator.{Evaluator}
+use Rattle.ts_play.specs.declared.evaluator.Stop.{Stop}
+use Rattle.ts_play.specs.declared.evaluator.Stop.TheVariants.{Ended, OutOfMemory}
 
 -- what the evaluator holds
 abbrev pub state_of : Evaluator → ScriptState

@@ -3,8 +3,8 @@ use Rattle.ts_syntax.specs.Statement.{block}
 use Rattle.ts_syntax.specs.TreeOf.{expr_tree, stmt_tree, block_tree}
 use Rattle.ts_meaning.specs.State.{loop_does}
 use Rattle.ts_meaning.specs.Meaning.{value_of, run_block, while_round, for_round}
-use Rattle.ts_meaning.specs.Follows.{state_of}
-use Rattle.ts_meaning.proofs.evaluator.Evaluator.+stmt.Given as goal
+use Rattle.ts_play.specs.Follows.{state_of}
+use Rattle.ts_play.proofs.evaluator.Evaluator.+stmt.Given as goal
 
 -- the whole block is the rest of it from here
 abbrev pub invariant-block-loop-stmt : goal.invariant-block-loop-stmt

@@ -1,7 +1,7 @@
 use Rattle.std.proofs.Common.{rules}
 use Rattle.ts_syntax.specs.Checked.{shape_of, tree_of}
-use Rattle.ts_meaning.proofs.StoreLemmas.{outside_writes}
-use Rattle.ts_meaning.proofs.run.play.Goals as goal
+use Rattle.ts_play.proofs.StoreLemmas.{outside_writes}
+use Rattle.ts_play.proofs.run.play.Goals as goal
 
 pub returns-in-Ok-clause-outside : goal.returns-in-Ok-clause-outside
 returns-in-Ok-clause-outside c =

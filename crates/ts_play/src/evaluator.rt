@@ -1,6 +1,6 @@
 //! What the evaluator holds, and how it reads and changes that.
 
-use crate::operators::{append, item, set_item, take_last};
+use crate::items::{append, item, set_item, take_last};
 use mate_num::{
     BufId, Call, Calls, End, FaultKind, FunId, Outcome, PRIVATES, Payload, Store, VarId, copy_of,
 };
@@ -28,7 +28,7 @@ pub(crate) enum Stop {
 
 impl From<FaultKind> for Stop {
     ghost use Rattle.std.specs.Prelude.{◌≡◌};
-    ghost use Rattle.ts_meaning.specs.declared.evaluator.Stop.TheVariants.{Ended};
+    ghost use Rattle.ts_play.specs.declared.evaluator.Stop.TheVariants.{Ended};
     ghost use Rattle.mate_num.specs.declared.call.End.TheVariants.{Fault};
 
     ghost from_gives = { λ kind stop. stop ≡ Ended (Fault kind) };
@@ -43,7 +43,7 @@ impl<'a> Evaluator<'a> {
     ghost use Rattle.mate_num.specs.Store.{value_at, buffer_at, item_of, appended, item_set, last_of};
     ghost use Rattle.ts_meaning.specs.State.{value_or_fault, private_at, variable_at, with_variable, with_buffer, buffer_changed, moved, next_answer, begun_state, go_back, Done};
     ghost use Rattle.ts_meaning.specs.Meaning.{outcome_at};
-    ghost use Rattle.ts_meaning.specs.Follows.{state_of, FollowsMeaning};
+    ghost use Rattle.ts_play.specs.Follows.{state_of, FollowsMeaning};
 
     /// The beginning of a run.
     pub(crate) fn new(

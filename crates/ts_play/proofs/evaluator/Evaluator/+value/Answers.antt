@@ -5,9 +5,9 @@ use Rattle.ts_syntax.specs.Expression.{arguments}
 use Rattle.ts_syntax.specs.TreeOf.{expr_tree, args_trees}
 use Rattle.ts_syntax.specs.declared.checked_expr.CExpr.{the_lemmas}
 use Rattle.ts_meaning.specs.Meaning.{values_of}
-use Rattle.ts_meaning.specs.Follows.{state_of}
-use Rattle.ts_meaning.proofs.ArgumentLemmas.{gathered, gathered_item, gathered_end}
-use Rattle.ts_meaning.proofs.evaluator.Evaluator.+value.Goals as goal
+use Rattle.ts_play.specs.Follows.{state_of}
+use Rattle.ts_play.proofs.ArgumentLemmas.{gathered, gathered_item, gathered_end}
+use Rattle.ts_play.proofs.evaluator.Evaluator.+value.Goals as goal
 
 pub values-loop-arg-preserved : goal.values-loop-arg-preserved
 values-loop-arg-preserved t c =

@@ -7,7 +7,7 @@ ghost use Rattle.ts_syntax.specs.Statement.{Set, SetItem, Append, Do, DoSend, Fo
 ghost use Rattle.ts_syntax.specs.TreeOf.{expr_tree, args_trees, stmt_tree, block_tree};
 ghost use Rattle.ts_meaning.specs.State.{loop_does};
 ghost use Rattle.ts_meaning.specs.Meaning.{value_of, run_stmt, run_block, while_round, for_round, is_within};
-ghost use Rattle.ts_meaning.specs.Follows.{FollowsMeaning};
+ghost use Rattle.ts_play.specs.Follows.{FollowsMeaning};
 
 use crate::evaluator::{Evaluator, Stop};
 use mate_num::{BufId, FunId, Num16};
@@ -118,7 +118,7 @@ impl Evaluator<'_> {
     }
 
     #[cycle(stmt)]
-    #[tactic(auto, using(crate::proofs::LoopLemmas::loops))]
+    #[tactic(auto, using(ts_meaning::proofs::LoopLemmas::loops))]
     fn while_loop(&mut self, body: &CBlock, test: &CExpr) -> Result<(), Stop>
         ensures follows { FollowsMeaning (run_stmt (While (expr_tree test.now) (block_tree body.now))) self.old result self.new }
         ensures turns { self.new.turns ≤ self.old.turns }
@@ -157,7 +157,7 @@ impl Evaluator<'_> {
     }
 
     #[cycle(stmt)]
-    #[tactic(auto, using(crate::proofs::LoopLemmas::loops))]
+    #[tactic(auto, using(ts_meaning::proofs::LoopLemmas::loops))]
     fn for_rounds(&mut self, head: &CForHead, body: &CBlock) -> Result<(), Stop>
         ensures follows { let limit = value_of (expr_tree head.now.to) in
             let body = run_block (block_tree body.now) in
