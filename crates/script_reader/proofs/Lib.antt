@@ -4,4 +4,3 @@ pub mod PayloadLemmas
 pub mod StepLemmas
 pub mod LineLemmas
 pub mod NodeLemmas
-pub mod WorldLemmas

@@ -2,6 +2,5 @@ pub mod Lines
 pub mod Words
 pub mod Script
 pub mod Steps
-pub mod World
 pub mod NodeScript
 pub mod NodeReader

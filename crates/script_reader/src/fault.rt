@@ -3,7 +3,7 @@
 use std::fmt;
 
 /// What is wrong with a line.
-#[derive(Clone, Copy, PartialEq, Eq, Debug)]
+#[derive(Clone, Copy, Debug)]
 pub enum Cause {
     /// An unknown, a missing or an extra word, or a byte that is no blank and no printable ASCII.
     Word,
@@ -46,7 +46,7 @@ impl fmt::Display for Cause {
 }
 
 /// Why bytes are no script for the machine.
-#[derive(Clone, Copy, PartialEq, Eq, Debug)]
+#[derive(Clone, Copy)]
 pub enum ScriptFault {
     /// The first line that is refused, from 1, and the first cause in it from left to right.
     BadLine { line: u32, cause: Cause },

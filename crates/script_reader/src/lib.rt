@@ -1,4 +1,4 @@
-//! The scripts of a run: the steps of one node, and the plan of a world of nodes.
+//! The script of a node: its lines, their words, and the steps that they ask for.
 #![tactic(auto)]
 
 pub mod fault;
@@ -8,7 +8,6 @@ pub mod newest;
 pub mod node;
 pub mod steps;
 pub mod words;
-pub mod world;
 
 pub use fault::{Cause, ScriptFault};
 pub use lines::Lines;
@@ -17,4 +16,3 @@ pub use newest::{newest_of, note_newest};
 pub use node::node_script;
 pub use steps::{Step, Steps};
 pub use words::Words;
-pub use world::{Link, Links, Plan, Planned, Series, SeriesList, Values, What, World};

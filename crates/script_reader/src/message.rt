@@ -3,7 +3,6 @@
 ghost use Rattle.std.specs.Prelude.{◌≡◌};
 
 use mate_num::{PAYLOAD_MAX, Payload};
-use std::fmt;
 use std::marker::Model;
 
 /// The values of a post in 22 bytes, since a script may have very many. Contracts see the payload.
@@ -45,11 +44,5 @@ impl Message {
             unreachable!()
         };
         payload
-    }
-}
-
-impl fmt::Debug for Message {
-    fn fmt<W: fmt::Write>(&self, f: &mut fmt::Formatter<W>) -> fmt::Result {
-        fmt::Debug::fmt(&self.payload(), f)
     }
 }

@@ -9,7 +9,7 @@ use std::alloc::Global;
 use std::marker::Model;
 
 /// What a node is to do next. A `program` is the position of a file among those that the script names.
-#[derive(Debug, Drop)]
+#[derive(Drop)]
 pub enum Step {
     /// Compile the file, and install it under this version, from 1 on.
     Install {

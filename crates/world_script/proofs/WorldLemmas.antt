@@ -1,7 +1,7 @@
 -- The series of a world, with one changed.
 use Rattle.std.proofs.Common.{◌≡◌, ℕ, zero, suc, ◌<◌, ℤ, List, [], ◌∷◌, ◌++◌, length, slice_index_or, slice_set, Result, Ok, Err, MatchResult, ◌∙◌, ap, arith}
-use Rattle.script_reader.specs.declared.world.Series.{Series}
-use Rattle.script_reader.specs.World.{with_values}
+use Rattle.world_script.specs.declared.world.Series.{Series}
+use Rattle.world_script.specs.World.{with_values}
 
 abbrev pub valued : Series → List ℤ → Series
 valued s values = record s { values = values }

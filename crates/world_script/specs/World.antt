@@ -7,12 +7,12 @@ use Rattle.vm_desc.specs.declared.description.Description.{Description}
 use Rattle.vm_desc.specs.declared.function.Function.{Function}
 use Rattle.vm_desc.specs.declared.function.FunKind.TheVariants.{Sense}
 use Rattle.packet_codec.specs.Reading.{is_noise}
-use Rattle.script_reader.specs.declared.world.World.{World}
-use Rattle.script_reader.specs.declared.world.Link.{Link}
-use Rattle.script_reader.specs.declared.world.Series.{Series}
-use Rattle.script_reader.specs.declared.world.Planned.{Planned}
-use Rattle.script_reader.specs.declared.world.What.{What}
-use Rattle.script_reader.specs.declared.world.What.TheVariants as what
+use Rattle.world_script.specs.declared.world.World.{World}
+use Rattle.world_script.specs.declared.world.Link.{Link}
+use Rattle.world_script.specs.declared.world.Series.{Series}
+use Rattle.world_script.specs.declared.world.Planned.{Planned}
+use Rattle.world_script.specs.declared.world.What.{What}
+use Rattle.world_script.specs.declared.world.What.TheVariants as what
 use Rattle.script_reader.specs.Steps.{IsRightInstall, IsRightPost}
 
 -- more values behind those of the series at a place

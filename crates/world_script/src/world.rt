@@ -92,7 +92,7 @@ pub struct SeriesList {
 
 impl Model for SeriesList {
     ghost use Rattle.std.specs.Prelude.{List};
-    ghost use Rattle.script_reader.specs.declared.world.Series.{Series};
+    ghost use Rattle.world_script.specs.declared.world.Series.{Series};
 
     ghost Value = { List Series };
 
@@ -102,7 +102,7 @@ impl Model for SeriesList {
 impl SeriesList {
     ghost use Rattle.std.specs.Prelude.{slice_get};
     ghost use Rattle.std.specs.Option.{option_copied};
-    ghost use Rattle.script_reader.specs.World.{with_values};
+    ghost use Rattle.world_script.specs.World.{with_values};
 
     /// No series. It takes no memory.
     pub fn new(alloc: Global) -> SeriesList

@@ -1,7 +1,7 @@
 use Rattle.std.proofs.lemmas.Int.{to_z-of_z}
 use mir.Syntax.{w16}
-use Rattle.script_reader.proofs.WorldLemmas.{set-appended}
-use Rattle.script_reader.proofs.world.SeriesList.append.Goals as goal
+use Rattle.world_script.proofs.WorldLemmas.{set-appended}
+use Rattle.world_script.proofs.world.SeriesList.append.Goals as goal
 
 pub returns : goal.returns
 returns c =
