@@ -1,4 +1,1 @@
-pub mod View
 pub mod Inside
-pub mod Journal
-pub mod Calls

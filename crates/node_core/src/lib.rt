@@ -1,11 +1,6 @@
-//! A node of the network: what happens on it, in the order in which it is told to.
+//! A node of the network with its whole log.
 #![tactic(auto)]
 
-pub mod calls;
 pub mod node;
-pub mod open_node;
-pub mod standing;
 
 pub use node::Node;
-pub use open_node::OpenNode;
-pub use standing::{Asked, NotReady, Standing};

@@ -12,22 +12,18 @@ ghost use Rattle.node_turns.specs.Pacing.{SettlesWithin};
 ghost use Rattle.node_calls.specs.Calls.{NobodyWaits};
 ghost use Rattle.node_calls.specs.Posting.{PostGives};
 ghost use Rattle.node_calls.specs.Installing.{InstallsBytes, Refuses};
-ghost use Rattle.node_core.specs.Journal.{KeepsJournal};
+ghost use Rattle.open_node.specs.Journal.{KeepsJournal};
 
-use crate::open_node::OpenNode;
-use crate::standing::{Asked, NotReady, Standing};
 use mate_journal::{NodeLog, VoidCause};
 use mate_num::{ContextId, HandlerId, Image, NoMemory, Payload, Stamp};
 use node_calls::{InstallFault, PostAnswer};
+use open_node::{Asked, NotReady, OpenNode, Standing};
 use split_phase::NotWaiting;
 use std::alloc::Global;
 use std::marker::Model;
 use vm_desc::Description;
 
-/// A node. After a `reserve` its calls take no memory.
-///
-/// Each call that takes a stamp has the conditions that neither the event nor the time of the stamp is below those of the
-/// last entry, that the time is the last entry's where the event is, and that there is room for the entries.
+/// A node. Its calls are those of `OpenNode`, over a log of which nothing is gone.
 #[derive(Drop)]
 pub struct Node {
     // nothing of its log is gone
@@ -35,7 +31,7 @@ pub struct Node {
 }
 
 impl Model for Node {
-    ghost use Rattle.node_core.specs.View.{NodeView};
+    ghost use Rattle.open_node.specs.View.{NodeView};
 
     ghost Value = { NodeView };
 
@@ -47,8 +43,8 @@ impl Model for Node {
 }
 
 impl Node {
-    ghost use Rattle.node_core.specs.View.{heard_of, HasPace, Tells, IsSameNode};
-    ghost use Rattle.node_core.specs.Calls.{Pacing, HasStepped, StandsAs, IsAsked, IsImageOf};
+    ghost use Rattle.open_node.specs.View.{heard_of, HasPace, Tells, IsSameNode};
+    ghost use Rattle.open_node.specs.Calls.{Pacing, HasStepped, StandsAs, IsAsked, IsImageOf};
 
     /// A node of this machine. Nothing is installed, all variables are 0, all buffers are empty, and nothing was told.
     pub fn new(alloc: Global, description: &Description) -> Result<Node, NoMemory>

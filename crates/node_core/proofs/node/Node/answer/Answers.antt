@@ -2,8 +2,8 @@ use Rattle.std.proofs.Common.{◌≡◌, ℤ, to_z, of_z, w16, rules, subst}
 use Rattle.std.specs.Prelude.{MatchResult}
 use Rattle.mate_journal.specs.NodeScript.{Answers}
 use Rattle.node_calls.specs.Calls.{NobodyWaits}
-use Rattle.node_core.specs.View.{NodeView, heard_of, Tells}
-use Rattle.node_core.specs.Calls.{Pacing}
+use Rattle.open_node.specs.View.{NodeView, heard_of, Tells}
+use Rattle.open_node.specs.Calls.{Pacing}
 use Rattle.node_core.proofs.node.Node.answer.Goals as goal
 
 pub returns : goal.returns

@@ -1,8 +1,8 @@
 use Rattle.std.proofs.Common.{subst}
 use Rattle.node_invariant.specs.Meaning.{machine_in}
 use Rattle.node_calls.specs.Posting.{PostGives}
-use Rattle.node_core.specs.View.{NodeView, heard_of, Tells}
-use Rattle.node_core.specs.Calls.{Pacing}
+use Rattle.open_node.specs.View.{NodeView, heard_of, Tells}
+use Rattle.open_node.specs.Calls.{Pacing}
 use Rattle.node_core.proofs.node.Node.post.Goals as goal
 
 pub returns : goal.returns

@@ -1,5 +1,5 @@
 use Rattle.std.proofs.Common.{sym, subst}
-use Rattle.node_core.specs.View.{NodeView, HasPace}
+use Rattle.open_node.specs.View.{NodeView, HasPace}
 use Rattle.node_core.proofs.node.Node.reserve.Goals as goal
 
 pub returns-clause-pace : goal.returns-clause-pace

@@ -1,7 +1,7 @@
 use Rattle.std.proofs.Common.{◌≡◌, ◌∷◌, [], subst}
 use Rattle.mate_journal.specs.Journal.{Void}
-use Rattle.node_core.specs.View.{NodeView, Tells}
-use Rattle.node_core.specs.Calls.{Pacing}
+use Rattle.open_node.specs.View.{NodeView, Tells}
+use Rattle.open_node.specs.Calls.{Pacing}
 use Rattle.node_core.proofs.node.Node.void.Goals as goal
 
 pub returns : goal.returns

@@ -1,0 +1,93 @@
+-- Who is ready, who waits, and what is installed, as it was heard.
+use Rattle.std.proofs.Common.{◌≡◌, true, false, List, [], Option, Some, None, refl, ◌∙◌, ap, inl, inr}
+use Rattle.std.specs.Prelude.{IsSome}
+use Rattle.std.specs.Option.{option_map}
+use Rattle.mate_num.specs.declared.id.ContextId.{ContextId}
+use Rattle.mate_num.specs.declared.id.HandlerId.{HandlerId}
+use Rattle.split_phase.specs.Calls as calls
+use Rattle.context_sched.specs.Ready.{holds}
+use Rattle.vm_desc.specs.declared.description.Description.{Description}
+use Rattle.mate_journal.specs.Journal.{Reading, held, is_live}
+use Rattle.mate_journal.specs.NodeScript.{IsReadyIn}
+use Rattle.journal_laws.specs.Progress.{IsNoneLive, GoesForward}
+use Rattle.node_contexts.specs.declared.handlers.Held.{Held}
+use Rattle.node_contexts.specs.At.{at, IsAsking, IsNoneAsking}
+use Rattle.node_contexts.specs.Programs.{Programs, held_at, version_in}
+use Rattle.node_invariant.specs.declared.parts.Parts.{Parts}
+use Rattle.node_invariant.specs.Meaning.{machine_in}
+use Rattle.node_invariant.specs.Fits.{program_of}
+use Rattle.node_invariant.specs.Keeps.{reading, Keeps}
+use Rattle.node_invariant.proofs.MoveLemmas.{none_ready, none_waits, answering, was_waiting}
+use Rattle.node_grants.specs.Starting.{Rests}
+use Rattle.node_turns.proofs.RunningLemmas.{one, one-ready}
+use Rattle.open_node.specs.Calls.{IsNoneReady, IsWaitingIn, IsImageOf}
+use Rattle.open_node.proofs.JournalLemmas.{Forward}
+
+-- ---- who is ready
+
+pub ready-in : (d : Description) (s : Parts) (c : ContextId) → Keeps d s → (at s.contexts c).ready ≡ true → IsReadyIn (reading d s.log.all) c
+ready-in d s c keeps is_ready = record { invocation = (one d s c keeps is_ready).seat.inv; ready = one-ready d s c keeps is_ready; context = (one d s c keeps is_ready).seated.context }
+
+pub nobody-ready : (d : Description) (s : Parts) → Keeps d s → s.contexts.ring ≡ [] → IsNoneReady (reading d s.log.all)
+nobody-ready d s keeps empty n is =
+    let c = ((reading d s.log.all).invocations n).context in
+    none_ready (held_at s.handlers.programs) (reading d s.log.all) s.contexts c keeps.fits (ap (λ (l : List ContextId). holds l c) empty) record { invocation = n; ready = is; context = refl }
+
+-- ---- who waits
+
+module _ (d : Description) (s : Parts) (keeps : Keeps d s) where
+  abbrev r : Reading
+  r = reading d s.log.all
+
+  abbrev h : Programs
+  h = held_at s.handlers.programs
+
+  pub asked-in : (c : ContextId) (call : calls.Asked) → (at s.contexts c).call ≡ Some call → IsWaitingIn r c
+  asked-in c call is = record {
+    invocation = (answering (machine_in d) h r s.contexts c call keeps.fits is).seat.inv;
+    waits = record { fun = call.0; args = call.1; waits = was_waiting (machine_in d) h r s.contexts c call keeps.fits is };
+    context = (answering (machine_in d) h r s.contexts c call keeps.fits is).seated.context;
+  }
+
+  pub waiting-in : (c : ContextId) → IsAsking s.contexts c → IsWaitingIn r c
+  waiting-in c asking = by (at s.contexts c).call refl asking.asks where
+    by : (o : Option calls.Asked) → (at s.contexts c).call ≡ o → IsSome o → IsWaitingIn r c
+    by None e some = absurd (let f : false ≡ true = some in cc)
+    by (Some call) e some = asked-in c call e
+
+  pub nobody-waits : (c : ContextId) → (at s.contexts c).call ≡ None → IsWaitingIn r c → ⊥
+  nobody-waits c none w = none_waits h r s.contexts c keeps.fits none w.invocation w.waits.fun w.waits.args w.waits.waits w.context
+
+  pub none-live : Rests d s → s.contexts.ring ≡ [] → IsNoneAsking s.contexts → IsNoneLive r
+  none-live rests empty none = by (Forward d s rests) where
+    by : GoesForward (reading d s.log.all) → IsNoneLive (reading d s.log.all)
+    by (inl x) = absurd (nobody-ready d s keeps empty x.invocation x.ready)
+    by (inr (inl x)) = absurd (
+        let w = x.waits in
+        let c = ((reading d s.log.all).invocations x.invocation).context in
+        let p = keeps.fits.placed x.invocation (ap is_live w.waits) in
+        none_waits (held_at s.handlers.programs) (reading d s.log.all) s.contexts c keeps.fits (none.none c p.seat p.is) x.invocation w.fun w.args w.waits refl)
+    by (inr (inr x)) = x
+
+-- ---- what is installed
+
+module _ (d : Description) (s : Parts) (keeps : Keeps d s) (handler : HandlerId) where
+  abbrev q : Reading
+  q = reading d s.log.all
+
+  pub held-is : held q handler ≡ version_in (held_at s.handlers.programs handler)
+  held-is = by (held_at s.handlers.programs handler) (keeps.installed.same handler) where
+    by : (o : Option Held) → q.installed handler ≡ option_map (program_of handler) o → held q handler ≡ version_in o
+    by None e = rw e refl
+    by (Some x) e = rw e refl
+
+  pub nothing-held : held_at s.handlers.programs handler ≡ None → held q handler ≡ 0
+  nothing-held none = held-is ∙ ap version_in none
+
+  pub image-is : (x : Held) → held_at s.handlers.programs handler ≡ Some x → IsImageOf q handler x.image
+  image-is x is = record {
+    program = program_of handler x;
+    installed = keeps.installed.same handler ∙ ap (λ (o : Option Held). option_map (program_of handler) o) is;
+    is = refl;
+    version = (keeps.installed.each handler x is).version_is;
+  }

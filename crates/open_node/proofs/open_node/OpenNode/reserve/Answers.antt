@@ -1,0 +1,19 @@
+-- More room changes nothing else.
+use Rattle.std.proofs.Common.{ap, sym, subst}
+use Rattle.open_node.specs.View.{OpenNodeView, NodeView, HasPace}
+use Rattle.open_node.proofs.PaceLemmas.{IsPace-seen, HasPace-from}
+use Rattle.open_node.proofs.JournalLemmas.{Rests-room, IsPace-room}
+use Rattle.open_node.proofs.open_node.OpenNode.reserve.Goals as goal
+
+pub invariant_of-self : goal.invariant_of-self
+invariant_of-self c = record { rests = Rests-room c.self.inside.description c.self.inside.parts c.reserve.new.self c.reserve.ensures.same c.self.invariant.rests }
+
+pub returns-clause-pace : goal.returns-clause-pace
+returns-clause-pace c = λ p pace.
+    (let d = c.self.inside.description in
+    let s = c.self.inside.parts in
+    let rests = c.self.invariant.rests in
+    let P : NodeView → Type 0 = λ v. HasPace v p in
+    let after = Rests-room d s c.reserve.new.self c.reserve.ensures.same rests in
+    HasPace-from d (record s { log = c.reserve.new.self }) after.order.keeps p
+    (IsPace-room d s c.reserve.new.self c.reserve.ensures.same rests p (IsPace-seen d s rests.order.keeps p (subst P (sym (ap (λ (v : OpenNodeView). v.node) c.self.view_is)) pace))))

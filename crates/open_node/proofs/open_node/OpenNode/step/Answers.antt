@@ -1,0 +1,29 @@
+-- Where one is ready, at most 15 may start.
+use Rattle.std.proofs.Common.{◌≡◌, true, ap, subst, arith}
+use Rattle.std.proofs.lemmas.Grind.{common_steps}
+use Rattle.node_contexts.specs.At.{at}
+use Rattle.node_contexts.specs.Programs.{held_at}
+use Rattle.node_invariant.specs.Meaning.{machine_in, clock_of}
+use Rattle.node_invariant.specs.Keeps.{reading}
+use Rattle.node_grants.proofs.RoomLemmas.{starts-most}
+use Rattle.open_node.specs.View.{OpenNodeView, NodeView, heard_of, Tells}
+use Rattle.open_node.specs.Calls.{HasStepped}
+use Rattle.open_node.proofs.PaceLemmas.{seen_as}
+use Rattle.open_node.proofs.MadeLemmas.{Tells-turn}
+use Rattle.open_node.proofs.open_node.OpenNode.step.Goals as goal
+
+pub take_turn-requires-clause-room : goal.take_turn-requires-clause-room
+take_turn-requires-clause-room c =
+    let n = c.self.inside in
+    let ready : (at n.parts.contexts c.args.ctx).ready ≡ true = grind (arith, common_steps) in
+    let few = starts-most (machine_in n.description) (held_at n.parts.handlers.programs) (reading n.description n.parts.log.all) n.parts.contexts c.args.ctx c.self.invariant.rests.order.keeps.fits c.requires.context ready in
+    let same = ap (λ (v : NodeView). v.log.spare) (ap (λ (v : OpenNodeView). v.node) c.self.view_is) in
+    let room = c.requires.room in
+    omega arith
+
+pub returns-clause-steps : goal.returns-clause-steps
+returns-clause-steps c =
+    let n = c.self.inside in
+    let ready : (at n.parts.contexts c.args.ctx).ready ≡ true = grind (arith, common_steps) in
+    let P : NodeView → Type 0 = λ v. Tells v (seen_as n.description c.take_turn.new.parts) c.args.at (HasStepped (clock_of v.description) (machine_in v.description) (heard_of v) c.args.ctx c.args.n c.take_turn.result) in
+    subst P (ap (λ (v : OpenNodeView). v.node) c.self.view_is) (Tells-turn n.description n.parts c.take_turn.new.parts c.args.at c.args.ctx c.args.n c.take_turn.result c.self.invariant.rests ready c.take_turn.ensures.turn)

@@ -1,0 +1,4 @@
+pub mod View
+pub mod Inside
+pub mod Journal
+pub mod Calls

@@ -1,0 +1,100 @@
+//! What a node is told from outside: events for its handlers, answers, capsules, resets.
+
+ghost use Rattle.std.specs.Prelude.{◌≡◌, ◌<◌, ◌≤◌, ◌∷◌, [], length, MatchResult};
+ghost use Rattle.mate_num.specs.declared.bounds.TheConstants.{CONTEXTS_MAX};
+ghost use Rattle.mate_journal.specs.Journal.{Void};
+ghost use Rattle.mate_journal.specs.NodeScript.{Answers, ShowsOnce, Resets};
+ghost use Rattle.node_invariant.specs.Meaning.{machine_in, clock_of};
+ghost use Rattle.node_invariant.specs.Keeps.{IsTimely};
+ghost use Rattle.node_calls.specs.Calls.{NobodyWaits};
+ghost use Rattle.node_calls.specs.Posting.{PostGives};
+ghost use Rattle.node_calls.specs.Installing.{InstallsBytes, Refuses};
+
+use crate::open_node::OpenNode;
+use mate_journal::VoidCause;
+use mate_num::{ContextId, HandlerId, Payload, Stamp};
+use node_calls::{
+    InstallFault, PostAnswer, answer_in, install_in, post_in, reset_in, seen_in, void_in,
+};
+use split_phase::NotWaiting;
+
+impl OpenNode {
+    ghost use Rattle.open_node.specs.View.{heard_of, Tells};
+    ghost use Rattle.open_node.specs.Calls.{Pacing};
+
+    /// An event for the handler becomes an invocation in the handler's lowest idle context, which starts where nothing
+    /// holds it back. It is dropped with `NoCode` exactly where nothing is installed for the handler, and else with
+    /// `AllBusy` exactly where no context of the handler is idle.
+    pub fn post(&mut self, handler: HandlerId, payload: &Payload, at: Stamp) -> PostAnswer
+        requires handler { handler.0 < length self.old.node.description.handlers.items }
+        requires timely { IsTimely at self.old.node.log }
+        requires few { length self.old.node.log.entries < 4000000000 }
+        requires room { 2 ≤ self.old.node.log.spare }
+        ensures tells { Tells self.old.node self.new.node at (Pacing (λ _. PostGives (machine_in self.old.node.description) (heard_of self.old.node) handler payload.now result)) }
+        ensures gone { self.new.gone ≡ self.old.gone }
+    {
+        post_in(&self.description, &mut self.parts, handler, payload, at)
+    }
+
+    /// The invocation that waits in the context gets the answer to its call, and is ready, with its turn after all others.
+    /// `NotWaiting` comes exactly where none waits there, and leaves the node as it was.
+    pub fn answer(&mut self, ctx: ContextId, value: i16, at: Stamp) -> Result<(), NotWaiting>
+        requires context { ctx.0 < CONTEXTS_MAX }
+        requires timely { IsTimely at self.old.node.log }
+        requires room { 1 ≤ self.old.node.log.spare }
+        ensures tells { MatchResult result
+            (λ _. Tells self.old.node self.new.node at (Pacing (λ _. Answers (heard_of self.old.node) ctx value)))
+            (λ _. NobodyWaits (heard_of self.old.node) ctx × (self.new.node ≡ self.old.node)) }
+        ensures gone { self.new.gone ≡ self.old.gone }
+    {
+        answer_in(&self.description, &mut self.parts, ctx, value, at)
+    }
+
+    /// The capsule is installed, and an era begins: live invocations are cut, variables are 0 and buffers empty. A handler
+    /// that runs once is then posted with an empty payload. A refusal leaves the node as it was: the capsule's, then its
+    /// code's, then `NotNewer` exactly where the version that is held for the handler is at least the capsule's, with that
+    /// version.
+    pub fn install(&mut self, bytes: &[u8], at: Stamp) -> Result<(), InstallFault>
+        requires timely { IsTimely at self.old.node.log }
+        requires few { length self.old.node.log.entries < 4000000000 }
+        requires room { 4 ≤ self.old.node.log.spare }
+        ensures tells { MatchResult result
+            (λ _. Tells self.old.node self.new.node at (Pacing (InstallsBytes self.old.node.description (heard_of self.old.node) bytes.now)))
+            (λ fault. Refuses self.old.node.description (heard_of self.old.node) bytes.now fault × (self.new.node ≡ self.old.node)) }
+        ensures gone { self.new.gone ≡ self.old.gone }
+    {
+        install_in(&self.description, &mut self.parts, bytes, at)
+    }
+
+    /// An era begins as with an install, but what is installed stays, and nothing is posted.
+    pub fn reset(&mut self, at: Stamp)
+        requires timely { IsTimely at self.old.node.log }
+        requires few { length self.old.node.log.entries < 4000000000 }
+        requires room { 2 ≤ self.old.node.log.spare }
+        ensures tells { Tells self.old.node self.new.node at (Pacing (Resets (clock_of self.old.node.description) (machine_in self.old.node.description) (heard_of self.old.node))) }
+        ensures gone { self.new.gone ≡ self.old.gone }
+    {
+        reset_in(&self.description, &mut self.parts, at);
+    }
+
+    /// The shared variables and buffers are shown as they are.
+    pub fn seen(&mut self, at: Stamp)
+        requires timely { IsTimely at self.old.node.log }
+        requires few { length self.old.node.log.entries < 4000000000 }
+        requires room { 1 ≤ self.old.node.log.spare }
+        ensures tells { Tells self.old.node self.new.node at (Pacing (ShowsOnce (clock_of self.old.node.description) (machine_in self.old.node.description) (heard_of self.old.node))) }
+        ensures gone { self.new.gone ≡ self.old.gone }
+    {
+        seen_in(&self.description, &mut self.parts, at);
+    }
+
+    /// A step that could do nothing is told.
+    pub fn void(&mut self, cause: VoidCause, at: Stamp)
+        requires timely { IsTimely at self.old.node.log }
+        requires room { 1 ≤ self.old.node.log.spare }
+        ensures tells { Tells self.old.node self.new.node at (Pacing (λ _ told. told ≡ Void cause ∷ [])) }
+        ensures gone { self.new.gone ≡ self.old.gone }
+    {
+        void_in(&self.description, &mut self.parts, cause, at);
+    }
+}

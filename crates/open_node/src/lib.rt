@@ -1,0 +1,9 @@
+//! A node of the network: what happens on it, in the order in which it is told to.
+#![tactic(auto)]
+
+pub mod calls;
+pub mod open_node;
+pub mod standing;
+
+pub use open_node::OpenNode;
+pub use standing::{Asked, NotReady, Standing};
