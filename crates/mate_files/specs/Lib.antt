@@ -1,7 +1,5 @@
 pub mod Counts
 pub mod Files
-pub mod MemFiles
-pub mod MemSink
 pub mod OsFiles
 pub mod OsSink
 pub mod Pen

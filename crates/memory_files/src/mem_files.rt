@@ -1,6 +1,6 @@
 //! Files in memory.
 
-use super::files::{FILE_MAX, Files, FilesFault};
+use mate_files::{FILE_MAX, Files, FilesFault};
 use std::alloc::Global;
 use std::collections::BTreeMap;
 
@@ -20,7 +20,7 @@ pub struct MemFiles {
 
 impl MemFiles {
     ghost use Rattle.std.specs.Prelude.{◌≡◌, ◌++◌, ◌∷◌, [], ℕ, List, None, IsOkUnless, OnOk, OnErr};
-    ghost use Rattle.mate_files.specs.MemFiles.{names_of, failing_of, calls_of, faults_of, SetsName, KeepsNames, KeepsCounts};
+    ghost use Rattle.memory_files.specs.MemFiles.{names_of, failing_of, calls_of, faults_of, SetsName, KeepsNames, KeepsCounts};
 
     /// No file and no failing call.
     pub fn new(alloc: Global) -> MemFiles
@@ -83,7 +83,7 @@ impl Files for MemFiles {
     ghost use Rattle.mate_files.specs.Counts.{one_more};
     ghost use Rattle.std.proofs.Common.{rules};
     ghost use Rattle.mate_files.specs.Files.{ReadGives, faults_after};
-    ghost use Rattle.mate_files.specs.MemFiles.{names_of, told_of, failing_of, calls_of, faults_of, is_steady, IsListed, IsTooLong};
+    ghost use Rattle.memory_files.specs.MemFiles.{names_of, told_of, failing_of, calls_of, faults_of, is_steady, IsListed, IsTooLong};
 
     ghost contents = { told_of };
 

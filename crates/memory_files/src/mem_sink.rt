@@ -1,6 +1,6 @@
 //! A sink in memory.
 
-use super::sink::{Sink, SinkFault};
+use mate_files::{Sink, SinkFault};
 use std::alloc::Global;
 
 /// A sink in memory, some of whose writes can be made to fail.
@@ -18,7 +18,7 @@ pub struct MemSink {
 
 impl MemSink {
     ghost use Rattle.std.specs.Prelude.{◌≡◌, ◌++◌, ◌∷◌, [], IsOkUnless, OnOk, OnErr};
-    ghost use Rattle.mate_files.specs.MemSink.{bytes_of, failing_of, calls_of, faults_of};
+    ghost use Rattle.memory_files.specs.MemSink.{bytes_of, failing_of, calls_of, faults_of};
 
     /// No byte and no failing call.
     pub fn new(alloc: Global) -> MemSink
@@ -64,7 +64,7 @@ impl Sink for MemSink {
     ghost use Rattle.std.specs.Prelude.{◌≡◌, ◌↔◌, ◌≤◌, IsErrOf, OnErr};
     ghost use Rattle.mate_files.specs.Counts.{one_more};
     ghost use Rattle.mate_files.specs.Sink.{Writes, HasCause, faults_after};
-    ghost use Rattle.mate_files.specs.MemSink.{bytes_of, told_of, failing_of, calls_of, faults_of, IsListed};
+    ghost use Rattle.memory_files.specs.MemSink.{bytes_of, told_of, failing_of, calls_of, faults_of, IsListed};
 
     ghost written = { told_of };
 

@@ -6,7 +6,7 @@ use Rattle.std.specs.BTreeMap.{get_by_text}
 use Rattle.mate_files.specs.Counts.{one_more}
 use Rattle.mate_files.specs.Files.{Names}
 use Rattle.mate_files.specs.declared.files.TheConstants.{FILE_MAX}
-use Rattle.mate_files.specs.declared.mem_files.MemFiles.{MemFiles}
+use Rattle.memory_files.specs.declared.mem_files.MemFiles.{MemFiles}
 
 -- the bytes of each name
 abbrev pub names_of : MemFiles → Names

@@ -1,7 +1,7 @@
 -- A sink in memory: what its state shows, and how calls change it.
 use Rattle.std.specs.Prelude.{ℕ, List, Option, Some, Contains}
 use Rattle.mate_files.specs.Counts.{one_more}
-use Rattle.mate_files.specs.declared.mem_sink.MemSink.{MemSink}
+use Rattle.memory_files.specs.declared.mem_sink.MemSink.{MemSink}
 
 -- the bytes that were written
 abbrev pub bytes_of : MemSink → List ℕ

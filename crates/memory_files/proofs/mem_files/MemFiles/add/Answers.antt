@@ -5,8 +5,8 @@ use Rattle.std.specs.Global.{Vec}
 use Rattle.std.specs.Option.{option_map}
 use Rattle.std.specs.Str.{bytes_eq}
 use Rattle.std.proofs.lemmas.Map.Text.{btree_map_updates_text}
-use Rattle.mate_files.specs.MemFiles.{names_of}
-use Rattle.mate_files.proofs.mem_files.MemFiles.add.Goals as goal
+use Rattle.memory_files.specs.MemFiles.{names_of}
+use Rattle.memory_files.proofs.mem_files.MemFiles.add.Goals as goal
 
 option_map-cond : {A B : Type 0} (f : A → B) (b : Bool) (x y : Option A)
     → option_map f (cond b x y) ≡ cond b (option_map f x) (option_map f y)
