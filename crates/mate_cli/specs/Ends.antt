@@ -8,17 +8,17 @@ use Rattle.mate_refusals.specs.declared.status.Status.{Status}
 use Rattle.mate_refusals.specs.declared.status.Status.TheVariants.{Ok as AllDone}
 use Rattle.mate_refusals.specs.declared.refusal.Refusal.{Refusal}
 use Rattle.mate_refusals.specs.declared.refusal.Refusal.TheVariants.{Usage, LogFull, SinkFault, NoMemory}
-use Rattle.mate_cli.specs.Check.{check}
-use Rattle.mate_cli.specs.Compile.{compile}
-use Rattle.mate_cli.specs.Expand.{expand}
+use Rattle.mate_documents.specs.Check.{check}
+use Rattle.mate_documents.specs.Compile.{compile}
+use Rattle.mate_documents.specs.Expand.{expand}
 use Rattle.mate_cli.specs.Node.{node}
-use Rattle.mate_cli.specs.Documents.{document_text, is_full}
+use Rattle.mate_documents.specs.Documents.{document_text, is_full}
 use Rattle.mate_steps.specs.Parts.{Folder, IsUnreadAnswer}
 use Rattle.mate_steps.specs.Steps.{judged, ◌▸◌}
-use Rattle.mate_cli.specs.Table.{opcode_table}
-use Rattle.mate_cli.specs.declared.document.Document.{Document}
-use Rattle.mate_cli.specs.declared.output.Output.{Output}
-use Rattle.mate_cli.specs.declared.output.Output.TheVariants as output
+use Rattle.mate_documents.specs.Table.{opcode_table}
+use Rattle.mate_documents.specs.declared.document.Document.{Document}
+use Rattle.mate_documents.specs.declared.output.Output.{Output}
+use Rattle.mate_documents.specs.declared.output.Output.TheVariants as output
 use Rattle.mate_journal.specs.NodeScript.{Whole, Full}
 use Rattle.mate_journal.specs.declared.program.Program.{Program}
 use Rattle.mate_journal.specs.declared.report.Report.{Report}

@@ -1,9 +1,2 @@
-pub mod Documents
-pub mod Outputs
-pub mod Table
-pub mod Compile
-pub mod Check
-pub mod Expand
 pub mod Node
 pub mod Ends
-pub mod Completed

@@ -3,15 +3,13 @@
 ghost use Rattle.std.specs.Prelude.{◌≡◌, IfOk, IfErr, true};
 ghost use Rattle.mate_refusals.specs.declared.refusal.Refusal.TheVariants.{NoMemory};
 ghost use Rattle.report_text.specs.Tidy.{IsTidy};
-ghost use Rattle.mate_cli.specs.Node.{node, run_output, reported};
-ghost use Rattle.mate_cli.specs.Outputs.{CanBeWritten};
+ghost use Rattle.mate_cli.specs.Node.{node, run_of_script, run_output, reported};
+ghost use Rattle.mate_documents.specs.Outputs.{CanBeWritten};
 ghost use Rattle.mate_steps.specs.Parts.{ReadsFiles};
 ghost use Rattle.node_programs.specs.ScriptSteps.{AreProgramsOf};
 
-use crate::boxed_machine::BoxedMachine;
-use crate::document::Document;
-use crate::output::Output;
 use mate_commands::ScriptRun;
+use mate_documents::{BoxedMachine, Document, Output};
 use mate_files::Files;
 use mate_journal::{Programs, Report, RunFault};
 use mate_refusals::Refusal;
@@ -34,10 +32,42 @@ pub fn output<F: Files>(
     ensures writable { IfOk result CanBeWritten }
 {
     let machine = BoxedMachine::named(alloc, files, words.machine)?;
+    run_of_script(alloc, files, machine, words)
+}
+
+/// The run of the script in a file on this machine, or the summary of its report.
+#[inline(never)]
+fn run_of_script<F: Files>(
+    alloc: Global,
+    files: &mut F,
+    machine: BoxedMachine,
+    words: ScriptRun<'_>,
+) -> Result<Output, Refusal>
+    ensures does { run_of_script (record { told = F.contents files.old; steady = F.steady files.old }) words.entry.fold words.entry.brief machine words.entry.script.now result }
+    ensures reads { ReadsFiles (F.contents files.old) (F.steady files.old) (F.faults files.old) (F.contents files.new) (F.steady files.new) (F.faults files.new) result }
+    ensures writable { IfOk result CanBeWritten }
+{
     let desc = machine.description();
     let script = script_of(alloc, files, desc, words.script)?;
     let programs = programs_of(alloc, files, desc, words.fold, &script)?;
-    if words.brief {
+    run_output(alloc, words.brief, machine, script, programs)
+}
+
+/// The run of a script with these programs, or the summary of its report.
+#[inline(never)]
+fn run_output(
+    alloc: Global,
+    brief: bool,
+    machine: BoxedMachine,
+    script: Steps,
+    programs: Programs,
+) -> Result<Output, Refusal>
+    requires { AreProgramsOf machine script programs }
+    ensures does { run_output brief machine script programs result }
+    ensures memory { IfErr result (λ r. r ≡ NoMemory) }
+    ensures writable { IfOk result CanBeWritten }
+{
+    if brief {
         summary(alloc, machine, &script, &programs)
     } else {
         Ok(Output::Run(machine, script, programs))

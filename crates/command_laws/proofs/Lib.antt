@@ -1,0 +1,3 @@
+mod OneCommand
+mod OneNode
+mod OneCall

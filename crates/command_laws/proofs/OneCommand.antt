@@ -1,0 +1,148 @@
+-- The commands have one answer, and words say one task.
+use Rattle.std.proofs.Common.{◌≡◌, inl, inr, ℕ, Bool, List, Option, Some, None, Result, Ok, Err, refl, sym, ◌∙◌, ap, subst}
+use Rattle.std.specs.Prelude.{⊤}
+use Rattle.arrayvec.specs.ArrayVec.{ArrayVec}
+use Rattle.capsule_codec.specs.Image.{CapsuleParts, capsule_parts}
+use Rattle.capsule_codec.specs.declared.capsule.Capsule.{Capsule}
+use Rattle.capsule_listing.specs.CapsuleText.{capsule_text}
+use Rattle.code_verifier.specs.Verified.{VerifiedCode}
+use Rattle.command_line.specs.Words.{Line, IsLine}
+use Rattle.mate_code.specs.Run.{Code}
+use Rattle.mate_commands.specs.Words.{Task, Says, SaysNothing, task_of}
+use Rattle.mate_files.specs.Files.{Names}
+use Rattle.mate_num.specs.declared.id.HandlerId.{HandlerId}
+use Rattle.vm_desc.specs.declared.description.Description.{Description}
+use Rattle.mate_documents.specs.Check.{check}
+use Rattle.mate_steps.specs.CapsuleFiles.{capsule}
+use Rattle.mate_documents.specs.Compile.{compile, capsule_hex}
+use Rattle.mate_documents.specs.Documents.{script_line}
+use Rattle.mate_documents.specs.Expand.{expand}
+use Rattle.mate_cli.specs.Ends.{task}
+use Rattle.mate_steps.specs.OneAnswer.{AnswersAgree, steady}
+use Rattle.mate_documents.specs.Outputs.{writes}
+use Rattle.command_laws.specs.SameText.{SameText}
+use Rattle.mate_documents.specs.declared.output.Output.TheVariants as output
+use Rattle.mate_documents.specs.Table.{opcode_table}
+use Rattle.opcode_gen.specs.TableText.{table_text}
+use Rattle.mate_steps.specs.Parts.{handler, handler_named}
+use Rattle.mate_steps.specs.Sources.{source}
+use Rattle.mate_steps.specs.Steps.{◌▸◌}
+use Rattle.mate_documents.specs.declared.output.Output.{Output}
+use Rattle.mate_refusals.specs.declared.refusal.Refusal.{Refusal}
+use Rattle.mate_steps.proofs.OneAnswer.{then_agrees, judged_agrees, machine_agrees}
+use Rattle.mate_steps.proofs.OneCapsule.{SameCapsule, capsule_agrees}
+use Rattle.mate_steps.proofs.OneSource.{SameCompiled, source_agrees}
+use Rattle.mate_steps.proofs.OneExpansion.{SameScript, expansion_agrees}
+use Rattle.ts_syntax.specs.Seen.{source_of}
+use Rattle.ts_syntax.specs.Tree.{Source}
+use Rattle.ts_syntax.specs.declared.script.Script.{Script}
+
+-- ---- table
+
+pub writes_agree : (bytes : List ℕ) → AnswersAgree SameText (writes bytes) (writes bytes)
+writes_agree bytes (Ok (output.Document a)) (Ok (output.Document b)) p q = p ∙ sym q
+writes_agree bytes (Ok (output.Document a)) (Ok (output.Run d s ps)) p q = absurd q
+writes_agree bytes (Ok (output.Run d s ps)) (Ok b) p q = absurd p
+writes_agree bytes (Ok a) (Err r) p q = q
+writes_agree bytes (Err r) (Ok b) p q = p
+writes_agree bytes (Err r) (Err t) p q = inr (inl p)
+
+pub table_agrees : (names : Names) (vm : List ℕ) → AnswersAgree SameText (opcode_table (steady names) vm) (opcode_table (steady names) vm)
+table_agrees names vm =
+    then_agrees ◌≡◌ SameText _ _ _ _ (machine_agrees names vm)
+    (λ a b e. subst (λ (d : Description). AnswersAgree SameText (writes (table_text a)) (writes (table_text d))) e (writes_agree (table_text a)))
+
+-- ---- compile
+
+handler_agrees : (d : Description) (name : List ℕ) → AnswersAgree ◌≡◌ (handler d name) (handler d name)
+handler_agrees d name = judged_agrees ◌≡◌ _ _ _ one not same where
+  one : (a b : HandlerId) → handler_named d name ≡ Some a.0 → handler_named d name ≡ Some b.0 → a ≡ b
+  one a b p q = let e : Some a.0 ≡ Some b.0 = sym p ∙ q in let i : a.0 ≡ b.0 = cc in ap (λ (n : ℕ). let h : HandlerId = record { 0 = n } in h) i
+
+  not : (a : HandlerId) (e : ⊤) → handler_named d name ≡ Some a.0 → handler_named d name ≡ None → ⊥
+  not a e p q = let x : Some a.0 ≡ None = sym p ∙ q in cc
+
+  same : (e h : ⊤) → handler_named d name ≡ None → handler_named d name ≡ None → e ≡ h
+  same e h p q = refl
+
+pub compile_agrees : (names : Names) (fold : Bool) (vm h : List ℕ) (version : ℕ) (name : List ℕ)
+    → AnswersAgree SameText (compile (steady names) fold vm h version name) (compile (steady names) fold vm h version name)
+compile_agrees names fold vm h version name =
+    then_agrees ◌≡◌ SameText _ _ _ _ (machine_agrees names vm)
+    (λ a b e. subst (λ (d : Description). AnswersAgree SameText (after_machine a) (after_machine d)) e (with_machine a)) where
+      after_code : Description → HandlerId → ArrayVec ℕ → Result Output Refusal → Type 0
+      after_code d k code = writes (capsule_hex d k version code)
+
+      after_handler : Description → HandlerId → Result Output Refusal → Type 0
+      after_handler d k = source (steady names) d fold name ▸ λ c. after_code d k c.code
+
+      after_machine : Description → Result Output Refusal → Type 0
+      after_machine d = handler d h ▸ after_handler d
+
+      with_handler : (d : Description) (k : HandlerId) → AnswersAgree SameText (after_handler d k) (after_handler d k)
+      with_handler d k =
+          then_agrees SameCompiled SameText _ _ _ _ (source_agrees names d fold name)
+          (λ a b e. subst (λ (c : ArrayVec ℕ). AnswersAgree SameText (after_code d k a.code) (after_code d k c)) e.code (writes_agree (capsule_hex d k version a.code)))
+
+      with_machine : (d : Description) → AnswersAgree SameText (after_machine d) (after_machine d)
+      with_machine d =
+          then_agrees ◌≡◌ SameText _ _ _ _ (handler_agrees d h)
+          (λ a b e. subst (λ (k : HandlerId). AnswersAgree SameText (after_handler d a) (after_handler d k)) e (with_handler d a))
+
+-- ---- check
+
+pub check_agrees : (names : Names) (vm name : List ℕ) → AnswersAgree SameText (check (steady names) vm name) (check (steady names) vm name)
+check_agrees names vm name =
+    then_agrees ◌≡◌ SameText _ _ _ _ (machine_agrees names vm)
+    (λ a b e. subst (λ (d : Description). AnswersAgree SameText (after_machine a) (after_machine d)) e (with_machine a)) where
+      after_capsule : Description → Capsule × VerifiedCode → Result Output Refusal → Type 0
+      after_capsule d c = writes (capsule_text d (capsule_parts c.0) c.1.code)
+
+      after_machine : Description → Result Output Refusal → Type 0
+      after_machine d = capsule (steady names) d name ▸ after_capsule d
+
+      with_capsule : (d : Description) (a b : Capsule × VerifiedCode) → SameCapsule a b → AnswersAgree SameText (after_capsule d a) (after_capsule d b)
+      with_capsule d a b e =
+          subst (λ (p : CapsuleParts). AnswersAgree SameText (after_capsule d a) (writes (capsule_text d p b.1.code))) e.parts
+          (subst (λ (code : Code). AnswersAgree SameText (after_capsule d a) (writes (capsule_text d (capsule_parts a.0) code))) e.code
+          (writes_agree (capsule_text d (capsule_parts a.0) a.1.code)))
+
+      with_machine : (d : Description) → AnswersAgree SameText (after_machine d) (after_machine d)
+      with_machine d = then_agrees SameCapsule SameText _ _ _ _ (capsule_agrees names d name) (with_capsule d)
+
+-- ---- expand
+
+pub expand_agrees : (names : Names) (name : List ℕ) → AnswersAgree SameText (expand (steady names) name) (expand (steady names) name)
+expand_agrees names name =
+    then_agrees SameScript SameText _ _ _ _ (expansion_agrees names name)
+    (λ a b e. subst (λ (s : Source). AnswersAgree SameText (writes (script_line (source_of a))) (writes (script_line s))) (same a b e) (writes_agree (script_line (source_of a)))) where
+      same : (a b : Script) → SameScript a b → source_of a ≡ source_of b
+      same a b e = e
+
+-- ---- words
+
+some_same : {A : Type 0} (x y : A) (o : Option A) → o ≡ Some x → o ≡ Some y → x ≡ y
+some_same x y o p q = let e : Some x ≡ Some y = sym p ∙ q in cc
+
+line_same : (a b : Line) → a.brief ≡ b.brief → a.fold ≡ b.fold → a.command ≡ b.command → a.args ≡ b.args → a ≡ b
+line_same a b brief fold command args =
+    ap (λ (x : Bool). line x a.fold a.command a.args) brief ∙ ap (λ (x : Bool). line b.brief x a.command a.args) fold
+    ∙ ap (λ (x : List ℕ). line b.brief b.fold x a.args) command ∙ ap (λ (x : List (List ℕ)). line b.brief b.fold b.command x) args where
+      line : Bool → Bool → List ℕ → List (List ℕ) → Line
+      line brief fold command args = record { brief = brief; fold = fold; command = command; args = args }
+
+one_line : (words : List (List ℕ)) (a b : Line) → IsLine words a → IsLine words b → a ≡ b
+one_line words a b p q =
+    line_same a b (p.brief ∙ sym q.brief) (p.fold ∙ sym q.fold) (some_same a.command b.command _ p.command q.command) (p.args ∙ sym q.args)
+
+pub task_agrees : (words : List (List ℕ)) → AnswersAgree ◌≡◌ (task words) (task words)
+task_agrees words = judged_agrees ◌≡◌ _ _ _ one not same where
+  one : (a b : Task) → Says words a → Says words b → a ≡ b
+  one a b p q =
+      some_same a b (task_of p.line) p.task_is (ap task_of (one_line words p.line q.line p.is q.is) ∙ q.task_is)
+
+  not : (a : Task) (e : ⊤) → Says words a → SaysNothing words → ⊥
+  not a e p q = q a p
+
+  same : (e h : ⊤) → SaysNothing words → SaysNothing words → e ≡ h
+  same e h p q = refl

@@ -1,0 +1,2 @@
+pub mod SameText
+pub mod Completed

@@ -1,4 +1,0 @@
-pub mod OneCommand
-pub mod OneNode
-pub mod OneCall
-mod MachineLemmas

@@ -1,5 +1,0 @@
-use Rattle.mate_cli.proofs.OneCall.{owed_comes}
-use Rattle.mate_cli.proofs.completeness.owed_output_comes.Goals as goal
-
-pub returns : goal.returns
-returns c names words before now s t status o owes quiet ends = owed_comes names words before now s t status o owes quiet ends

@@ -1,5 +1,0 @@
-use Rattle.mate_cli.proofs.OneCall.{owes_agree}
-use Rattle.mate_cli.proofs.completeness.words_have_one_answer.Goals as goal
-
-pub returns : goal.returns
-returns c names words = owes_agree names words

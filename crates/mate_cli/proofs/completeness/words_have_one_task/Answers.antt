@@ -1,5 +1,0 @@
-use Rattle.mate_cli.proofs.OneCommand.{task_agrees}
-use Rattle.mate_cli.proofs.completeness.words_have_one_task.Goals as goal
-
-pub returns : goal.returns
-returns c words = task_agrees words

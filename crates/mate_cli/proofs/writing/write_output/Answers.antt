@@ -1,0 +1,22 @@
+use Rattle.std.proofs.Common.{sym, subst}
+use Rattle.mate_cli.specs.Ends.{Sinks, IsOutputWritten, IsRunWritten}
+use Rattle.vm_desc.specs.declared.description.Description.{Description}
+use Rattle.mate_documents.specs.declared.output.Output.{Output}
+use Rattle.mate_cli.proofs.writing.write_output.Goals as goal
+
+pub returns-in-Run : goal.returns-in-Run
+returns-in-Run g c =
+    let s : Sinks = record {
+      out = g.S.Sink.written c.args.out.now;
+      out_faults = g.S.Sink.faults c.args.out.now;
+      err = g.E.Sink.written c.args.err.now;
+      err_faults = g.E.Sink.faults c.args.err.now;
+    } in
+    let t : Sinks = record {
+      out = g.S.Sink.written c.write_run.new.out;
+      out_faults = g.S.Sink.faults c.write_run.new.out;
+      err = g.E.Sink.written c.write_run.new.err;
+      err_faults = g.E.Sink.faults c.write_run.new.err;
+    } in
+    subst (λ (o : Output). IsOutputWritten o s t c.write_run.result) (sym c.in-Run.is)
+    (subst (λ (d : Description). IsRunWritten d c.in-Run.script c.in-Run.programs s t c.write_run.result) c.description.ensures c.write_run.ensures)

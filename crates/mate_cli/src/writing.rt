@@ -1,0 +1,75 @@
+//! The writing of an output, and its status.
+
+ghost use Rattle.mate_cli.specs.Ends.{IsDocumentWritten, IsOutputWritten, IsRunWritten};
+ghost use Rattle.mate_documents.specs.Outputs.{CanBeWritten};
+ghost use Rattle.mate_documents.specs.Documents.{HasText};
+ghost use Rattle.node_programs.specs.ScriptSteps.{AreProgramsOf};
+
+use mate_documents::{Document, Output};
+use mate_files::{Sink, SinkFault};
+use mate_journal::Programs;
+use mate_refusals::{Refusal, Status};
+use run_steps::{WriteFault, write_steps};
+use script_reader::Steps;
+use std::alloc::Global;
+use vm_desc::Description;
+
+/// Writes an output.
+#[inline(never)]
+pub(crate) fn write_output<S: Sink, E: Sink>(
+    alloc: Global,
+    output: &Output,
+    out: &mut S,
+    err: &mut E,
+) -> Status
+    requires { CanBeWritten output.now }
+    ensures { IsOutputWritten output.now
+        (record { out = S.written out.old; out_faults = S.faults out.old; err = E.written err.old; err_faults = E.faults err.old })
+        (record { out = S.written out.new; out_faults = S.faults out.new; err = E.written err.new; err_faults = E.faults err.new }) result }
+{
+    match output {
+        Output::Document(document) => write_document(document, out, err),
+        Output::Run(machine, script, programs) => {
+            write_run(alloc, machine.description(), script, programs, out, err)
+        }
+    }
+}
+
+/// Writes a document.
+#[inline(never)]
+fn write_document<S: Sink, E: Sink>(document: &Document, out: &mut S, err: &mut E) -> Status
+    requires { HasText document.now }
+    ensures { IsDocumentWritten document.now
+        (record { out = S.written out.old; out_faults = S.faults out.old; err = E.written err.old; err_faults = E.faults err.old })
+        (record { out = S.written out.new; out_faults = S.faults out.new; err = E.written err.new; err_faults = E.faults err.new }) result }
+{
+    match document.write(out) {
+        Ok(()) if document.is_full() => Refusal::LogFull.refuse(err),
+        Ok(()) => Status::Ok,
+        Err(SinkFault::Failed) => Refusal::SinkFault.refuse(err),
+        Err(SinkFault::NoMemory) => Refusal::NoMemory.refuse(err),
+    }
+}
+
+/// Runs a script, and writes the lines of each event when it ends. After a fault of `out` no further event is run.
+#[inline(never)]
+fn write_run<S: Sink, E: Sink>(
+    alloc: Global,
+    desc: &Description,
+    script: &Steps,
+    programs: &Programs,
+    out: &mut S,
+    err: &mut E,
+) -> Status
+    requires { AreProgramsOf desc.now script.now programs.now }
+    ensures { IsRunWritten desc.now script.now programs.now
+        (record { out = S.written out.old; out_faults = S.faults out.old; err = E.written err.old; err_faults = E.faults err.old })
+        (record { out = S.written out.new; out_faults = S.faults out.new; err = E.written err.new; err_faults = E.faults err.new }) result }
+{
+    match write_steps(alloc, desc, script, programs, out) {
+        Ok(()) => Status::Ok,
+        Err(WriteFault::LogFull) => Refusal::LogFull.refuse(err),
+        Err(WriteFault::Sink) => Refusal::SinkFault.refuse(err),
+        Err(WriteFault::NoMemory) => Refusal::NoMemory.refuse(err),
+    }
+}

@@ -1,0 +1,38 @@
+-- The texts that commands write when they were made whole.
+use Rattle.std.specs.Prelude.{ℕ, Bool, false, not, List, ◌++◌, codes, ⊤}
+use Rattle.report_summary.specs.Brief.{brief}
+use Rattle.report_text.specs.Tidy.{IsTidy}
+use Rattle.opcode_gen.specs.TableText.{table_text}
+use Rattle.hex.specs.Hex.{encode_lower}
+use Rattle.capsule_codec.specs.Image.{capsule_parts}
+use Rattle.capsule_listing.specs.CapsuleText.{capsule_text, IsVerifiedFor}
+use Rattle.ts_syntax.specs.Seen.{source_of}
+use Rattle.ts_syntax.specs.Spelling.{source_spelled}
+use Rattle.ts_syntax.specs.Text.{text_of}
+use Rattle.ts_syntax.specs.Tree.{Source}
+use Rattle.mate_documents.specs.declared.document.Document.{Document}
+use Rattle.mate_documents.specs.declared.document.Document.TheVariants as document
+
+-- the tokens of a plain script, with one space between two, and a line feed
+abbrev pub script_line : Source → List ℕ
+script_line s = text_of (source_spelled s) ++ codes "\n"
+
+abbrev pub document_text : Document → List ℕ
+document_text (document.Summary d r) = brief d r
+document_text (document.OpcodeTable d) = table_text d
+document_text (document.Capsule image) = encode_lower image.value.items ++ codes "\n"
+document_text (document.Listing d l) = capsule_text d (capsule_parts l.value.capsule) l.value.code.code
+document_text (document.Expansion s) = script_line (source_of s)
+
+-- it tells of a run that a full log ended
+abbrev pub is_full : Document → Bool
+is_full (document.Summary d r) = not r.whole
+is_full _ = false
+
+-- its parts are such that its text can be written
+abbrev pub HasText : Document → Type 0
+HasText (document.Summary d r) = IsTidy d r
+HasText (document.OpcodeTable d) = ⊤
+HasText (document.Capsule image) = ⊤
+HasText (document.Listing d l) = IsVerifiedFor d (capsule_parts l.value.capsule) l.value.code
+HasText (document.Expansion s) = ⊤

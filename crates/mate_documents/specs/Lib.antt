@@ -1,0 +1,6 @@
+pub mod Documents
+pub mod Outputs
+pub mod Table
+pub mod Compile
+pub mod Check
+pub mod Expand

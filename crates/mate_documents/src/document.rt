@@ -1,0 +1,96 @@
+//! A text that a command writes when it was made whole.
+
+ghost use Rattle.std.specs.Prelude.{◌++◌, codes};
+ghost use Rattle.hex.specs.Hex.{encode_lower};
+ghost use Rattle.mate_documents.specs.Documents.{script_line};
+ghost use Rattle.mate_files.specs.Sink.{Puts};
+ghost use Rattle.ts_syntax.specs.Seen.{source_of};
+
+use crate::boxed_machine::BoxedMachine;
+use capsule_listing::print_capsule;
+use mate_files::{Pen, Sink, SinkFault};
+use mate_journal::Report;
+use mate_num::Image;
+use mate_steps::VerifiedCapsule;
+use ts_printer::print;
+use ts_syntax::Script;
+
+/// What the text of a document is made from. What is large is boxed.
+#[derive(Drop)]
+pub enum Document {
+    /// The summary of a report of this machine.
+    Summary(BoxedMachine, Report),
+    /// The opcode table of this machine.
+    OpcodeTable(BoxedMachine),
+    /// The image of a capsule, in hexadecimal digits.
+    Capsule(Box<Image>),
+    /// The text of a capsule of this machine.
+    Listing(BoxedMachine, Box<VerifiedCapsule>),
+    /// The tokens of a plain script, in one line.
+    Expansion(Script),
+}
+
+impl Document {
+    ghost use Rattle.std.specs.Prelude.{◌≡◌};
+    ghost use Rattle.mate_documents.specs.Documents.{document_text, is_full, HasText};
+
+    /// Writes its text; where `out` fails, a prefix was written.
+    pub fn write<S: Sink>(&self, out: &mut S) -> Result<(), SinkFault>
+        requires { HasText self.now }
+        ensures { Puts (S.written out.old) (S.faults out.old) (S.written out.new) (S.faults out.new) result (document_text self.now) }
+    {
+        match self {
+            Document::Summary(machine, report) => {
+                report_summary::brief(machine.description(), report, out)
+            }
+            Document::OpcodeTable(machine) => opcode_gen::print_table(machine.description(), out),
+            Document::Capsule(image) => write_image(image, out),
+            Document::Listing(machine, held) => {
+                print_capsule(machine.description(), &held.capsule, &held.code, out)
+            }
+            Document::Expansion(script) => write_script(script, out),
+        }
+    }
+
+    /// Whether it tells of a run that a full log ended.
+    pub fn is_full(&self) -> bool
+        ensures { result ≡ is_full self.now }
+    {
+        match self {
+            Document::Summary(_, report) => !report.whole(),
+            Document::OpcodeTable(_) => false,
+            Document::Capsule(_) => false,
+            Document::Listing(_, _) => false,
+            Document::Expansion(_) => false,
+        }
+    }
+}
+
+/// Writes an image in hexadecimal digits, and a line feed.
+fn write_image<S: Sink>(image: &Image, out: &mut S) -> Result<(), SinkFault>
+    ensures { Puts (S.written out.old) (S.faults out.old) (S.written out.new) (S.faults out.new) result (encode_lower image.now.items ++ codes "\n") }
+{
+    let mut pen = Pen::new();
+    pen.hex(out, image.as_slice());
+    pen.text(out, "\n");
+    pen.finish()
+}
+
+/// Writes the tokens of a script, and a line feed.
+fn write_script<S: Sink>(script: &Script, out: &mut S) -> Result<(), SinkFault>
+    ensures { Puts (S.written out.old) (S.faults out.old) (S.written out.new) (S.faults out.new) result (script_line (source_of script.now)) }
+{
+    match print(script, out) {
+        Ok(()) => end_line(out),
+        Err(fault) => Err(fault),
+    }
+}
+
+/// Writes a line feed.
+fn end_line<S: Sink>(out: &mut S) -> Result<(), SinkFault>
+    ensures { Puts (S.written out.old) (S.faults out.old) (S.written out.new) (S.faults out.new) result (codes "\n") }
+{
+    let mut pen = Pen::new();
+    pen.text(out, "\n");
+    pen.finish()
+}

@@ -1,0 +1,24 @@
+//! The command `expand`.
+
+ghost use Rattle.std.specs.Prelude.{◌≡◌, IfOk};
+ghost use Rattle.mate_documents.specs.Expand.{expand};
+ghost use Rattle.mate_documents.specs.Outputs.{CanBeWritten};
+ghost use Rattle.mate_steps.specs.Parts.{ReadsFiles};
+
+use crate::document::Document;
+use crate::output::Output;
+use mate_files::Files;
+use mate_refusals::Refusal;
+use mate_steps::expansion_of;
+use std::alloc::Global;
+
+/// The plain script that the source with procedures in a file stands for.
+#[inline(never)]
+pub fn output<F: Files>(alloc: Global, files: &mut F, name: &str) -> Result<Output, Refusal>
+    ensures does { expand (record { told = F.contents files.old; steady = F.steady files.old }) name.now result }
+    ensures reads { ReadsFiles (F.contents files.old) (F.steady files.old) (F.faults files.old) (F.contents files.new) (F.steady files.new) (F.faults files.new) result }
+    ensures writable { IfOk result CanBeWritten }
+{
+    let script = expansion_of(alloc, files, name)?;
+    Ok(Output::Document(Document::Expansion(script)))
+}

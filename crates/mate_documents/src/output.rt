@@ -1,0 +1,25 @@
+//! What a command is to write.
+
+use crate::boxed_machine::BoxedMachine;
+use crate::document::Document;
+use mate_journal::Programs;
+use script_reader::Steps;
+
+/// What a command is to write to standard output, when all that it needs was read and found right.
+pub enum Output {
+    /// A text that was made whole.
+    Document(Document),
+    /// The report of the run of a script on this machine, with the programs of its files: it is run and written, event by
+    /// event.
+    Run(BoxedMachine, Steps, Programs),
+}
+
+/// What is to be dropped of it is dropped in one function, and so by one call wherever an output ends.
+impl Drop for Output {
+    fn drop(self) {
+        match self {
+            Output::Document(_document) => {}
+            Output::Run(_machine, _script, _programs) => {}
+        }
+    }
+}

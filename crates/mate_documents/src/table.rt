@@ -1,0 +1,24 @@
+//! The command `table`.
+
+ghost use Rattle.std.specs.Prelude.{◌≡◌, IfOk};
+ghost use Rattle.mate_documents.specs.Outputs.{CanBeWritten};
+ghost use Rattle.mate_steps.specs.Parts.{ReadsFiles};
+ghost use Rattle.mate_documents.specs.Table.{opcode_table};
+
+use crate::boxed_machine::BoxedMachine;
+use crate::document::Document;
+use crate::output::Output;
+use mate_files::Files;
+use mate_refusals::Refusal;
+use std::alloc::Global;
+
+/// The opcode table of a machine.
+#[inline(never)]
+pub fn output<F: Files>(alloc: Global, files: &mut F, vm: &str) -> Result<Output, Refusal>
+    ensures does { opcode_table (record { told = F.contents files.old; steady = F.steady files.old }) vm.now result }
+    ensures reads { ReadsFiles (F.contents files.old) (F.steady files.old) (F.faults files.old) (F.contents files.new) (F.steady files.new) (F.faults files.new) result }
+    ensures writable { IfOk result CanBeWritten }
+{
+    let machine = BoxedMachine::named(alloc, files, vm)?;
+    Ok(Output::Document(Document::OpcodeTable(machine)))
+}
