@@ -6,7 +6,7 @@ ghost use Rattle.exec_unit.specs.Follows.{step_end};
 use mate_num::{BufId, FaultKind, FunId, Payload};
 
 /// How a step ended.
-#[derive(PartialEq, Eq, Debug, Drop)]
+#[derive(Debug, Drop)]
 pub enum StepEnd {
     /// The machine goes on at its next instruction.
     Next,

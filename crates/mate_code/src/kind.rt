@@ -7,7 +7,7 @@ use crate::row::Opcode;
 use mate_num::{FunId, Name};
 
 /// What stands after an opcode.
-#[derive(Clone, Copy, PartialEq, Eq, Debug)]
+#[derive(Clone, Copy, Debug)]
 pub enum OperandForm {
     /// Nothing.
     Absent,
@@ -20,9 +20,8 @@ pub enum OperandForm {
 }
 
 /// The kind of an instruction: the instruction without its operand. Each function is a kind of its own.
-#[derive(Clone, Copy, PartialEq, Eq, Default, Debug)]
+#[derive(Clone, Copy, Debug)]
 pub enum Kind {
-    #[default]
     Halt,
     PushW,
     PushB,

@@ -22,7 +22,7 @@ pub enum FaultKind {
 }
 
 /// A split-phase call that was answered: the function, its arguments and the answer.
-#[derive(PartialEq, Eq, Debug, Drop)]
+#[derive(Debug, Drop)]
 pub struct Call {
     pub fun: FunId,
     pub args: Payload,
@@ -43,7 +43,7 @@ impl Call {
 }
 
 /// How far a run of a handler came.
-#[derive(PartialEq, Eq, Debug, Drop)]
+#[derive(Debug, Drop)]
 pub enum End {
     /// It ran to its end.
     Halt,

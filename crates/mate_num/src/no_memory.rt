@@ -7,7 +7,7 @@ use std::error::Error;
 use std::fmt;
 
 /// Memory was refused. What the call would have changed is as it was, unless the call says otherwise.
-#[derive(Clone, Copy, PartialEq, Eq, Debug)]
+#[derive(Clone, Copy, Debug)]
 pub struct NoMemory;
 
 impl fmt::Display for NoMemory {

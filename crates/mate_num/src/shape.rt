@@ -9,7 +9,7 @@ use crate::id::DeviceId;
 use arrayvec::ArrayVec;
 
 /// A function as code sees it.
-#[derive(Clone, Copy, PartialEq, Eq, Default, Debug)]
+#[derive(Clone, Copy, Default, Debug)]
 pub struct FunShape {
     /// How many values the function's instruction pops: 0 for one that sends a buffer.
     pub args: u8,
@@ -20,7 +20,7 @@ pub struct FunShape {
 }
 
 /// How many shared variables, buffers and functions a machine has, and what each function takes.
-#[derive(PartialEq, Eq, Debug, Drop)]
+#[derive(Debug, Drop)]
 pub struct Shape {
     pub shared: u8,
     pub buffers: u8,

@@ -5,7 +5,7 @@ ghost use Rattle.std.specs.Prelude.{◌≡◌};
 use mate_num::{DeviceId, Name};
 
 /// What a function does.
-#[derive(Clone, Copy, PartialEq, Eq, Default, Debug)]
+#[derive(Clone, Copy, Default, Debug)]
 pub enum FunKind {
     /// Reads a sensor.
     Sense,
@@ -23,7 +23,7 @@ pub enum FunKind {
 }
 
 /// A function of the machine. A call of it waits for its answer.
-#[derive(PartialEq, Eq, Default, Debug, Drop)]
+#[derive(Default, Debug, Drop)]
 pub struct Function {
     pub name: Name,
     pub kind: FunKind,

@@ -5,7 +5,7 @@ ghost use Rattle.std.specs.Prelude.{◌≡◌};
 use mate_num::Name;
 
 /// What invokes a handler.
-#[derive(Clone, Copy, PartialEq, Eq, Default, Debug)]
+#[derive(Clone, Copy, Default, Debug)]
 pub enum HandlerKind {
     /// Posts alone.
     #[default]
@@ -19,7 +19,7 @@ pub enum HandlerKind {
 }
 
 /// A handler: one script, which runs in each of its contexts.
-#[derive(PartialEq, Eq, Default, Debug, Drop)]
+#[derive(Default, Debug, Drop)]
 pub struct Handler {
     pub name: Name,
     pub kind: HandlerKind,
