@@ -1,13 +1,13 @@
 -- Names that parameters hide, and lists of renamed arguments.
-use Rattle.std.proofs.Common.{◌≡◌, ℕ, suc, ◌+◌, ◌<◌, ◌≤◌, List, [], ◌∷◌, ◌++◌, length, map, take, Option, Some, None, option_map, refl, ap, sym, ◌∙◌, subst, arith, append_assoc}
+use Rattle.std.proofs.Common.{◌≡◌, ℕ, suc, ◌+◌, ◌<◌, ◌≤◌, List, [], ◌∷◌, ◌++◌, length, map, take, get_or, Option, Some, None, option_map, refl, ap, sym, ◌∙◌, subst, arith, append_assoc}
 use Rattle.std.specs.Prelude.{bytes_eq, IfSome, ◌-◌, ◌==◌}
-use Rattle.std.proofs.lemmas.List.{take_all, length-map}
+use Rattle.std.proofs.lemmas.List.{take_all, take_more, length-map, map-append}
 use Rattle.ts_syntax.specs.declared.expr.Expr.{Expr}
 use Rattle.ts_syntax.specs.declared.word.Word.{Word}
 use Rattle.ts_syntax.specs.declared.script.Decl.{Decl}
 use Rattle.ts_syntax.specs.declared.script.DeclKind.TheVariants.{Private}
 use Rattle.ts_syntax.specs.Seen.{tree_of, trees, trees_of}
-use Rattle.ts_syntax.specs.Tree.{tree_then}
+use Rattle.ts_syntax.specs.Tree.{Tree, tree_then}
 use Rattle.proc_names.specs.Places.{place_of_name}
 use Rattle.proc_names.proofs.PlaceLemmas.{position_from-add, position_from-within, position_from-map}
 use Rattle.proc_renaming.specs.Renaming.{Hiding, parameter_name, number_hiding, renamed_as, renamed, renamed_expr, renamed_args, parameter_decls}
@@ -38,6 +38,18 @@ pub word_moves : (h : Hiding) (w : Word) (name : List ℕ) (i k : ℕ) → name 
 word_moves h w name i k is number there =
     let same : with_text w name ≡ renamed_as w (Some (h.first + i)) = ap (with_text w) (is ∙ ap parameter_name number) in
     same ∙ ap (renamed_as w) (ap (option_map (λ i. h.first + i)) there ∙ sym (hiding_place h w.name))
+
+-- an expression that is made of the renamed parts of another
+pub renamed_node : (h : Hiding) (from to : Expr) (a : Tree) → tree_of from ≡ a → tree_of to ≡ renamed_expr h a → tree_of to ≡ renamed_expr h (tree_of from)
+renamed_node h from to a seen made = made ∙ sym (ap (renamed_expr h) seen)
+
+-- one more argument is renamed
+pub renamed_next : (h : Hiding) (xs new more : List Expr) (i : ℕ) (x y : Expr) → i < length xs → x ≡ get_or xs i x → tree_of y ≡ renamed_expr h (tree_of x)
+    → more ≡ new ++ y ∷ [] → map tree_of new ≡ map (λ e. renamed_expr h (tree_of e)) (take i xs) → map tree_of more ≡ map (λ e. renamed_expr h (tree_of e)) (take (i + 1) xs)
+renamed_next h xs new more i x y within is good pushed are =
+    let f : Expr → Tree = λ e. renamed_expr h (tree_of e) in
+    ap (map tree_of) pushed ∙ map-append tree_of new (y ∷ []) ∙ ap (λ (ts : List Tree). ts ++ tree_of y ∷ []) are ∙ ap (λ (e : Tree). map f (take i xs) ++ e ∷ []) good
+    ∙ sym (map-append f (take i xs) (x ∷ [])) ∙ ap (λ (e : Expr). map f (take i xs ++ e ∷ [])) is ∙ sym (ap (map f) (take_more xs i x within))
 
 renamed_trees : (h : Hiding) (xs : List Expr) → trees (map (λ e. renamed_expr h (tree_of e)) xs) ≡ renamed_args h (trees_of xs)
 renamed_trees h [] = refl

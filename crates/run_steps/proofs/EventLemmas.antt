@@ -20,9 +20,9 @@ use Rattle.mate_journal.specs.Pace.{Pace, paced_all}
 use Rattle.mate_journal.specs.NodeScript.{Install, Makes, Installs, IsNotNewer}
 use Rattle.node_invariant.specs.Meaning.{machine_in, clock_of}
 use Rattle.node_calls.specs.Installing.{IsRightCapsule, IsUnverified, program_by, InstallsBytes, IsNoNewer}
-use Rattle.node_core.specs.View.{NodeView, Tells}
-use Rattle.node_core.proofs.CallLemmas.{Tells-by}
-use Rattle.node_core.specs.Calls.{Pacing}
+use Rattle.open_node.specs.View.{NodeView, Tells}
+use Rattle.open_node.proofs.CallLemmas.{Tells-by}
+use Rattle.open_node.specs.Calls.{Pacing}
 use Rattle.node_programs.specs.Right.{IsRightProgram}
 use Rattle.node_programs.specs.Sources.{held_as}
 

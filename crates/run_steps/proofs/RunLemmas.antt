@@ -28,9 +28,9 @@ use Rattle.journal_laws.proofs.ScriptRuns.{HaveMade-push, AreOfEvent-at}
 use Rattle.vm_desc.specs.Shapes.{shape_of}
 use Rattle.node_invariant.specs.Meaning.{machine_in, clock_of, meaning_of}
 use Rattle.node_invariant.specs.Keeps.{reading, event_at, IsTimely}
-use Rattle.node_core.specs.View.{NodeView, heard_of, HasPace, Tells, IsSameNode}
-use Rattle.node_core.specs.Calls.{Pacing}
-use Rattle.node_core.specs.Journal.{KeepsJournal}
+use Rattle.open_node.specs.View.{NodeView, heard_of, HasPace, Tells, IsSameNode}
+use Rattle.open_node.specs.Calls.{Pacing}
+use Rattle.open_node.specs.Journal.{KeepsJournal}
 use Rattle.node_programs.specs.Right.{AreRightPrograms}
 use Rattle.node_programs.specs.ScriptSteps.{step_of, steps_of}
 use Rattle.node_programs.proofs.MeaningLemmas.{meaning_by-right}

@@ -12,7 +12,7 @@ use Rattle.mate_num.specs.declared.store.Store.{Store}
 use Rattle.mate_journal.specs.Log.{Log, IsSameLog}
 use Rattle.mate_journal.specs.Pace.{Pace}
 use Rattle.script_reader.specs.declared.steps.Step.{Step}
-use Rattle.node_core.specs.View.{NodeView, Tells}
+use Rattle.open_node.specs.View.{NodeView, Tells}
 use Rattle.run_steps.proofs.RunLemmas.{timely-at}
 use Rattle.mate_journal.specs.Journal.{Told, Event, journal_of, told_of}
 use Rattle.mate_journal.specs.WellFormed.{IsInTime, start}
@@ -32,7 +32,7 @@ use Rattle.report_text.proofs.EventLemmas.{All-of_map}
 use Rattle.report_text.proofs.PieceLemmas.{lines-piece, lines-earlier, lines-upto, events_end-le}
 use Rattle.node_invariant.specs.Meaning.{machine_in}
 use Rattle.node_invariant.specs.Keeps.{event_at, IsTimely, Grows}
-use Rattle.node_core.specs.Journal.{KeepsJournal}
+use Rattle.open_node.specs.Journal.{KeepsJournal}
 use Rattle.std.specs.Prelude.{Result, Ok, Err, slice_index_or, sum_by}
 use Rattle.std.proofs.KnownBytes.{Appends-trans}
 use Rattle.mate_files.specs.Sink.{HasCause}

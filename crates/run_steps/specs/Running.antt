@@ -17,7 +17,7 @@ use Rattle.mate_journal.specs.declared.report.RunFault.TheVariants.{LogFull, NoM
 use Rattle.mate_journal.specs.declared.report.TheConstants.{RECORDS_MAX}
 use Rattle.node_invariant.specs.Meaning.{machine_in, clock_of}
 use Rattle.node_invariant.specs.Keeps.{IsTimely}
-use Rattle.node_core.specs.View.{NodeView, heard_of, HasPace}
+use Rattle.open_node.specs.View.{NodeView, heard_of, HasPace}
 use Rattle.node_programs.specs.Sources.{meaning_by}
 use Rattle.node_programs.specs.ScriptSteps.{step_of, steps_of}
 

@@ -4,7 +4,7 @@ ghost use Rattle.std.specs.Prelude.{◌≡◌, ◌<◌, ◌≤◌, length};
 ghost use Rattle.vm_desc.specs.Whole.{context_count};
 ghost use Rattle.mate_journal.specs.NodeScript.{Install, StepIn, Answer as AnswerStep};
 ghost use Rattle.script_reader.specs.Steps.{IsRightStep, IsRightTurn};
-ghost use Rattle.node_core.specs.View.{Tells};
+ghost use Rattle.open_node.specs.View.{Tells};
 ghost use Rattle.node_programs.specs.Right.{IsRightProgram, AreRightPrograms};
 ghost use Rattle.node_programs.specs.Sources.{held_as};
 ghost use Rattle.node_programs.specs.ScriptSteps.{step_of, IsProgramOf, program_at};
@@ -13,7 +13,7 @@ ghost use Rattle.run_steps.specs.Running.{IsReadyFor, MakesOn};
 use mate_journal::{Program, Programs, VoidCause};
 use mate_num::{ContextId, Stamp};
 use node_calls::InstallFault;
-use node_core::OpenNode;
+use open_node::OpenNode;
 use script_reader::Step;
 
 /// The program is installed, or it is told that the node holds a version that isn't older.

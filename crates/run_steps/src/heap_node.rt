@@ -7,9 +7,9 @@ ghost use Rattle.mate_journal.specs.Pace.{Pace};
 ghost use Rattle.node_invariant.specs.Meaning.{machine_in, clock_of};
 ghost use Rattle.node_invariant.specs.Keeps.{IsTimely};
 ghost use Rattle.script_reader.specs.Steps.{IsRightStep};
-ghost use Rattle.node_core.specs.Calls.{Pacing};
-ghost use Rattle.node_core.specs.Journal.{KeepsJournal};
-ghost use Rattle.node_core.specs.View.{heard_of, HasPace, IsSameNode, Tells};
+ghost use Rattle.open_node.specs.Calls.{Pacing};
+ghost use Rattle.open_node.specs.Journal.{KeepsJournal};
+ghost use Rattle.open_node.specs.View.{heard_of, HasPace, IsSameNode, Tells};
 ghost use Rattle.node_programs.specs.Right.{AreRightPrograms};
 ghost use Rattle.node_programs.specs.ScriptSteps.{step_of};
 ghost use Rattle.run_steps.specs.Running.{IsReadyFor, MakesOn};
@@ -19,7 +19,7 @@ ghost use Rattle.run_steps.specs.Keeping.{IsNewNode, StaysAsToldTo};
 use crate::events::make_step;
 use mate_journal::{NodeLog, Programs};
 use mate_num::{NoMemory, Stamp};
-use node_core::OpenNode;
+use open_node::OpenNode;
 use script_reader::Step;
 use std::alloc::Global;
 use std::marker::Model;
@@ -39,7 +39,7 @@ pub(crate) struct HeapNode {
 }
 
 impl Model for HeapNode {
-    ghost use Rattle.node_core.specs.View.{OpenNodeView};
+    ghost use Rattle.open_node.specs.View.{OpenNodeView};
 
     ghost Value = { OpenNodeView };
 

@@ -3,7 +3,7 @@
 ghost use Rattle.std.specs.Prelude.{◌≡◌, ◌≤◌, length, nat_le};
 ghost use Rattle.mate_journal.specs.declared.report.TheConstants.{RECORDS_MAX as records_max};
 ghost use Rattle.node_invariant.specs.Meaning.{machine_in};
-ghost use Rattle.node_core.specs.Journal.{KeepsJournal};
+ghost use Rattle.open_node.specs.Journal.{KeepsJournal};
 ghost use Rattle.node_programs.specs.ScriptSteps.{AreProgramsOf};
 ghost use Rattle.open_log.specs.OpenLog.{nothing_gone};
 ghost use Rattle.run_steps.specs.Running.{RunGives, report_with};

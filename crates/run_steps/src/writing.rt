@@ -5,7 +5,7 @@ ghost use Rattle.mate_files.specs.Counts.{Rose};
 ghost use Rattle.mate_files.specs.Sink.{Puts};
 ghost use Rattle.report_text.specs.Text.{event_piece};
 ghost use Rattle.node_invariant.specs.Meaning.{machine_in};
-ghost use Rattle.node_core.specs.Journal.{KeepsJournal};
+ghost use Rattle.open_node.specs.Journal.{KeepsJournal};
 ghost use Rattle.node_programs.specs.ScriptSteps.{AreProgramsOf};
 ghost use Rattle.run_steps.specs.Running.{report_with};
 ghost use Rattle.run_steps.specs.Keeping.{IsNewNode, StaysAsToldTo};

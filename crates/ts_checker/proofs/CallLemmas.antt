@@ -1,7 +1,7 @@
 -- A call whose function was found, case by case.
-use Rattle.std.proofs.Common.{◌≡◌, ℕ, suc, ◌==◌, Bool, true, false, List, [], ◌∷◌, length, Result, Ok, Err, refl, ap, sym, ◌∙◌, arith, ◌<◌}
+use Rattle.std.proofs.Common.{◌≡◌, ℕ, suc, ◌==◌, Bool, true, false, List, [], ◌∷◌, length, Result, Ok, Err, refl, ap, ◌∙◌, arith, ◌<◌}
 use Rattle.std.specs.Int.{w16, int_wrap, cast_signed}
-use Rattle.std.specs.Prelude.{ℤ, pos, ◌%◌}
+use Rattle.std.specs.Prelude.{pos, ◌%◌}
 use Rattle.std.proofs.lemmas.Bool.Decides.{nat_tests}
 use Rattle.mate_num.specs.Number.{wrap}
 use Rattle.mate_num.specs.declared.id.FunId.{FunId}
@@ -9,7 +9,6 @@ use Rattle.vm_desc.specs.Limits.{args_of}
 use Rattle.vm_desc.specs.Shapes.{is_send}
 use Rattle.vm_desc.specs.declared.function.FunKind.{FunKind}
 use Rattle.ts_syntax.specs.Expression.{Arguments}
-use Rattle.ts_syntax.specs.Tree.{Trees}
 use Rattle.ts_syntax.specs.Seen.{trees_of}
 use Rattle.ts_syntax.specs.declared.expr.Expr.{Expr}
 use Rattle.ts_syntax.specs.declared.word.Word.{Word}

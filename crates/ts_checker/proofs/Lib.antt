@@ -1,4 +1,5 @@
 pub mod CallLemmas
 pub mod LoopLemmas
+pub mod RefusalLemmas
 pub mod RightLemmas
 pub mod ToldLemmas

@@ -1,7 +1,6 @@
 -- Checks of lists, one item after another: what is checked so far, and the rest.
-use Rattle.std.proofs.Common.{◌≡◌, ℕ, ◌+◌, ◌<◌, ◌≤◌, List, [], ◌∷◌, ◌++◌, length, map, drop, get_or, Bool, Result, Ok, Err, refl, ap, sym, ◌∙◌}
+use Rattle.std.proofs.Common.{◌≡◌, ℕ, ◌+◌, ◌<◌, ◌≤◌, List, [], ◌∷◌, ◌++◌, length, drop, get_or, Bool, Result, Ok, Err, refl, ap, sym, ◌∙◌}
 use Rattle.std.proofs.lemmas.List.{drop_all}
-use Rattle.ts_syntax.specs.Tree.{Tree, Trees, tree_then, Act, Acts, act_then}
 use Rattle.ts_syntax.specs.Expression.{Expression, Arguments, no_arguments, argument, arguments}
 use Rattle.ts_syntax.specs.Statement.{Statement, Block, no_statements, statement, block}
 use Rattle.ts_syntax.specs.Seen.{trees_of, acts_of, tree_of, act_of}

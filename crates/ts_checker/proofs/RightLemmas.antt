@@ -1,6 +1,6 @@
 -- What the checks give is right for the machine's shape.
-use Rattle.std.proofs.Common.{◌≡◌, ℕ, zero, suc, ◌+◌, ◌<◌, ◌≤◌, ◌==◌, nat_lt, nat_le, ℤ, pos, negsuc, Bool, true, false, ◌&&◌, ◌||◌, not, List, [], ◌∷◌, ◌++◌, length, map, Option, Some, None, slice_get, option_map, Result, Ok, Err, refl, ap, sym, ◌∙◌, subst, arith, cond, bytes_eq}
-use Rattle.std.specs.Prelude.{⊤, IfOk, IfSome, is_none, position, ok_or, neg_ℤ, if◌then◌else◌}
+use Rattle.std.proofs.Common.{◌≡◌, ℕ, zero, suc, ◌+◌, ◌<◌, ◌==◌, nat_lt, nat_le, Bool, true, false, ◌&&◌, List, [], ◌∷◌, length, map, Option, Some, None, slice_get, Result, Ok, Err, refl, ap, sym, ◌∙◌, subst, arith, bytes_eq}
+use Rattle.std.specs.Prelude.{⊤, IfOk, IfSome, is_none, position, ok_or, if◌then◌else◌}
 use Rattle.std.specs.List.{list_all}
 use Rattle.std.proofs.lemmas.Bool.{and_parts, lt-ltb}
 use Rattle.std.proofs.lemmas.Bool.Decides.{nat_tests}
@@ -8,7 +8,6 @@ use Rattle.std.proofs.lemmas.List.Folds.{list_all-append}
 use Rattle.std.proofs.lemmas.List.Quantifiers.{position-Some}
 use Rattle.mate_num.specs.declared.id.FunId.{FunId}
 use Rattle.mate_num.specs.declared.id.BufId.{BufId}
-use Rattle.mate_num.specs.declared.id.DeviceId.{DeviceId}
 use Rattle.mate_num.specs.declared.shape.Shape.{Shape}
 use Rattle.mate_num.specs.declared.shape.FunShape.{FunShape}
 use Rattle.vm_desc.specs.Limits.{args_of}
@@ -26,8 +25,8 @@ use Rattle.ts_syntax.specs.declared.checked_stmt.CVar.{CVar}
 use Rattle.ts_syntax.specs.declared.checked_stmt.CVar.TheVariants as var
 use Rattle.ts_syntax.specs.Tree as given
 use Rattle.ts_syntax.specs.Tree.{Tree, Trees, no_trees, tree_then, Act, Acts, no_acts, act_then, Source}
-use Rattle.ts_syntax.specs.Expression.{Expression, Arguments, no_arguments, argument}
-use Rattle.ts_syntax.specs.Statement.{Statement, Block, no_statements, statement}
+use Rattle.ts_syntax.specs.Expression.{Expression, Arguments}
+use Rattle.ts_syntax.specs.Statement.{Statement, Block}
 use Rattle.mate_num.specs.Shapes.{is_shape}
 use Rattle.ts_syntax.specs.Right.{is_variable, is_buffer, is_call, is_send as is_send_for, argument_count, is_right_expr, are_right, is_step, is_head, is_right_stmt, is_right_block, is_right}
 use Rattle.ts_scope.specs.declared.scope.Symbol.{Symbol}
@@ -38,7 +37,7 @@ use Rattle.ts_scope.specs.declared.fault.CheckFault.TheVariants.{Undeclared, Not
 use Rattle.ts_scope.specs.Refusal.{◌>>=◌, unless_refused}
 use Rattle.ts_scope.specs.Names.{ScriptNames, names_before, symbol_of, private_count, listed, made, with_name, declare, declare_all, found_symbol, as_variable, as_buffer, variable as variable_at, buffer as buffer_at, function_from, function, closes_for}
 use Rattle.ts_checker.specs.Checks.{variable_expression, Called, sends, calls, as_expression, as_statement, sent, sent_name, name_alone, tree_count, called_function, checked_call, checked_expr, checked_args, step_number, checked_step, CheckedHead, checked_head, checked_stmt, checked_block, checked_source}
-use Rattle.ts_scope.proofs.CheckLemmas.{bind_keeps, demand_holds, ok_or_found}
+use Rattle.ts_scope.proofs.CheckLemmas.{bind_keeps, demand_holds}
 
 -- what a name stands for is in the shape's range
 abbrev pub is_right_symbol : Shape → Symbol → Bool

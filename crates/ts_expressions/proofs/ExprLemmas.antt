@@ -13,7 +13,7 @@ use Rattle.ts_syntax.specs.Seen.{tree_of, trees_of}
 use Rattle.std.specs.Result.{IsErrAnd}
 use Rattle.ts_machine.specs.declared.halt.Halt.{Halt}
 use Rattle.ts_machine.specs.Code.{code_of}
-use Rattle.ts_machine.specs.Machine.{Operand, in_negative, first_product, in_product, Inverse, in_inverse, in_and, Conjunction, in_args, in_call, in_do, want, want_inverse, named, opened, have_inverse, have_and, have, closed, with_tree, inverse_due, expr_due, give, step, finish}
+use Rattle.ts_machine.specs.Machine.{Operand, in_negative, first_product, in_product, Inverse, in_inverse, in_and, Conjunction, in_args, in_call, in_do, State, want, want_inverse, named, opened, have_inverse, have_and, have, closed, with_tree, inverse_due, expr_due, give, step, finish}
 use Rattle.ts_machine.specs.Parsing.{reads, Reads, Starts, Lacks, Caller, of_operand, of_stmt, of_do, called_open, called_with, called}
 use Rattle.ts_machine.proofs.Turns.{given_step, given_size}
 use Rattle.ts_machine.proofs.Parts.{halts, ends_as}
@@ -34,6 +34,13 @@ comparison_due k (t ∷ ts) h = alike_at t ts (want_inverse k) (want (inverse_du
 pub comparison_read : (ts : List Token) → Lacks kind.Not ts → (r : Result (Box Expr Global × Bor (List Token)) Halt) → Reads {X = Box Expr Global} {K = Inverse} ts (λ k. want (inverse_due k)) (λ e k. have_inverse (boxed_tree e) k) r → Reads {X = Box Expr Global} {K = Inverse} ts (λ k. want_inverse k) (λ e k. have_inverse (boxed_tree e) k) r
 comparison_read ts l =
     ends_as (Box Expr Global) Inverse Inverse ts ts (λ k. want (inverse_due k)) (λ e k. have_inverse (boxed_tree e) k) (λ k. want_inverse k) (λ e k. have_inverse (boxed_tree e) k) (λ k. k) (λ k. comparison_due k ts l) (λ x ms k. refl)
+
+-- a part that stops where a part of it does
+pub part_halts : {K L : Type 0} (ts rest : List Token) (due : K → State) (got : Tree → K → State) (due' : L → State) (got' : Tree → L → State) (to : L → K) → ((k : L) → reads ts (due' k) ≡ reads rest (due (to k)))
+    → (r : Result (Box Expr Global × Bor (List Token)) Halt) (e : Halt) → IsErrAnd r (λ x. x ≡ e) → Reads {X = Box Expr Global} {K = K} rest due (λ d k. got (boxed_tree d) k) (Err e)
+    → Reads {X = Box Expr Global} {K = L} ts due' (λ d k. got' (boxed_tree d) k) r
+part_halts {K} {L} ts rest due got due' got' =
+    halts (Box Expr Global) (Box Expr Global) K L ts rest due (λ d k. got (boxed_tree d) k) due' (λ d k. got' (boxed_tree d) k)
 
 -- `and`
 pub and_read : (e : Tree) (k : Conjunction) {ts rest : List Token} → Starts kind.And ts rest → reads ts (have_and e k) ≡ reads rest (want_inverse (in_and e k))

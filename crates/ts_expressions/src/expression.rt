@@ -1,7 +1,7 @@
 //! Expressions, by recursive descent: loops for chains and arguments, recursion for nesting.
 
 ghost use Rattle.std.specs.Prelude.{◌<◌, ◌≤◌, length, IfOk};
-ghost use Rattle.ts_machine.specs.Machine.{Operand, Product, Sum, Inverse, Conjunction, Whole, want, want_inverse, named, sized, size_opened, size_named, first_product, first_and, sum_due, inverse_due, expr_due, give, have_product, have_sum, have_inverse, have_and, have};
+ghost use Rattle.ts_machine.specs.Machine.{Operand, Product, Sum, Inverse, Conjunction, Whole, want, want_inverse, in_paren, in_item, named, message, sized, size_opened, size_named, first_product, first_and, sum_due, inverse_due, expr_due, give, have_product, have_sum, have_inverse, have_and, have};
 ghost use Rattle.ts_machine.specs.Parsing.{Reads, Lacks, LacksOperator, product_sign, sum_sign, Caller, called_open, called};
 ghost use Rattle.ts_expressions.specs.Boxed.{boxed_tree};
 ghost use Rattle.ts_syntax.specs.Seen.{tree_of, trees_of};
@@ -169,17 +169,8 @@ fn operand<'a>(alloc: Global, tokens: &'a [Token]) -> Found<'a>
             behind_name(alloc, word, rest)
         }
         TokenKind::Size => size(alloc, rest),
-        TokenKind::Msg => {
-            let rest = expect(rest, &TokenKind::OpenBox)?;
-            let (index, rest) = disjunction(alloc, rest)?;
-            let rest = expect(rest, &TokenKind::CloseBox)?;
-            Ok((message_item(alloc, index)?, rest))
-        }
-        TokenKind::Open => {
-            let (of, rest) = disjunction(alloc, rest)?;
-            let rest = expect(rest, &TokenKind::Close)?;
-            Ok((paren(alloc, of)?, rest))
-        }
+        TokenKind::Msg => behind_message(alloc, rest),
+        TokenKind::Open => behind_open(alloc, rest),
         _ => Err(Halt::At(tokens)),
     }
 }
@@ -195,11 +186,43 @@ fn behind_name<'a>(alloc: Global, word: Word, tokens: &'a [Token]) -> Found<'a>
         return Ok((call(alloc, word, args)?, rest));
     }
     if let Some(rest) = after(tokens, &TokenKind::OpenBox) {
-        let (index, rest) = disjunction(alloc, rest)?;
-        let rest = expect(rest, &TokenKind::CloseBox)?;
-        return Ok((item(alloc, word, index)?, rest));
+        return behind_open_box(alloc, word, rest);
     }
     Ok((variable(alloc, word)?, tokens))
+}
+
+/// Reads on behind a buffer's name and `[`: the item's index, and `]`.
+#[cycle(expr)]
+fn behind_open_box<'a>(alloc: Global, buffer: Word, tokens: &'a [Token]) -> Found<'a>
+    ensures reads { Reads {K = Operand} tokens.now (λ k. expr_due (in_item buffer k)) (λ e k. give k (boxed_tree e)) result }
+    ensures shorter { IfOk result (λ x. length x.1.now < length tokens.now) }
+{
+    let (index, rest) = disjunction(alloc, tokens)?;
+    let rest = expect(rest, &TokenKind::CloseBox)?;
+    Ok((item(alloc, buffer, index)?, rest))
+}
+
+/// Reads on behind `msg`: an index in `[` and `]`.
+#[cycle(expr)]
+fn behind_message<'a>(alloc: Global, tokens: &'a [Token]) -> Found<'a>
+    ensures reads { Reads {K = Operand} tokens.now (λ k. message k) (λ e k. give k (boxed_tree e)) result }
+    ensures shorter { IfOk result (λ x. length x.1.now < length tokens.now) }
+{
+    let rest = expect(tokens, &TokenKind::OpenBox)?;
+    let (index, rest) = disjunction(alloc, rest)?;
+    let rest = expect(rest, &TokenKind::CloseBox)?;
+    Ok((message_item(alloc, index)?, rest))
+}
+
+/// Reads on behind `(`: an expression, and `)`.
+#[cycle(expr)]
+fn behind_open<'a>(alloc: Global, tokens: &'a [Token]) -> Found<'a>
+    ensures reads { Reads {K = Operand} tokens.now (λ k. expr_due (in_paren k)) (λ e k. give k (boxed_tree e)) result }
+    ensures shorter { IfOk result (λ x. length x.1.now < length tokens.now) }
+{
+    let (of, rest) = disjunction(alloc, tokens)?;
+    let rest = expect(rest, &TokenKind::Close)?;
+    Ok((paren(alloc, of)?, rest))
 }
 
 /// Reads on behind `size`: a buffer's name or `msg`, in parentheses.

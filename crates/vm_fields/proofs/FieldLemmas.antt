@@ -1,12 +1,16 @@
 -- Lists of a text, beside the code's arrays.
-use Rattle.std.proofs.Common.{◌≡◌, ℕ, ◌<◌, ◌≤◌, List, [], ◌∷◌, length, true, is_some, Option, Some, None, Ok, Err, Vec, Global, suc, refl, ap}
+use Rattle.std.proofs.Common.{◌≡◌, ℕ, ◌+◌, ◌<◌, ◌≤◌, List, [], ◌∷◌, ◌++◌, length, get_or, drop, true, is_some, Option, Some, None, option_map, Ok, Err, Vec, Global, suc, refl, ap, sym, ◌∙◌, append_assoc}
 use Rattle.std.proofs.lemmas.Bool.{lt-ltb, le-ltb, and_parts}
+use Rattle.std.proofs.lemmas.List.{length-append}
+use Rattle.std.proofs.lemmas.List.Folds.{list_all-append}
+use Rattle.std.specs.List.{list_all}
 use Rattle.std.specs.Option.{option_map_or}
 use Rattle.toml.specs.Data.{Members, as_array, as_table}
 use Rattle.toml.specs.View.{view, items_view, array_view}
-use Rattle.toml.proofs.Views.{view-Array}
+use Rattle.toml.proofs.Views.{view-Array, items_view-drop}
 use Rattle.toml.specs.declared.value.Value.{Value, Array}
-use Rattle.vm_fields.specs.Fields.{list_up_to, item_count, tables_in, are_tables}
+use Rattle.vm_desc.specs.Names.{is_name}
+use Rattle.vm_fields.specs.Fields.{list_up_to, item_count, name, all_names, tables_in, are_tables}
 use Rattle.vm_rules.specs.declared.key.Key.{Key}
 use Rattle.vm_rules.specs.declared.fault.DescFault.TheVariants.{OverLimit}
 
@@ -32,3 +36,26 @@ length-tables_in [] all = refl
 length-tables_in (v ∷ vs) all =
     let (here, more) = and_parts (is_some (as_table (view v))) (are_tables (items_view vs)) all in
     counted (as_table (view v)) (tables_in (items_view vs)) (length vs) here (length-tables_in vs more)
+
+-- the names that were read of the first i items
+pub record AreNames (vs : List Value) (i : ℕ) (names : List (List ℕ)) : Type 0 where
+  pub reads : option_map (λ more. names ++ more) (all_names (items_view (drop i vs))) ≡ all_names (items_view vs)
+  pub count : length names ≡ i
+  pub form : list_all is_name names ≡ true
+
+behind : (names : List (List ℕ)) (x : List ℕ) (rest : Option (List (List ℕ)))
+    → option_map (λ more. names ++ more) (option_map (λ xs. x ∷ xs) rest) ≡ option_map (λ more. (names ++ x ∷ []) ++ more) rest
+behind names x None = refl
+behind names x (Some ys) = ap (λ zs. Some zs) (sym (append_assoc names (x ∷ []) ys))
+
+-- one more item is a name
+pub names_next : (vs : List Value) (i : ℕ) (names more : List (List ℕ)) (v : Value) (x : List ℕ)
+    → AreNames vs i names → i < length vs → get_or vs i v ≡ v → name (view v) ≡ Some x → is_name x ≡ true → more ≡ names ++ x ∷ [] → AreNames vs (i + 1) more
+names_next vs i names more v x before within at is formed pushed =
+    let here : option_map (λ ys. names ++ ys) (all_names (items_view (drop i vs))) ≡ option_map (λ ys. (names ++ x ∷ []) ++ ys) (all_names (items_view (drop (i + 1) vs))) =
+    rw (items_view-drop vs i v within, at, is) (behind names x (all_names (items_view (drop (i + 1) vs)))) in
+    record {
+      reads = rw pushed (sym here ∙ before.reads);
+      count = rw (pushed, length-append, before.count) refl;
+      form = rw (pushed, list_all-append, before.form, formed) refl;
+    }

@@ -3,10 +3,10 @@ use Rattle.std.proofs.lemmas.Int.{to_z-of_z}
 use Rattle.std.specs.Int.{w16}
 use Rattle.mate_journal.specs.declared.entry.VoidCause.TheVariants as void
 use Rattle.mate_journal.specs.NodeScript.{Answer as AnswerStep, Answers}
-use Rattle.node_core.specs.View.{heard_of}
-use Rattle.node_core.specs.Calls.{Pacing}
+use Rattle.open_node.specs.View.{heard_of}
+use Rattle.open_node.specs.Calls.{Pacing}
 use Rattle.run_steps.specs.Running.{MakesOn}
-use Rattle.node_core.proofs.CallLemmas.{Tells-by}
+use Rattle.open_node.proofs.CallLemmas.{Tells-by}
 use Rattle.run_steps.proofs.EventLemmas.{Tells-void}
 use Rattle.run_steps.proofs.events.answer.Goals as goal
 

@@ -3,11 +3,11 @@ use Rattle.mate_journal.specs.declared.entry.VoidCause.TheVariants as void
 use Rattle.mate_journal.specs.NodeScript.{Install}
 use Rattle.node_calls.specs.Installing.{InstallsBytes, IsNoNewer, Refuses}
 use Rattle.node_calls.specs.declared.installing.InstallFault.{InstallFault}
-use Rattle.node_core.specs.View.{heard_of, Tells}
-use Rattle.node_core.specs.Calls.{Pacing}
+use Rattle.open_node.specs.View.{heard_of, Tells}
+use Rattle.open_node.specs.Calls.{Pacing}
 use Rattle.node_programs.specs.Sources.{held_as}
 use Rattle.run_steps.specs.Running.{MakesOn}
-use Rattle.node_core.proofs.CallLemmas.{Tells-by}
+use Rattle.open_node.proofs.CallLemmas.{Tells-by}
 use Rattle.run_steps.proofs.EventLemmas.{Tells-void, Makes-installed, Makes-not_newer}
 use Rattle.run_steps.proofs.events.install.Goals as goal
 

@@ -7,11 +7,11 @@ use Rattle.mate_journal.specs.NodeScript.{Post, Run, Show, ResetNode, ShowsOnce,
 use Rattle.node_invariant.specs.Meaning.{machine_in, clock_of}
 use Rattle.node_turns.specs.Pacing.{SettlesWithin}
 use Rattle.node_calls.specs.Posting.{PostGives}
-use Rattle.node_core.specs.View.{heard_of, Tells}
-use Rattle.node_core.specs.Calls.{Pacing}
+use Rattle.open_node.specs.View.{heard_of, Tells}
+use Rattle.open_node.specs.Calls.{Pacing}
 use Rattle.node_programs.specs.ScriptSteps.{step_of}
 use Rattle.run_steps.specs.Running.{MakesOn}
-use Rattle.node_core.proofs.CallLemmas.{Tells-by, Occasion-given}
+use Rattle.open_node.proofs.CallLemmas.{Tells-by, Occasion-given}
 use Rattle.run_steps.proofs.events.make_step.Goals as goal
 
 pub returns-in-Post-clause-tells : goal.returns-in-Post-clause-tells

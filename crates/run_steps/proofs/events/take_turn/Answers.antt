@@ -2,10 +2,10 @@ use Rattle.std.proofs.Common.{refl, inl, inr}
 use Rattle.mate_journal.specs.declared.entry.VoidCause.TheVariants as void
 use Rattle.mate_journal.specs.NodeScript.{StepIn}
 use Rattle.node_invariant.specs.Meaning.{machine_in, clock_of}
-use Rattle.node_core.specs.View.{heard_of}
-use Rattle.node_core.specs.Calls.{HasStepped}
+use Rattle.open_node.specs.View.{heard_of}
+use Rattle.open_node.specs.Calls.{HasStepped}
 use Rattle.run_steps.specs.Running.{MakesOn}
-use Rattle.node_core.proofs.CallLemmas.{Tells-by}
+use Rattle.open_node.proofs.CallLemmas.{Tells-by}
 use Rattle.run_steps.proofs.EventLemmas.{Tells-void}
 use Rattle.run_steps.proofs.events.take_turn.Goals as goal
 

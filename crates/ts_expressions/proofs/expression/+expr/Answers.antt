@@ -1,13 +1,14 @@
-use Rattle.std.proofs.Common.{length, sym, ◌∙◌, ap, arith}
+use Rattle.std.proofs.Common.{length, refl, sym, ◌∙◌, ap, arith}
 use Rattle.ts_expressions.specs.Boxed.{boxed_tree}
 use Rattle.ts_syntax.specs.Seen.{trees_of}
 use Rattle.ts_syntax.specs.Spelling.{kinds}
 use Rattle.ts_syntax.specs.declared.token.TokenKind.TheVariants as kind
-use Rattle.ts_machine.specs.Machine.{in_product, first_sum, in_sum, first_compare, in_compare, first_and, in_and, in_inverse, first_or, in_or, expr_due, give, have_product, have_sum, have_inverse, have_and, have}
+use Rattle.ts_machine.specs.Machine.{first_product, in_product, first_sum, in_sum, first_compare, in_compare, first_and, in_and, in_inverse, first_or, in_or, in_paren, in_item, in_message, want, want_inverse, message, sum_due, inverse_due, expr_due, give, have_product, have_sum, have_inverse, have_and, have}
 use Rattle.ts_machine.specs.Parsing.{reads, noted_then, of_operand, called, called_with}
 use Rattle.ts_machine.proofs.Turns.{inverse_is_read, inverse_is_first, inverse_is_next}
 use Rattle.ts_machine.proofs.Parts.{starts_shorter}
-use Rattle.ts_expressions.proofs.ExprLemmas.{not_read, and_read, call_read, variable_read, comma_read, arguments_closed, trees_more, call_halts, comparison_read}
+use Rattle.ts_machine.proofs.Reading.{sign_read}
+use Rattle.ts_expressions.proofs.ExprLemmas.{part_halts, not_read, and_read, call_read, variable_read, comma_read, arguments_closed, trees_more, call_halts, comparison_read}
 use Rattle.ts_expressions.proofs.OperatorLemmas.{product_read, sum_read, or_read, product_over, and_over, sum_over, sum_alone, comparison_sign_read}
 use Rattle.ts_expressions.proofs.expression.+expr.Goals as goal
 
@@ -107,3 +108,87 @@ comparison-returns-clause-reads t c =
     ∙ c.in_ok-right.ensures.reads (in_compare c.in-Some.op (boxed_tree c.in_ok-left.left) k)
     ∙ sum_over c.in-Some.op (boxed_tree c.in_ok-left.left) (boxed_tree c.in_ok-right.right) k c.in_ok-right.rest.now c.in_ok-right.ensures.over
     ∙ ap (λ x. reads c.in_ok-right.rest.now (have_inverse x k)) (sym c.in_ok-two.ensures)
+
+pub disjunction-returns-in_err-left-clause-reads : goal.disjunction-returns-in_err-left-clause-reads
+disjunction-returns-in_err-left-clause-reads t c =
+    part_halts c.args.tokens.now c.args.tokens.now (λ k. want_inverse (first_and k)) have_and expr_due have first_or
+    (λ k. refl)
+    c.from_residual.result c.in_err-left.field-0.0 c.from_residual.ensures.1 c.in_err-left.ensures.reads
+
+pub disjunction-returns-in_err-right-clause-reads : goal.disjunction-returns-in_err-right-clause-reads
+disjunction-returns-in_err-right-clause-reads t c =
+    part_halts c.args.tokens.now c.in-Some.behind.now (λ k. want_inverse (first_and k)) have_and expr_due have (in_or (boxed_tree c.loop-behind.left))
+    (λ k. c.loop-behind.invariant.1 k ∙ or_read (boxed_tree c.loop-behind.left) k c.in-Some.ensures)
+    c.from_residual-in_err-right.result c.in_err-right.field-0.0 c.from_residual-in_err-right.ensures.1 c.in_err-right.ensures.reads
+
+pub conjunction-returns-in_err-left-clause-reads : goal.conjunction-returns-in_err-left-clause-reads
+conjunction-returns-in_err-left-clause-reads t c =
+    part_halts c.args.tokens.now c.args.tokens.now want_inverse have_inverse (λ k. want_inverse (first_and k)) have_and first_and
+    (λ k. refl)
+    c.from_residual.result c.in_err-left.field-0.0 c.from_residual.ensures.1 c.in_err-left.ensures.reads
+
+pub conjunction-returns-in_err-right-clause-reads : goal.conjunction-returns-in_err-right-clause-reads
+conjunction-returns-in_err-right-clause-reads t c =
+    part_halts c.args.tokens.now c.in-Some.behind.now want_inverse have_inverse (λ k. want_inverse (first_and k)) have_and (in_and (boxed_tree c.loop-behind.left))
+    (λ k. c.loop-behind.invariant.1 k ∙ and_read (boxed_tree c.loop-behind.left) k c.in-Some.ensures)
+    c.from_residual-in_err-right.result c.in_err-right.field-0.0 c.from_residual-in_err-right.ensures.1 c.in_err-right.ensures.reads
+
+pub inversion-returns-in_err-of-clause-reads : goal.inversion-returns-in_err-of-clause-reads
+inversion-returns-in_err-of-clause-reads t c =
+    part_halts c.args.tokens.now c.in-Some.behind.now want_inverse have_inverse want_inverse have_inverse in_inverse
+    (λ k. not_read k c.in-Some.ensures)
+    c.from_residual.result c.in_err-of.field-0.0 c.from_residual.ensures.1 c.in_err-of.ensures.reads
+
+pub comparison-returns-in_err-left-clause-reads : goal.comparison-returns-in_err-left-clause-reads
+comparison-returns-in_err-left-clause-reads t c =
+    part_halts c.args.tokens.now c.args.tokens.now (λ k. want (sum_due k)) have_sum (λ k. want (inverse_due k)) have_inverse first_compare
+    (λ k. refl)
+    c.from_residual.result c.in_err-left.field-0.0 c.from_residual.ensures.1 c.in_err-left.ensures.reads
+
+pub comparison-returns-in_err-right-clause-reads : goal.comparison-returns-in_err-right-clause-reads
+comparison-returns-in_err-right-clause-reads t c =
+    part_halts c.args.tokens.now c.in-Some.behind.now (λ k. want (sum_due k)) have_sum (λ k. want (inverse_due k)) have_inverse (in_compare c.in-Some.op (boxed_tree c.in_ok-left.left))
+    (λ k. c.in_ok-left.ensures.reads (first_compare k) ∙ comparison_sign_read (boxed_tree c.in_ok-left.left) k c.in-Some.ensures)
+    c.from_residual-in_err-right.result c.in_err-right.field-0.0 c.from_residual-in_err-right.ensures.1 c.in_err-right.ensures.reads
+
+pub sum-returns-in_err-left-clause-reads : goal.sum-returns-in_err-left-clause-reads
+sum-returns-in_err-left-clause-reads t c =
+    part_halts c.args.tokens.now c.args.tokens.now (λ k. want (first_product k)) have_product (λ k. want (sum_due k)) have_sum first_sum
+    (λ k. refl)
+    c.from_residual.result c.in_err-left.field-0.0 c.from_residual.ensures.1 c.in_err-left.ensures.reads
+
+pub sum-returns-in_err-right-clause-reads : goal.sum-returns-in_err-right-clause-reads
+sum-returns-in_err-right-clause-reads t c =
+    part_halts c.args.tokens.now c.in-Some.behind.now (λ k. want (first_product k)) have_product (λ k. want (sum_due k)) have_sum (in_sum c.in-Some.op (boxed_tree c.loop-op.left))
+    (λ k. c.loop-op.invariant.1 k ∙ sum_read (boxed_tree c.loop-op.left) k c.in-Some.ensures)
+    c.from_residual-in_err-right.result c.in_err-right.field-0.0 c.from_residual-in_err-right.ensures.1 c.in_err-right.ensures.reads
+
+pub product-returns-in_err-left-clause-reads : goal.product-returns-in_err-left-clause-reads
+product-returns-in_err-left-clause-reads t c =
+    part_halts c.args.tokens.now c.args.tokens.now want (λ d k. give k d) (λ k. want (first_product k)) have_product first_product
+    (λ k. refl)
+    c.from_residual.result c.in_err-left.field-0.0 c.from_residual.ensures.1 c.in_err-left.ensures.reads
+
+pub product-returns-in_err-right-clause-reads : goal.product-returns-in_err-right-clause-reads
+product-returns-in_err-right-clause-reads t c =
+    part_halts c.args.tokens.now c.in-Some.behind.now want (λ d k. give k d) (λ k. want (first_product k)) have_product (in_product c.in-Some.op (boxed_tree c.loop-op.left))
+    (λ k. c.loop-op.invariant.1 k ∙ product_read (boxed_tree c.loop-op.left) k c.in-Some.ensures)
+    c.from_residual-in_err-right.result c.in_err-right.field-0.0 c.from_residual-in_err-right.ensures.1 c.in_err-right.ensures.reads
+
+pub behind_open_box-returns-in_err-index-clause-reads : goal.behind_open_box-returns-in_err-index-clause-reads
+behind_open_box-returns-in_err-index-clause-reads t c =
+    part_halts c.args.tokens.now c.args.tokens.now expr_due have (λ k. expr_due (in_item c.args.buffer k)) (λ d k. give k d) (in_item c.args.buffer)
+    (λ k. refl)
+    c.from_residual.result c.in_err-index.field-0.0 c.from_residual.ensures.1 c.in_err-index.ensures.reads
+
+pub behind_message-returns-in_err-index-clause-reads : goal.behind_message-returns-in_err-index-clause-reads
+behind_message-returns-in_err-index-clause-reads t c =
+    part_halts c.args.tokens.now c.in_ok-rest.rest.now expr_due have message (λ d k. give k d) in_message
+    (λ k. sign_read kind.OpenBox c.in_ok-rest.ensures tt (message k) (expr_due (in_message k)) (λ p. refl))
+    c.from_residual-in_err-index.result c.in_err-index.field-0.0 c.from_residual-in_err-index.ensures.1 c.in_err-index.ensures.reads
+
+pub behind_open-returns-in_err-of-clause-reads : goal.behind_open-returns-in_err-of-clause-reads
+behind_open-returns-in_err-of-clause-reads t c =
+    part_halts c.args.tokens.now c.args.tokens.now expr_due have (λ k. expr_due (in_paren k)) (λ d k. give k d) in_paren
+    (λ k. refl)
+    c.from_residual.result c.in_err-of.field-0.0 c.from_residual.ensures.1 c.in_err-of.ensures.reads

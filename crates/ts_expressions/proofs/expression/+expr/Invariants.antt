@@ -30,6 +30,15 @@ decreases-conjunction l = 8 * length l.tokens.now + 5
 abbrev pub decreases-disjunction : goal.decreases-disjunction
 decreases-disjunction l = 8 * length l.tokens.now + 6
 
+abbrev pub decreases-behind_open_box : goal.decreases-behind_open_box
+decreases-behind_open_box l = 8 * length l.tokens.now + 7
+
+abbrev pub decreases-behind_message : goal.decreases-behind_message
+decreases-behind_message l = 8 * length l.tokens.now
+
+abbrev pub decreases-behind_open : goal.decreases-behind_open
+decreases-behind_open l = 8 * length l.tokens.now + 7
+
 abbrev pub decreases-arguments : goal.decreases-arguments
 decreases-arguments l = 8 * length l.tokens.now + 7
 

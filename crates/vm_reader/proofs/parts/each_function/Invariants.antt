@@ -1,13 +1,8 @@
-use Rattle.std.proofs.Common.{◌≡◌, drop, length, true}
-use Rattle.std.specs.List.{list_all}
+use Rattle.std.proofs.Common.{length}
 use Rattle.vm_desc.specs.Limits.{is_function}
-use Rattle.toml.specs.View.{items_view}
-use Rattle.vm_fields.specs.Fields.{each, tables_in}
 use Rattle.vm_reader.specs.Reading.{function_at}
-use Rattle.vm_reader.proofs.Fronts.{with_front}
+use Rattle.vm_reader.proofs.Fronts.{IsFront}
 use Rattle.vm_reader.proofs.parts.each_function.Given as goal
 
 abbrev pub invariant-loop-item : goal.invariant-loop-item
-invariant-loop-item l =
-    (with_front l.functions.items (each (function_at l.devices) (tables_in (items_view (drop l.item-index l.item-items)))) ≡ each (function_at l.devices) (tables_in (items_view l.item-items)))
-    × (length l.functions.items ≡ l.item-index) × (list_all (is_function (length l.devices)) l.functions.items ≡ true)
+invariant-loop-item l = IsFront (function_at l.devices) (is_function (length l.devices)) l.item-items l.item-index l.functions.items

@@ -1,5 +1,5 @@
 use Rattle.std.proofs.Common.{◌≡◌, subst}
-use Rattle.node_core.specs.View.{OpenNodeView, HasPace}
+use Rattle.open_node.specs.View.{OpenNodeView, HasPace}
 use Rattle.run_steps.proofs.heap_node.HeapNode.let_go.Goals as goal
 
 pub returns-in-Forgotten-clause-pace : goal.returns-in-Forgotten-clause-pace

@@ -1,5 +1,5 @@
 use Rattle.std.proofs.Common.{◌≡◌, subst}
-use Rattle.node_core.specs.View.{OpenNodeView, HasPace}
+use Rattle.open_node.specs.View.{OpenNodeView, HasPace}
 use Rattle.run_steps.proofs.heap_node.HeapNode.reserve.Goals as goal
 
 pub returns-clause-pace : goal.returns-clause-pace

@@ -1,0 +1,41 @@
+-- What is returned where a part of a check refuses.
+use Rattle.std.proofs.Common.{◌≡◌, true, List, Option, Some, None, Result, Ok, Err, ◌∙◌, ap}
+use Rattle.std.specs.Prelude.{IsErrAnd}
+use Rattle.ts_syntax.specs.Seen.{tree_of, act_of, acts_of}
+use Rattle.ts_syntax.specs.Expression.{Expression}
+use Rattle.ts_syntax.specs.Statement.{If, IfElse}
+use Rattle.ts_syntax.specs.declared.expr.Expr.{Expr}
+use Rattle.ts_syntax.specs.declared.stmt.Stmt.{Stmt}
+use Rattle.ts_syntax.specs.declared.stmt.Stmt.TheVariants as does
+use Rattle.ts_syntax.proofs.SeenLemmas.{act_if_then, act_if_else}
+use Rattle.ts_scope.specs.declared.fault.CheckFault.{CheckFault}
+use Rattle.ts_scope.specs.Refusal.{◌>>=◌, RefusesScript, GivesChecked}
+use Rattle.ts_scope.specs.Names.{ScriptNames}
+use Rattle.ts_scope.proofs.CheckLemmas.{refuses_along, gives_refusal}
+use Rattle.ts_checker.specs.Checks.{checked_expr, checked_stmt, checked_block}
+
+-- the whole refuses as the part does
+pub refused_part : {A B C : Type 0} (view : A → B) (e : CheckFault) (result : Result A CheckFault) (part : Result C CheckFault) (whole : Result B CheckFault)
+    → ((f : CheckFault) → part ≡ Err f → whole ≡ Err f) → IsErrAnd result (λ y. y ≡ e) → RefusesScript e part → GivesChecked view result whole
+refused_part view e result part whole along is h = gives_refusal view e result whole is (refuses_along e part whole along h)
+
+-- the test of an `if`, and the statements where it holds
+pub if_test_refused : (n : ScriptNames) (e : Expr) (a : List Stmt) (b : Option (List Stmt)) {s : Stmt} → s ≡ does.If e a b
+    → (f : CheckFault) → checked_expr n true (tree_of e) ≡ Err f → checked_stmt n (act_of s) ≡ Err f
+if_test_refused n e a None is f refused =
+    ap (λ x. checked_stmt n (act_of x)) is ∙ ap (checked_stmt n) (act_if_then e a)
+    ∙ ap (λ r. r >>= (λ test. checked_block n (acts_of a) >>= (λ body. Ok (If test body)))) refused
+if_test_refused n e a (Some b) is f refused =
+    ap (λ x. checked_stmt n (act_of x)) is ∙ ap (checked_stmt n) (act_if_else e a b)
+    ∙ ap (λ r. r >>= (λ test. checked_block n (acts_of a) >>= (λ body. checked_block n (acts_of b) >>= (λ other. Ok (IfElse test body other))))) refused
+
+pub if_body_refused : (n : ScriptNames) (e : Expr) (a : List Stmt) (b : Option (List Stmt)) (test : Expression) {s : Stmt} → s ≡ does.If e a b → checked_expr n true (tree_of e) ≡ Ok test
+    → (f : CheckFault) → checked_block n (acts_of a) ≡ Err f → checked_stmt n (act_of s) ≡ Err f
+if_body_refused n e a None test is here f refused =
+    ap (λ x. checked_stmt n (act_of x)) is ∙ ap (checked_stmt n) (act_if_then e a)
+    ∙ ap (λ r. r >>= (λ x. checked_block n (acts_of a) >>= (λ body. Ok (If x body)))) here
+    ∙ ap (λ r. r >>= (λ body. Ok (If test body))) refused
+if_body_refused n e a (Some b) test is here f refused =
+    ap (λ x. checked_stmt n (act_of x)) is ∙ ap (checked_stmt n) (act_if_else e a b)
+    ∙ ap (λ r. r >>= (λ x. checked_block n (acts_of a) >>= (λ body. checked_block n (acts_of b) >>= (λ other. Ok (IfElse x body other))))) here
+    ∙ ap (λ r. r >>= (λ body. checked_block n (acts_of b) >>= (λ other. Ok (IfElse test body other)))) refused
