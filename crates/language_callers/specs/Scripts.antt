@@ -3,8 +3,8 @@ use Rattle.std.specs.Prelude.{ℕ, ℤ, pos}
 use Rattle.mate_num.specs.declared.id.BufId.{BufId}
 use Rattle.mate_num.specs.declared.id.FunId.{FunId}
 use Rattle.ts_syntax.specs.Expression.{Expression, no_arguments, Num, Call, Two}
-use Rattle.ts_syntax.specs.Statement.{Statement, Block, no_statements, statement, Set, Append, Clear, Do, IfElse, For, While}
-use Rattle.ts_syntax.specs.declared.bin_op.BinOp.TheVariants.{And, Gt}
+use Rattle.ts_syntax.specs.Statement.{Statement, Block, no_statements, statement, Set, Append, Take, Clear, Do, IfElse, For, While}
+use Rattle.ts_syntax.specs.declared.bin_op.BinOp.TheVariants.{And, Gt, Div}
 use Rattle.ts_syntax.specs.declared.checked_stmt.CVar.{CVar}
 use Rattle.ts_syntax.specs.declared.checked_stmt.CVar.TheVariants as variable
 
@@ -54,3 +54,15 @@ clearing test p = only (While test (only (Clear p)))
 -- `p[] = left > right;`
 abbrev pub compared : BufId → ℕ → ℕ → Block
 compared p left right = only (Append p (Two Gt (whole left) (whole right)))
+
+-- `x = p[];` of the first shared variable and the first buffer
+abbrev pub first_taken : Block
+first_taken = only (Take (variable.Shared record { 0 = 0 }) record { 0 = 0 })
+
+-- `1 / 0`
+abbrev pub by_zero : Expression
+by_zero = Two Div (whole 1) (whole 0)
+
+-- `x = n;` of the first private variable
+abbrev pub first_set : ℕ → Block
+first_set n = only (Set (variable.Private 0) (whole n))

@@ -1,10 +1,10 @@
 //! Scripts that exclude wrong bodies of `fold`.
 
-ghost use Rattle.std.specs.Prelude.{◌≡◌, IfOk};
+ghost use Rattle.std.specs.Prelude.{◌≡◌, negsuc, IfOk};
 ghost use Rattle.ts_syntax.specs.Checked.{tree_of};
-ghost use Rattle.ts_syntax.specs.Expression.{MsgSize};
+ghost use Rattle.ts_syntax.specs.Expression.{MsgSize, Num, Neg, Not};
 ghost use Rattle.ts_syntax.specs.Statement.{no_statements, Append, Clear};
-ghost use Rattle.language_callers.specs.Scripts.{two_calls, cleared_by, clearing, compared, only, whole};
+ghost use Rattle.language_callers.specs.Scripts.{two_calls, cleared_by, clearing, compared, by_zero, only, whole};
 
 use mate_num::{BufId, FunId, NoMemory};
 use std::alloc::Global;
@@ -37,6 +37,18 @@ pub fn true_takes_the_first_block(
     other: BufId,
 ) -> Result<Checked, NoMemory>
     requires { tree_of script.now ≡ cleared_by (whole 2) buffer other }
+    ensures { IfOk result (λ new. tree_of new ≡ only (Clear buffer)) }
+{
+    fold(alloc, script)
+}
+
+pub fn a_test_below_0_takes_the_first_block(
+    alloc: Global,
+    script: &Checked,
+    buffer: BufId,
+    other: BufId,
+) -> Result<Checked, NoMemory>
+    requires { tree_of script.now ≡ cleared_by (Num (negsuc 0)) buffer other }
     ensures { IfOk result (λ new. tree_of new ≡ only (Clear buffer)) }
 {
     fold(alloc, script)
@@ -83,6 +95,39 @@ pub fn a_comparison_is_from_the_left(
 ) -> Result<Checked, NoMemory>
     requires { tree_of script.now ≡ compared buffer 2 1 }
     ensures { IfOk result (λ new. tree_of new ≡ only (Append buffer (whole 1))) }
+{
+    fold(alloc, script)
+}
+
+pub fn a_division_by_0_stays(
+    alloc: Global,
+    script: &Checked,
+    buffer: BufId,
+) -> Result<Checked, NoMemory>
+    requires { tree_of script.now ≡ only (Append buffer by_zero) }
+    ensures { IfOk result (λ new. tree_of new ≡ only (Append buffer by_zero)) }
+{
+    fold(alloc, script)
+}
+
+pub fn the_lowest_number_is_its_own_negative(
+    alloc: Global,
+    script: &Checked,
+    buffer: BufId,
+) -> Result<Checked, NoMemory>
+    requires { tree_of script.now ≡ only (Append buffer (Neg (Num (negsuc 32767)))) }
+    ensures { IfOk result (λ new. tree_of new ≡ only (Append buffer (Num (negsuc 32767)))) }
+{
+    fold(alloc, script)
+}
+
+pub fn not_goes_by_truth(
+    alloc: Global,
+    script: &Checked,
+    buffer: BufId,
+) -> Result<Checked, NoMemory>
+    requires { tree_of script.now ≡ only (Append buffer (Not (whole 1))) }
+    ensures { IfOk result (λ new. tree_of new ≡ only (Append buffer (whole 0))) }
 {
     fold(alloc, script)
 }

@@ -2,6 +2,8 @@
 //! body that it excludes.
 #![tactic(auto)]
 
+pub mod checks;
+pub mod codes;
 pub mod folds;
 pub mod machines;
 pub mod refusals;

@@ -1,12 +1,14 @@
-//! Refusals that exclude wrong lines of `refuse`.
+//! Refusals that exclude wrong bodies of `refuse`, and of what makes a cause of a fault.
 
-ghost use Rattle.std.specs.Prelude.{◌++◌, codes, decimal};
-ghost use Rattle.mate_refusals.specs.declared.status.Status.TheVariants.{BadSource, FileFault};
+ghost use Rattle.std.specs.Prelude.{◌≡◌, ◌++◌, None, codes, decimal};
+ghost use Rattle.mate_refusals.specs.DescriptionCauses.{description_words};
+ghost use Rattle.mate_refusals.specs.declared.status.Status.TheVariants.{BadDescription, BadSource, FileFault};
 ghost use Rattle.language_callers.specs.Refused.{TellsAs};
 
 use mate_files::Sink;
 use mate_num::Text;
-use mate_refusals::{Cause, ExpansionCause, Refusal, Status, Unread};
+use mate_refusals::{Cause, DescriptionCause, ExpansionCause, Refusal, Status, Unread};
+use proc_names::ProcFault;
 use ts_compiler::CompileFault;
 
 pub fn a_deep_script_is_told_with_its_depth<E: Sink>(err: &mut E, name: Text, need: u32) -> Status
@@ -32,4 +34,20 @@ pub fn a_large_file_is_told_by_its_name<E: Sink>(err: &mut E, name: Text) -> Sta
         (E.written err.old) (E.faults err.old) (E.written err.new) (E.faults err.new) result }
 {
     Refusal::InFile(name, Cause::Unread(Unread::Large)).refuse(err)
+}
+
+pub fn a_bad_description_has_a_status_of_its_own<E: Sink>(
+    err: &mut E,
+    cause: DescriptionCause,
+) -> Status
+    ensures { TellsAs BadDescription (codes "bad description " ++ description_words cause)
+        (E.written err.old) (E.faults err.old) (E.written err.new) (E.faults err.new) result }
+{
+    Refusal::BadDescription(cause).refuse(err)
+}
+
+pub fn want_of_memory_is_no_fault_of_a_source() -> Option<ExpansionCause>
+    ensures { result ≡ None }
+{
+    ExpansionCause::of(ProcFault::NoMemory)
 }

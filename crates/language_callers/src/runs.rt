@@ -1,16 +1,18 @@
-//! Runs that exclude wrong bodies of `play`.
+//! Runs and operations that exclude wrong bodies of `play` and `apply`.
 
-ghost use Rattle.std.specs.Prelude.{◌≡◌, [], ◌∷◌, pos, IfOk};
+ghost use Rattle.std.specs.Prelude.{◌≡◌, [], ◌∷◌, pos, negsuc, Ok, IfOk};
+ghost use Rattle.mate_num.specs.Store.{zero_store, set_value, set_buffer};
 ghost use Rattle.mate_num.specs.declared.call.End.TheVariants.{Halt, Fault, Wants};
 ghost use Rattle.mate_num.specs.declared.call.FaultKind.TheVariants.{Overrun};
 ghost use Rattle.ts_syntax.specs.Checked.{tree_of};
 ghost use Rattle.ts_syntax.specs.Statement.{no_statements};
-ghost use Rattle.language_callers.specs.Scripts.{two_calls, without_end, false_and_call};
+ghost use Rattle.language_callers.specs.Scripts.{two_calls, without_end, false_and_call, first_taken};
 
-use mate_num::{BufId, FunId, NoMemory, Outcome, Payload, Store};
+use mate_num::{BufId, FaultKind, FunId, NoMemory, Outcome, Payload, Store};
 use std::alloc::Global;
-use ts_meaning::play;
-use ts_syntax::{CVar, Checked};
+use ts_meaning::apply;
+use ts_play::play;
+use ts_syntax::{BinOp, CVar, Checked};
 
 pub fn no_statement_changes_the_store(
     alloc: Global,
@@ -73,4 +75,22 @@ pub fn going_back_takes_a_turn(
     ensures { IfOk result (λ played. played.end ≡ Fault Overrun) }
 {
     play(alloc, script, store, &Payload::new(), &[], 1)
+}
+
+pub fn the_last_value_is_taken(
+    alloc: Global,
+    script: &Checked,
+    store: &Store,
+) -> Result<Outcome, NoMemory>
+    requires script { tree_of script.now ≡ first_taken }
+    requires store { store.now ≡ set_buffer (zero_store 1 1) 0 (pos 7 ∷ pos 9 ∷ []) }
+    ensures { IfOk result (λ played. played.store ≡ set_value (set_buffer (zero_store 1 1) 0 (pos 7 ∷ [])) 0 (pos 9)) }
+{
+    play(alloc, script, store, &Payload::new(), &[], 0)
+}
+
+pub fn a_difference_is_from_the_left() -> Result<i16, FaultKind>
+    ensures { result ≡ Ok (negsuc 1) }
+{
+    apply(BinOp::Sub, 3, 5)
 }

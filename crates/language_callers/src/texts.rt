@@ -1,22 +1,12 @@
-//! Texts that exclude wrong bodies of `tokens`, `check` and `compile`.
+//! Texts that exclude wrong bodies of `tokens`.
 
 ghost use Rattle.std.specs.Prelude.{◌≡◌, [], ◌∷◌, IfOk, codes};
-ghost use Rattle.mate_code.specs.Table.{table_of};
-ghost use Rattle.ts_syntax.specs.Checked.{shape_of, tree_of};
 ghost use Rattle.ts_syntax.specs.Cut.{token};
-ghost use Rattle.ts_syntax.specs.Seen.{source_of};
-ghost use Rattle.ts_syntax.specs.Statement.{no_statements};
-ghost use Rattle.ts_syntax.specs.Tree.{no_acts, act_then, clear};
 ghost use Rattle.ts_syntax.specs.declared.token.TokenKind.TheVariants as kind;
 
-use mate_code::Table;
-use mate_num::Code;
 use std::alloc::Global;
-use ts_checker::{CheckFault, check};
-use ts_compiler::{CompileFault, compile};
 use ts_lexer::{TokenFault, tokens, tokens_in};
-use ts_syntax::{Checked, Dialect, Script, Tokens, Word};
-use vm_desc::Description;
+use ts_syntax::{Dialect, Tokens};
 
 #[tactic(auto, unfolding(ts_syntax::specs::Cut::cut_from))]
 pub fn less_or_equal_is_one_token(alloc: Global) -> Result<Tokens, TokenFault>
@@ -72,24 +62,4 @@ pub fn a_name_of_17_bytes_has_no_tokens(alloc: Global) -> Result<Tokens, TokenFa
     ensures { IfOk result (λ _. ⊥) }
 {
     tokens(alloc, b"abcdefghijklmnopq")
-}
-
-pub fn an_undeclared_name_is_refused(
-    alloc: Global,
-    desc: &Description,
-    script: &Script,
-    word: &Word,
-) -> Result<Checked, CheckFault>
-    requires { source_of script.now ≡ record { decls = []; body = act_then (clear word.now) no_acts } }
-    ensures { IfOk result (λ _. ⊥) }
-{
-    check(alloc, desc, script)
-}
-
-pub fn no_statement_is_one_byte(table: &Table, script: &Checked) -> Result<Code, CompileFault>
-    requires table { table.now ≡ table_of (shape_of script.now) }
-    requires tree { tree_of script.now ≡ no_statements }
-    ensures { IfOk result (λ code. code.items ≡ 0 ∷ []) }
-{
-    compile(table, script)
 }

@@ -1,11 +1,14 @@
-//! The words of a script's lines and of a report's lines.
+//! The lines of a script, their words, and those of a report's lines.
 
-ghost use Rattle.std.specs.Prelude.{◌≡◌, ◌≤◌, ◌<◌, None, IfOk};
+ghost use Rattle.std.specs.Prelude.{◌≡◌, ◌≤◌, ◌<◌, ◌⊎◌, None, IfOk, MatchResult};
+ghost use Rattle.script_reader.specs.declared.fault.Cause.TheVariants.{Word};
+ghost use Rattle.script_reader.specs.declared.fault.ScriptFault.TheVariants.{BadLine, NoMemory};
 
 use mate_num::ContextId;
 use report_fields::numbers::unsigned;
-use script_reader::{Cause, Words};
-use vm_desc::builtin;
+use script_reader::{Cause, ScriptFault, Steps, Words, node_script};
+use std::alloc::Global;
+use vm_desc::{Description, builtin};
 
 pub fn a_number_is_not_below_its_range(words: &mut Words<'_>) -> Result<u64, Cause>
     ensures { IfOk result (λ number. 5 ≤ number) }
@@ -29,4 +32,14 @@ pub fn a_leading_zero_is_no_number() -> Option<u64>
     ensures { result ≡ None }
 {
     unsigned(b"07")
+}
+
+#[tactic(auto, unfolding(script_reader::specs::NodeScript::node_script_in, script_reader::specs::NodeScript::after_line, script_reader::specs::NodeScript::a_line, script_reader::specs::NodeScript::behind, script_reader::specs::NodeScript::behind_others))]
+pub fn the_first_line_has_the_number_1(
+    alloc: Global,
+    desc: &Description,
+) -> Result<Steps, ScriptFault>
+    ensures { MatchResult result (λ _. ⊥) (λ fault. (fault ≡ BadLine 1 Word) ⊎ (fault ≡ NoMemory)) }
+{
+    node_script(alloc, desc, b"x")
 }

@@ -9,9 +9,9 @@ use mate_num::{NoMemory, PacketBytes};
 use radio_sim::Cancel;
 use radio_sim::wire::{Sending, Wire, Wires};
 use rand_pcg::Lcg64Xsh32;
-use script_reader::Link;
 use std::alloc::Global;
 use std::collections::VecDeque;
+use world_script::Link;
 
 pub fn a_pump_is_no_timer() -> u16
     ensures { result ≡ 259 }

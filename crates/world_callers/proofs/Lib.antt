@@ -1,1 +1,4 @@
 mod AirLemmas
+mod LineLemmas
+mod MadeLemmas
+mod ScriptLemmas

@@ -8,9 +8,9 @@ ghost use Rattle.world_rules.specs.World.{World, called_kind, stream_word};
 ghost use Rattle.world_calls.specs.Calls.{AreCallsOf, HasSensors, words_taken};
 
 use mate_num::FunId;
-use script_reader::Series;
 use vm_desc::Description;
 use world_calls::{CallAnswer, Calls};
+use world_script::Series;
 
 /// A clock that told milliseconds would break the first clause, a random value that leaves out the greatest the second,
 /// and a series that begins again behind its last value the third.

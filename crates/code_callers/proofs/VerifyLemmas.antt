@@ -1,0 +1,34 @@
+-- What an answer of a verification is where the definitions compute it.
+use Rattle.std.proofs.Common.{◌≡◌, ℕ, List, Ok, Err, refl, ap, ap₂}
+use Rattle.std.specs.Prelude.{Result, IsOk}
+use Rattle.mate_num.specs.declared.shape.Shape.{Shape}
+use Rattle.mate_code.specs.BytesVerification.{bytes_verification}
+use Rattle.mate_code.specs.Run.{Code}
+use Rattle.mate_code.specs.Verification.{Marks}
+use Rattle.mate_code.specs.Verification as refusal
+use Rattle.code_verifier.specs.Verified.{VerifiedCode, Verifies}
+use Rattle.code_verifier.specs.Faults.{refusal_of}
+use Rattle.code_verifier.specs.declared.fault.VerifyFault.{VerifyFault}
+use Rattle.code_verifier.specs.declared.fault.VerifyFault.TheVariants.{Decode, BadTarget, BackJump, Underflow, Overflow, DepthDiffers, BadIndex, NoHalt, TooLong}
+
+fault_of_depth : (fault : VerifyFault) (place : ℕ) → refusal_of fault ≡ refusal.DepthDiffers place → fault ≡ DepthDiffers place
+fault_of_depth (Decode at) place is = cc
+fault_of_depth (BadTarget at) place is = cc
+fault_of_depth (BackJump at) place is = cc
+fault_of_depth (Underflow at) place is = cc
+fault_of_depth (Overflow at) place is = cc
+fault_of_depth (DepthDiffers at) place is = cc
+fault_of_depth (BadIndex at) place is = cc
+fault_of_depth NoHalt place is = cc
+fault_of_depth (TooLong len) place is = cc
+
+pub refused_by_depth : (shape : Shape) (bytes : List ℕ) (place : ℕ) (result : Result VerifiedCode VerifyFault)
+    → bytes_verification shape bytes ≡ Err (refusal.DepthDiffers place) → Verifies shape bytes result → result ≡ Err (DepthDiffers place)
+refused_by_depth shape bytes place (Ok v) is verifies =
+    let same = ap₂ bytes_verification verifies.shape_is verifies.bytes_are in let accepted = verifies.is_verified.accepted in cc
+refused_by_depth shape bytes place (Err fault) is verifies = let told : refusal_of fault ≡ refusal.DepthDiffers place = cc in ap (λ (f : VerifyFault). Err f) (fault_of_depth fault place told)
+
+pub is_accepted : (shape : Shape) (bytes : List ℕ) (code : Code) (marks : Marks) (result : Result VerifiedCode VerifyFault)
+    → bytes_verification shape bytes ≡ Ok (code, marks) → Verifies shape bytes result → IsOk result
+is_accepted shape bytes code marks (Ok v) is verifies = refl
+is_accepted shape bytes code marks (Err fault) is verifies = cc

@@ -1,0 +1,2 @@
+mod FolderLemmas
+mod ProgramLemmas

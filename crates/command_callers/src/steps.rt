@@ -1,0 +1,81 @@
+//! The steps of commands on files that tell what they hold.
+
+ghost use Rattle.std.specs.Prelude.{◌≡◌, ◌≢◌, ◌<◌, ◌≤◌, ℕ, List, length, codes, None, Some, Ok, IfOk, IfErr};
+ghost use Rattle.vm_desc.specs.Limits.{Parts};
+ghost use Rattle.vm_reader.specs.Text.{description_of};
+ghost use Rattle.ts_syntax.specs.Checked.{tree_of};
+ghost use Rattle.ts_checker.specs.Accepted.{IsAccepted};
+ghost use Rattle.mate_commands.specs.Words.{builtin_word};
+ghost use Rattle.mate_refusals.specs.declared.cause.Cause.TheVariants.{Unread as UnreadCause};
+ghost use Rattle.mate_refusals.specs.declared.cause.Unread.{Unread};
+ghost use Rattle.mate_refusals.specs.declared.cause.Unread.TheVariants.{Failed, Large};
+ghost use Rattle.mate_refusals.specs.declared.refusal.Refusal.TheVariants.{InFile, NoMemory};
+ghost use Rattle.command_callers.specs.Folders.{HoldsFile, RefusesAs};
+
+use mate_files::Files;
+use mate_refusals::Refusal;
+use mate_steps::{expansion_of, machine_of, read_file, source_of};
+use source_code::CompiledScript;
+use std::alloc::Global;
+use ts_syntax::Script;
+use vm_desc::Description;
+
+/// No other description is read in the place of one that isn't there.
+pub fn a_missing_description_is_told_by_its_name<F: Files>(
+    alloc: Global,
+    files: &mut F,
+) -> Result<Description, Refusal>
+    requires { HoldsFile (record { told = F.contents files.old; steady = F.steady files.old }) (codes "w.toml") None }
+    ensures { RefusesAs (InFile (codes "w.toml") (UnreadCause Failed)) result }
+{
+    machine_of(alloc, files, "w.toml")
+}
+
+pub fn a_large_file_is_told_as_large<F: Files>(
+    alloc: Global,
+    files: &mut F,
+    name: &str,
+) -> Result<Vec<u8>, Refusal>
+    ensures { (bytes : List ℕ) → HoldsFile (record { told = F.contents files.old; steady = F.steady files.old }) name.now (Some bytes) → 1048576 < length bytes
+        → RefusesAs (InFile name.now (UnreadCause Large)) result }
+{
+    read_file(alloc, files, name)
+}
+
+/// The script has the tree that its source means, and not the folded one.
+pub fn an_unfolded_source_keeps_its_tree<F: Files>(
+    alloc: Global,
+    files: &mut F,
+    desc: &Description,
+    name: &str,
+) -> Result<CompiledScript, Refusal>
+    ensures { (bytes : List ℕ) → HoldsFile (record { told = F.contents files.old; steady = F.steady files.old }) name.now (Some bytes)
+        → IfOk result (λ c. IsAccepted desc.now bytes (tree_of c.script)) }
+{
+    source_of(alloc, files, desc, false, name)
+}
+
+/// A text of a machine that isn't read for want of memory is no bad description.
+pub fn a_right_description_is_refused_for_memory_alone<F: Files>(
+    alloc: Global,
+    files: &mut F,
+    word: &str,
+) -> Result<Description, Refusal>
+    requires { word.now ≢ builtin_word }
+    ensures { (bytes : List ℕ) (parts : Parts) → HoldsFile (record { told = F.contents files.old; steady = F.steady files.old }) word.now (Some bytes) → length bytes ≤ 1048576
+        → description_of bytes ≡ Ok parts → IfErr result (λ r. r ≡ NoMemory) }
+{
+    machine_of(alloc, files, word)
+}
+
+/// A source that isn't expanded for want of memory was read.
+pub fn a_source_that_is_there_is_never_unread<F: Files>(
+    alloc: Global,
+    files: &mut F,
+    name: &str,
+) -> Result<Script, Refusal>
+    ensures { (bytes : List ℕ) → HoldsFile (record { told = F.contents files.old; steady = F.steady files.old }) name.now (Some bytes) → length bytes ≤ 1048576
+        → IfErr result (λ r. (why : Unread) → r ≢ InFile name.now (UnreadCause why)) }
+{
+    expansion_of(alloc, files, name)
+}

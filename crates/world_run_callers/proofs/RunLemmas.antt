@@ -1,0 +1,69 @@
+-- What a run gives, told of its end.
+use Rattle.std.proofs.Common.{◌≡◌, ◌≤◌, ℕ, suc, List, [], ◌∷◌, ◌++◌, map, length, Option, Some, None, Result, Ok, Err, sym, ap, ◌∙◌, subst, arith}
+use Rattle.std.specs.Prelude.{slice_get, IsSomeAnd, IfOk, IfErr}
+use Rattle.mate_num.specs.declared.call.Stamp.{Stamp}
+use Rattle.mate_journal.specs.Journal.{Event, Told, Seen}
+use Rattle.mate_journal.specs.Log.{Log}
+use Rattle.mate_journal.specs.NodeScript.{Full, Whole}
+use Rattle.mate_journal.specs.declared.program.Program.{Program}
+use Rattle.mate_journal.specs.declared.report.Report.{Report}
+use Rattle.mate_journal.specs.declared.report.RunFault.{RunFault}
+use Rattle.mate_journal.specs.declared.report.RunFault.TheVariants.{LogFull, NoMemory}
+use Rattle.world_script.specs.declared.world.World.{World as Script}
+use Rattle.vm_desc.specs.declared.description.Description.{Description}
+use Rattle.world_rules.specs.Report.{IsWorldReport, IsLogOf}
+use Rattle.world_rules.specs.Run.{HaveCome, journal}
+use Rattle.world_rules.specs.State.{Moment}
+use Rattle.world_rules.specs.World.{World}
+use Rattle.world_sim.specs.Running.{WorldRunGives}
+use Rattle.world_states.specs.Coming.{code_world}
+use Rattle.world_run_callers.specs.Runs.{CameWithRoom, EndsSeen, IsFullBehind}
+
+of_report : (w : World) (r report : Report) → LogFull r ≡ LogFull report → IsWorldReport w Full r → IsFullBehind w report.events
+of_report w r report is told =
+    let same : r ≡ report = cc in
+    subst (λ (x : Report). IsFullBehind w x.events) same (record { moments = told.moments; come = told.come; count = told.events; full = told.at_end.0 })
+
+pub full_behind : (d : Description) (script : Script) (ps : List Program) (r : Result Report RunFault) → WorldRunGives d script ps r
+    → IfErr r (λ fault. (report : Report) → fault ≡ LogFull report → IsFullBehind (code_world d script ps) report.events)
+full_behind d script ps (Ok r) gives = tt
+full_behind d script ps (Err (LogFull r)) gives = λ report is. of_report (code_world d script ps) r report is gives
+full_behind d script ps (Err NoMemory) gives = λ report is. cc
+
+-- ---- a whole run
+
+with_room : (w : World) (r : Report) → IsWorldReport w Whole r → CameWithRoom w r.events
+with_room w r told = record {
+  moments = told.moments;
+  come = told.come;
+  count = told.events;
+  room = λ m before is. (subst (HaveCome w) is told.come).1.room;
+}
+
+pub came_with_room : (d : Description) (script : Script) (ps : List Program) (r : Result Report RunFault) → WorldRunGives d script ps r
+    → IfOk r (λ report. CameWithRoom (code_world d script ps) report.events)
+came_with_room d script ps (Ok r) gives = with_room (code_world d script ps) r gives
+came_with_room d script ps (Err fault) gives = tt
+
+of_log : (w : World) (ms : List Moment) (events : ℕ) (l : Log) → events ≡ suc (length ms) → IsLogOf w Whole ms 0 l → EndsSeen events w.until l
+of_log w ms events l count told =
+    let sees = told.journal.ends in
+    let stamp : Stamp = record { event = suc (length ms); time = w.until } in
+    let stamped : Told → Event = λ t. record { stamp = stamp; told = t } in
+    record {
+      before = journal w 0 ms;
+      store = sees.shown.seen;
+      is = told.journal.journal_is ∙ ap (λ (last : List Event). journal w 0 ms ++ last) (sees.stamped ∙ ap (map stamped) sees.shown.made)
+          ∙ ap (λ (n : ℕ). journal w 0 ms ++ record { stamp = record { event = n; time = w.until }; told = Seen sees.shown.seen } ∷ []) (sym count);
+    }
+
+of_some : (o : Option Log) (P Q : Log → Type 0) → ((l : Log) → P l → Q l) → IsSomeAnd o P → IsSomeAnd o Q
+of_some (Some l) P Q weaker p = weaker l p
+of_some None P Q weaker p = p
+
+pub ends_seen : (d : Description) (script : Script) (ps : List Program) (r : Result Report RunFault) → 1 ≤ script.nodes → WorldRunGives d script ps r
+    → IfOk r (λ report. IsSomeAnd (slice_get report.nodes 0) (EndsSeen (suc report.events) script.until))
+ends_seen d script ps (Ok r) some gives =
+    let w = code_world d script ps in
+    of_some (slice_get r.nodes 0) (IsLogOf w Whole gives.moments 0) (EndsSeen (suc r.events) script.until) (λ l. of_log w gives.moments (suc r.events) l (ap suc gives.events)) (gives.logs 0 (omega (arith, some)))
+ends_seen d script ps (Err fault) some gives = tt

@@ -1,0 +1,28 @@
+-- What is told of a run's end.
+use Rattle.std.specs.Prelude.{◌≡◌, ℕ, ◌≤◌, ◌<◌, List, [], ◌∷◌, ◌++◌, length}
+use Rattle.mate_num.specs.declared.store.Store.{Store}
+use Rattle.mate_journal.specs.Log.{Log}
+use Rattle.mate_journal.specs.Journal.{Event, Seen, journal_of}
+use Rattle.world_rules.specs.Run.{HaveCome}
+use Rattle.world_rules.specs.State.{Moment, state}
+use Rattle.world_rules.specs.World.{World}
+
+-- so many events came, and 1,000,000 records stand behind them, or more
+pub record IsFullBehind (w : World) (events : ℕ) : Type 0 where
+  pub moments : List Moment
+  pub come : HaveCome w moments
+  pub count : events ≡ length moments
+  pub full : 1000000 ≤ (state w moments).records
+
+-- so many events came, the last one where fewer than 1,000,000 records stood
+pub record CameWithRoom (w : World) (events : ℕ) : Type 0 where
+  pub moments : List Moment
+  pub come : HaveCome w moments
+  pub count : events ≡ length moments
+  pub room : (m : Moment) (before : List Moment) → moments ≡ m ∷ before → (state w before).records < 1000000
+
+-- the log's last entry shows a store, under this number and at this time
+pub record EndsSeen (event time : ℕ) (l : Log) : Type 0 where
+  pub before : List Event
+  pub store : Store
+  pub is : journal_of l ≡ before ++ record { stamp = record { event = event; time = time }; told = Seen store } ∷ []

@@ -1,0 +1,54 @@
+//! The run of a world.
+
+ghost use Rattle.std.specs.Prelude.{◌≡◌, ◌≤◌, suc, slice_get, IsSomeAnd, IfOk, IfErr};
+ghost use Rattle.mate_journal.specs.declared.report.Report.{Report as Reported};
+ghost use Rattle.mate_journal.specs.declared.report.RunFault.TheVariants.{LogFull};
+ghost use Rattle.world_states.specs.Coming.{code_world};
+ghost use Rattle.world_states.specs.Sound.{AreProgramsOfWorld};
+ghost use Rattle.world_run_callers.specs.Runs.{CameWithRoom, EndsSeen, IsFullBehind};
+
+use mate_journal::{Programs, Report, RunFault};
+use std::alloc::Global;
+use vm_desc::Description;
+use world_script::World;
+use world_sim::run;
+
+/// A run that stops one record earlier would be refused at 999,999.
+pub fn a_full_run_has_a_million_records(
+    alloc: Global,
+    desc: &Description,
+    world: &World,
+    programs: &Programs,
+) -> Result<Report, RunFault>
+    requires { AreProgramsOfWorld desc.now world.now programs.now }
+    ensures { IfErr result (λ fault. (report : Reported) → fault ≡ LogFull report → IsFullBehind (code_world desc.now world.now programs.now) report.events) }
+{
+    run(alloc, desc, world, programs)
+}
+
+/// What is recorded of the air counts as well: the last event came where fewer than 1,000,000 records stood.
+pub fn the_last_event_had_room(
+    alloc: Global,
+    desc: &Description,
+    world: &World,
+    programs: &Programs,
+) -> Result<Report, RunFault>
+    requires { AreProgramsOfWorld desc.now world.now programs.now }
+    ensures { IfOk result (λ report. CameWithRoom (code_world desc.now world.now programs.now) report.events) }
+{
+    run(alloc, desc, world, programs)
+}
+
+/// The last entry of the first node shows its store, under the next number and at the last time.
+pub fn the_first_node_is_seen_at_the_end(
+    alloc: Global,
+    desc: &Description,
+    world: &World,
+    programs: &Programs,
+) -> Result<Report, RunFault>
+    requires right { AreProgramsOfWorld desc.now world.now programs.now }
+    requires nodes { 1 ≤ world.now.nodes }
+    ensures { IfOk result (λ report. IsSomeAnd (slice_get report.nodes 0) (EndsSeen (suc report.events) world.now.until)) }
+{
+    run(alloc, desc, world, programs)
+}
