@@ -2,7 +2,7 @@
 #![tactic(auto)]
 
 use mate_cli::mate;
-use mate_files::{MemFiles, MemSink};
+use memory_files::{MemFiles, MemSink};
 use std::alloc::{AllocError, Global};
 
 /// The files and the sinks that a case is run on.

@@ -18,12 +18,12 @@ use Rattle.capsule_codec.specs.Fragments.{count_of}
 use Rattle.capsule_codec.specs.Image.{image_of}
 use Rattle.mate_journal.specs.Machine.{Meaning, HeldProgram}
 use Rattle.mate_journal.specs.Turns.{Clock}
-use Rattle.script_reader.specs.declared.world.World.{World as Script}
-use Rattle.script_reader.specs.declared.world.Link.{Link}
-use Rattle.script_reader.specs.declared.world.Planned.{Planned}
-use Rattle.script_reader.specs.declared.world.What.{What}
-use Rattle.script_reader.specs.declared.world.What.TheVariants as what
-use Rattle.script_reader.specs.World.{IsRightLink, IsRightPlanned, IsRightWhat, Follow, IfInjects}
+use Rattle.world_script.specs.declared.world.World.{World as Script}
+use Rattle.world_script.specs.declared.world.Link.{Link}
+use Rattle.world_script.specs.declared.world.Planned.{Planned}
+use Rattle.world_script.specs.declared.world.What.{What}
+use Rattle.world_script.specs.declared.world.What.TheVariants as what
+use Rattle.world_script.specs.World.{IsRightLink, IsRightPlanned, IsRightWhat, Follow, IfInjects}
 use Rattle.world_rules.specs.World.{World, PlannedLine, Inject, want_of, line_planned, world_of}
 use Rattle.world_rules.specs.Cause.{Cause}
 use Rattle.world_rules.specs.Cause as event

@@ -1,6 +1,6 @@
 -- Hops over pairs of nodes that have links both ways.
 use Rattle.std.specs.Prelude.{◌≡◌, ℕ, zero, suc, Contains}
-use Rattle.script_reader.specs.declared.world.Link.{Link}
+use Rattle.world_script.specs.declared.world.Link.{Link}
 use Rattle.world_rules.specs.World.{World}
 
 -- a link leads from one node to another

@@ -8,11 +8,11 @@ use Rattle.capsule_codec.specs.Image.{CapsuleParts, IsCapsule, image_of}
 use Rattle.mate_journal.specs.Machine.{Meaning, HeldProgram}
 use Rattle.mate_journal.specs.Turns.{Clock}
 use Rattle.capsule_exchange.specs.Happenings.{held_version}
-use Rattle.script_reader.specs.declared.world.World.{World as Script}
-use Rattle.script_reader.specs.declared.world.Link.{Link}
-use Rattle.script_reader.specs.declared.world.Planned.{Planned}
-use Rattle.script_reader.specs.declared.world.What.TheVariants as what
-use Rattle.script_reader.specs.World.{IsRightWorld}
+use Rattle.world_script.specs.declared.world.World.{World as Script}
+use Rattle.world_script.specs.declared.world.Link.{Link}
+use Rattle.world_script.specs.declared.world.Planned.{Planned}
+use Rattle.world_script.specs.declared.world.What.TheVariants as what
+use Rattle.world_script.specs.World.{IsRightWorld}
 use Rattle.world_rules.specs.Cause as event
 use Rattle.world_rules.specs.World.{World, world_of}
 use Rattle.world_rules.specs.Effect.{event_node}

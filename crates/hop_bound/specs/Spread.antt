@@ -5,7 +5,7 @@ use Rattle.mate_journal.specs.Machine.{HeldProgram}
 use Rattle.capsule_exchange.specs.Happenings.{held_version}
 use Rattle.world_rules.specs.Cause.{Cause}
 use Rattle.world_rules.specs.Cause as event
-use Rattle.script_reader.specs.declared.world.Link.{Link}
+use Rattle.world_script.specs.declared.world.Link.{Link}
 use Rattle.world_rules.specs.World.{World, handlers, loss}
 use Rattle.world_rules.specs.Effect.{Installing, resets}
 use Rattle.world_rules.specs.State.{Moment, WorldState, effect_at, state}

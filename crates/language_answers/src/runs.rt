@@ -3,7 +3,7 @@
 use crate::sources::accepted;
 use mate_num::{Payload, Store};
 use std::alloc::{AllocError, Global};
-use ts_meaning::play;
+use ts_play::play;
 use ts_syntax::Checked;
 use vm_desc::{Description, shape};
 

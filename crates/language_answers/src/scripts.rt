@@ -1,7 +1,7 @@
 //! Sources as scripts, without a machine.
 
 use case_files::marked_bytes;
-use mate_files::MemSink;
+use memory_files::MemSink;
 use std::alloc::{AllocError, Global};
 use ts_parser::{SourceFault, parse, tokens};
 use ts_printer::print;

@@ -5,8 +5,8 @@ ghost use Rattle.mate_code.specs.Code.{instrs_of};
 
 use case_files::{bytes_of, in_one_line};
 use mate_code::{Instr, Instrs, decode, encode, listing};
-use mate_files::MemSink;
 use mate_num::CODE_MAX;
+use memory_files::MemSink;
 use opcode_gen::{function_names, table};
 use std::alloc::{AllocError, Global};
 use vm_desc::Description;

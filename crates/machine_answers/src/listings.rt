@@ -4,7 +4,7 @@ use capsule_codec::decode;
 use capsule_listing::print_capsule;
 use case_files::{bytes_of, in_one_line};
 use code_verifier::verify;
-use mate_files::MemSink;
+use memory_files::MemSink;
 use opcode_gen::table;
 use std::alloc::{AllocError, Global};
 use vm_desc::Description;

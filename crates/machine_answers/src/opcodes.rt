@@ -1,7 +1,7 @@
 //! The opcode table of a machine, and how many names its functions have.
 
 use case_files::in_one_line;
-use mate_files::MemSink;
+use memory_files::MemSink;
 use opcode_gen::{function_names, print_table};
 use std::alloc::{AllocError, Global};
 use vm_desc::Description;

@@ -36,6 +36,7 @@ fn main(rt: HostRuntime) -> ExitCode {
 }
 
 /// Writes what is left in the buffer of standard output. Where that fails, what was done isn't all written.
+#[inline(never)]
 fn flushed<W: Write + Drop, E: Sink>(status: Status, mut writer: W, err: &mut E) -> Status {
     let flushed = writer.flush().is_ok();
     match status {

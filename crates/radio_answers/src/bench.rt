@@ -5,10 +5,10 @@ ghost use Rattle.std.specs.Prelude.{◌≡◌};
 use mate_journal::{Air, Aired};
 use mate_num::{NoMemory, PacketBytes, Stamp};
 use radio_sim::{Cancel, Event, Radio};
-use script_reader::{Link, World};
 use std::alloc::Global;
 use vm_desc::Description;
 use world_reader::world_script;
+use world_script::{Link, World};
 
 /// The radio of a world, beside the time of the last event that came and the events' number.
 #[derive(Drop)]

@@ -7,9 +7,9 @@ use Rattle.std.proofs.lemmas.Bool.Decides.{eqb_tells}
 use Rattle.std.proofs.lemmas.List.{append-nil, take_more, get_or-set_same, get_or-set_other, length-take-le, length-append, length-map, get_or_default, take_all}
 use Rattle.std.proofs.lemmas.List.Sums.{sum_by_push}
 use Rattle.std.proofs.lemmas.Map.Steps.{length-le_from_distinct_below}
-use Rattle.script_reader.specs.declared.world.Link.{Link}
-use Rattle.script_reader.specs.declared.world.World.{World}
-use Rattle.script_reader.specs.World.{AreOtherLinks, IsRightWorld}
+use Rattle.world_script.specs.declared.world.Link.{Link}
+use Rattle.world_script.specs.declared.world.World.{World}
+use Rattle.world_script.specs.World.{AreOtherLinks, IsRightWorld}
 use Rattle.vm_desc.specs.declared.description.Description.{Description}
 use Rattle.radio_sim.specs.declared.wire.Wire.{Wire}
 use Rattle.radio_sim.specs.Wires.{wire_after, leaving, turned_wire}

@@ -10,7 +10,7 @@ use Rattle.trickle_timer.proofs.StreamLemmas.{advance_step, advance_none}
 use Rattle.arrayvec.specs.ArrayVec.{ArrayVec}
 use Rattle.mate_journal.specs.declared.air.Air.TheVariants as air
 use Rattle.mate_journal.specs.declared.air.Aired.{Aired}
-use Rattle.script_reader.specs.declared.world.Link.{Link}
+use Rattle.world_script.specs.declared.world.Link.{Link}
 use Rattle.radio_sim.specs.declared.event.Event.{Event}
 use Rattle.radio_sim.specs.declared.event.Event.TheVariants as event
 use Rattle.radio_sim.specs.declared.wire.Wire.{Wire}

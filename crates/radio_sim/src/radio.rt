@@ -2,9 +2,9 @@
 
 ghost use Rattle.std.specs.Prelude.{◌≡◌, ◌+◌, ◌<◌, ◌≤◌, ◌^◌, [], ◌∷◌, ◌++◌, ℕ, filter, slice_index_or, length, MatchOption, MatchResult, IfNone, IfOk, OnOk};
 ghost use Rattle.event_queue.specs.Agenda.{scheduled, scheduled_all, is_other, Adds, AddsAll, Comes};
-ghost use Rattle.script_reader.specs.World.{IsRightWorld};
+ghost use Rattle.world_script.specs.World.{IsRightWorld};
 ghost use Rattle.std.specs.List.{All};
-ghost use Rattle.script_reader.specs.declared.world.Link.{Link};
+ghost use Rattle.world_script.specs.declared.world.Link.{Link};
 ghost use Rattle.radio_sim.specs.Events.{group_of, cancel_number};
 ghost use Rattle.radio_sim.specs.Wires.{losts, delivered};
 ghost use Rattle.radio_sim.specs.Sending.{sent_record, AreLeaving, IsFurther};
@@ -14,11 +14,11 @@ use crate::wire::{Sending, Wire, Wires, copy_of};
 use event_queue::{Queue, Timed};
 use mate_journal::{Air, Aired, Airs};
 use mate_num::{NoMemory, PacketBytes, Stamp};
-use script_reader::{Link, World};
 use std::alloc::Global;
 use std::collections::VecDeque;
 use std::marker::Model;
 use vm_desc::Description;
+use world_script::{Link, World};
 
 /// How many numbers of nodes there are.
 const NODES: usize = 256;
@@ -50,7 +50,7 @@ impl Model for Radio {
 
 impl Radio {
     ghost use Rattle.std.specs.Prelude.{List};
-    ghost use Rattle.script_reader.specs.declared.world.World.{World};
+    ghost use Rattle.world_script.specs.declared.world.World.{World};
     ghost use Rattle.radio_sim.specs.Radio.{StartsRadio, wires_of, transmitted, IsEtherOf};
 
     /// The radio of a world, in which nothing waits and nothing was sent.

@@ -1,9 +1,9 @@
 //! Lines of reports: what is written of that which a line tells, so the same line, or `no line`.
 
 use case_files::in_one_line;
-use mate_files::MemSink;
 use mate_journal::{Aired, Entry, NodeLog, Stamped};
 use mate_num::NoMemory;
+use memory_files::MemSink;
 use report_reader::{Line, Told, line_of};
 use report_text::write_event;
 use std::alloc::{AllocError, Global};

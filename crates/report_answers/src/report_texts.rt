@@ -3,8 +3,8 @@
 
 ghost use Rattle.report_text.specs.Tidy.{IsTidy};
 
-use mate_files::MemSink;
 use mate_journal::Report;
+use memory_files::MemSink;
 use report_reading::{TextFault, read};
 use report_text::write;
 use std::alloc::{AllocError, Global};

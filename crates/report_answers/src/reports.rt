@@ -6,9 +6,10 @@ ghost use Rattle.mate_num.specs.Store.{zero_store};
 ghost use Rattle.report_text.specs.Tidy.{IsTidy};
 
 use case_files::in_one_line;
-use mate_files::{MemSink, SinkFault};
+use mate_files::SinkFault;
 use mate_journal::{Air, Aired, Airs, Entry, NodeLog, NodeLogs, Report, Stamped};
 use mate_num::{NoMemory, Stamp, Store};
+use memory_files::MemSink;
 use report_summary::brief;
 use report_text::{write, write_end};
 use std::alloc::{AllocError, Global};

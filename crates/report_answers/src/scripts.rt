@@ -1,7 +1,7 @@
 //! Node scripts: the steps and the files, or the line that is refused and the cause. `unescaped` says what the signs in
 //! them stand for.
 
-use script_reader::{ScriptFault, node_script};
+use script_reader::{ScriptFault, Step, node_script};
 use std::alloc::{AllocError, Global};
 use vm_desc::Description;
 
@@ -14,9 +14,51 @@ pub fn answer(alloc: Global, desc: &Description, case: &str) -> Result<String, A
         return "too long".to_string(alloc);
     }
     match node_script(alloc, desc, &bytes) {
-        Ok(script) => format!(in alloc; "ok {:?} {:?}", script.steps(), script.files()),
+        Ok(script) => {
+            let steps = steps_text(alloc, script.steps())?;
+            format!(in alloc; "ok [{steps}] {:?}", script.files())
+        }
         Err(ScriptFault::BadLine { line, cause }) => format!(in alloc; "{line} {cause}"),
         Err(ScriptFault::NoMemory) => "no memory".to_string(alloc),
+    }
+}
+
+/// The steps with their fields, a comma between two.
+fn steps_text(alloc: Global, steps: &[Step]) -> Result<String, AllocError> {
+    let mut text = String::new(alloc);
+    for (place, step) in steps.iter().enumerate() {
+        if place > 0 {
+            text.push_str(", ")?;
+        }
+        text.push_str(&step_text(alloc, step)?)?;
+    }
+    Ok(text)
+}
+
+/// A step by its name, with its fields.
+fn step_text(alloc: Global, step: &Step) -> Result<String, AllocError> {
+    match step {
+        Step::Install {
+            handler,
+            version,
+            program,
+        } => {
+            format!(in alloc;
+                "Install {{ handler: {handler:?}, version: {version}, program: {program} }}"
+            )
+        }
+        Step::Load { program } => format!(in alloc; "Load {{ program: {program} }}"),
+        Step::Post { handler, payload } => {
+            let values = payload.payload();
+            format!(in alloc; "Post {{ handler: {handler:?}, payload: {values:?} }}")
+        }
+        Step::Step { ctx, n } => format!(in alloc; "Step {{ ctx: {ctx:?}, n: {n} }}"),
+        Step::Run => "Run".to_string(alloc),
+        Step::Answer { ctx, value } => {
+            format!(in alloc; "Answer {{ ctx: {ctx:?}, value: {value} }}")
+        }
+        Step::Show => "Show".to_string(alloc),
+        Step::Reset => "Reset".to_string(alloc),
     }
 }
 

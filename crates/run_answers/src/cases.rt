@@ -1,17 +1,17 @@
 //! A world with its files and its report.
 
-ghost use Rattle.script_reader.specs.World.{IsRightWorld};
+ghost use Rattle.world_script.specs.World.{IsRightWorld};
 
 use crate::programs::{are_of, programs_of_script};
 use crate::same::are_same;
-use mate_files::MemFiles;
 use mate_journal::{Report, RunFault};
 use mate_steps::machine_of;
+use memory_files::MemFiles;
 use report_reading::read;
-use script_reader::World;
 use std::alloc::{AllocError, Global};
 use vm_desc::Description;
 use world_reader::world_script;
+use world_script::World;
 use world_sim::run;
 
 /// The most bytes of a script.

@@ -2,16 +2,16 @@
 
 ghost use Rattle.std.specs.Prelude.{◌≡◌, ◌↔◌, length, slice_get, All, IfOk, IfSome, IsSomeAnd, IsTrue};
 ghost use Rattle.node_programs.specs.Right.{AreRightPrograms};
-ghost use Rattle.script_reader.specs.declared.world.Planned.{Planned as PlannedEvent};
+ghost use Rattle.world_script.specs.declared.world.Planned.{Planned as PlannedEvent};
 ghost use Rattle.world_states.specs.Sound.{IsProgramOfWhat};
 
-use mate_files::MemFiles;
 use mate_journal::Programs;
 use mate_num::HandlerId;
+use memory_files::MemFiles;
 use script_programs::{programs_of, script_of};
-use script_reader::{Planned, What, World};
 use std::alloc::{AllocError, Global};
 use vm_desc::Description;
+use world_script::{Planned, What, World};
 
 /// The programs of the files that the script injects, in the order of its lines, which are right for the machine; None
 /// where one is refused.

@@ -5,9 +5,8 @@ ghost use Rattle.std.specs.List.{flat_map};
 ghost use Rattle.mate_files.specs.Pen.{Prints};
 ghost use Rattle.mate_files.specs.Sink.{Puts};
 
-use mate_files::{
-    FILE_MAX, Files, FilesFault, MemFiles, MemSink, OsFiles, OsSink, Pen, Sink, SinkFault,
-};
+use mate_files::{FILE_MAX, Files, FilesFault, OsFiles, OsSink, Pen, Sink, SinkFault};
+use memory_files::{MemFiles, MemSink};
 use std::fs::File;
 use std::io::Write;
 use std::process::Abort;

@@ -3,7 +3,8 @@
 use capsule_codec::{decode, from_hex};
 use capsule_listing::print_capsule;
 use code_verifier::verify;
-use mate_files::{MemSink, SinkFault};
+use mate_files::SinkFault;
+use memory_files::MemSink;
 use opcode_gen::table;
 use std::test::Fail;
 use vm_desc::{Description, builtin};

@@ -2,7 +2,7 @@
 use Rattle.std.proofs.Common.{◌≡◌, ℕ, zero, suc, ◌+◌, ◌<◌, List, [], ◌∷◌, ◌++◌, length, map, take, get_or, refl, sym, ◌∙◌, ap, arith, append_assoc, append-nil}
 use Rattle.std.proofs.lemmas.List.{take_more}
 use Rattle.vm_desc.specs.declared.handler.Handler.{Handler}
-use Rattle.script_reader.specs.declared.world.Planned.{Planned}
+use Rattle.world_script.specs.declared.world.Planned.{Planned}
 use Rattle.event_queue.specs.declared.queue.Timed.{Timed}
 use Rattle.radio_sim.specs.declared.event.Event.{Event}
 use Rattle.radio_sim.specs.declared.event.Event.TheVariants as radio

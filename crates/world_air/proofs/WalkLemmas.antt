@@ -10,7 +10,7 @@ use Rattle.mate_journal.specs.declared.air.Aired.{Aired}
 use Rattle.event_queue.specs.declared.queue.Timed.{Timed}
 use Rattle.event_queue.specs.Agenda.{due_at}
 use Rattle.event_queue.proofs.AgendaLemmas.{due_at-own, due_at-other}
-use Rattle.script_reader.specs.declared.world.Link.{Link}
+use Rattle.world_script.specs.declared.world.Link.{Link}
 use Rattle.radio_sim.specs.declared.event.Event.{Event}
 use Rattle.radio_sim.specs.declared.event.Event.TheVariants as radio
 use Rattle.radio_sim.specs.declared.wire.Wire.{Wire}

@@ -11,7 +11,7 @@ use Rattle.packet_codec.specs.Packet.{IsRight, HasRanges}
 use Rattle.radio_sim.specs.declared.event.Event.{Event}
 use Rattle.radio_sim.specs.declared.event.Event.TheVariants as radio
 use Rattle.radio_sim.specs.Radio.{Ether, wires_of, IsEtherOf}
-use Rattle.script_reader.specs.declared.world.World.{World as Script}
+use Rattle.world_script.specs.declared.world.World.{World as Script}
 use Rattle.world_rules.specs.Cause.{Cause}
 use Rattle.world_rules.specs.Cause as event
 use Rattle.world_rules.specs.World.{World, handlers}

@@ -9,9 +9,9 @@ ghost use Rattle.world_air.specs.Starting.{beginning, planned_items, first_items
 use crate::changes::{note_interval, schedule, schedule_interval};
 use mate_num::{HandlerId, NoMemory, Stamp};
 use radio_sim::{Event, Radio};
-use script_reader::World;
 use trickle_timer::Trickle;
 use vm_desc::{Description, HandlerKind};
+use world_script::World;
 
 /// The stamp of what stands before the first event.
 const BEGINNING: Stamp = Stamp { event: 0, time: 0 };

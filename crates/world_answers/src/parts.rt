@@ -1,7 +1,7 @@
 //! The parts of a world, as text.
 
-use script_reader::{Link, Planned, Series, What, World};
 use std::alloc::{AllocError, Global};
+use world_script::{Link, Planned, Series, What, World};
 
 /// All but the names of the files.
 pub fn parts_of(alloc: Global, world: &World) -> Result<String, AllocError> {

@@ -1,10 +1,11 @@
 //! World scripts: the parts of the world, or the line that is refused.
 
 use crate::parts::parts_of;
-use script_reader::{ScriptFault, World};
+use script_reader::ScriptFault;
 use std::alloc::{AllocError, Global};
 use vm_desc::Description;
 use world_reader::world_script;
+use world_script::World;
 
 /// The case is the script, with `|` for the end of a line, `%` for a tab, `^` for a carriage return, `~` for a vertical
 /// tab, `&` for the code 127, and a backquote for the code 255.

@@ -12,7 +12,7 @@ use Rattle.rand_pcg.specs.Lcg.{Lcg, started, increment_of, advance}
 use Rattle.rand_pcg.specs.Pcg.{multiplier_64, pcg32}
 use Rattle.trickle_timer.proofs.StreamLemmas.{advance_step, advance_none}
 use Rattle.mate_num.specs.declared.id.FunId.{FunId}
-use Rattle.script_reader.specs.declared.world.Series.{Series}
+use Rattle.world_script.specs.declared.world.Series.{Series}
 use Rattle.vm_desc.specs.declared.function.Function.{Function}
 use Rattle.vm_desc.specs.declared.function.FunKind.{FunKind}
 use Rattle.vm_desc.specs.declared.function.FunKind.TheVariants as kind

@@ -10,8 +10,8 @@ use arrayvec::ArrayVec;
 use mate_num::FunId;
 use rand_core::utils::NextWord;
 use rand_pcg::Lcg64Xsh32;
-use script_reader::Series;
 use vm_desc::{Description, FunKind};
+use world_script::Series;
 
 /// What the scripts of a node called so far.
 #[derive(Drop)]

@@ -15,7 +15,7 @@ use Rattle.event_queue.specs.declared.queue.Timed.{Timed}
 use Rattle.packet_codec.specs.declared.packet.Packet.{Packet}
 use Rattle.capsule_exchange.specs.Happenings.{Happening, is_marked_slot, slots_from}
 use Rattle.capsule_exchange.specs.Knowledge.{knowledge}
-use Rattle.node_core.specs.View.{heard_of}
+use Rattle.open_node.specs.View.{heard_of}
 use Rattle.radio_sim.specs.declared.event.Event.{Event}
 use Rattle.radio_sim.specs.Radio.{Ether}
 use Rattle.trickle_timer.specs.Timer.{Timer}

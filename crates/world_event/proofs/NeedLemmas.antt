@@ -17,13 +17,13 @@ use Rattle.node_invariant.specs.Keeps.{IsTimely}
 use Rattle.node_programs.specs.ScriptSteps.{program_at}
 use Rattle.capsule_exchange.specs.Happenings.{Happening}
 use Rattle.capsule_exchange.specs.Knowledge.{Knowledge, knowledge, state_after}
-use Rattle.script_reader.specs.declared.world.World.{World as Script}
+use Rattle.world_script.specs.declared.world.World.{World as Script}
 use Rattle.trickle_timer.specs.Timer.{Timer}
 use Rattle.vm_desc.specs.declared.description.Description.{Description}
 use Rattle.radio_sim.specs.declared.event.Event.{Event}
 use Rattle.radio_sim.specs.Radio.{Ether, wires_of}
 use Rattle.radio_sim.proofs.RadioLemmas.{few_links}
-use Rattle.script_reader.specs.World.{IsRightWorld}
+use Rattle.world_script.specs.World.{IsRightWorld}
 use Rattle.world_rules.specs.Cause.{Cause}
 use Rattle.world_rules.specs.Cause as event
 use Rattle.world_rules.specs.World.{World, line_planned, handlers}

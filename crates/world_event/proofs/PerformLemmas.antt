@@ -9,8 +9,8 @@ use Rattle.mate_journal.specs.declared.air.Aired.{Aired}
 use Rattle.mate_journal.specs.declared.program.Program.{Program}
 use Rattle.node_invariant.specs.Meaning.{machine_in, clock_of}
 use Rattle.node_invariant.specs.Keeps.{event_at}
-use Rattle.node_core.specs.View.{NodeView, heard_of, HasPace, Tells}
-use Rattle.script_reader.specs.declared.world.World.{World as Script}
+use Rattle.open_node.specs.View.{NodeView, heard_of, HasPace, Tells}
+use Rattle.world_script.specs.declared.world.World.{World as Script}
 use Rattle.vm_desc.specs.declared.description.Description.{Description}
 use Rattle.radio_sim.specs.declared.event.Event.{Event}
 use Rattle.radio_sim.specs.Radio.{Ether}

@@ -12,7 +12,7 @@ use Rattle.mate_journal.specs.Journal.{Event as Entered}
 use Rattle.mate_journal.specs.WellFormed.{NotBefore, start}
 use Rattle.journal_laws.specs.Growth.{last_stamp}
 use Rattle.journal_laws.proofs.Append.{last_stamp-append}
-use Rattle.script_reader.specs.declared.world.Link.{Link}
+use Rattle.world_script.specs.declared.world.Link.{Link}
 use Rattle.radio_sim.specs.declared.wire.Wire.{Wire}
 use Rattle.radio_sim.specs.Wires.{wire_after, leaving}
 use Rattle.radio_sim.specs.Radio.{Ether, wires_of}

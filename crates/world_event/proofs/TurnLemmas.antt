@@ -13,10 +13,10 @@ use Rattle.node_invariant.specs.Meaning.{machine_in, clock_of}
 use Rattle.node_invariant.specs.Keeps.{reading, event_at, Grows, IsTimely}
 use Rattle.node_grants.proofs.PostLemmas.{in-machine}
 use Rattle.node_turns.specs.Pacing.{SettlesWithin}
-use Rattle.node_core.specs.View.{NodeView, heard_of, HasPace, Tells, IsSameNode}
+use Rattle.open_node.specs.View.{NodeView, heard_of, HasPace, Tells, IsSameNode}
 use Rattle.vm_desc.specs.declared.description.Description.{Description}
 use Rattle.vm_desc.proofs.DescriptionLemmas.{bounds_of}
-use Rattle.node_core.proofs.CallLemmas.{Tells-by}
+use Rattle.open_node.proofs.CallLemmas.{Tells-by}
 use Rattle.world_step.proofs.NodeLemmas.{tells-behind}
 use Rattle.call_waits.specs.Waiting.{WaitApart, WaitSmall, AreAwaited, AreFollowing, HasFewContexts, JournalsWaitApart, JournalsWaitSmall, SettlingAwaits, SettlingTellsFew}
 use Rattle.world_event.specs.Finishing.{told_from}

@@ -1,7 +1,7 @@
 -- What an event records, cancels and schedules behind its node's turns.
 use Rattle.std.specs.Prelude.{◌≡◌, ℕ, ◌≤◌, ◌==◌, if◌then◌else◌, List, [], ◌∷◌, ◌++◌, map, drop, None}
 use Rattle.mate_num.specs.declared.call.Stamp.{Stamp}
-use Rattle.node_core.specs.View.{heard_of}
+use Rattle.open_node.specs.View.{heard_of}
 use Rattle.mate_journal.specs.Log.{Log}
 use Rattle.mate_journal.specs.Journal.{Told, heard_told}
 use Rattle.capsule_exchange.specs.Knowledge.{knowledge}

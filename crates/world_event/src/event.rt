@@ -12,9 +12,9 @@ use crate::turns::{have_turns, is_well_formed};
 use mate_journal::Programs;
 use mate_num::{NoMemory, Stamp};
 use radio_sim::{Event, Radio};
-use script_reader::World;
 use vm_desc::Description;
 use world_handling::handle;
+use world_script::World;
 use world_states::states_are_sound;
 use world_step::Mote;
 

@@ -3,7 +3,7 @@
 ghost use Rattle.std.specs.Prelude.{◌≡◌, ◌≤◌, ◌+◌, true, List, length, All, OnOk};
 ghost use Rattle.packet_codec.specs.Packet.{IsRight};
 ghost use Rattle.mate_journal.specs.declared.program.Program.{Program as ProgramOfFile};
-ghost use Rattle.script_reader.specs.World.{IsRightWorld};
+ghost use Rattle.world_script.specs.World.{IsRightWorld};
 ghost use Rattle.radio_sim.specs.Radio.{wires_of};
 ghost use Rattle.world_rules.specs.Effect.{event_node};
 ghost use Rattle.world_rules.specs.State.{Moment, WorldState};
@@ -14,9 +14,9 @@ ghost use Rattle.world_event.specs.Finishing.{IsTakenFrom, HasSettled, IsFinishe
 use crate::pieces::{note_all, schedule_pump, schedule_timed, send_packets};
 use mate_num::{NoMemory, Stamp};
 use radio_sim::{Event, Radio};
-use script_reader::World;
 use vm_desc::Description;
 use world_air::{Ends, cancel};
+use world_script::World;
 use world_step::{Effect, Mote, schedule_answers};
 
 /// The event is recorded on the air, cancels what ends with it, and schedules what comes of it: the next period, the

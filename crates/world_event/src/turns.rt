@@ -6,7 +6,7 @@ ghost use Rattle.mate_journal.specs.WellFormed.{IsWellFormed};
 ghost use Rattle.mate_journal.specs.Turns.{Settles};
 ghost use Rattle.node_invariant.specs.Meaning.{machine_in, clock_of};
 ghost use Rattle.node_invariant.specs.Keeps.{IsTimely};
-ghost use Rattle.node_core.specs.View.{heard_of, Tells};
+ghost use Rattle.open_node.specs.View.{heard_of, Tells};
 ghost use Rattle.call_waits.specs.Waiting.{WaitApart, AreAwaited};
 ghost use Rattle.world_event.specs.Finishing.{told_from};
 ghost use Rattle.world_handling.specs.Handling.{IsPaced};

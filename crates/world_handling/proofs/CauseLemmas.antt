@@ -13,8 +13,8 @@ use Rattle.mate_journal.specs.declared.program.Program.{Program}
 use Rattle.mate_journal.specs.Journal.{Reading}
 use Rattle.mate_journal.specs.NodeScript.{Answers}
 use Rattle.node_calls.specs.Calls.{NobodyWaits}
-use Rattle.node_core.specs.Calls.{Pacing}
-use Rattle.node_core.specs.View.{heard_of, Tells}
+use Rattle.open_node.specs.Calls.{Pacing}
+use Rattle.open_node.specs.View.{heard_of, Tells}
 use Rattle.node_invariant.specs.Keeps.{IsTimely}
 use Rattle.node_programs.specs.ScriptSteps.{program_at}
 use Rattle.packet_codec.specs.Bytes.{packet_bytes}
@@ -29,9 +29,9 @@ use Rattle.trickle_timer.specs.declared.timer.Fire.TheVariants as fire
 use Rattle.capsule_exchange.specs.Happenings.{Happening, held_versions, next_slot}
 use Rattle.capsule_exchange.specs.Knowledge.{knowledge, with_sent}
 use Rattle.vm_desc.specs.declared.description.Description.{Description}
-use Rattle.script_reader.specs.declared.world.World.{World as Script}
-use Rattle.script_reader.specs.declared.world.Link.{Link}
-use Rattle.script_reader.specs.declared.world.Planned.{Planned}
+use Rattle.world_script.specs.declared.world.World.{World as Script}
+use Rattle.world_script.specs.declared.world.Link.{Link}
+use Rattle.world_script.specs.declared.world.Planned.{Planned}
 use Rattle.world_rules.specs.Cause.{Cause}
 use Rattle.world_rules.specs.Cause as event
 use Rattle.world_rules.specs.World.{World, PlannedLine, Post, handlers, want_of, line_planned}

@@ -18,8 +18,8 @@ use Rattle.node_invariant.proofs.KeepLemmas.{Grows-none}
 use Rattle.node_calls.specs.Installing.{InstallsBytes, Refuses, IsRightCapsule, program_by, capsule_handler}
 use Rattle.node_calls.specs.declared.installing.InstallFault.{InstallFault}
 use Rattle.node_calls.specs.declared.installing.InstallFault.TheVariants.{Capsule, Code, NotNewer}
-use Rattle.node_core.specs.View.{NodeView, heard_of, Tells}
-use Rattle.node_core.specs.Calls.{Pacing}
+use Rattle.open_node.specs.View.{NodeView, heard_of, Tells}
+use Rattle.open_node.specs.Calls.{Pacing}
 use Rattle.packet_codec.specs.declared.packet.Packet.{Packet}
 use Rattle.trickle_timer.specs.Intervals as trickle
 use Rattle.trickle_timer.specs.Timer.{Timer}
@@ -28,7 +28,7 @@ use Rattle.capsule_exchange.specs.Knowledge.{Knowledge, knowledge, held_of}
 use Rattle.capsule_exchange.proofs.KnowledgeLemmas.{held_of-knowledge}
 use Rattle.vm_desc.specs.declared.description.Description.{Description}
 use Rattle.vm_desc.specs.Shapes.{shape_of}
-use Rattle.script_reader.specs.declared.world.World.{World as Script}
+use Rattle.world_script.specs.declared.world.World.{World as Script}
 use Rattle.world_rules.specs.Cause.{Cause}
 use Rattle.world_rules.specs.World.{World, handlers}
 use Rattle.world_rules.specs.Effect.{Node, NodeEffect, Deed, Nothing, Installing, no_effect, node_effect, cuts, resets}
@@ -40,7 +40,7 @@ use Rattle.world_step.specs.declared.effect.Effect.{Effect}
 use Rattle.world_step.specs.declared.mote.Mote.{Mote}
 use Rattle.world_step.specs.Motes.{TellsAlone, InstallsImage, LeavesImage, IsNotInstalled, plain_effect}
 use Rattle.world_handling.specs.Handling.{IsMoteOf, IsEffectBy, TakesProgram, DoesEffect, DoesBy, Handled}
-use Rattle.node_core.proofs.CallLemmas.{Tells-by}
+use Rattle.open_node.proofs.CallLemmas.{Tells-by}
 
 -- ---- the node as the mote shows it
 

@@ -18,9 +18,9 @@ use Rattle.journal_laws.proofs.Apart.{IsNumbered, live_posted, numbered-step, qu
 use Rattle.mate_journal.proofs.JournalLemmas.{told_by-append, told_by-at}
 use Rattle.node_grants.specs.Totals.{total}
 use Rattle.node_grants.proofs.TotalLemmas.{total-less}
-use Rattle.node_core.specs.Calls.{Pacing}
-use Rattle.node_core.specs.Journal.{KeepsJournal}
-use Rattle.node_core.specs.View.{NodeView, heard_of, Tells}
+use Rattle.open_node.specs.Calls.{Pacing}
+use Rattle.open_node.specs.Journal.{KeepsJournal}
+use Rattle.open_node.specs.View.{NodeView, heard_of, Tells}
 use Rattle.node_invariant.specs.Keeps.{event_at}
 use Rattle.node_invariant.specs.Meaning.{machine_in}
 use Rattle.vm_desc.specs.declared.description.Description.{Description}

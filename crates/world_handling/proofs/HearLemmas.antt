@@ -8,8 +8,8 @@ use Rattle.mate_journal.specs.declared.air.Air.{Air}
 use Rattle.mate_journal.specs.Machine.{HeldProgram}
 use Rattle.node_invariant.specs.Keeps.{IsTimely}
 use Rattle.node_invariant.specs.Meaning.{machine_in}
-use Rattle.node_core.specs.Calls.{Pacing}
-use Rattle.node_core.specs.View.{heard_of, Tells}
+use Rattle.open_node.specs.Calls.{Pacing}
+use Rattle.open_node.specs.View.{heard_of, Tells}
 use Rattle.packet_codec.specs.Packet.{IsRight}
 use Rattle.packet_codec.specs.declared.packet.Packet.{Packet}
 use Rattle.packet_codec.specs.declared.packet.Packet.TheVariants.{Vector, Status, App}

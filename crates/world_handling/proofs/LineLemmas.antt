@@ -9,11 +9,11 @@ use Rattle.mate_journal.specs.declared.program.Program.{Program}
 use Rattle.mate_journal.specs.Journal.{Told, Answered, Reading}
 use Rattle.mate_journal.specs.NodeScript.{Occasion, Answers, ShowsOnce}
 use Rattle.node_calls.specs.Calls.{NobodyWaits}
-use Rattle.node_core.specs.Calls.{Pacing}
-use Rattle.node_core.specs.View.{heard_of}
+use Rattle.open_node.specs.Calls.{Pacing}
+use Rattle.open_node.specs.View.{heard_of}
 use Rattle.node_invariant.specs.Meaning.{machine_in, clock_of}
 use Rattle.node_programs.specs.ScriptSteps.{program_at}
-use Rattle.script_reader.specs.declared.world.What.{What}
+use Rattle.world_script.specs.declared.world.What.{What}
 use Rattle.world_rules.specs.World.{Want, Post, Show, ResetNode, want_of}
 use Rattle.world_rules.specs.Effect.{NodeEffect, Posting, Answering, Showing, no_effect, of_line}
 use Rattle.world_states.specs.Coming.{code_world, AwaitsAlone}

@@ -12,8 +12,8 @@ use Rattle.mate_journal.specs.Machine.{Machine}
 use Rattle.mate_journal.specs.Journal.{Told, Reading, heard_told}
 use Rattle.mate_journal.specs.NodeScript.{Occasion}
 use Rattle.mate_journal.specs.Pace.{Pace, paced_all}
-use Rattle.node_core.specs.Calls.{Pacing}
-use Rattle.node_core.specs.View.{NodeView, heard_of, Tells}
+use Rattle.open_node.specs.Calls.{Pacing}
+use Rattle.open_node.specs.View.{NodeView, heard_of, Tells}
 use Rattle.node_grants.proofs.StartLemmas.{paced_all-append}
 use Rattle.node_invariant.specs.Keeps.{reading}
 use Rattle.node_invariant.specs.Meaning.{machine_in}

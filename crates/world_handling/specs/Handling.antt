@@ -7,15 +7,15 @@ use Rattle.mate_num.specs.declared.call.Stamp.{Stamp}
 use Rattle.mate_journal.specs.Machine.{HeldProgram}
 use Rattle.mate_journal.specs.Pace.{Pace}
 use Rattle.mate_journal.specs.declared.program.Program.{Program}
-use Rattle.node_core.specs.View.{NodeView, heard_of, HasPace, Tells}
-use Rattle.node_core.specs.Calls.{Pacing}
+use Rattle.open_node.specs.View.{NodeView, heard_of, HasPace, Tells}
+use Rattle.open_node.specs.Calls.{Pacing}
 use Rattle.trickle_timer.specs.Timer.{Timer}
 use Rattle.capsule_exchange.specs.Happenings.{Happening, IsOpen}
 use Rattle.capsule_exchange.specs.Knowledge.{Knowledge, knowledge}
 use Rattle.packet_codec.specs.declared.packet.Packet.{Packet}
 use Rattle.packet_codec.specs.declared.packet.Packet.TheVariants.{Vector, Status, Fragment, App}
 use Rattle.vm_desc.specs.declared.description.Description.{Description}
-use Rattle.script_reader.specs.declared.world.World.{World as Script}
+use Rattle.world_script.specs.declared.world.World.{World as Script}
 use Rattle.radio_sim.specs.declared.event.Event.{Event}
 use Rattle.radio_sim.specs.declared.event.Event.TheVariants as radio
 use Rattle.world_rules.specs.Cause.{Cause}

@@ -3,14 +3,14 @@
 ghost use Rattle.std.specs.Prelude.{◌≡◌, ◌<◌, ◌≤◌, ℕ, [], ◌∷◌, length, slice_get, All, IfOk, OnOk};
 ghost use Rattle.mate_journal.specs.declared.air.Air.TheVariants.{Got};
 ghost use Rattle.node_invariant.specs.Meaning.{machine_in};
-ghost use Rattle.node_core.specs.View.{heard_of};
-ghost use Rattle.node_core.specs.Calls.{Pacing};
+ghost use Rattle.open_node.specs.View.{heard_of};
+ghost use Rattle.open_node.specs.Calls.{Pacing};
 ghost use Rattle.node_programs.specs.Right.{AreRightPrograms};
 ghost use Rattle.node_programs.specs.ScriptSteps.{program_at};
 ghost use Rattle.packet_codec.specs.Bytes.{packet_bytes};
 ghost use Rattle.packet_codec.specs.Packet.{IsRight, HasRanges};
 ghost use Rattle.packet_codec.specs.declared.packet.Packet.{Packet as RadioPacket};
-ghost use Rattle.script_reader.specs.World.{IsRightWorld, IsRightWhat};
+ghost use Rattle.world_script.specs.World.{IsRightWorld, IsRightWhat};
 ghost use Rattle.world_rules.specs.Cause.{Cause};
 ghost use Rattle.world_rules.specs.Effect.{Node as NodeState, of_line, of_packet};
 ghost use Rattle.world_rules.specs.Run.{Occasions};
@@ -25,8 +25,8 @@ use mate_num::{HandlerId, NoMemory, PacketBytes, Payload, Stamp};
 use packet_codec::{Packet, decode};
 use radio_sim::Event;
 use radio_sim::wire::copy_of;
-use script_reader::{Link, What, World};
 use vm_desc::{Description, HandlerKind};
+use world_script::{Link, What, World};
 use world_step::{Effect, Mote};
 
 /// What the event does to its node, before the node has its turns. After `NoMemory` nothing is said of the node.

@@ -2,10 +2,10 @@
 use Rattle.std.specs.Prelude.{◌≡◌, ℕ, ◌+◌, ◌*◌, ◌<◌, ◌≤◌, ◌==◌, ◌&&◌, Bool, true, false, if◌then◌else◌, List, [], ◌∷◌, length, slice_index, slice_index_or, All, Option, option_map, Result, Ok, Err, ⊤}
 use Rattle.std.specs.List.{AllPairs}
 use Rattle.vm_desc.specs.declared.description.Description.{Description}
-use Rattle.script_reader.specs.declared.world.World.{World}
-use Rattle.script_reader.specs.declared.world.Series.{Series}
-use Rattle.script_reader.specs.declared.world.Planned.{Planned}
-use Rattle.script_reader.specs.World.{IsRightLink, AreOtherLinks, IsRightSeries, AreOtherSeries, IsRightPlanned, IfInjects, Follow}
+use Rattle.world_script.specs.declared.world.World.{World}
+use Rattle.world_script.specs.declared.world.Series.{Series}
+use Rattle.world_script.specs.declared.world.Planned.{Planned}
+use Rattle.world_script.specs.World.{IsRightLink, AreOtherLinks, IsRightSeries, AreOtherSeries, IsRightPlanned, IfInjects, Follow}
 use Rattle.script_reader.specs.Words.{Reading}
 use Rattle.script_reader.specs.NodeReader.{files_after}
 use Rattle.world_lines.specs.declared.stage.Stage.{Stage}

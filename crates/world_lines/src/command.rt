@@ -1,6 +1,6 @@
 //! What the lines of a world's script say.
 
-use script_reader::{Link, Planned, Series};
+use world_script::{Link, Planned, Series};
 
 /// What one line says.
 #[derive(Drop)]

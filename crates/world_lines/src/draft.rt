@@ -1,8 +1,8 @@
 //! A world as far as its script was read.
 
 use crate::stage::Stage;
-use script_reader::World;
 use std::alloc::Global;
+use world_script::World;
 
 /// What the lines so far say.
 #[derive(Drop)]

@@ -3,15 +3,16 @@
 ghost use Rattle.std.specs.Prelude.{◌≡◌, ◌<◌, ◌≤◌, ◌^◌, codes, length, None, IfOk, slice_index};
 ghost use Rattle.script_reader.specs.Lines.{words_of};
 ghost use Rattle.script_reader.specs.Words.{Reads};
-ghost use Rattle.script_reader.specs.World.{IsRightWhat, IfInjects};
+ghost use Rattle.world_script.specs.World.{IsRightWhat, IfInjects};
 ghost use Rattle.world_lines.specs.WorldLines.{SaysPlanned, an_injection, a_posting, a_noise, at_node, behind_time, an_event, by_its_verb};
 ghost use Rattle.world_lines.specs.Draft.{world_progress_of, world_said_of, IsRightWorldSaid, KeepsWorld};
 
 use crate::command::Command;
 use crate::draft::Draft;
 use crate::world_words::{node_in, noise_in, time_in};
-use script_reader::{Cause, Planned, What, Words, newest_of};
+use script_reader::{Cause, Words, newest_of};
 use vm_desc::Description;
+use world_script::{Planned, What};
 
 impl Draft {
     // What an event's line says.

@@ -11,8 +11,9 @@ use crate::command::Command;
 use crate::draft::Draft;
 use crate::refusal::Refusal;
 use crate::world_words::{node_in, sensor_in, values_in};
-use script_reader::{Cause, Link, Series, Words};
+use script_reader::{Cause, Words};
 use vm_desc::Description;
+use world_script::{Link, Series};
 
 impl Draft {
     // What a setting or the first event says.

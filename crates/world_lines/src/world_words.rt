@@ -5,16 +5,17 @@ ghost use Rattle.std.specs.Option.{IsSomeAnd};
 ghost use Rattle.vm_desc.specs.declared.function.FunKind.TheVariants as kinds;
 ghost use Rattle.script_reader.specs.Lines.{words_of};
 ghost use Rattle.script_reader.specs.Words.{Reads};
-ghost use Rattle.script_reader.specs.World.{IsRightNoise};
+ghost use Rattle.world_script.specs.World.{IsRightNoise};
 ghost use Rattle.world_lines.specs.WorldWords.{a_node, a_time, not_back, if_senses, sensor_of, a_sensor, some_values, if_noise, some_noise};
 ghost use Rattle.world_lines.specs.Draft.{ReadsWithMemory};
 
 use crate::refusal::Refusal;
 use capsule_codec::{HexFault, from_hex};
 use mate_num::{FunId, Items, PacketBytes};
-use script_reader::{Cause, Values, Words};
+use script_reader::{Cause, Words};
 use std::alloc::Global;
 use vm_desc::{Description, FunKind};
+use world_script::Values;
 
 /// One of `nodes` nodes.
 #[tactic(auto, unfolding(crate::specs::WorldWords::a_node))]

@@ -9,11 +9,11 @@ use Rattle.mate_num.specs.declared.id.HandlerId.{HandlerId}
 use Rattle.vm_desc.specs.declared.description.Description.{Description}
 use Rattle.vm_desc.specs.Bounds.{HasBounds}
 use Rattle.vm_desc.proofs.DescriptionLemmas.{bounds_of}
-use Rattle.script_reader.specs.declared.world.World.{World}
-use Rattle.script_reader.specs.declared.world.Link.{Link}
-use Rattle.script_reader.specs.declared.world.Series.{Series}
-use Rattle.script_reader.specs.declared.world.Planned.{Planned}
-use Rattle.script_reader.specs.World.{IsRightLink, AreOtherLinks, AreOtherSeries, IsRightPlanned, Follow, IsRightWorld}
+use Rattle.world_script.specs.declared.world.World.{World}
+use Rattle.world_script.specs.declared.world.Link.{Link}
+use Rattle.world_script.specs.declared.world.Series.{Series}
+use Rattle.world_script.specs.declared.world.Planned.{Planned}
+use Rattle.world_script.specs.World.{IsRightLink, AreOtherLinks, AreOtherSeries, IsRightPlanned, Follow, IsRightWorld}
 use Rattle.world_maker.specs.Made.{both_ways, chain, ring, first_injection, second_injection, posting, unsorted, node_count, plan_of, made_world}
 use Rattle.world_maker.proofs.ListLemmas.{no_pairs, all_made, pairs_made, pairs_append}
 use Rattle.world_maker.proofs.SortLemmas.{all_sorted, length-sorted, Apart, follows_sorted}

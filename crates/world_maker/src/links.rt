@@ -4,8 +4,8 @@ ghost use Rattle.std.specs.Prelude.{◌≡◌, ◌≤◌, ◌++◌, IfOk, OnOk};
 ghost use Rattle.world_maker.specs.Made.{both_ways, chain, ring};
 
 use mate_num::{Items, NoMemory};
-use script_reader::{Link, Links};
 use std::alloc::Global;
+use world_script::{Link, Links};
 
 /// A ring of so many nodes.
 pub fn ring(alloc: Global, nodes: u8) -> Result<Links, NoMemory>

@@ -2,16 +2,16 @@
 
 ghost use Rattle.std.specs.Prelude.{◌≡◌, ◌≤◌, ◌++◌, ◌*◌, [], length, replicate, IfOk, OnOk};
 ghost use Rattle.generated_source.specs.Source.{source_of};
-ghost use Rattle.script_reader.specs.World.{IsRightWorld};
+ghost use Rattle.world_script.specs.World.{IsRightWorld};
 ghost use Rattle.world_maker.specs.Made.{node_count, made_world, made_sources};
 
 use crate::events::plan_of;
 use crate::links::ring;
 use generated_source::source_of;
 use mate_num::{Items, NoMemory, Text, Texts};
-use script_reader::{SeriesList, World};
 use std::alloc::Global;
 use vm_desc::Description;
+use world_script::{SeriesList, World};
 
 /// A world, and the sources of its files.
 #[derive(Drop)]

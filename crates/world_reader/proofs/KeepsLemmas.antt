@@ -13,13 +13,13 @@ use Rattle.mate_num.specs.declared.id.HandlerId.{HandlerId}
 use Rattle.vm_desc.specs.declared.description.Description.{Description}
 use Rattle.vm_desc.specs.Bounds.{HasBounds}
 use Rattle.vm_desc.proofs.DescriptionLemmas.{bounds_of}
-use Rattle.script_reader.specs.declared.world.World.{World}
-use Rattle.script_reader.specs.declared.world.Link.{Link}
-use Rattle.script_reader.specs.declared.world.Series.{Series}
-use Rattle.script_reader.specs.declared.world.Planned.{Planned}
-use Rattle.script_reader.specs.declared.world.What.{What}
-use Rattle.script_reader.specs.declared.world.What.TheVariants as what
-use Rattle.script_reader.specs.World.{IsRightLink, AreOtherLinks, IsRightSeries, AreOtherSeries, IsRightWhat, IsRightPlanned, IfInjects, Follow, IsRightWorld}
+use Rattle.world_script.specs.declared.world.World.{World}
+use Rattle.world_script.specs.declared.world.Link.{Link}
+use Rattle.world_script.specs.declared.world.Series.{Series}
+use Rattle.world_script.specs.declared.world.Planned.{Planned}
+use Rattle.world_script.specs.declared.world.What.{What}
+use Rattle.world_script.specs.declared.world.What.TheVariants as what
+use Rattle.world_script.specs.World.{IsRightLink, AreOtherLinks, IsRightSeries, AreOtherSeries, IsRightWhat, IsRightPlanned, IfInjects, Follow, IsRightWorld}
 use Rattle.script_reader.specs.NodeScript.{with_file}
 use Rattle.script_reader.specs.NodeReader.{files_after}
 use Rattle.script_reader.specs.Script.{Answers}

@@ -4,9 +4,9 @@ use Rattle.std.proofs.lemmas.Bool.Decides.{eqb_tells, nat_tests}
 use Rattle.std.proofs.lemmas.Bool.{and_parts}
 use Rattle.std.proofs.lemmas.List.{length-set, length-replicate}
 use Rattle.std.proofs.Math.Seq.{take-suc}
-use Rattle.script_reader.specs.declared.world.World.{World}
-use Rattle.script_reader.specs.declared.world.Series.{Series}
-use Rattle.script_reader.specs.World.{with_values}
+use Rattle.world_script.specs.declared.world.World.{World}
+use Rattle.world_script.specs.declared.world.Series.{Series}
+use Rattle.world_script.specs.World.{with_values}
 use Rattle.world_lines.specs.WorldLines.{WorldProgress, is_linked}
 use Rattle.world_lines.specs.Draft.{is_of_pair, place_from, AreTables}
 use Rattle.world_reader.specs.WorldScript.{with_series}

@@ -3,16 +3,17 @@
 ghost use Rattle.std.specs.Prelude.{◌≡◌, ◌<◌, ◌≤◌, ◌^◌, false, length, IfOk, OnOk, replicate};
 ghost use Rattle.script_reader.specs.Lines.{words_of};
 ghost use Rattle.script_reader.specs.Script.{Answers, Follows};
-ghost use Rattle.script_reader.specs.World.{IsRightWorld};
+ghost use Rattle.world_script.specs.World.{IsRightWorld};
 ghost use Rattle.world_lines.specs.Draft.{world_progress_of, KeepsWorld, AreTables};
 ghost use Rattle.world_reader.specs.WorldScript.{after_world_line, world_script_in, world_at_end, no_world};
 
 use crate::adding::take;
 use mate_num::Items;
-use script_reader::{Cause, Lines, ScriptFault, SeriesList, Words, World};
+use script_reader::{Cause, Lines, ScriptFault, Words};
 use std::alloc::Global;
 use vm_desc::Description;
 use world_lines::{Draft, Refusal, Stage};
+use world_script::{SeriesList, World};
 
 /// The world that the script in `bytes`, of at most 1,048,576 bytes, plans.
 ///

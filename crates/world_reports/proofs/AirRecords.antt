@@ -16,12 +16,12 @@ use Rattle.trickle_timer.specs.Intervals as trickle
 use Rattle.trickle_timer.specs.declared.timer.Fire.{Fire}
 use Rattle.trickle_timer.specs.declared.timer.Fire.TheVariants as fire
 use Rattle.capsule_exchange.specs.Happenings.{Happening, next_slot}
-use Rattle.script_reader.specs.declared.world.World.{World as Script}
-use Rattle.script_reader.specs.declared.world.Link.{Link}
-use Rattle.script_reader.specs.declared.world.Planned.{Planned}
-use Rattle.script_reader.specs.declared.world.What.{What}
-use Rattle.script_reader.specs.declared.world.What.TheVariants as what
-use Rattle.script_reader.specs.World.{IsRightLink, IsRightPlanned, IsRightWhat, IsRightWorld}
+use Rattle.world_script.specs.declared.world.World.{World as Script}
+use Rattle.world_script.specs.declared.world.Link.{Link}
+use Rattle.world_script.specs.declared.world.Planned.{Planned}
+use Rattle.world_script.specs.declared.world.What.{What}
+use Rattle.world_script.specs.declared.world.What.TheVariants as what
+use Rattle.world_script.specs.World.{IsRightLink, IsRightPlanned, IsRightWhat, IsRightWorld}
 use Rattle.world_rules.specs.Cause.{Cause}
 use Rattle.world_rules.specs.Cause as event
 use Rattle.world_rules.specs.World.{World, PlannedLine, receiver, links_from, handlers, want_of, line_planned, world_of}

@@ -11,8 +11,8 @@ use Rattle.mate_journal.specs.declared.air.Aired.{Aired}
 use Rattle.mate_journal.specs.declared.report.Report.{Report}
 use Rattle.report_text.specs.Progress.{air_event}
 use Rattle.report_text.specs.Tidy.{IsTidy, IsAirInRange, AirNodesRise, Mark, marks, IsNoEarlier, AreOfOneNode}
-use Rattle.script_reader.specs.declared.world.World.{World as Script}
-use Rattle.script_reader.specs.World.{IsRightWorld}
+use Rattle.world_script.specs.declared.world.World.{World as Script}
+use Rattle.world_script.specs.World.{IsRightWorld}
 use Rattle.world_rules.specs.World.{World, world_of}
 use Rattle.world_rules.specs.Run.{airs}
 use Rattle.world_rules.specs.Report.{IsWorldReport, IsLogOf}

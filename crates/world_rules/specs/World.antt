@@ -17,12 +17,12 @@ use Rattle.vm_desc.specs.declared.function.FunKind.TheVariants as fun
 use Rattle.mate_journal.specs.Machine.{Machine, Meaning, HeldProgram}
 use Rattle.mate_journal.specs.Described.{machine_of}
 use Rattle.mate_journal.specs.Turns.{Clock}
-use Rattle.script_reader.specs.declared.world.World.{World as Script}
-use Rattle.script_reader.specs.declared.world.Link.{Link}
-use Rattle.script_reader.specs.declared.world.Series.{Series}
-use Rattle.script_reader.specs.declared.world.Planned.{Planned}
-use Rattle.script_reader.specs.declared.world.What.{What}
-use Rattle.script_reader.specs.declared.world.What.TheVariants as what
+use Rattle.world_script.specs.declared.world.World.{World as Script}
+use Rattle.world_script.specs.declared.world.Link.{Link}
+use Rattle.world_script.specs.declared.world.Series.{Series}
+use Rattle.world_script.specs.declared.world.Planned.{Planned}
+use Rattle.world_script.specs.declared.world.What.{What}
+use Rattle.world_script.specs.declared.world.What.TheVariants as what
 
 -- what a line of the script wants of its node
 pub data Want : Type 0 where

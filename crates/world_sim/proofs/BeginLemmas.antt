@@ -10,7 +10,7 @@ use Rattle.vm_desc.specs.declared.description.Description.{Description}
 use Rattle.vm_desc.specs.declared.handler.Handler.{Handler}
 use Rattle.vm_desc.specs.declared.handler.HandlerKind.{HandlerKind}
 use Rattle.vm_desc.specs.declared.handler.HandlerKind.TheVariants as kind
-use Rattle.script_reader.specs.declared.world.World.{World as Script}
+use Rattle.world_script.specs.declared.world.World.{World as Script}
 use Rattle.event_queue.specs.declared.queue.Timed.{Timed}
 use Rattle.event_queue.specs.Agenda.{Agenda, due_at}
 use Rattle.radio_sim.specs.Radio.{Ether, StartsRadio}

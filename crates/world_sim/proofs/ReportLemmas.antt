@@ -10,7 +10,7 @@ use Rattle.event_queue.proofs.WheelLemmas.{slice_get_set_same, slice_get_set_oth
 use Rattle.mate_journal.specs.Log.{Log}
 use Rattle.vm_desc.specs.declared.description.Description.{Description}
 use Rattle.node_invariant.specs.Meaning.{machine_in}
-use Rattle.node_core.specs.Journal.{KeepsJournal}
+use Rattle.open_node.specs.Journal.{KeepsJournal}
 use Rattle.world_step.specs.declared.mote.Mote.{Mote}
 use Rattle.world_sim.specs.Reporting.{ShowsOneStore, ShowStores, mote_logs, AreOfMachine}
 

@@ -7,8 +7,8 @@ use Rattle.std.proofs.lemmas.Option.{slice_get-map, slice_get-get_or}
 use Rattle.std.proofs.lemmas.List.{length-map, length-set}
 use Rattle.mate_num.specs.declared.call.Stamp.{Stamp}
 use Rattle.vm_desc.specs.declared.description.Description.{Description}
-use Rattle.script_reader.specs.declared.world.World.{World as Script}
-use Rattle.script_reader.specs.declared.world.Planned.{Planned}
+use Rattle.world_script.specs.declared.world.World.{World as Script}
+use Rattle.world_script.specs.declared.world.Planned.{Planned}
 use Rattle.mate_journal.specs.Log.{Log}
 use Rattle.mate_journal.specs.Journal.{journal_of, told_of, nothing_heard}
 use Rattle.mate_journal.specs.WellFormed.{IsWellFormed}
@@ -21,8 +21,8 @@ use Rattle.mate_journal.specs.declared.program.Program.{Program}
 use Rattle.node_programs.specs.ScriptSteps.{program_at}
 use Rattle.node_invariant.specs.Keeps.{event_at}
 use Rattle.node_invariant.specs.Meaning.{machine_in}
-use Rattle.node_core.specs.View.{NodeView}
-use Rattle.node_core.specs.Journal.{KeepsJournal}
+use Rattle.open_node.specs.View.{NodeView}
+use Rattle.open_node.specs.Journal.{KeepsJournal}
 use Rattle.radio_sim.specs.declared.event.Event.{Event}
 use Rattle.radio_sim.specs.Radio.{Ether}
 use Rattle.world_rules.specs.Cause.{Cause}

@@ -5,7 +5,7 @@ use Rattle.std.proofs.lemmas.Option.{slice_get-map, slice_get-get_or}
 use Rattle.std.proofs.lemmas.List.{length-map}
 use Rattle.mate_num.specs.declared.call.Stamp.{Stamp}
 use Rattle.vm_desc.specs.declared.description.Description.{Description}
-use Rattle.script_reader.specs.declared.world.World.{World as Script}
+use Rattle.world_script.specs.declared.world.World.{World as Script}
 use Rattle.mate_journal.specs.Log.{Log}
 use Rattle.mate_journal.specs.Journal.{Reading, journal_of}
 use Rattle.mate_journal.specs.Journal.{Event as Entered}
@@ -18,8 +18,8 @@ use Rattle.mate_journal.specs.WellFormed.{NotBefore, start}
 use Rattle.journal_laws.specs.Growth.{last_stamp}
 use Rattle.world_laws.specs.Times.{last_time}
 use Rattle.world_event.proofs.RoomLemmas.{next-timely}
-use Rattle.node_core.specs.View.{heard_of}
-use Rattle.node_core.specs.Journal.{KeepsJournal}
+use Rattle.open_node.specs.View.{heard_of}
+use Rattle.open_node.specs.Journal.{KeepsJournal}
 use Rattle.world_rules.specs.World.{World}
 use Rattle.world_rules.specs.State.{Moment, state}
 use Rattle.world_rules.specs.Run.{HaveCome, IsAtEnd, IsDone, airs, journal, IsJournalOf}

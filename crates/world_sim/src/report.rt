@@ -3,7 +3,7 @@
 ghost use Rattle.std.specs.Prelude.{◌≡◌, ◌≤◌, length, All, OnOk};
 ghost use Rattle.vm_desc.specs.declared.description.Description.{Description};
 ghost use Rattle.node_invariant.specs.Meaning.{machine_in};
-ghost use Rattle.node_core.specs.Journal.{KeepsJournal};
+ghost use Rattle.open_node.specs.Journal.{KeepsJournal};
 ghost use Rattle.node_invariant.specs.Keeps.{IsTimely};
 ghost use Rattle.world_step.specs.declared.mote.Mote.{Mote as MoteState};
 ghost use Rattle.world_sim.specs.Reporting.{ShowsOneStore, ShowStores, told_report, mote_logs, AreOfMachine};

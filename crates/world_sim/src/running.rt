@@ -7,9 +7,9 @@ use crate::report::{report_of, see_stores};
 use crate::simulation::Simulation;
 use mate_journal::{NodeLogs, Programs, RECORDS_MAX, Report, RunFault};
 use mate_num::Stamp;
-use script_reader::World;
 use std::alloc::Global;
 use vm_desc::Description;
+use world_script::World;
 use world_states::states_are_sound;
 
 /// Runs a world on nodes of this machine, with the programs of its files: each event is the next that is due, and at the end

@@ -1,7 +1,7 @@
 //! A world between its events: the radio, the nodes, and how many records stand.
 
 ghost use Rattle.std.specs.Prelude.{◌≡◌, ◌<◌, ◌≤◌, ◌∷◌, [], List, IfOk, OnOk};
-ghost use Rattle.script_reader.specs.World.{IsRightWorld};
+ghost use Rattle.world_script.specs.World.{IsRightWorld};
 ghost use Rattle.mate_journal.specs.declared.program.Program.{Program as ProgramOfFile};
 ghost use Rattle.mate_journal.specs.declared.air.Air.TheVariants as air;
 ghost use Rattle.world_air.specs.Air.{aired_at};
@@ -16,11 +16,11 @@ ghost use Rattle.world_sim.specs.Running.{StandsAfter, StandsAtNext, NamesPart, 
 use mate_journal::Programs;
 use mate_num::{NoMemory, Stamp};
 use radio_sim::{Event, Radio};
-use script_reader::World;
 use std::alloc::Global;
 use vm_desc::Description;
 use world_air::{begin_node, schedule_lines};
 use world_event::perform;
+use world_script::World;
 use world_states::states_are_sound;
 use world_step::Mote;
 

@@ -5,7 +5,7 @@ use Rattle.node_invariant.specs.Meaning.{clock_of}
 use Rattle.node_programs.specs.ScriptSteps.{program_at}
 use Rattle.node_programs.specs.Sources.{meaning_by}
 use Rattle.vm_desc.specs.declared.description.Description.{Description}
-use Rattle.script_reader.specs.declared.world.World.{World as Script}
+use Rattle.world_script.specs.declared.world.World.{World as Script}
 use Rattle.world_rules.specs.World.{World, world_of}
 
 -- the world of a script with its programs, each of which means its source where it has one, and else its code

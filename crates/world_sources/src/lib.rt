@@ -6,7 +6,7 @@ ghost use Rattle.vm_desc.specs.declared.description.Description.{Description};
 ghost use Rattle.mate_journal.specs.NodeScript.{RunEnd};
 ghost use Rattle.mate_journal.specs.declared.program.Program.{Program};
 ghost use Rattle.mate_journal.specs.declared.report.Report.{Report};
-ghost use Rattle.script_reader.specs.declared.world.World.{World as Script};
+ghost use Rattle.world_script.specs.declared.world.World.{World as Script};
 ghost use Rattle.world_rules.specs.Report.{IsWorldReport};
 ghost use Rattle.world_states.specs.Coming.{code_world};
 ghost use Rattle.world_states.specs.Sound.{AreProgramsOfWorld};

@@ -20,10 +20,10 @@ use Rattle.node_programs.specs.ScriptSteps.{held_or_none, program_at}
 use Rattle.capsule_codec.specs.Image.{IsBytes, CapsuleParts, IsCapsule, magic, format_of, image_of}
 use Rattle.capsule_codec.specs.Reading.{capsule_in}
 use Rattle.capsule_codec.proofs.ImageLemmas.{capsule_again}
-use Rattle.script_reader.specs.declared.world.World.{World as Script}
-use Rattle.script_reader.specs.declared.world.Planned.{Planned}
-use Rattle.script_reader.specs.declared.world.What.{What}
-use Rattle.script_reader.specs.declared.world.What.TheVariants as what
+use Rattle.world_script.specs.declared.world.World.{World as Script}
+use Rattle.world_script.specs.declared.world.Planned.{Planned}
+use Rattle.world_script.specs.declared.world.What.{What}
+use Rattle.world_script.specs.declared.world.What.TheVariants as what
 use Rattle.world_rules.specs.World.{PlannedLine, Inject, want_of, line_planned}
 use Rattle.world_laws.proofs.Among.{all-at}
 use Rattle.world_images.specs.Versions.{InjectsAt}

@@ -10,7 +10,7 @@ use Rattle.mate_journal.specs.Pace.{no_pace}
 use Rattle.mate_journal.specs.declared.program.Program.{Program}
 use Rattle.node_invariant.specs.Meaning.{meaning_of, clock_of}
 use Rattle.node_programs.specs.ScriptSteps.{program_at}
-use Rattle.script_reader.specs.declared.world.World.{World as Script}
+use Rattle.world_script.specs.declared.world.World.{World as Script}
 use Rattle.call_waits.specs.Waiting.{HasFewContexts}
 use Rattle.world_rules.specs.Cause.{Cause}
 use Rattle.world_rules.specs.Cause as event

@@ -5,11 +5,11 @@ use Rattle.mate_journal.specs.Journal.{nothing_heard}
 use Rattle.mate_journal.specs.WellFormed.{IsWellFormed}
 use Rattle.mate_journal.specs.declared.program.Program.{Program}
 use Rattle.node_programs.specs.Right.{AreRightPrograms}
-use Rattle.script_reader.specs.declared.world.World.{World as Script}
-use Rattle.script_reader.specs.declared.world.Planned.{Planned}
-use Rattle.script_reader.specs.declared.world.What.{What}
-use Rattle.script_reader.specs.declared.world.What.TheVariants as what
-use Rattle.script_reader.specs.World.{IsRightWorld}
+use Rattle.world_script.specs.declared.world.World.{World as Script}
+use Rattle.world_script.specs.declared.world.Planned.{Planned}
+use Rattle.world_script.specs.declared.world.What.{What}
+use Rattle.world_script.specs.declared.world.What.TheVariants as what
+use Rattle.world_script.specs.World.{IsRightWorld}
 use Rattle.capsule_exchange.specs.Happenings.{IsOpen}
 use Rattle.call_waits.specs.Waiting.{WaitApart, WaitSmall}
 use Rattle.world_rules.specs.Cause.{Cause}

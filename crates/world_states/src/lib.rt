@@ -4,7 +4,7 @@
 ghost use Rattle.std.specs.Prelude.{List};
 ghost use Rattle.vm_desc.specs.declared.description.Description.{Description};
 ghost use Rattle.mate_journal.specs.declared.program.Program.{Program};
-ghost use Rattle.script_reader.specs.declared.world.World.{World as Script};
+ghost use Rattle.world_script.specs.declared.world.World.{World as Script};
 ghost use Rattle.world_states.specs.Coming.{code_world};
 ghost use Rattle.world_states.specs.Sound.{AreProgramsOfWorld, NextMayCome, NodesAreSound, DuesAreOfNodes};
 

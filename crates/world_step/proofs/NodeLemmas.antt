@@ -11,7 +11,7 @@ use Rattle.journal_laws.proofs.Append.{journal_of-same}
 use Rattle.vm_desc.specs.declared.description.Description.{Description}
 use Rattle.node_invariant.specs.Meaning.{machine_in}
 use Rattle.node_invariant.specs.Keeps.{reading, event_at, Grows}
-use Rattle.node_core.specs.View.{NodeView, heard_of, HasPace, Tells, IsSameNode}
+use Rattle.open_node.specs.View.{NodeView, heard_of, HasPace, Tells, IsSameNode}
 use Rattle.world_step.specs.Motes.{IsTellable}
 
 pub tellable-same : (old mid : NodeView) (at : Stamp) → IsSameNode old mid → IsTellable old at → IsTellable mid at

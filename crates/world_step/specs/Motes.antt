@@ -12,8 +12,8 @@ use Rattle.node_invariant.specs.Meaning.{machine_in, clock_of}
 use Rattle.node_invariant.specs.Keeps.{IsTimely}
 use Rattle.node_calls.specs.Installing.{InstallsBytes, Refuses}
 use Rattle.node_calls.specs.declared.installing.InstallFault.{InstallFault}
-use Rattle.node_core.specs.View.{NodeView, heard_of, HasPace, Tells, IsSameNode}
-use Rattle.node_core.specs.Calls.{Pacing}
+use Rattle.open_node.specs.View.{NodeView, heard_of, HasPace, Tells, IsSameNode}
+use Rattle.open_node.specs.Calls.{Pacing}
 use Rattle.packet_codec.specs.declared.packet.Packet.{Packet}
 use Rattle.packet_codec.specs.declared.packet.Packet.TheVariants.{Vector}
 use Rattle.trickle_timer.specs.Intervals as trickle

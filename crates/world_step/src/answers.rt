@@ -7,7 +7,7 @@ ghost use Rattle.mate_journal.specs.Journal.{told_of};
 ghost use Rattle.mate_journal.specs.Tidy.{IsEntryInRange};
 ghost use Rattle.mate_journal.specs.WellFormed.{IsWaiting};
 ghost use Rattle.mate_journal.specs.declared.entry.Stamped.{Stamped as StampedEntry};
-ghost use Rattle.node_core.specs.View.{heard_of};
+ghost use Rattle.open_node.specs.View.{heard_of};
 ghost use Rattle.vm_desc.specs.declared.description.Description.{Description as Machine};
 ghost use Rattle.world_rules.specs.World.{World};
 ghost use Rattle.world_rules.specs.State.{answers_due, calls_in};
@@ -21,10 +21,10 @@ use mate_journal::{Entry, Stamped};
 use mate_num::{CONTEXTS_MAX, ContextId, FunId, NoMemory};
 use node_core::Node;
 use radio_sim::{Event, Radio};
-use script_reader::Series;
 use vm_desc::Description;
 use world_air::schedule;
 use world_calls::Calls;
+use world_script::Series;
 
 /// Whether the invocation waits in the context.
 fn waits_in(node: &Node, ctx: ContextId, inv: u32) -> bool

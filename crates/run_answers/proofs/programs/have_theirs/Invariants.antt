@@ -1,5 +1,5 @@
 use Rattle.std.proofs.Common.{take, All}
-use Rattle.script_reader.specs.declared.world.Planned.{Planned}
+use Rattle.world_script.specs.declared.world.Planned.{Planned}
 use Rattle.world_states.specs.Sound.{IsProgramOfWhat}
 use Rattle.run_answers.proofs.programs.have_theirs.Given as goal
 

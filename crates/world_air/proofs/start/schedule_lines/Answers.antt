@@ -1,7 +1,7 @@
 use Rattle.std.proofs.Common.{◌≡◌, ◌<◌, List, [], length, take, get_or, subst}
 use Rattle.event_queue.specs.declared.queue.Timed.{Timed}
 use Rattle.radio_sim.specs.declared.event.Event.{Event}
-use Rattle.script_reader.specs.declared.world.Planned.{Planned}
+use Rattle.world_script.specs.declared.world.Planned.{Planned}
 use Rattle.world_air.specs.Changes.{AddsToAir}
 use Rattle.world_air.proofs.ChangeLemmas.{adds-both}
 use Rattle.world_air.specs.Starting.{planned_items}

@@ -2,7 +2,7 @@ use Rattle.std.proofs.Common.{◌≡◌, ℕ, ◌-◌, List, [], ◌++◌, lengt
 use Rattle.mate_num.specs.declared.id.FunId.{FunId}
 use Rattle.mate_journal.specs.Log.{Log}
 use Rattle.mate_journal.specs.declared.entry.Stamped.{Stamped}
-use Rattle.node_core.specs.View.{heard_of}
+use Rattle.open_node.specs.View.{heard_of}
 use Rattle.packet_codec.specs.declared.packet.Packet.{Packet}
 use Rattle.world_rules.specs.World.{World, series_in}
 use Rattle.world_rules.specs.State.{node_at, messages, answers_due, calls_in}

@@ -6,8 +6,8 @@ use Rattle.mate_journal.specs.declared.program.Program.{Program}
 use Rattle.node_programs.specs.Right.{IsRightProgram}
 use Rattle.node_programs.specs.ScriptSteps.{program_at, held_or_none}
 use Rattle.node_programs.specs.Sources.{held_as}
-use Rattle.script_reader.specs.World.{IsRightWhat}
-use Rattle.script_reader.specs.declared.world.What.{What}
+use Rattle.world_script.specs.World.{IsRightWhat}
+use Rattle.world_script.specs.declared.world.What.{What}
 use Rattle.world_rules.specs.Effect.{of_line}
 use Rattle.world_rules.specs.World.{Inject, Post, Show, ResetNode, want_of}
 use Rattle.world_step.specs.Motes.{ResetsMote, InstallsImage, LeavesImage}

@@ -11,8 +11,8 @@ use Rattle.packet_codec.specs.Bytes.{packet_bytes}
 use Rattle.packet_codec.specs.Packet.{IsRight, HasRanges}
 use Rattle.packet_codec.specs.declared.packet.Packet.{Packet}
 use Rattle.radio_sim.specs.declared.event.Event.{Event}
-use Rattle.script_reader.specs.declared.world.Link.{Link}
-use Rattle.script_reader.specs.declared.world.Planned.{Planned}
+use Rattle.world_script.specs.declared.world.Link.{Link}
+use Rattle.world_script.specs.declared.world.Planned.{Planned}
 use Rattle.world_rules.specs.Effect.{of_line, of_packet}
 use Rattle.world_rules.specs.World.{Post, want_of}
 use Rattle.world_step.specs.declared.effect.Effect.{Effect}

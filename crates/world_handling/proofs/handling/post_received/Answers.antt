@@ -1,8 +1,8 @@
 use Rattle.std.proofs.Common.{◌≡◌, ℕ, ◌+◌, Bool, [], ◌∷◌, ◌++◌, List, length, refl, sym, ◌∙◌, ap, subst, arith, append-nil}
 use Rattle.mate_num.specs.declared.id.HandlerId.{HandlerId}
 use Rattle.node_invariant.specs.Meaning.{machine_in}
-use Rattle.node_core.specs.View.{heard_of, Tells}
-use Rattle.node_core.specs.Calls.{Pacing}
+use Rattle.open_node.specs.View.{heard_of, Tells}
+use Rattle.open_node.specs.Calls.{Pacing}
 use Rattle.world_rules.specs.Run.{Occasions}
 use Rattle.world_rules.specs.World.{handler_id}
 use Rattle.world_step.specs.declared.mote.Mote.{Mote}

@@ -1,6 +1,6 @@
 use Rattle.std.proofs.Common.{◌≡◌}
-use Rattle.node_core.specs.View.{heard_of, Tells}
-use Rattle.node_core.specs.Calls.{Pacing}
+use Rattle.open_node.specs.View.{heard_of, Tells}
+use Rattle.open_node.specs.Calls.{Pacing}
 use Rattle.node_invariant.specs.Meaning.{machine_in}
 use Rattle.world_rules.specs.Run.{Occasions}
 use Rattle.world_handling.specs.Handling.{receivers_below}

@@ -1,5 +1,5 @@
 use Rattle.std.proofs.Common.{◌≡◌, ℕ, ◌+◌, ◌*◌, ◌-◌, get_or, refl, sym, ◌∙◌, ap, arith}
-use Rattle.script_reader.specs.World.{with_values}
+use Rattle.world_script.specs.World.{with_values}
 use Rattle.world_reader.specs.WorldScript.{with_series}
 use Rattle.world_reader.proofs.SeriesLemmas.{with_world_series, at_place, no_place, new_series, tables_grown, tables_kept, on_ok}
 use Rattle.world_lines.specs.Draft.{world_progress_of}

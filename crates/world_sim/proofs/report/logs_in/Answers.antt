@@ -5,7 +5,7 @@ use Rattle.std.proofs.lemmas.Iterator.Consumers.{YieldsList-end, YieldsList-turn
 use Rattle.std.proofs.lemmas.Iterator.Adapters.{YieldsList-from_vec}
 use Rattle.mate_journal.specs.Log.{Log}
 use Rattle.node_invariant.specs.Meaning.{machine_in}
-use Rattle.node_core.specs.Journal.{KeepsJournal}
+use Rattle.open_node.specs.Journal.{KeepsJournal}
 use Rattle.world_step.specs.declared.mote.Mote.{Mote}
 use Rattle.world_sim.specs.Reporting.{mote_logs, AreOfMachine}
 use Rattle.world_sim.proofs.ReportLemmas.{logs-behind, put-next, logs-all, all-of, keeps-more}

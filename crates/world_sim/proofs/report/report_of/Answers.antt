@@ -1,7 +1,7 @@
 use Rattle.std.proofs.Common.{sym, ap, subst, List, All}
 use Rattle.mate_journal.specs.Log.{Log}
 use Rattle.node_invariant.specs.Meaning.{machine_in}
-use Rattle.node_core.specs.Journal.{KeepsJournal}
+use Rattle.open_node.specs.Journal.{KeepsJournal}
 use Rattle.world_sim.proofs.report.report_of.Goals as goal
 
 pub returns-clause-keeps : goal.returns-clause-keeps

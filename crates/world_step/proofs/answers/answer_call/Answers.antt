@@ -5,7 +5,7 @@ use Rattle.mate_num.specs.declared.id.ContextId.{ContextId}
 use Rattle.event_queue.specs.declared.queue.Timed.{Timed}
 use Rattle.radio_sim.specs.declared.event.Event.{Event}
 use Rattle.radio_sim.specs.declared.event.Event.TheVariants as radio
-use Rattle.node_core.specs.View.{heard_of}
+use Rattle.open_node.specs.View.{heard_of}
 use Rattle.world_calls.specs.declared.calls.CallAnswer.{CallAnswer}
 use Rattle.world_calls.specs.Calls.{call_answer}
 use Rattle.world_air.specs.Air.{timed_event}

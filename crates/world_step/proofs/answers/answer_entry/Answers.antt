@@ -2,7 +2,7 @@ use Rattle.std.proofs.Common.{◌≡◌, ℕ, [], Some, refl, sym, subst}
 use Rattle.std.specs.Prelude.{Option}
 use Rattle.mate_num.specs.declared.id.FunId.{FunId}
 use Rattle.mate_journal.specs.Journal.{told_of}
-use Rattle.node_core.specs.View.{heard_of}
+use Rattle.open_node.specs.View.{heard_of}
 use Rattle.world_calls.specs.Calls.{AreCallsOf}
 use Rattle.world_air.specs.Air.{timed_events}
 use Rattle.world_air.specs.Changes.{AddsToAir}

@@ -1,6 +1,6 @@
 use Rattle.std.proofs.Common.{◌≤◌}
 use Rattle.mate_journal.specs.WellFormed.{IsWaiting}
-use Rattle.node_core.specs.View.{heard_of}
+use Rattle.open_node.specs.View.{heard_of}
 use Rattle.call_waits.specs.Waiting.{WaitApart}
 use Rattle.world_step.proofs.answers.context_of.Given as goal
 

@@ -6,7 +6,7 @@ use Rattle.mate_journal.specs.Journal.{told_of}
 use Rattle.mate_journal.specs.Tidy.{IsEntryInRange}
 use Rattle.mate_journal.specs.declared.entry.Stamped.{Stamped}
 use Rattle.radio_sim.specs.declared.event.Event.{Event}
-use Rattle.node_core.specs.View.{heard_of}
+use Rattle.open_node.specs.View.{heard_of}
 use Rattle.world_rules.specs.State.{answers_due, calls_in}
 use Rattle.world_calls.specs.Calls.{AreCallsOf}
 use Rattle.world_air.specs.Air.{timed_events}

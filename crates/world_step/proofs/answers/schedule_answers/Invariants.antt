@@ -1,7 +1,7 @@
 use Rattle.std.proofs.Common.{◌≡◌, List, [], ◌++◌, take, length}
 use Rattle.mate_num.specs.declared.id.FunId.{FunId}
 use Rattle.mate_journal.specs.Log.{Log}
-use Rattle.node_core.specs.View.{heard_of}
+use Rattle.open_node.specs.View.{heard_of}
 use Rattle.world_rules.specs.World.{World}
 use Rattle.world_rules.specs.State.{answers_due, calls_in}
 use Rattle.world_calls.specs.Calls.{AreCallsOf, HasSensors}

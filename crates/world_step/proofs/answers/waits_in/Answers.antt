@@ -1,5 +1,5 @@
 use Rattle.std.proofs.Common.{◌≡◌, ℕ, sym, ◌∙◌, subst, eq-eqb}
-use Rattle.node_core.specs.View.{heard_of}
+use Rattle.open_node.specs.View.{heard_of}
 use Rattle.world_step.proofs.MoteLemmas.{same-number}
 use Rattle.world_step.proofs.answers.waits_in.Goals as goal
 

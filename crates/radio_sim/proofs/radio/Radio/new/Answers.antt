@@ -1,5 +1,5 @@
 use Rattle.std.proofs.Common.{◌≡◌, List, length, ap, subst, refl, arith}
-use Rattle.script_reader.specs.declared.world.Link.{Link}
+use Rattle.world_script.specs.declared.world.Link.{Link}
 use Rattle.radio_sim.specs.Sending.{AreLeaving}
 use Rattle.vm_desc.proofs.DescriptionLemmas.{bounds_of}
 use Rattle.radio_sim.proofs.RadioLemmas.{few_links}

@@ -4,7 +4,7 @@ use Rattle.std.proofs.lemmas.Int.{to_z-of_z}
 use Rattle.mate_journal.specs.Journal.{Reading}
 use Rattle.mate_journal.specs.NodeScript.{Answers}
 use Rattle.node_calls.specs.Calls.{NobodyWaits}
-use Rattle.node_core.specs.Calls.{Pacing}
+use Rattle.open_node.specs.Calls.{Pacing}
 use Rattle.world_step.proofs.NodeLemmas.{tellable-same, heard-same, tells-behind}
 use Rattle.world_step.proofs.mote.Mote.answer.Goals as goal
 

@@ -2,8 +2,8 @@ use Rattle.std.proofs.Common.{ℕ, Bool, List, true, refl, sym, ◌∙◌, ap, s
 use Rattle.mate_journal.specs.Journal.{Reading}
 use Rattle.vm_desc.specs.declared.description.Description.{Description}
 use Rattle.node_calls.specs.Installing.{InstallsBytes, Refuses}
-use Rattle.node_core.specs.View.{NodeView, heard_of, Tells, IsSameNode}
-use Rattle.node_core.specs.Calls.{Pacing}
+use Rattle.open_node.specs.View.{NodeView, heard_of, Tells, IsSameNode}
+use Rattle.open_node.specs.Calls.{Pacing}
 use Rattle.world_step.specs.declared.effect.Effect.{Effect}
 use Rattle.world_step.specs.Motes.{plain_effect}
 use Rattle.world_step.proofs.NodeLemmas.{tellable-same, heard-same, tells-behind}

@@ -2,9 +2,9 @@ use Rattle.std.proofs.Common.{refl}
 use Rattle.mate_journal.specs.NodeScript.{Occasion}
 use Rattle.node_invariant.specs.Meaning.{machine_in}
 use Rattle.node_calls.specs.Posting.{PostGives}
-use Rattle.node_core.specs.View.{heard_of}
-use Rattle.node_core.specs.Calls.{Pacing}
-use Rattle.node_core.proofs.CallLemmas.{Tells-by, Occasion-given}
+use Rattle.open_node.specs.View.{heard_of}
+use Rattle.open_node.specs.Calls.{Pacing}
+use Rattle.open_node.proofs.CallLemmas.{Tells-by, Occasion-given}
 use Rattle.world_step.proofs.NodeLemmas.{tellable-same, tells-behind}
 use Rattle.world_step.proofs.mote.Mote.post.Goals as goal
 

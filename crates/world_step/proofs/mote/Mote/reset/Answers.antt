@@ -1,7 +1,7 @@
 use Rattle.std.proofs.Common.{refl}
 use Rattle.mate_journal.specs.NodeScript.{Resets}
 use Rattle.node_invariant.specs.Meaning.{machine_in, clock_of}
-use Rattle.node_core.specs.Calls.{Pacing}
+use Rattle.open_node.specs.Calls.{Pacing}
 use Rattle.world_step.proofs.NodeLemmas.{tellable-same, tells-behind}
 use Rattle.world_step.proofs.mote.Mote.reset.Goals as goal
 
