@@ -46,6 +46,7 @@ fn flushed<W: Write + Drop, E: Sink>(status: Status, mut writer: W, err: &mut E)
 }
 
 /// The words of the command line, without the program's own name. Words that aren't UTF-8 are no command's.
+#[inline(never)]
 fn words(rt: &(impl Env + AllocGlobal)) -> Result<Vec<String>, Refusal> {
     let args = match env::args(rt) {
         Ok(args) => args,
