@@ -1,5 +1,5 @@
 -- Hexadecimal digits decode, and what was encoded is read again.
-use Rattle.std.proofs.Common.{◌≡◌, ℕ, ◌+◌, ◌-◌, ◌*◌, ◌/◌, ◌%◌, ◌<◌, ◌≤◌, Bool, true, false, cond, eqb, ltb, ◌&&◌, List, [], ◌∷◌, length, take, get_or, Result, Ok, Err, refl, sym, ap, subst, ◌∙◌, arith, inl, inr}
+use Rattle.std.proofs.Common.{◌≡◌, ℕ, ◌-◌, ◌*◌, ◌%◌, ◌≤◌, true, false, eqb, ltb, List, [], ◌∷◌, length, take, get_or, Result, Ok, Err, refl, sym, ap, ◌∙◌, arith, inl, inr}
 use Rattle.std.specs.Prelude.{MatchResult}
 use Rattle.std.specs.Char.{is_ascii_hexdigit}
 use Rattle.std.specs.List.{list_all, suffix_len, AllPass}
@@ -32,6 +32,10 @@ decodes_at : (read : Result (List ℕ) FromHexError) (bytes : List ℕ) (r : Res
     → MatchResult read (λ bytes. (r ≡ Ok tt) × (out ≡ bytes)) (λ e. r ≡ Err e) → (r ≡ Ok tt) × (out ≡ bytes)
 decodes_at (Ok found) bytes r out same h = let e : found ≡ bytes = cc same in (h.0, h.1 ∙ e)
 decodes_at (Err fault) bytes r out same h = absurd cc
+
+-- what decoded failed in no way
+pub never-fails : (r : Result Unit FromHexError) (fault : FromHexError) → r ≡ Ok tt → r ≡ Err fault → ⊥
+never-fails r fault ok err = let e : ◌≡◌ {A = Result Unit FromHexError} (Ok tt) (Err fault) = sym ok ∙ err in absurd cc
 
 -- into room for as many bytes as digits tell, they decode
 pub decodes : (digits : List ℕ) (n : ℕ) (r : Result Unit FromHexError) (out : List ℕ) → is_hex digits ≡ true → length digits ≡ 2 * n

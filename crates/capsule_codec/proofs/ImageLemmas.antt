@@ -1,7 +1,7 @@
 -- An image decodes to its capsule, and what decodes to a capsule is its one image.
-use Rattle.std.proofs.Common.{◌≡◌, ℕ, zero, suc, ◌+◌, ◌^◌, ◌<◌, ◌≤◌, Bool, true, false, cond, not, eqb, ltb, leb, ◌&&◌, ◌||◌, List, [], ◌∷◌, ◌++◌, length, drop, take, get_or, Result, Ok, Err, refl, sym, ap, subst, ◌∙◌, arith, inl, inr}
+use Rattle.std.proofs.Common.{◌≡◌, ℕ, ◌+◌, ◌<◌, ◌≤◌, Bool, true, false, cond, not, eqb, ltb, List, [], ◌∷◌, length, drop, take, Result, Ok, Err, refl, sym, ap, subst, ◌∙◌, arith, inl, inr}
 use Rattle.std.specs.Int.{w16, w32, to_be_bytes}
-use Rattle.std.proofs.lemmas.Bool.{cases_lt, or_cases, and_parts, and_from, le-ltb, lt-ltb, ltb-true, ltb-false, eqb-true, eqb-false, eq-eqb, ne_eqb, not-false, not_from_true, cond-false}
+use Rattle.std.proofs.lemmas.Bool.{cases_lt, or_cases, and_parts, and_from, le-ltb, lt-ltb, ltb-true, ltb-false, eqb-true, eqb-false, eq-eqb, ne_eqb, not_from_true, cond-false}
 use Rattle.std.proofs.lemmas.Bool.Decides.{nat_tests}
 use Rattle.std.specs.Prelude.{IfOk}
 use Rattle.std.specs.Coded.{le_prop}
@@ -13,9 +13,8 @@ use Rattle.hex.specs.Hex.{IsBytes}
 use Rattle.vm_desc.specs.declared.description.Description.{Description}
 use Rattle.capsule_codec.specs.declared.capsule.Capsule.{Capsule}
 use Rattle.capsule_codec.specs.declared.decoding.CapsuleFault.{CapsuleFault}
-use Rattle.capsule_codec.specs.declared.decoding.CapsuleFault.TheVariants.{BadMagic}
 use Rattle.capsule_codec.specs.Image.{CapsuleParts, capsule_parts, magic, format_of, image_of, IsCapsule, IsOfMachine}
-use Rattle.capsule_codec.specs.Reading.{u16_at, u32_at, format_in, handler_in, vm_id_in, version_field, size_in, is_format, is_size, capsule_in, GivesCapsule}
+use Rattle.capsule_codec.specs.Reading.{format_in, handler_in, vm_id_in, version_field, size_in, is_format, is_size, capsule_in, GivesCapsule}
 
 is_format-format_of : (size : ℕ) → is_format (format_of size) ≡ true
 is_format-format_of size = grind (arith, nat_tests)
@@ -111,10 +110,10 @@ part_fits from n bytes fits = IsBytes-take n (drop from bytes) (IsBytes-drop fro
 format_is : (format size : ℕ) → is_format format ≡ true → is_size format size ≡ true → format_of size ≡ format
 format_is format size known sized = grind (arith, nat_tests, and_parts, or_cases)
 
-size_low : (format size : ℕ) → is_size format size ≡ true → 1 ≤ size
+pub size_low : (format size : ℕ) → is_size format size ≡ true → 1 ≤ size
 size_low format size sized = grind (arith, nat_tests, and_parts)
 
-size_high : (format size : ℕ) → is_size format size ≡ true → size ≤ 1040
+pub size_high : (format size : ℕ) → is_size format size ≡ true → size ≤ 1040
 size_high format size sized = grind (arith, nat_tests, and_parts)
 
 image_is : (d : Description) (bytes : List ℕ) (x : CapsuleParts) → IsBytes bytes → 16 ≤ length bytes → Told d bytes x → bytes ≡ image_of x

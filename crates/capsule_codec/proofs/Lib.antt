@@ -1,3 +1,4 @@
 pub mod ImageLemmas
 pub mod HexTextLemmas
 pub mod PieceLemmas
+mod FaultLemmas

@@ -1,5 +1,5 @@
 -- The pieces of an image make it, and pieces of right lengths are those of the image that they make.
-use Rattle.std.proofs.Common.{◌≡◌, ℕ, zero, suc, ◌+◌, ◌-◌, ◌*◌, ◌/◌, ◌%◌, ◌<◌, ◌≤◌, Bool, true, false, cond, leb, List, [], ◌∷◌, ◌++◌, length, map, take, drop, refl, sym, ap, subst, ◌∙◌, append_assoc, arith, inl, inr}
+use Rattle.std.proofs.Common.{◌≡◌, ℕ, zero, suc, ◌+◌, ◌*◌, ◌<◌, ◌≤◌, List, [], ◌∷◌, ◌++◌, length, map, take, drop, refl, sym, ap, subst, ◌∙◌, arith, inl, inr}
 use Rattle.std.specs.Fork.{slice_chunk}
 use Rattle.std.specs.Int.{div_ceil}
 use Rattle.std.specs.List.{concat, range_with_len}
@@ -8,8 +8,8 @@ use Rattle.std.proofs.lemmas.Bool.{cases_order, le-leb, lt-leb}
 use Rattle.std.proofs.lemmas.Bool.Decides.{nat_tests}
 use Rattle.std.proofs.lemmas.Grind.{div_ceil_times}
 use Rattle.std.proofs.lemmas.Nat.{row_fits}
-use Rattle.std.proofs.lemmas.List.{append-nil, length-take, length-take-le, length-drop, length-append, take_all, take_at, drop_at, drop-drop, drop_all, take-append-drop, nil_from_length}
-use Rattle.capsule_codec.specs.Fragments.{piece_len, count_of, piece_at, pieces_of, AreCut}
+use Rattle.std.proofs.lemmas.List.{append-nil, length-take-le, length-drop, length-append, take_all, take_at, drop_at, drop-drop, take-append-drop, nil_from_length}
+use Rattle.capsule_codec.specs.Fragments.{piece_len, count_of, pieces_of, AreCut}
 
 -- ---- cutting from the front
 

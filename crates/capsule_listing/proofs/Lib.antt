@@ -1,1 +1,2 @@
 pub mod LockLineLemmas
+mod PrintingLemmas

@@ -39,7 +39,7 @@ use Rattle.node_invariant.specs.Keeps.{reading, Keeps, IsTimely}
 use Rattle.node_invariant.specs.Continues.{Continues}
 use Rattle.node_invariant.proofs.FitLemmas.{HasSeat, IsAlone}
 use Rattle.node_invariant.proofs.KeepLemmas.{IsPrepared-same, AddsTidily-plain}
-use Rattle.node_invariant.proofs.MoveLemmas.{alone-seat, answering, was_waiting, stood_waiting, waits-in, Fits-answered}
+use Rattle.node_invariant.proofs.MoveLemmas.{alone-seat, answering, was_waiting, stood_waiting, waits-in, none_waits, Fits-answered}
 use Rattle.node_invariant.proofs.AgreeLemmas.{Agrees-moves}
 use Rattle.node_grants.specs.Queue.{number_at, invocation_in}
 use Rattle.mate_journal.specs.Pace.{Pace, paced}
@@ -48,7 +48,7 @@ use Rattle.node_grants.specs.Starting.{KeepsOrder, Rests}
 use Rattle.node_grants.proofs.WaiterLemmas.{all-held-moves}
 use Rattle.node_grants.proofs.OrderLemmas.{IsQueue-becomes, KeepsOrder-push, heard-by, grows-by}
 use Rattle.node_grants.proofs.StartLemmas.{map-same}
-use Rattle.node_calls.specs.Calls.{RestsAgain}
+use Rattle.node_calls.specs.Calls.{RestsAgain, NobodyWaits}
 use Rattle.open_log.specs.OpenLog.{OpenView}
 
 -- ---- the run goes on
@@ -256,6 +256,11 @@ RestsAgain-answer d old contexts log stamp c value call n rests timely is_waitin
     sym placed.number ∙ ap (λ (s : Seat). s.inv) g ∙ now-inv d old contexts log stamp c value call rests timely is_waiting answers) in
     let P : ℕ → Type 0 = λ k. IsPushed old.log.all record { stamp = stamp; entry = entry.Answer k value } log.all in
     RestsAgain-answered d old contexts log stamp c value call rests timely is_waiting answers (subst P number pushed) room
+
+-- where the context has no call, nobody waits there
+pub nobody-waits : (d : Description) (s : Parts) (c : ContextId) → Rests d s → None ≡ (at s.contexts c).call → NobodyWaits (reading d s.log.all) c
+nobody-waits d s c rests none n waiting context =
+    none_waits (held_at s.handlers.programs) (reading d s.log.all) s.contexts c rests.order.keeps.fits (sym none) n waiting.fun waiting.args waiting.waits context
 
 -- what the answer asks of the context
 pub CanAnswer-waiting : (d : Description) (s : Parts) (c : ContextId) (call : Asked) → Rests d s → c.0 < 16 → (at s.contexts c).call ≡ Some call → CanAnswer (held_at s.handlers.programs) s.contexts c

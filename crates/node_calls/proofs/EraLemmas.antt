@@ -45,6 +45,12 @@ seen-last old new at_ told store grows is =
     let journal : journal_of new ≡ journal_of old ++ event_at at_ (Seen store) ∷ [] = grows.journal ∙ ap (λ (ts : List Told). journal_of old ++ map (event_at at_) ts) is in
     ap (last_is_seen false) journal ∙ last_is_seen-push false (journal_of old) (event_at at_ (Seen store))
 
+-- one entry was told, in one place at most
+pub told-one : (old new : Log) (at_ : Stamp) (told : List Told) (one : Told) → Grows old new at_ told → told ≡ one ∷ [] → (length new.entries ≡ length old.entries + 1) × (old.spare ≤ new.spare + 1)
+told-one old new at_ told one grows is =
+    let P : List Told → Type 0 = λ ts. (length new.entries ≡ length old.entries + length ts) × (old.spare ≤ new.spare + length ts) in
+    subst P is (grows.count, grows.spare)
+
 -- what is told begins an era
 pub record BeginsEra (d : Description) (r : Reading) (told : Told) : Type 0 where
   pub serial : (heard (machine_in d) r told).serial ≡ (machine_in d).zero_store

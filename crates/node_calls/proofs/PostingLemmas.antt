@@ -1,9 +1,10 @@
 -- A post: the new invocation waits behind all others, and starts where nothing holds it back.
 use Rattle.std.proofs.Common.{◌≡◌, ◌≢◌, ◌⊎◌, ℕ, suc, ◌+◌, ◌≤◌, ◌<◌, ℤ, Bool, true, false, ◌||◌, List, [], ◌∷◌, Option, Some, None, length, map, get_or, refl, sym, ◌∙◌, ap, subst, arith, inl, inr}
-use Rattle.std.specs.Prelude.{IsSome, IsNone}
+use Rattle.std.specs.Prelude.{IsSome, IsNone, slice_get}
 use Rattle.std.specs.List.{list_any}
 use Rattle.std.specs.Option.{option_map}
 use Rattle.std.proofs.lemmas.Bool.{cases_eq, eq-eqb}
+use Rattle.std.proofs.lemmas.Option.{slice_get-get_or}
 use Rattle.arrayvec.specs.ArrayVec.{ArrayVec}
 use Rattle.mate_num.specs.declared.call.Stamp.{Stamp}
 use Rattle.mate_num.specs.declared.id.ContextId.{ContextId}
@@ -17,11 +18,14 @@ use Rattle.code_verifier.specs.Verified.{VerifiedCode, IsVerifiedCode, Fits as F
 use Rattle.exec_unit.specs.Machine.{begun}
 use Rattle.vm_desc.specs.declared.description.Description.{Description}
 use Rattle.vm_desc.specs.declared.handler.Handler.{Handler}
+use Rattle.vm_desc.specs.declared.handler.HandlerKind.{HandlerKind}
+use Rattle.vm_desc.specs.declared.handler.HandlerKind.TheVariants as kind
 use Rattle.vm_desc.specs.Bounds.{HasBounds}
 use Rattle.vm_desc.specs.Contexts.{first_context}
 use Rattle.vm_desc.proofs.DescriptionLemmas.{bounds_of, first_context-within}
 use Rattle.mate_journal.specs.declared.entry.DropCause.TheVariants as drop
 use Rattle.mate_journal.specs.declared.entry.Entry.TheVariants as entry
+use Rattle.mate_journal.specs.Described.{is_once, runs_once}
 use Rattle.mate_journal.specs.Machine.{Machine, HeldProgram}
 use Rattle.mate_journal.specs.Journal.{Posted, Dropped, is_started, Invocation, Reading, heard}
 use Rattle.mate_journal.specs.WellFormed.{IsIdle, IsBusy}
@@ -249,6 +253,21 @@ contexts-within d hs i j x same number below =
     let all : HasBounds d = bounds_of d in
     let fits = first_context-within d.handlers.items i x below in
     rw (same, number) (omega arith)
+
+-- the handler that the code reads is the description's
+pub handler-read : (d : Description) (hs : List Handler) (i j : ℕ) (x : Handler) → hs ≡ d.handlers.items → j ≡ i → i < length d.handlers.items → slice_get d.handlers.items i ≡ Some (get_or hs j x)
+handler-read d hs i j x same number below =
+    slice_get-get_or d.handlers.items i x below ∙ ap (λ (k : ℕ). Some (get_or d.handlers.items k x)) (sym number) ∙ ap (λ (l : List Handler). Some (get_or l j x)) (sym same)
+
+-- and so is whether it runs once
+pub runs_once-read : (d : Description) (hs : List Handler) (h : HandlerId) (j : ℕ) (x : Handler) {k : HandlerKind} → (get_or hs j x).kind ≡ k → hs ≡ d.handlers.items → j ≡ h.0 → h.0 < length d.handlers.items
+    → is_once k ≡ (machine_in d).runs_once h
+runs_once-read d hs h j x is same number below = ap is_once (sym is) ∙ ap runs_once (sym (handler-read d hs h.0 j x same number below))
+
+pub not-once : {k : HandlerKind} → (k ≡ kind.Plain) ⊎ ((period : ℕ) × (k ≡ kind.Timer period)) ⊎ (k ≡ kind.Receive) → false ≡ is_once k
+not-once (inl is) = ap is_once (sym is)
+not-once (inr (inl timer)) = ap is_once (sym timer.1)
+not-once (inr (inr is)) = ap is_once (sym is)
 
 -- an invocation has each context from one to below another
 abbrev pub AreTakenUp : Contexts → ℕ → ℕ → Type 0

@@ -1,22 +1,23 @@
 -- What the calls on contexts leave there.
-use Rattle.std.proofs.lemmas.Bool.{cases_eq}
-use Rattle.std.specs.Prelude.{IfSome, slice_get, slice_index_or, Result, Ok, Err, MatchResult, OnOk, OnErr}
-use Rattle.std.proofs.Common.{◌≡◌, ◌≢◌, ℕ, zero, suc, ◌+◌, ◌<◌, ℤ, Bool, true, false, inl, inr, List, [], ◌∷◌, ◌++◌, length, set, Option, Some, None, refl, sym, ◌∙◌, ap, subst, arith, get_or-set_same, get_or-set_other}
-use Rattle.std.proofs.lemmas.List.{set-get_or}
+use Rattle.std.proofs.lemmas.Bool.{cases_eq, cases_lt}
+use Rattle.std.specs.Prelude.{◌⊎◌, IfSome, slice_get, slice_index_or, Result, Ok, Err, MatchResult, OnOk, OnErr}
+use Rattle.std.proofs.Common.{◌≡◌, ◌≢◌, ℕ, zero, suc, ◌+◌, ◌<◌, ◌≤◌, ℤ, Bool, true, false, inl, inr, List, [], ◌∷◌, ◌++◌, length, get_or, set, Option, Some, None, refl, sym, ◌∙◌, ap, subst, arith, get_or-set_same, get_or-set_other}
+use Rattle.std.proofs.lemmas.List.{set-get_or, get_or_past}
 use Rattle.std.specs.List.{Contains}
+use Rattle.std.specs.Option.{is_some}
 use Rattle.std.proofs.lemmas.List.Elements.{Contains-append_right}
 use Rattle.mate_num.specs.declared.id.ContextId.{ContextId}
 use Rattle.mate_num.specs.declared.lock_set.LockSet.{LockSet}
 use Rattle.mate_num.specs.declared.store.Store.{Store}
 use Rattle.lock_manager.specs.declared.claim.Claim.{Claim}
-use Rattle.lock_manager.specs.Claims.{Claims, set_of, AreOnce, Grants}
+use Rattle.lock_manager.specs.Claims.{Claims, set_of, no_claims, AreOnce, Grants}
 use Rattle.lock_manager.proofs.ClaimLemmas.{times, times-append, set_of-none, AreOnce-fewer, same_context}
 use Rattle.lock_manager.proofs.GrantLemmas.{set_of-Contains}
 use Rattle.context_sched.specs.Ready.{holds, without, AreContexts, Changes}
 use Rattle.mate_num.specs.declared.id.FunId.{FunId}
 use Rattle.split_phase.specs.declared.pending.NotWaiting.{NotWaiting}
 use Rattle.split_phase.specs.Calls as calls
-use Rattle.split_phase.specs.Calls.{Asked, call_at, IsOf}
+use Rattle.split_phase.specs.Calls.{Asked, call_at, AreNone, IsOf}
 use Rattle.mate_code.specs.Effect.{Private, push}
 use Rattle.code_verifier.specs.Verified.{VerifiedCode}
 use Rattle.exec_unit.specs.declared.step_end.StepEnd.{StepEnd}
@@ -26,10 +27,30 @@ use Rattle.node_contexts.specs.declared.handlers.Held.{Held}
 use Rattle.exec_unit.specs.declared.running.Ran.{Ran}
 use Rattle.node_contexts.specs.declared.seat.Seat.{Seat}
 use Rattle.node_contexts.specs.declared.contexts.Contexts.{Contexts}
-use Rattle.node_contexts.specs.At.{At, seat_at, at, Becomes, Starts, GivesWay}
+use Rattle.node_contexts.specs.At.{At, seat_at, at, Becomes, AreIdle, Starts, GivesWay}
 use Rattle.node_contexts.specs.Programs.{Programs}
 use Rattle.exec_unit.specs.Running.{HasRun}
 use Rattle.node_contexts.specs.Executing.{IsSameSeat, with_seat, HasTurn, IsAnswered}
+
+-- ---- idle contexts
+
+none-at : (seats : List (Option Seat)) (n : ℕ) → length seats ≡ n → ((k : ℕ) → k < n → get_or seats k None ≡ None) → (k : ℕ) → get_or seats k None ≡ None
+none-at seats n len none k = by (cases_lt k n) where
+  by : (k < n) ⊎ (n ≤ k) → get_or seats k None ≡ None
+  by (inl below) = none k below
+  by (inr past) = get_or_past seats k None (omega arith)
+
+-- no seat is taken, no locks are claimed, none is ready, and none waits with a call
+pub AreIdle-from : (s : Contexts) (n : ℕ) → length s.seats ≡ n → ((k : ℕ) → k < n → get_or s.seats k None ≡ None) → s.locks ≡ no_claims → s.ring ≡ [] → AreNone s.pending → AreIdle s
+AreIdle-from s n len none locks ring calls = record {
+  each = λ c.
+      ap (λ (o : Option Seat). record (at s c) { seat = o }) (none-at s.seats n len none c.0)
+      ∙ ap (λ (l : Claims). record (at s c) { seat = None; waits = set_of l.waiting c; holds = set_of l.started c }) locks
+      ∙ ap (λ (r : List ContextId). record { seat = None; waits = None; holds = None; ready = holds r c; call = call_at s.pending c }) ring
+      ∙ ap (λ (o : Option Asked). record { seat = None; waits = None; holds = None; ready = false; call = o }) (calls.each c);
+  locks = locks;
+  ring = ring;
+}
 
 -- ---- starts
 
@@ -178,6 +199,18 @@ IsAnswered-from old pending ring c value s now place mid same_place is same coun
       locks = refl;
       ring = last;
     }
+
+-- no context up to a place waits with a call, and none at that place does
+pub none-more : (calls : List (Option Asked)) (place : ℕ) (r : Option Asked) → ((k : ContextId) → k.0 < place → call_at calls k ≡ None) → r ≡ call_at calls (record { 0 = place }) → false ≡ is_some r
+    → (k : ContextId) → k.0 < place + 1 → call_at calls k ≡ None
+none-more calls place r none is unasked k below = by (cases_lt k.0 place) where
+  nothing : (o : Option Asked) → false ≡ is_some o → o ≡ None
+  nothing None e = refl
+  nothing (Some call) e = absurd cc
+
+  by : (k.0 < place) ⊎ (place ≤ k.0) → call_at calls k ≡ None
+  by (inl before) = none k before
+  by (inr here) = let same : k.0 ≡ place = omega arith in ap (λ (n : ℕ). get_or calls n None) same ∙ sym is ∙ nothing r unasked
 
 -- the first of the ring is a context of the node
 pub first-small : (ring : List ContextId) (first : Option ContextId) → AreContexts ring → first ≡ slice_get ring 0 → IfSome first (λ ctx. ctx.0 < 16)

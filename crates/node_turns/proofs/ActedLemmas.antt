@@ -1,5 +1,6 @@
 -- Calls and ends that are told in a turn.
-use Rattle.std.proofs.Common.{◌≡◌, ℕ, suc, ◌+◌, ◌<◌, ◌≤◌, ℤ, true, false, List, [], ◌∷◌, Some, None, length, refl, sym, ◌∙◌, ap, subst, arith, inl, inr}
+use Rattle.std.proofs.Common.{◌≡◌, ℕ, suc, ◌+◌, ◌<◌, ◌≤◌, ℤ, true, false, List, [], ◌∷◌, Option, Some, None, length, refl, sym, ◌∙◌, ap, subst, arith, inl, inr}
+use Rattle.std.specs.Prelude.{IsSome}
 use Rattle.std.proofs.lemmas.List.Elements.{All-nil}
 use Rattle.arrayvec.specs.ArrayVec.{ArrayVec}
 use Rattle.mate_num.specs.declared.call.End.{End}
@@ -7,6 +8,7 @@ use Rattle.mate_num.specs.declared.call.End.TheVariants as end
 use Rattle.mate_num.specs.declared.call.Stamp.{Stamp}
 use Rattle.mate_num.specs.declared.id.ContextId.{ContextId}
 use Rattle.mate_num.specs.declared.id.FunId.{FunId}
+use Rattle.mate_num.specs.declared.lock_set.LockSet.{LockSet}
 use Rattle.context_sched.specs.Ready.{without}
 use Rattle.lock_manager.specs.Claims.{Claims}
 use Rattle.exec_unit.specs.declared.step_end.StepEnd.{StepEnd}
@@ -283,3 +285,19 @@ room-tell d old now c k ran how stops enough =
     let e = ap (λ (s : Parts). s.log.all.spare) stops.rest in
     let f = ap (λ (l : Log). l.spare) (ap (λ (v : OpenView). v.all) stops.goes.log) in
     omega arith
+
+-- who is ready has a seat; where its instructions stop, it holds its locks and hasn't called
+module _ (d : Description) (old : Parts) (c : ContextId) (rests : Rests d old) (is_ready : (at old.contexts c).ready ≡ true) where
+  pub ready-seated : IsSome (at old.contexts c).seat
+  ready-seated = let P : At → Type 0 = λ a. IsSome a.seat in subst P (sym (stood d old c rests.order.keeps is_ready)) refl
+
+  module _ (now : Parts) (k ran : ℕ) (how : StepEnd) (stops : HasStopped d old now c k ran how) where
+    pub stopped-holds : IsSome (at now.contexts c).holds
+    stopped-holds =
+        let P : Option LockSet → Type 0 = λ o. IsSome o in
+        let part : At → Option LockSet = λ a. a.holds in
+        subst P (sym (ap part stops.executes.becomes.here ∙ ap part stops.goes.becomes.here ∙ ap part (stood d old c rests.order.keeps is_ready))) refl
+
+    pub stopped-silent : (at now.contexts c).call ≡ None
+    stopped-silent =
+        ap (λ (a : At). a.call) stops.executes.becomes.here ∙ ap (λ (a : At). a.call) stops.goes.becomes.here ∙ ap (λ (a : At). a.call) (stood d old c rests.order.keeps is_ready)

@@ -1,5 +1,5 @@
 -- Who is ready, who waits, and what is installed, as it was heard.
-use Rattle.std.proofs.Common.{◌≡◌, true, false, List, [], Option, Some, None, refl, ◌∙◌, ap, inl, inr}
+use Rattle.std.proofs.Common.{◌≡◌, true, false, List, [], Option, Some, None, refl, sym, ◌∙◌, ap, subst, inl, inr}
 use Rattle.std.specs.Prelude.{IsSome}
 use Rattle.std.specs.Option.{option_map}
 use Rattle.mate_num.specs.declared.id.ContextId.{ContextId}
@@ -11,6 +11,7 @@ use Rattle.mate_journal.specs.Journal.{Reading, held, is_live}
 use Rattle.mate_journal.specs.NodeScript.{IsReadyIn}
 use Rattle.journal_laws.specs.Progress.{IsNoneLive, GoesForward}
 use Rattle.node_contexts.specs.declared.handlers.Held.{Held}
+use Rattle.node_contexts.specs.declared.seat.Seat.{Seat}
 use Rattle.node_contexts.specs.At.{at, IsAsking, IsNoneAsking}
 use Rattle.node_contexts.specs.Programs.{Programs, held_at, version_in}
 use Rattle.node_invariant.specs.declared.parts.Parts.{Parts}
@@ -20,7 +21,8 @@ use Rattle.node_invariant.specs.Keeps.{reading, Keeps}
 use Rattle.node_invariant.proofs.MoveLemmas.{none_ready, none_waits, answering, was_waiting}
 use Rattle.node_grants.specs.Starting.{Rests}
 use Rattle.node_turns.proofs.RunningLemmas.{one, one-ready}
-use Rattle.open_node.specs.Calls.{IsNoneReady, IsWaitingIn, IsImageOf}
+use Rattle.node_calls.specs.Calls.{NobodyWaits}
+use Rattle.open_node.specs.Calls.{IsNoneReady, IsWaitingIn, IsAsked, IsImageOf}
 use Rattle.open_node.proofs.JournalLemmas.{Forward}
 
 -- ---- who is ready
@@ -55,8 +57,20 @@ module _ (d : Description) (s : Parts) (keeps : Keeps d s) where
     by None e some = absurd (let f : false ≡ true = some in cc)
     by (Some call) e some = asked-in c call e
 
-  pub nobody-waits : (c : ContextId) → (at s.contexts c).call ≡ None → IsWaitingIn r c → ⊥
-  nobody-waits c none w = none_waits h r s.contexts c keeps.fits none w.invocation w.waits.fun w.waits.args w.waits.waits w.context
+  pub nobody-waits : (c : ContextId) → (at s.contexts c).call ≡ None → NobodyWaits r c
+  nobody-waits c none n w context = none_waits h r s.contexts c keeps.fits none n w.fun w.args w.waits context
+
+  -- whoever is asked for in a context has its seat
+  pub seat-asked : (c : ContextId) (call : calls.Asked) → (at s.contexts c).call ≡ Some call → (at s.contexts c).seat ≡ None → ⊥
+  seat-asked c call is none = let e : None ≡ Some (answering (machine_in d) h r s.contexts c call keeps.fits is).seat = sym none ∙ (answering (machine_in d) h r s.contexts c call keeps.fits is).is in cc
+
+  pub asked-seat : (c : ContextId) (call : calls.Asked) → (at s.contexts c).call ≡ Some call → (t : Seat) → (at s.contexts c).seat ≡ Some t → IsAsked r c (record { inv = t.inv; fun = call.0; args = call.1 })
+  asked-seat c call is t there =
+      let q = answering (machine_in d) h r s.contexts c call keeps.fits is in
+      let e : Some q.seat ≡ Some t = sym q.is ∙ there in
+      let same : q.seat ≡ t = cc in
+      let P : Seat → Type 0 = λ u. IsAsked r c (record { inv = u.inv; fun = call.0; args = call.1 }) in
+      subst P same (record { waits = was_waiting (machine_in d) h r s.contexts c call keeps.fits is; context = q.seated.context })
 
   pub none-live : Rests d s → s.contexts.ring ≡ [] → IsNoneAsking s.contexts → IsNoneLive r
   none-live rests empty none = by (Forward d s rests) where

@@ -68,6 +68,14 @@ joined_last done within =
     let depths : max done.depth (min 4294967295 0) ≡ done.depth = omega arith in
     same_extent (joined done (extent_of [])) done counts depths
 
+-- a statement with one block in it
+pub inside_measured : (x : Act) (xs : List Act) (a all : Extent) → act_count x ≡ 1 + acts_count (acts xs) → act_depth x ≡ 1 + acts_depth (acts xs) → a ≡ extent_of xs
+    → all.count ≡ min 1000000 (1 + a.count) → all.depth ≡ min 4294967295 (1 + a.depth) → all ≡ extent_of (x ∷ [])
+inside_measured x xs a all count_is depth_is is_a counted deep =
+    let counts : all.count ≡ min 1000000 (act_count x + 0) = omega (arith, count_is, counted, ap (λ (e : Extent). e.count) is_a) in
+    let depths : all.depth ≡ min 4294967295 (max (act_depth x) 0) = omega (arith, depth_is, deep, ap (λ (e : Extent). e.depth) is_a) in
+    same_extent all (extent_of (x ∷ [])) counts depths
+
 -- an `if` with its `else`
 pub if_else_measured : (e : Tree) (xs ys : List Act) (a b both all : Extent) → a ≡ extent_of xs → b ≡ extent_of ys → both.count ≡ min 1000000 (a.count + b.count)
     → both.depth ≡ max a.depth b.depth → all.count ≡ min 1000000 (1 + both.count) → all.depth ≡ min 4294967295 (1 + both.depth)

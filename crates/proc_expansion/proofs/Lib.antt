@@ -1,3 +1,4 @@
+pub mod ExitLemmas
 pub mod InOrderLemmas
 pub mod CalleeLemmas
 pub mod ExtentLemmas

@@ -1,6 +1,7 @@
 -- What the calls of a node make of a step.
-use Rattle.std.proofs.Common.{◌≡◌, ℕ, List, [], ◌∷◌, Result, Ok, Err, refl, sym, ◌∙◌, ap, subst, inl, inr}
-use Rattle.std.specs.Prelude.{IsOk}
+use Rattle.std.proofs.Common.{◌≡◌, ℕ, ◌<◌, ◌≤◌, List, [], ◌∷◌, length, Result, Ok, Err, refl, sym, ◌∙◌, ap, subst, arith, inl, inr}
+use Rattle.std.specs.Prelude.{IsOk, slice_index_or}
+use Rattle.std.proofs.lemmas.Option.{slice_get_read}
 use Rattle.mate_num.specs.declared.call.Stamp.{Stamp}
 use Rattle.capsule_codec.specs.Image.{CapsuleParts}
 use Rattle.capsule_codec.specs.Reading.{capsule_in}
@@ -19,12 +20,17 @@ use Rattle.mate_journal.specs.Journal.{Told, Void, Reading}
 use Rattle.mate_journal.specs.Pace.{Pace, paced_all}
 use Rattle.mate_journal.specs.NodeScript.{Install, Makes, Installs, IsNotNewer}
 use Rattle.node_invariant.specs.Meaning.{machine_in, clock_of}
-use Rattle.node_calls.specs.Installing.{IsRightCapsule, IsUnverified, program_by, InstallsBytes, IsNoNewer}
+use Rattle.node_calls.specs.Installing.{IsRightCapsule, IsUnverified, program_by, InstallsBytes, IsNoNewer, Refuses}
+use Rattle.node_calls.specs.declared.installing.InstallFault.{InstallFault}
+use Rattle.node_calls.specs.declared.installing.InstallFault.TheVariants.{Capsule as BadCapsule, Code as BadCode}
 use Rattle.open_node.specs.View.{NodeView, Tells}
 use Rattle.open_node.proofs.CallLemmas.{Tells-by}
 use Rattle.open_node.specs.Calls.{Pacing}
-use Rattle.node_programs.specs.Right.{IsRightProgram}
+use Rattle.node_invariant.specs.Keeps.{IsTimely}
+use Rattle.node_programs.specs.Right.{IsRightProgram, AreRightPrograms}
+use Rattle.node_programs.specs.ScriptSteps.{held_or_none, program_at}
 use Rattle.node_programs.specs.Sources.{held_as}
+use Rattle.run_steps.specs.Running.{IsReadyFor}
 
 -- a step that could do nothing
 pub Tells-void : (old mid new : NodeView) (at : Stamp) (cause : VoidCause) (Other : Pace → List Told → Pace → Type 0) → mid ≡ old
@@ -35,6 +41,25 @@ Tells-void old mid new at cause Other same makes t =
     let Q : List Told → Type 0 = λ ts. Other p ts (paced_all p ts) in
     subst (Other p told) (sym x.1) (subst Q (sym x.0) (makes p)))
     (let P : NodeView → Type 0 = λ v. Tells v new at (Pacing (λ _ told. told ≡ Void cause ∷ [])) in subst P same t)
+
+-- a step that could do nothing leaves the node ready
+pub ready-still : (old mid : NodeView) (at : Stamp) → mid ≡ old → IsReadyFor old at → IsTimely at mid.log × (1 ≤ mid.log.spare)
+ready-still old mid at same ready =
+    let P : NodeView → Type 0 = λ v. IsTimely at v.log × (1 ≤ v.log.spare) in
+    let room = ready.room in
+    subst P (sym same) (ready.timely, omega (arith, room))
+
+-- ---- the program of a file
+
+module _ (ps list : List Program) (file : ℕ) (p : Program) (same : list ≡ ps) (below : file < length ps) (is : p ≡ slice_index_or list file p) where
+  stands : p ≡ slice_index_or ps file p
+  stands = is ∙ ap (λ (l : List Program). slice_index_or l file p) same
+
+  pub right-program : (d : Description) → AreRightPrograms d ps → IsRightProgram d p
+  right-program d are = subst (IsRightProgram d) (sym stands) (are file p below)
+
+  pub program-is : held_as p ≡ program_at ps file
+  program-is = ap held_or_none (sym (slice_get_read ps (length ps) file p refl below stands))
 
 -- ---- installs
 
@@ -53,14 +78,27 @@ module _ (d : Description) (p : Program) (right : IsRightProgram d p) where
   decodes : capsule_in d p.image.items ≡ Ok right.capsule
   decodes = ap (capsule_in d) right.image ∙ capsule_again d right.capsule right.is_capsule right.of_machine
 
-  pub is-capsule : (fault : CapsuleFault) → capsule_in d p.image.items ≡ Err fault → ⊥
+  is-capsule : (fault : CapsuleFault) → capsule_in d p.image.items ≡ Err fault → ⊥
   is-capsule fault refused = not_both (capsule_in d p.image.items) right.capsule fault decodes refused
 
-  pub is-verified : (fault : VerifyFault) → IsUnverified d p.image.items fault → ⊥
+  is-verified : (fault : VerifyFault) → IsUnverified d p.image.items fault → ⊥
   is-verified fault u =
       let same : u.capsule ≡ right.capsule = same_ok (capsule_in d p.image.items) u.capsule right.capsule u.decoded decodes in
       not_refused (bytes_verification (shape_of d) right.capsule.code) (refusal_of fault) right.verified
       (ap (λ (c : CapsuleParts). bytes_verification (shape_of d) c.code) (sym same) ∙ u.refused)
+
+  -- no install of it is refused for its capsule or its code
+  pub not-bad_capsule : (r : Reading) (bytes : List ℕ) (fault : InstallFault) (cause : CapsuleFault) → bytes ≡ p.image.items → fault ≡ BadCapsule cause → Refuses d r bytes fault → ⊥
+  not-bad_capsule r bytes fault cause same is refused =
+      let P : List ℕ → Type 0 = λ bs. capsule_in d bs ≡ Err cause in
+      let Q : InstallFault → Type 0 = λ f. Refuses d r bytes f in
+      is-capsule cause (subst P same (subst Q is refused))
+
+  pub not-bad_code : (r : Reading) (bytes : List ℕ) (fault : InstallFault) (cause : VerifyFault) → bytes ≡ p.image.items → fault ≡ BadCode cause → Refuses d r bytes fault → ⊥
+  not-bad_code r bytes fault cause same is refused =
+      let P : List ℕ → Type 0 = λ bs. IsUnverified d bs cause in
+      let Q : InstallFault → Type 0 = λ f. Refuses d r bytes f in
+      is-verified cause (subst P same (subst Q is refused))
 
   -- the capsule's program is this one
   is-program : (c : CapsuleParts) → IsRightCapsule d p.image.items c → program_by c p.image.items ≡ held_as p

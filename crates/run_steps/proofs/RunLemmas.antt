@@ -6,7 +6,7 @@ use Rattle.std.proofs.lemmas.List.{length-map, take-append-drop, take_all}
 use Rattle.mate_num.specs.declared.call.Stamp.{Stamp}
 use Rattle.vm_desc.specs.declared.description.Description.{Description}
 use Rattle.script_reader.specs.declared.steps.Step.{Step}
-use Rattle.script_reader.specs.Steps.{NodeScript}
+use Rattle.script_reader.specs.Steps.{NodeScript, IsRightStep}
 use Rattle.mate_journal.specs.Log.{Log, IsEmpty, IsSameLog}
 use Rattle.mate_journal.specs.Machine.{Machine, Meaning}
 use Rattle.mate_journal.specs.Journal.{Told, Event, Reading, journal_of, nothing_heard, heard_all, told_by, told_of}
@@ -26,13 +26,14 @@ use Rattle.journal_laws.proofs.FewLemmas.{run-few}
 use Rattle.mate_journal.proofs.JournalLemmas.{told_by-at}
 use Rattle.journal_laws.proofs.ScriptRuns.{HaveMade-push, AreOfEvent-at}
 use Rattle.vm_desc.specs.Shapes.{shape_of}
+use Rattle.vm_desc.specs.Whole.{context_count}
 use Rattle.node_invariant.specs.Meaning.{machine_in, clock_of, meaning_of}
 use Rattle.node_invariant.specs.Keeps.{reading, event_at, IsTimely}
 use Rattle.open_node.specs.View.{NodeView, heard_of, HasPace, Tells, IsSameNode}
 use Rattle.open_node.specs.Calls.{Pacing}
 use Rattle.open_node.specs.Journal.{KeepsJournal}
 use Rattle.node_programs.specs.Right.{AreRightPrograms}
-use Rattle.node_programs.specs.ScriptSteps.{step_of, steps_of}
+use Rattle.node_programs.specs.ScriptSteps.{AreProgramsOf, step_of, steps_of}
 use Rattle.node_programs.proofs.MeaningLemmas.{meaning_by-right}
 use Rattle.run_steps.specs.Running.{MakesOn, at_event, HasRun, IsReportOf}
 
@@ -154,6 +155,19 @@ timely-next d ps list i event v h within same =
     let len : length (take i list) ≡ i = taken list i within in
     let number : suc (length (take i list)) ≡ event + 1 = omega (arith, same, len) in
     subst (λ (n : ℕ). IsTimely (at_event n) v.log) number (next-timely (length (take i list)) v.log h.timely)
+
+-- each step of a script is right on a node of its machine, with the programs of its files
+pub right-step : (d on : Description) (script : NodeScript) (ps : List Program) (list : List Step) (i : ℕ) (step : Step) → AreProgramsOf d script ps → list ≡ script.steps → i < length list → step ≡ slice_index_or list i step
+    → on ≡ d → IsRightStep on (length ps) step
+right-step d on script ps list i step are same below is description =
+    let low : i < length script.steps = subst (λ (l : List Step). i < length l) same below in
+    let stands : step ≡ slice_index_or script.steps i step = is ∙ ap (λ (l : List Step). slice_index_or l i step) same in
+    subst (λ (x : Description). IsRightStep x (length ps) step) (sym description)
+    (subst (λ (n : ℕ). IsRightStep d n step) (sym are.count)
+    (subst (λ (s : Step). IsRightStep d (length script.files) s) (sym stands) (are.steps.each i step low)))
+
+pub few-contexts : (d on : Description) (n : ℕ) → n ≡ context_count d → n ≤ 16 → on ≡ d → context_count on ≤ 16
+few-contexts d on n same few description = subst (λ (k : ℕ). k ≤ 16) (same ∙ ap context_count (sym description)) few
 
 -- no log of a run is near a position's end
 pub few-entries : (d : Description) (ps : List Program) (done : List Step) (v : NodeView) → HasRun d ps done v → KeepsJournal v.description (machine_in v.description) v.log

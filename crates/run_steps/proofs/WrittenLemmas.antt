@@ -198,34 +198,41 @@ module _ (d : Description) (script : NodeScript) (ps : List Program) (how : RunE
         covers = ap (λ ys. ys ++ part.front) covered ∙ append_assoc (lines_before d r (last_event how events)) (event_lines d (one l) (last_event how events)) part.front;
       }
 
+-- the sink's faults only rise at the last line
+pub ended-later : (report : Report) (out out' : Option (List ℕ)) (before now : ℕ) (result : Result Report IntoFault) → EndsInto report out before out' now result → before ≤ now
+ended-later report out out' before now (Ok r) e = e.3
+ended-later report out out' before now (Err (LogFull r)) e = e.3
+ended-later report out out' before now (Err (NoMemory r)) e = e.2
+ended-later report out out' before now (Err (Sink r)) e = e.3
+
 -- the last line was written, or the sink stopped there
 pub ended-whole : (d : Description) (script : NodeScript) (ps : List Program) (out0 out1 out2 : Option (List ℕ)) (f0 f1 f2 : ℕ) (l : Log) (events n : ℕ) (result : Result Report IntoFault)
     → IsReportOf d script ps Whole (report_with l events true) → suc events ≡ n → lines d (one l) ≡ flat_map (event_lines d (one l)) (below n) ++ event_lines d (one l) n
-    → Sent out0 out1 (lines d (one l)) → f0 ≤ f1 → EndsInto (report_with l events true) out1 f1 out2 f2 result → RunsInto d script ps out0 out2 f0 f2 result × (f0 ≤ f2)
+    → Sent out0 out1 (lines d (one l)) → f0 ≤ f1 → EndsInto (report_with l events true) out1 f1 out2 f2 result → RunsInto d script ps out0 out2 f0 f2 result
 ended-whole d script ps out0 out1 out2 f0 f1 f2 l events n (Ok r) report last all sent later e =
     let P : Report → Type 0 = λ x. IsReportOf d script ps Whole x × Sent out0 out2 (text d x) in
-    (subst P (sym e.0) (report, Sent-trans sent e.2), omega (arith, later, e.3))
+    subst P (sym e.0) (report, Sent-trans sent e.2)
 ended-whole d script ps out0 out1 out2 f0 f1 f2 l events n (Err (LogFull r)) report last all sent later e = let bad : true ≡ false = e.1 in absurd cc
 ended-whole d script ps out0 out1 out2 f0 f1 f2 l events n (Err (NoMemory r)) report last all sent later e =
     let P : Report → Type 0 = λ x. IsWrittenPart d script ps out0 out2 x in
-    (inr (subst P (sym e.0) (stopped-behind d script ps Whole out0 out1 out2 l events n report last all sent e.1)), omega (arith, later, e.2))
+    inr (subst P (sym e.0) (stopped-behind d script ps Whole out0 out1 out2 l events n report last all sent e.1))
 ended-whole d script ps out0 out1 out2 f0 f1 f2 l events n (Err (Sink r)) report last all sent later e =
     let P : Report → Type 0 = λ x. IsWrittenPart d script ps out0 out2 x in
-    ((subst P (sym e.0) (stopped-behind d script ps Whole out0 out1 out2 l events n report last all sent e.1), Rose-after f0 f1 f2 later e.2), omega (arith, later, e.3))
+    (subst P (sym e.0) (stopped-behind d script ps Whole out0 out1 out2 l events n report last all sent e.1), Rose-after f0 f1 f2 later e.2)
 
 pub ended-full : (d : Description) (script : NodeScript) (ps : List Program) (out0 out1 out2 : Option (List ℕ)) (f0 f1 f2 : ℕ) (l : Log) (events n : ℕ) (result : Result Report IntoFault)
     → IsReportOf d script ps Full (report_with l events false) → events ≡ n → lines d (one l) ≡ flat_map (event_lines d (one l)) (below n) ++ event_lines d (one l) n
-    → Sent out0 out1 (lines d (one l)) → f0 ≤ f1 → EndsInto (report_with l events false) out1 f1 out2 f2 result → RunsInto d script ps out0 out2 f0 f2 result × (f0 ≤ f2)
+    → Sent out0 out1 (lines d (one l)) → f0 ≤ f1 → EndsInto (report_with l events false) out1 f1 out2 f2 result → RunsInto d script ps out0 out2 f0 f2 result
 ended-full d script ps out0 out1 out2 f0 f1 f2 l events n (Ok r) report last all sent later e = let bad : false ≡ true = e.1 in absurd cc
 ended-full d script ps out0 out1 out2 f0 f1 f2 l events n (Err (LogFull r)) report last all sent later e =
     let P : Report → Type 0 = λ x. IsReportOf d script ps Full x × Sent out0 out2 (text d x) in
-    (subst P (sym e.0) (report, Sent-trans sent e.2), omega (arith, later, e.3))
+    subst P (sym e.0) (report, Sent-trans sent e.2)
 ended-full d script ps out0 out1 out2 f0 f1 f2 l events n (Err (NoMemory r)) report last all sent later e =
     let P : Report → Type 0 = λ x. IsWrittenPart d script ps out0 out2 x in
-    (inr (subst P (sym e.0) (stopped-behind d script ps Full out0 out1 out2 l events n report last all sent e.1)), omega (arith, later, e.2))
+    inr (subst P (sym e.0) (stopped-behind d script ps Full out0 out1 out2 l events n report last all sent e.1))
 ended-full d script ps out0 out1 out2 f0 f1 f2 l events n (Err (Sink r)) report last all sent later e =
     let P : Report → Type 0 = λ x. IsWrittenPart d script ps out0 out2 x in
-    ((subst P (sym e.0) (stopped-behind d script ps Full out0 out1 out2 l events n report last all sent e.1), Rose-after f0 f1 f2 later e.2), omega (arith, later, e.3))
+    (subst P (sym e.0) (stopped-behind d script ps Full out0 out1 out2 l events n report last all sent e.1), Rose-after f0 f1 f2 later e.2)
 
 -- the sink's fault stopped the run
 pub stopped-by : (d : Description) (script : NodeScript) (ps : List Program) (out0 out1 out2 : Option (List ℕ)) (f0 f1 f2 : ℕ) (fault : SinkFault) (r : Report) (answer : IntoFault)
@@ -244,6 +251,23 @@ stopped-with d script ps out0 out1 out2 f0 f1 f2 fault r answer part later cause
       is-stopped : (fault : SinkFault) (r : Report) → IsStopped fault r (into_fault (write_fault_of fault) r)
       is-stopped Failed r = refl
       is-stopped OutOfMemory r = refl
+
+-- ---- with the report
+
+module _ (d : Description) (script : NodeScript) (ps : List Program) (out out' : Option (List ℕ)) (f f' : ℕ) (result : Result (Unit {0}) WriteFault) (made r : Report) where
+  pub given-whole : RunsInto d script ps out out' f f' (with_report result made) → result ≡ Ok tt → r ≡ made → RunsInto d script ps out out' f f' (Ok r)
+  given-whole gives whole is =
+      let P : Result (Unit {0}) WriteFault → Type 0 = λ x. RunsInto d script ps out out' f f' (with_report x made) in
+      let Q : Report → Type 0 = λ x. RunsInto d script ps out out' f f' (Ok x) in
+      subst Q (sym is) (subst P whole gives)
+
+  pub given-fault : (fault : WriteFault) (answer : IntoFault) → RunsInto d script ps out out' f f' (with_report result made) → result ≡ Err fault → r ≡ made → answer ≡ into_fault fault r
+      → RunsInto d script ps out out' f f' (Err answer)
+  given-fault fault answer gives failed is answers =
+      let P : Result (Unit {0}) WriteFault → Type 0 = λ x. RunsInto d script ps out out' f f' (with_report x made) in
+      let Q : Report → Type 0 = λ x. RunsInto d script ps out out' f f' (Err (into_fault fault x)) in
+      let R : IntoFault → Type 0 = λ x. RunsInto d script ps out out' f f' (Err x) in
+      subst R (sym answers) (subst Q (sym is) (subst P failed gives))
 
 -- ---- the last line
 

@@ -1,4 +1,5 @@
 pub mod StepLaws
+pub mod ReadLemmas
 pub mod OrderLemmas
 pub mod RightLemmas
 pub mod EachLemmas

@@ -4,3 +4,4 @@ pub mod PayloadLemmas
 pub mod StepLemmas
 pub mod LineLemmas
 pub mod NodeLemmas
+mod ReadingLemmas

@@ -1,1 +1,2 @@
 pub mod JointLemmas
+pub mod CodeLemmas

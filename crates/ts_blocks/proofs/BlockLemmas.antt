@@ -1,5 +1,5 @@
 -- The blocks inside others: their frames, and what ends them.
-use Rattle.std.proofs.Common.{◌≡◌, ℕ, List, ◌∷◌, Option, Some, None, Err, refl, sym, subst, ap, ◌∙◌}
+use Rattle.std.proofs.Common.{◌≡◌, List, ◌∷◌, Option, Some, None, Err, refl, sym, ap, ◌∙◌}
 use Rattle.ts_syntax.specs.declared.dialect.Dialect.{Dialect}
 use Rattle.ts_syntax.specs.declared.stmt.Step.{Step}
 use Rattle.ts_syntax.specs.declared.token.Token.{Token}
@@ -7,11 +7,12 @@ use Rattle.ts_syntax.specs.declared.token.TokenKind.{TokenKind}
 use Rattle.ts_syntax.specs.declared.token.TokenKind.TheVariants as kind
 use Rattle.ts_syntax.specs.declared.word.Word.{Word}
 use Rattle.ts_syntax.specs.Spelling.{kinds}
-use Rattle.ts_syntax.specs.Tree.{Tree, Act, Acts, no_acts, while_do, if_else, for_next}
+use Rattle.ts_syntax.specs.Tree.{Tree, Act, Acts, no_acts, while_do, if_then, if_else, for_next}
 use Rattle.ts_machine.specs.Code.{code_of}
-use Rattle.ts_machine.specs.Machine.{Frame, then_part, else_part, for_part, while_part, State, block, nexted, if_ended, while_ended, with_act, word, step_if, step_while, step_name}
+use Rattle.ts_machine.specs.Machine.{Frame, then_part, else_part, for_part, while_part, State, block, nexted, if_ended, while_ended, with_act, word, step_if, step_while}
 use Rattle.ts_machine.specs.Parsing.{reads, Starts, Lacks, StartsName, LacksName}
 use Rattle.ts_blocks.specs.Blocks.{FrameIn, LacksStmt, Choice, Branch, Repetition, Count}
+use Rattle.ts_machine.proofs.Missing.{lacks_name, only_name}
 use Rattle.ts_machine.proofs.Reading.{sign_read, name_read, stops}
 use Rattle.ts_statements.proofs.SimpleLemmas.{sign_stops}
 use Rattle.ts_blocks.proofs.OpeningLemmas.{block_stops, while_ends, else_ends, for_ends}
@@ -65,6 +66,9 @@ else_begins s a e b f = sign_read kind.Else s tt _ _ (λ p. refl)
 pub else_end : {ts us : List Token} → Starts kind.End ts us → (a : Acts) (e : Tree) (c b : Acts) (f : Frame) → reads ts (block a (else_part e c b f)) ≡ reads us (if_ended (if_else e c a) b f)
 else_end s a e c b f = sign_read kind.End s tt _ _ (λ p. refl)
 
+pub then_end : {ts us : List Token} → Starts kind.End ts us → (a : Acts) (e : Tree) (b : Acts) (f : Frame) → reads ts (block a (then_part e b f)) ≡ reads us (if_ended (if_then e a) b f)
+then_end s a e b f = sign_read kind.End s tt _ _ (λ p. refl)
+
 pub if_named : {ts us : List Token} → Starts kind.If ts us → (x : Act) (a : Acts) (f : Frame) → reads ts (if_ended x a f) ≡ reads us (block (with_act a x) f)
 if_named s x a f = sign_read kind.If s tt _ _ (λ p. refl)
 
@@ -77,14 +81,7 @@ for_next_read {v} {us} {vs} n m a w s t q b f =
     sign_read kind.Next n tt _ _ (λ p. refl) ∙ ap (λ xs. reads xs (nexted w s t q a b f)) m.are
     ∙ name_read m.token vs v.name (nexted w s t q a b f) (block (with_act b (for_next w s t q a v)) f) m.name (ap (λ p. Some (block (with_act b (for_next w s t q a (word v.name p))) f)) (sym m.place))
 
-lacks_name : (ts : List Token) → LacksName ts → (t : Token) (rest : List Token) → ts ≡ t ∷ rest → (n : List ℕ) → t.kind ≡ kind.Name n → ⊥
-lacks_name ts l t rest e = let h : LacksName (t ∷ rest) = subst LacksName e l in h
-
-only_name : (m : TokenKind) (p : ℕ) (q : Word → State) → ((n : List ℕ) → m ≡ kind.Name n → ⊥) → step_name m p q ≡ None
-only_name (kind.Name n) p q h = absurd (h n refl)
-only_name m p q h = refl
-
 pub for_left : {ts us rest : List Token} → Starts kind.Next ts us → (rest ≡ us) × LacksName us → (a : Acts) (w : Word) (s t : Tree) (q : Option Step) (b : Acts) (f : Frame) → reads ts (block a (for_part w s t q b f)) ≡ Err (kinds rest)
 for_left {us} {rest} n l a w s t q b f =
     sign_read kind.Next n tt _ (nexted w s t q a b f) (λ p. refl)
-    ∙ stops us (nexted w s t q a b f) refl (λ x more e p. only_name x.kind p _ (lacks_name us l.1 x more e)) ∙ ap (λ z. Err (kinds z)) (sym l.0)
+    ∙ stops us (nexted w s t q a b f) refl (λ x more e p. only_name _ x.kind (lacks_name us l.1 x more e) p) ∙ ap (λ z. Err (kinds z)) (sym l.0)

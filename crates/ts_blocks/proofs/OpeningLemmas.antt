@@ -17,7 +17,7 @@ use Rattle.ts_machine.specs.Machine.{Frame, top, then_part, while_part, in_if, i
 use Rattle.ts_machine.specs.Parsing.{noted_then, reads, Starts, Lacks}
 use Rattle.ts_blocks.specs.Blocks.{opening_of, opened_by, StartsStmt, LacksStmt, do_opening, FrameIn}
 use Rattle.ts_machine.proofs.Reading.{sign_read, stops, agree}
-use Rattle.ts_statements.proofs.SimpleLemmas.{IsOther, lacks_first}
+use Rattle.ts_machine.proofs.Missing.{IsOther, lacks_first}
 
 -- ---- how a statement begins
 
@@ -114,6 +114,15 @@ for_ends a w s t q b f m h = refl
 
 pub then_read : {ts rest : List Token} → Starts kind.Then ts rest → (e : Tree) (a : Acts) (f : Frame) → reads ts (have e (in_if a f)) ≡ reads rest (block no_acts (then_part e a f))
 then_read s e a f = sign_read kind.Then s tt _ _ (λ p. refl)
+
+pub then_left : {ts rest : List Token} → Lacks kind.Or ts → (rest ≡ ts) × Lacks kind.Then ts → (e : Tree) (a : Acts) (f : Frame) → reads ts (have e (in_if a f)) ≡ Err (kinds rest)
+then_left {ts} {rest} o l e a f =
+    stops ts (have e (in_if a f)) refl (λ t more i p. only t.kind p (lacks_first kind.Or ts o t more i) (lacks_first kind.Then ts l.1 t more i)) ∙ ap (λ z. Err (kinds z)) (sym l.0)
+  where
+    only : (m : TokenKind) (p : ℕ) → IsOther kind.Or m → IsOther kind.Then m → step (have e (in_if a f)) m p ≡ None
+    only kind.Or p h g = absurd (h refl)
+    only kind.Then p h g = absurd (g refl)
+    only m p h g = refl
 
 body_step : (e : Tree) (a : Acts) (f : Frame) (m : TokenKind) (p : ℕ) → IsOther kind.Or m → step (have e (in_while a f)) m p ≡ step (block no_acts (while_part e a f)) m p
 body_step e a f kind.Or p h = absurd (h refl)

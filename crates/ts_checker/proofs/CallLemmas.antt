@@ -13,10 +13,10 @@ use Rattle.ts_syntax.specs.Seen.{trees_of}
 use Rattle.ts_syntax.specs.declared.expr.Expr.{Expr}
 use Rattle.ts_syntax.specs.declared.word.Word.{Word}
 use Rattle.ts_scope.specs.declared.fault.CheckFault.{CheckFault}
-use Rattle.ts_scope.specs.declared.fault.CheckFault.TheVariants.{Arity}
+use Rattle.ts_scope.specs.declared.fault.CheckFault.TheVariants.{Arity, Kind}
 use Rattle.ts_scope.specs.Refusal.{◌>>=◌}
 use Rattle.ts_scope.specs.Names.{ScriptNames, function}
-use Rattle.ts_checker.specs.Checks.{calls, sent, tree_count, checked_call}
+use Rattle.ts_checker.specs.Checks.{calls, sends, sent, tree_count, checked_call}
 
 -- a literal of at most 65535, read as a 16-bit number
 pub wrap-literal : (n : ℕ) → n < 65536 → cast_signed w16 n ≡ wrap (pos n)
@@ -49,3 +49,18 @@ call_miscounted n allowed w es args f found here plain other =
     let counted : (tree_count (trees_of es) == args_of f.1) ≡ false =
     (let e : tree_count (trees_of es) ≡ length es = tree_count-trees_of es in grind (arith, nat_tests)) in
     rw (found, here, plain, counted) refl
+
+-- a function that isn't found, and a call where none is allowed
+pub call_unfound : (n : ScriptNames) (allowed : Bool) (w : Word) (es : List Expr) (args : Result Arguments CheckFault) (e : CheckFault)
+    → function n w ≡ Err e → checked_call n allowed w (trees_of es) args ≡ Err e
+call_unfound n allowed w es args e missing = rw missing refl
+
+pub call_barred : (n : ScriptNames) (allowed : Bool) (w : Word) (es : List Expr) (args : Result Arguments CheckFault) (f : FunId × FunKind)
+    → function n w ≡ Ok f → allowed ≡ false → checked_call n allowed w (trees_of es) args ≡ Err (Kind w.place)
+call_barred n allowed w es args f found here = rw (found, here) refl
+
+-- a function that sends a buffer
+pub call_sends : (n : ScriptNames) (allowed : Bool) (w : Word) (es : List Expr) (args : Result Arguments CheckFault) (f : FunId × FunKind)
+    → function n w ≡ Ok f → allowed ≡ true → is_send f.1 ≡ true
+    → checked_call n allowed w (trees_of es) args ≡ (sent n w.place (trees_of es) >>= (λ p. Ok (sends f.0 p)))
+call_sends n allowed w es args f found here sending = rw (found, here, sending) refl

@@ -1,14 +1,19 @@
 -- What is returned where a part of a check refuses.
-use Rattle.std.proofs.Common.{◌≡◌, true, List, Option, Some, None, Result, Ok, Err, ◌∙◌, ap}
+use Rattle.std.proofs.Common.{◌≡◌, Bool, true, List, Option, Some, None, Result, Ok, Err, ◌∙◌, ap, sym}
 use Rattle.std.specs.Prelude.{IsErrAnd}
+use Rattle.std.specs.declared.alloc.Global.{Global}
+use Rattle.std.specs.declared.boxed.Box.{Box}
+use Rattle.ts_syntax.specs.declared.bin_op.BinOp.{BinOp}
+use Rattle.ts_syntax.specs.declared.expr.Expr.TheVariants as of
 use Rattle.ts_syntax.specs.Seen.{tree_of, act_of, acts_of}
-use Rattle.ts_syntax.specs.Expression.{Expression}
+use Rattle.ts_syntax.specs.Expression.{Expression, Two}
 use Rattle.ts_syntax.specs.Statement.{If, IfElse}
 use Rattle.ts_syntax.specs.declared.expr.Expr.{Expr}
 use Rattle.ts_syntax.specs.declared.stmt.Stmt.{Stmt}
 use Rattle.ts_syntax.specs.declared.stmt.Stmt.TheVariants as does
-use Rattle.ts_syntax.proofs.SeenLemmas.{act_if_then, act_if_else}
+use Rattle.ts_syntax.proofs.SeenLemmas.{tree_two, act_if_then, act_if_else}
 use Rattle.ts_scope.specs.declared.fault.CheckFault.{CheckFault}
+use Rattle.ts_scope.specs.declared.fault.CheckFault.TheVariants.{Undeclared, NotInVm, Twice, Kind, Arity, TooManyPrivates, NoMemory}
 use Rattle.ts_scope.specs.Refusal.{◌>>=◌, RefusesScript, GivesChecked}
 use Rattle.ts_scope.specs.Names.{ScriptNames}
 use Rattle.ts_scope.proofs.CheckLemmas.{refuses_along, gives_refusal}
@@ -18,6 +23,35 @@ use Rattle.ts_checker.specs.Checks.{checked_expr, checked_stmt, checked_block}
 pub refused_part : {A B C : Type 0} (view : A → B) (e : CheckFault) (result : Result A CheckFault) (part : Result C CheckFault) (whole : Result B CheckFault)
     → ((f : CheckFault) → part ≡ Err f → whole ≡ Err f) → IsErrAnd result (λ y. y ≡ e) → RefusesScript e part → GivesChecked view result whole
 refused_part view e result part whole along is h = gives_refusal view e result whole is (refuses_along e part whole along h)
+
+refuses_by : {A : Type 0} (e : CheckFault) (check : Result A CheckFault) → check ≡ Err e → RefusesScript e check
+refuses_by (Undeclared name place) check is = is
+refuses_by (NotInVm name) check is = is
+refuses_by (Twice name) check is = is
+refuses_by (Kind place) check is = is
+refuses_by (Arity place) check is = is
+refuses_by TooManyPrivates check is = is
+refuses_by NoMemory check is = tt
+
+-- the check refuses with this fault
+pub refused_by : {A B : Type 0} (view : A → B) (e : CheckFault) (result : Result A CheckFault) (check : Result B CheckFault)
+    → check ≡ Err e → IsErrAnd result (λ y. y ≡ e) → GivesChecked view result check
+refused_by view e result check refused is = gives_refusal view e result check is (refuses_by e check refused)
+
+-- the two operands of an expression
+pub left_refused : (n : ScriptNames) (calls : Bool) (o : BinOp) (l r : Box Expr Global) (left : Expr) {e : Expr} → e ≡ of.Two o l r → left ≡ l.value
+    → (f : CheckFault) → checked_expr n calls (tree_of left) ≡ Err f → checked_expr n calls (tree_of e) ≡ Err f
+left_refused n calls o l r left is same f refused =
+    ap (λ x. checked_expr n calls (tree_of x)) is ∙ ap (checked_expr n calls) (tree_two o l r)
+    ∙ ap (λ x. x >>= (λ a. checked_expr n calls (tree_of r.value) >>= (λ b. Ok (Two o a b)))) (ap (λ x. checked_expr n calls (tree_of x)) (sym same) ∙ refused)
+
+pub right_refused : (n : ScriptNames) (calls : Bool) (o : BinOp) (l r : Box Expr Global) (left right : Expr) (a : Expression) {e : Expr} → e ≡ of.Two o l r
+    → left ≡ l.value → right ≡ r.value → checked_expr n calls (tree_of left) ≡ Ok a
+    → (f : CheckFault) → checked_expr n calls (tree_of right) ≡ Err f → checked_expr n calls (tree_of e) ≡ Err f
+right_refused n calls o l r left right a is same also here f refused =
+    ap (λ x. checked_expr n calls (tree_of x)) is ∙ ap (checked_expr n calls) (tree_two o l r)
+    ∙ ap (λ x. x >>= (λ a. checked_expr n calls (tree_of r.value) >>= (λ b. Ok (Two o a b)))) (ap (λ x. checked_expr n calls (tree_of x)) (sym same) ∙ here)
+    ∙ ap (λ x. x >>= (λ b. Ok (Two o a b))) (ap (λ x. checked_expr n calls (tree_of x)) (sym also) ∙ refused)
 
 -- the test of an `if`, and the statements where it holds
 pub if_test_refused : (n : ScriptNames) (e : Expr) (a : List Stmt) (b : Option (List Stmt)) {s : Stmt} → s ≡ does.If e a b

@@ -78,3 +78,31 @@ capped-two is js i size e = let h = bytes_of-append is (js ++ i ∷ []) in let k
 pub two_sizes : (all both left right l r i : ℕ) → left ≡ capped l → right ≡ capped r → both ≡ capped (left + right) → all ≡ capped (both + 1) → i ≡ 1
     → all ≡ capped (capped (capped l + capped r) + i)
 two_sizes all both left right l r i left_is right_is both_is all_is one = omega arith
+
+-- ---- steps of an extent, each where it stops at 1,000,000,000
+
+pub capped-with : (n k a all : ℕ) → a ≡ capped n → all ≡ capped (a + k) → all ≡ capped (n + k)
+capped-with n k a all a_is all_is = omega arith
+
+pub capped-above : (n k a all : ℕ) → a ≡ capped n → all ≡ capped (a + k) → all ≡ capped (k + n)
+capped-above n k a all a_is all_is = omega arith
+
+pub capped-then : (n m a b all : ℕ) → a ≡ capped n → b ≡ capped m → all ≡ capped (a + b) → all ≡ capped (n + m)
+capped-then n m a b all a_is b_is all_is = omega arith
+
+pub capped-max : (n m a b all : ℕ) → a ≡ capped n → b ≡ capped m → all ≡ max a b → all ≡ capped (max n m)
+capped-max n m a b all a_is b_is all_is = omega arith
+
+-- the test of a `for` needs room for its limit above its variable, and its step for two values
+pub for_needs : (from to body : ℕ) → max (max from (max (1 + to) 2)) body ≡ max from (max (1 + to) (max 2 body))
+for_needs from to body = omega arith
+
+-- the bytes of the jumps stand where the tree has them
+pub else_bytes : (e a b : ℕ) → (e + 6) + (a + b) ≡ e + 3 + a + 3 + b
+else_bytes e a b = omega arith
+
+pub for_bytes : (from to step body : ℕ) → (from + to + step + 16) + body ≡ from + 2 + 2 + to + 1 + 3 + body + 2 + step + 1 + 2 + 3
+for_bytes from to step body = omega arith
+
+pub while_bytes : (e a : ℕ) → (e + 6) + a ≡ e + 3 + a + 3
+while_bytes e a = omega arith

@@ -52,6 +52,26 @@ writes_same {old} {new} {xs} {ys} e writes = let P : List Instr → Type 0 = λ 
 pub room_same : {old xs ys : List Instr} → xs ≡ ys → HasRoom old xs → HasRoom old ys
 room_same {old} {xs} {ys} e room = let P : List Instr → Type 0 = λ is. HasRoom old is in subst P e room
 
+-- the code of an expression and of a statement, by the tree that it shows
+pub room_expr : {old : List Instr} {d e : Expression} → d ≡ e → HasRoom old (expr_code d) → HasRoom old (expr_code e)
+room_expr {old} {d} {e} seen room = room_same (ap expr_code seen) room
+
+pub writes_expr : {old new : List Instr} {d e : Expression} → d ≡ e → WritesInstrs old (expr_code e) new → WritesInstrs old (expr_code d) new
+writes_expr {old} {new} {d} {e} seen writes = writes_same (ap expr_code (sym seen)) writes
+
+pub room_stmt : {old : List Instr} {x y : Statement} → x ≡ y → HasRoom old (stmt_code (size_of_instrs old) x) → HasRoom old (stmt_code (size_of_instrs old) y)
+room_stmt {old} {x} {y} seen room = room_same (ap (stmt_code (size_of_instrs old)) seen) room
+
+pub writes_stmt : {old new : List Instr} {x y : Statement} → x ≡ y → WritesInstrs old (stmt_code (size_of_instrs old) y) new → WritesInstrs old (stmt_code (size_of_instrs old) x) new
+writes_stmt {old} {new} {x} {y} seen writes = writes_same (ap (stmt_code (size_of_instrs old)) (sym seen)) writes
+
+-- the last instruction, as a function gave it
+pub room_last : {old : List Instr} {i j : Instr} (xs : List Instr) → i ≡ j → HasRoom old (xs ++ j ∷ []) → HasRoom old (xs ++ i ∷ [])
+room_last {old} {i} {j} xs is room = room_same (ap (λ (k : Instr). xs ++ k ∷ []) (sym is)) room
+
+pub writes_last : {old new : List Instr} {i j : Instr} (xs : List Instr) → i ≡ j → WritesInstrs old (xs ++ i ∷ []) new → WritesInstrs old (xs ++ j ∷ []) new
+writes_last {old} {new} {i} {j} xs is writes = writes_same (ap (λ (k : Instr). xs ++ k ∷ []) is) writes
+
 -- ---- the arguments of a call
 
 -- the code of all arguments behind what was written at first is that of the rest behind what is written now

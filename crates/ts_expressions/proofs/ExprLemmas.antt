@@ -1,5 +1,5 @@
 -- Reading expressions: the tokens that the states take, and where two states take the next token alike.
-use Rattle.std.proofs.Common.{◌≡◌, ℕ, List, [], ◌∷◌, ◌++◌, None, Result, Err, Bor, refl, sym, ◌∙◌, ap}
+use Rattle.std.proofs.Common.{◌≡◌, ℕ, List, [], ◌∷◌, ◌++◌, Some, None, Result, Err, Bor, refl, sym, ◌∙◌, ap}
 use Rattle.std.specs.declared.alloc.Global.{Global}
 use Rattle.std.specs.declared.boxed.Box.{Box}
 use Rattle.ts_expressions.specs.Boxed.{boxed_tree}
@@ -7,17 +7,17 @@ use Rattle.ts_syntax.specs.declared.word.Word.{Word}
 use Rattle.ts_syntax.specs.declared.token.Token.{Token}
 use Rattle.ts_syntax.specs.declared.token.TokenKind.{TokenKind}
 use Rattle.ts_syntax.specs.declared.token.TokenKind.TheVariants as kind
-use Rattle.ts_syntax.specs.Tree.{Tree, variable, call, call_alone, run_procedure, negative, Trees, tree_then}
+use Rattle.ts_syntax.specs.Tree.{Tree, variable, call, call_alone, run_procedure, negative, paren, item, size, message_size, message_item, Trees, no_trees, tree_then}
 use Rattle.ts_syntax.specs.declared.expr.Expr.{Expr}
 use Rattle.ts_syntax.specs.Seen.{tree_of, trees_of}
 use Rattle.std.specs.Result.{IsErrAnd}
 use Rattle.ts_machine.specs.declared.halt.Halt.{Halt}
 use Rattle.ts_machine.specs.Code.{code_of}
-use Rattle.ts_machine.specs.Machine.{Operand, in_negative, first_product, in_product, Inverse, in_inverse, in_and, Conjunction, in_args, in_call, in_do, State, want, want_inverse, named, opened, have_inverse, have_and, have, closed, with_tree, inverse_due, expr_due, give, step, finish}
-use Rattle.ts_machine.specs.Parsing.{reads, Reads, Starts, Lacks, Caller, of_operand, of_stmt, of_do, called_open, called_with, called}
+use Rattle.ts_machine.specs.Machine.{Operand, in_negative, first_product, in_product, Inverse, in_inverse, in_and, Conjunction, in_args, in_call, in_do, in_paren, in_item, in_message, State, want, want_inverse, named, opened, call_opened, do_opened, sized, size_opened, size_named, word, message, have_inverse, have_and, have, closed, with_tree, inverse_due, expr_due, give, step, finish}
+use Rattle.ts_machine.specs.Parsing.{reads, Reads, Starts, StartsName, Lacks, Caller, of_operand, of_stmt, of_do, called_open, called_with, called}
 use Rattle.ts_machine.proofs.Turns.{given_step, given_size}
 use Rattle.ts_machine.proofs.Parts.{halts, ends_as}
-use Rattle.ts_machine.proofs.Reading.{sign_read, alike_at, alike_end}
+use Rattle.ts_machine.proofs.Reading.{sign_read, name_read, alike_at, alike_end}
 
 -- `not`, or a comparison
 pub not_read : (k : Inverse) {ts rest : List Token} → Starts kind.Not ts rest → reads ts (want_inverse k) ≡ reads rest (want_inverse (in_inverse k))
@@ -54,6 +54,43 @@ pub call_halts : (w : Word) {ts rest : List Token} → Starts kind.Open ts rest 
 call_halts w {ts} {rest} s =
     halts (List Expr) (Box Expr Global) Caller Operand ts rest (λ k. called_open k) (λ es k. called k (trees_of es)) (λ k. named w k) (λ d k. give k (boxed_tree d)) (λ k. of_operand w k) (λ k. call_read w k s)
 
+-- an item, from its `[` on
+pub item_begins : (w : Word) (k : Operand) {ts rest : List Token} → Starts kind.OpenBox ts rest → reads ts (named w k) ≡ reads rest (expr_due (in_item w k))
+item_begins w k s = sign_read kind.OpenBox s tt (named w k) (expr_due (in_item w k)) (λ p. refl)
+
+pub item_read : (w : Word) {ts rest : List Token} → Starts kind.OpenBox ts rest → (r : Result (Box Expr Global × Bor (List Token)) Halt) → Reads {X = Box Expr Global} {K = Operand} rest (λ k. expr_due (in_item w k)) (λ e k. give k (boxed_tree e)) r → Reads {X = Box Expr Global} {K = Operand} ts (λ k. named w k) (λ e k. give k (boxed_tree e)) r
+item_read w {ts} {rest} s =
+    ends_as (Box Expr Global) Operand Operand ts rest (λ k. expr_due (in_item w k)) (λ e k. give k (boxed_tree e)) (λ k. named w k) (λ e k. give k (boxed_tree e)) (λ k. k) (λ k. item_begins w k s) (λ x ms k. refl)
+
+-- a size
+pub size_begins : (k : Operand) {ts rest : List Token} → Starts kind.Open ts rest → reads ts (sized k) ≡ reads rest (size_opened k)
+size_begins k s = sign_read kind.Open s tt (sized k) (size_opened k) (λ p. refl)
+
+pub message_sized : (k : Operand) {ts rest : List Token} → Starts kind.Msg ts rest → reads ts (size_opened k) ≡ reads rest (size_named message_size k)
+message_sized k s = sign_read kind.Msg s tt (size_opened k) (size_named message_size k) (λ p. refl)
+
+pub buffer_sized : {v : Word} (k : Operand) {ts rest : List Token} → StartsName v ts rest → reads ts (size_opened k) ≡ reads rest (size_named (size v) k)
+buffer_sized {v} k {ts} {rest} s =
+    ap (λ xs. reads xs (size_opened k)) s.are
+    ∙ name_read s.token rest v.name (size_opened k) (size_named (size v) k) s.name (ap (λ p. Some (size_named (size (word v.name p)) k)) (sym s.place))
+
+pub size_closed : (e : Tree) (k : Operand) {ts rest : List Token} → Starts kind.Close ts rest → reads ts (size_named e k) ≡ reads rest (give k e)
+size_closed e k s = sign_read kind.Close s tt (size_named e k) (give k e) (λ p. refl)
+
+-- an item of the message
+pub message_begins : (k : Operand) {ts rest : List Token} → Starts kind.OpenBox ts rest → reads ts (message k) ≡ reads rest (expr_due (in_message k))
+message_begins k s = sign_read kind.OpenBox s tt (message k) (expr_due (in_message k)) (λ p. refl)
+
+-- an expression between brackets, where they close
+pub paren_closed : (e : Tree) (k : Operand) {ts rest : List Token} → Starts kind.Close ts rest → reads ts (have e (in_paren k)) ≡ reads rest (give k (paren e))
+paren_closed e k s = sign_read kind.Close s tt (have e (in_paren k)) (give k (paren e)) (λ p. refl)
+
+pub item_closed : (e : Tree) (w : Word) (k : Operand) {ts rest : List Token} → Starts kind.CloseBox ts rest → reads ts (have e (in_item w k)) ≡ reads rest (give k (item w e))
+item_closed e w k s = sign_read kind.CloseBox s tt (have e (in_item w k)) (give k (item w e)) (λ p. refl)
+
+pub message_closed : (e : Tree) (k : Operand) {ts rest : List Token} → Starts kind.CloseBox ts rest → reads ts (have e (in_message k)) ≡ reads rest (give k (message_item e))
+message_closed e k s = sign_read kind.CloseBox s tt (have e (in_message k)) (give k (message_item e)) (λ p. refl)
+
 -- a variable
 variable_left : (w : Word) (k : Operand) (m : TokenKind) → (code_of m ≡ code_of kind.Open → ⊥) → (code_of m ≡ code_of kind.OpenBox → ⊥) → (p : ℕ) → step (named w k) m p ≡ step (give k (variable w)) m p
 variable_left w k kind.Open h b p = absurd (h refl)
@@ -74,6 +111,11 @@ pub comma_read : (c : Caller) (es : Trees) (e : Tree) {ts rest : List Token} →
 comma_read (of_operand w k) es e s = sign_read kind.Comma s tt (have e (in_args w es k)) (expr_due (in_args w (with_tree es e) k)) (λ p. refl)
 comma_read (of_stmt w a f) es e s = sign_read kind.Comma s tt (have e (in_call w es a f)) (expr_due (in_call w (with_tree es e) a f)) (λ p. refl)
 comma_read (of_do w a f) es e s = sign_read kind.Comma s tt (have e (in_do w es a f)) (expr_due (in_do w (with_tree es e) a f)) (λ p. refl)
+
+pub no_arguments : (c : Caller) {ts rest : List Token} → Starts kind.Close ts rest → reads ts (called_open c) ≡ reads rest (called c no_trees)
+no_arguments (of_operand w k) s = sign_read kind.Close s tt (opened w k) (give k (call w no_trees)) (λ p. refl)
+no_arguments (of_stmt w a f) s = sign_read kind.Close s tt (call_opened w a f) (closed (call_alone w no_trees) a f) (λ p. refl)
+no_arguments (of_do w a f) s = sign_read kind.Close s tt (do_opened w a f) (closed (run_procedure w no_trees) a f) (λ p. refl)
 
 pub arguments_closed : (c : Caller) (es : Trees) (e : Tree) {ts rest : List Token} → Starts kind.Close ts rest → reads ts (have e (called_with c es)) ≡ reads rest (called c (with_tree es e))
 arguments_closed (of_operand w k) es e s = sign_read kind.Close s tt (have e (in_args w es k)) (give k (call w (with_tree es e))) (λ p. refl)

@@ -1,2 +1,3 @@
 pub mod ExprLemmas
 pub mod OperatorLemmas
+pub mod StoppingLemmas

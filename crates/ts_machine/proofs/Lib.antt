@@ -4,6 +4,7 @@ pub mod CompleteStmt
 pub mod Exact
 pub mod Finish
 pub mod MachineLemmas
+pub mod Missing
 pub mod Parts
 pub mod Past
 pub mod Placed

@@ -1,36 +1,108 @@
 -- Reading declarations, procedures and scripts: which token is taken in each state, and where none fits.
-use Rattle.std.proofs.Common.{◌≡◌, ℕ, List, [], ◌∷◌, ◌++◌, Some, None, Ok, Err, refl, sym, ◌∙◌, ap, subst, Result, Bor}
+use Rattle.std.proofs.Common.{◌≡◌, ℕ, Bool, true, false, List, [], ◌∷◌, ◌++◌, Some, None, Ok, Err, refl, sym, ◌∙◌, ap, subst, Result, Bor}
 use Rattle.ts_syntax.specs.declared.word.Word.{Word}
 use Rattle.ts_syntax.specs.declared.dialect.Dialect.{Dialect}
 use Rattle.ts_syntax.specs.declared.dialect.Dialect.TheVariants as dialect
 use Rattle.ts_syntax.specs.declared.stmt.Stmt.{Stmt}
 use Rattle.ts_syntax.specs.declared.script.Decl.{Decl}
+use Rattle.ts_syntax.specs.declared.script.DeclKind.{DeclKind}
 use Rattle.ts_syntax.specs.declared.token.Token.{Token}
 use Rattle.ts_syntax.specs.declared.token.TokenKind.{TokenKind}
 use Rattle.ts_syntax.specs.declared.token.TokenKind.TheVariants as kind
 use Rattle.ts_syntax.specs.Seen.{acts_of, procedure_source_of}
 use Rattle.ts_syntax.specs.Spelling.{kinds}
 use Rattle.ts_syntax.specs.Tree.{Acts, no_acts, Procedure}
+use Rattle.ts_syntax.specs.Derived.{Holds}
 use Rattle.ts_machine.specs.Code.{code_of}
-use Rattle.ts_machine.specs.Machine.{top, State, decls, block, word, step, step_frame, takes, places_after, first_place, finish, going, run, start, main, proc_part, dialect_of, procedures, proc_word, proc_named, proc_opened, param_read, param_due, read_script, ending, procedure, proc_ended, step_proc}
-use Rattle.ts_machine.specs.Parsing.{noted_then, reads, Starts, Lacks, StartsName, Reads}
+use Rattle.ts_machine.specs.Machine.{top, State, decls, decl_name, decl_more, declared, block, word, step, step_frame, takes, places_after, first_place, finish, going, run, start, main, proc_part, dialect_of, procedures, proc_word, proc_named, proc_opened, param_read, param_due, read_script, ending, procedure, proc_ended, step_proc}
+use Rattle.ts_machine.specs.Parsing.{noted_then, Gives, reads, Starts, Lacks, Takes, StartsName, LacksName, TakesName, Reads}
 use Rattle.ts_blocks.specs.Blocks.{LacksStmt, FrameIn}
-use Rattle.ts_parser.specs.Scripts.{decl_kind, LacksDecl, Header, params_due, script_frame, FewIn, Routine, ReadsScript}
-use Rattle.ts_machine.proofs.Reading.{sign_read, name_read, stops, agree}
-use Rattle.ts_statements.proofs.SimpleLemmas.{sign_stops, IsOther, lacks_first}
+use Rattle.ts_parser.specs.Scripts.{decl_kind, StartsDecl, LacksDecl, Header, params_due, script_frame, FewIn, Routine, ReadsScript}
+use Rattle.ts_machine.proofs.Missing.{IsOther, lacks_first, lacks_name, only_name, only_open}
+use Rattle.ts_machine.proofs.Reading.{is_plain, sign_read, name_read, stops, agree}
+use Rattle.ts_statements.proofs.SimpleLemmas.{sign_stops}
 use Rattle.ts_blocks.proofs.OpeningLemmas.{block_stops, ends_block}
 use Rattle.std.specs.Result.{IsErrAnd}
 use Rattle.ts_syntax.specs.declared.procedure.ProcScript.{ProcScript}
 use Rattle.ts_machine.specs.declared.halt.Halt.{Halt}
+use Rattle.ts_machine.specs.declared.halt.Halt.TheVariants as halt
 use Rattle.ts_statements.proofs.Halting.{passed_on, same_fault}
+
+-- ---- declarations
+
+pub decl_named : {v : Word} {ts us : List Token} → StartsName v ts us → (d : Dialect) (k : DeclKind) (b : Bool) (ds : List Decl) → reads ts (decl_name d k b ds) ≡ reads us (decl_more d k (ds ++ declared k b v ∷ []))
+decl_named {v} {ts} {us} s d k b ds =
+    ap (λ xs. reads xs (decl_name d k b ds)) s.are
+    ∙ name_read s.token us v.name (decl_name d k b ds) (decl_more d k (ds ++ declared k b v ∷ [])) s.name (ap (λ p. Some (decl_more d k (ds ++ declared k b (word v.name p) ∷ []))) (sym s.place))
+
+pub decl_missing : (ts : List Token) → LacksName ts → (d : Dialect) (k : DeclKind) (b : Bool) (ds : List Decl) → reads ts (decl_name d k b ds) ≡ Err (kinds ts)
+decl_missing ts l d k b ds = stops ts (decl_name d k b ds) refl (λ t more e. only_name _ t.kind (lacks_name ts l t more e))
+
+pub decl_follows : {ts us : List Token} → Starts kind.Comma ts us → (d : Dialect) (k : DeclKind) (ds : List Decl) → reads ts (decl_more d k ds) ≡ reads us (decl_name d k false ds)
+decl_follows o d k ds = sign_read kind.Comma o tt (decl_more d k ds) (decl_name d k false ds) (λ p. refl)
+
+only_more : (d : Dialect) (k : DeclKind) (ds : List Decl) (m : TokenKind) → IsOther kind.Comma m → IsOther kind.Semi m → (p : ℕ) → step (decl_more d k ds) m p ≡ None
+only_more d k ds kind.Comma h g p = absurd (h refl)
+only_more d k ds kind.Semi h g p = absurd (g refl)
+only_more d k ds m h g p = refl
+
+-- where a name is missing
+pub name_halts : (P : Bor (List Token) → Type 0) (Q : List Token → Type 0) (ts : List Token) → (LacksName ts → Q ts) → (r : Result (Bor (List Token)) Halt) (e : Halt) → IsErrAnd r (λ x. x ≡ e) → TakesName ts (Err e) → Gives r P Q
+name_halts P Q ts s r halt.Memory i h = absurd h
+name_halts P Q ts s r (halt.At rest) i h = same_fault P Q r (halt.At rest) i (subst Q (sym h.0) (s h.1))
+
+-- the end of a declaration, or another token
+pub decl_closes : (ts us : List Token) (q : Dialect → State) (k : DeclKind) (ds : List Decl) → ((d : Dialect) → reads ts (q d) ≡ reads us (decl_more d k ds)) → Lacks kind.Comma us → (r : Result (Bor (List Token)) Halt) → Takes kind.Semi us r
+    → Gives r (λ rest. (d : Dialect) → reads ts (q d) ≡ reads rest.now (decls d ds)) (λ rest. (d : Dialect) → reads ts (q d) ≡ Err (kinds rest))
+decl_closes ts us q k ds b l (Ok rest) h = λ d. b d ∙ sign_read kind.Semi h tt (decl_more d k ds) (decls d ds) (λ p. refl)
+decl_closes ts us q k ds b l (Err halt.Memory) h = absurd h
+decl_closes ts us q k ds b l (Err (halt.At rest)) h =
+    λ d. b d ∙ stops us (decl_more d k ds) refl (λ t more e. only_more d k ds t.kind (lacks_first kind.Comma us l t more e) (lacks_first kind.Semi us h.1 t more e)) ∙ ap (λ z. Err (kinds z)) (sym h.0)
+
+sign_same : {a b : DeclKind} → Some a ≡ Some b → a ≡ b
+sign_same h = cc
+
+no_sign : {a : DeclKind} → None ≡ Some a → ⊥
+no_sign h = cc
+
+decl_at : (m : TokenKind) → Holds (is_plain m) → {k p : DeclKind} {ts us : List Token} → (s : StartsDecl k ts us) → s.token.kind ≡ m → p ≡ k → (q : State) (r : DeclKind → State) → ((n : ℕ) → step q m n ≡ Some (r p)) → reads ts q ≡ reads us (r k)
+decl_at m plain {p = p} {us = us} s is same q r e = sign_read m (record { token = s.token; are = s.are; kind = ap code_of is }) plain q (r p) e ∙ ap (λ x. reads us (r x)) same
+
+-- the keyword of a declaration
+pub decl_begins : {k : DeclKind} {ts us : List Token} → StartsDecl k ts us → (d : Dialect) (ds : List Decl) → reads ts (decls d ds) ≡ reads us (decl_name d k true ds)
+decl_begins {k} {ts} {us} s d ds = at s.token.kind refl s.declares
+  where
+    at : (m : TokenKind) → s.token.kind ≡ m → decl_kind m ≡ Some k → reads ts (decls d ds) ≡ reads us (decl_name d k true ds)
+    at kind.Shared is h = decl_at kind.Shared tt s is (sign_same h) (decls d ds) (λ x. decl_name d x true ds) (λ n. refl)
+    at kind.Private is h = decl_at kind.Private tt s is (sign_same h) (decls d ds) (λ x. decl_name d x true ds) (λ n. refl)
+    at kind.Buffer is h = decl_at kind.Buffer tt s is (sign_same h) (decls d ds) (λ x. decl_name d x true ds) (λ n. refl)
+    at m is h = absurd (no_sign h)
+
+-- declarations that stop where one does
+pub decls_halt : {X Y : Type 0} (P : X → Type 0) (P' : Y → Type 0) (ts us : List Token) (q p : Dialect → State) → ((d : Dialect) → reads ts (q d) ≡ reads us (p d)) → (r : Result Y Halt) (e : Halt) → IsErrAnd r (λ x. x ≡ e)
+    → Gives {X = X} (Err e) P (λ rest. (d : Dialect) → reads us (p d) ≡ Err (kinds rest)) → Gives {X = Y} r P' (λ rest. (d : Dialect) → reads ts (q d) ≡ Err (kinds rest))
+decls_halt {X} {Y} P P' ts us q p b r e i h =
+    same_fault {Y = Y} P' (λ rest. (d : Dialect) → reads ts (q d) ≡ Err (kinds rest)) r e i
+    (passed_on {X = X} {Y = Y} P (λ rest. (d : Dialect) → reads us (p d) ≡ Err (kinds rest)) P' (λ rest. (d : Dialect) → reads ts (q d) ≡ Err (kinds rest)) (λ rest h d. b d ∙ h d) e h)
 
 -- ---- procedures
 
-pub header_begins : {v : Word} {ts us vs : List Token} → StartsName v ts us → Starts kind.Open us vs → (ds : List Decl) (ps : List Procedure) → reads ts (proc_word ds ps) ≡ reads vs (proc_opened v ds ps)
-header_begins {v} {ts} {us} s o ds ps =
+pub header_missing : {ts rest : List Token} → (rest ≡ ts) × LacksName ts → (ds : List Decl) (ps : List Procedure) → reads ts (proc_word ds ps) ≡ Err (kinds rest)
+header_missing {ts} {rest} l ds ps = stops ts (proc_word ds ps) refl (λ t more e. only_name _ t.kind (lacks_name ts l.1 t more e)) ∙ ap (λ z. Err (kinds z)) (sym l.0)
+
+header_names : {v : Word} {ts us : List Token} → StartsName v ts us → (ds : List Decl) (ps : List Procedure) → reads ts (proc_word ds ps) ≡ reads us (proc_named v ds ps)
+header_names {v} {ts} {us} s ds ps =
     ap (λ xs. reads xs (proc_word ds ps)) s.are
     ∙ name_read s.token us v.name (proc_word ds ps) (proc_named v ds ps) s.name (ap (λ p. Some (proc_named (word v.name p) ds ps)) (sym s.place))
-    ∙ sign_read kind.Open o tt _ _ (λ p. refl)
+
+pub header_open : {v : Word} {ts us rest : List Token} → StartsName v ts us → (rest ≡ us) × Lacks kind.Open us → (ds : List Decl) (ps : List Procedure) → reads ts (proc_word ds ps) ≡ Err (kinds rest)
+header_open s l ds ps = header_names s ds ps ∙ sign_stops kind.Open l _ refl (λ m p o. only_open _ m o)
+
+pub header_begins : {v : Word} {ts us vs : List Token} → StartsName v ts us → Starts kind.Open us vs → (ds : List Decl) (ps : List Procedure) → reads ts (proc_word ds ps) ≡ reads vs (proc_opened v ds ps)
+header_begins s o ds ps = header_names s ds ps ∙ sign_read kind.Open o tt _ _ (λ p. refl)
+
+pub no_params : {ts us : List Token} → Starts kind.Close ts us → (w : Word) (ds : List Decl) (ps : List Procedure) → reads ts (proc_opened w ds ps) ≡ reads us (block no_acts (proc_part w [] ds ps))
+no_params o w ds ps = sign_read kind.Close o tt _ _ (λ p. refl)
 
 params_step : (w : Word) (ds : List Decl) (ps : List Procedure) (m : TokenKind) → IsOther kind.Close m → (p : ℕ) → step (proc_opened w ds ps) m p ≡ step (param_due w [] ds ps) m p
 params_step w ds ps kind.Close h p = absurd (h refl)
@@ -44,6 +116,9 @@ pub param_taken : {v : Word} {ts us : List Token} → StartsName v ts us → (w 
 param_taken {v} {ts} {us} s w ws ds ps =
     ap (λ xs. reads xs (param_due w ws ds ps)) s.are
     ∙ name_read s.token us v.name (param_due w ws ds ps) (param_read w ws v ds ps) s.name (ap (λ p. Some (param_read w ws (word v.name p) ds ps)) (sym s.place))
+
+pub param_missing : {ts rest : List Token} → (rest ≡ ts) × LacksName ts → (w : Word) (ws : List Word) (ds : List Decl) (ps : List Procedure) → reads ts (param_due w ws ds ps) ≡ Err (kinds rest)
+param_missing {ts} {rest} l w ws ds ps = stops ts (param_due w ws ds ps) refl (λ t more e. only_name _ t.kind (lacks_name ts l.1 t more e)) ∙ ap (λ z. Err (kinds z)) (sym l.0)
 
 pub param_follows : {ts us : List Token} → Starts kind.Comma ts us → (w : Word) (ws : List Word) (v : Word) (ds : List Decl) (ps : List Procedure) → reads ts (param_read w ws v ds ps) ≡ reads us (param_due w (ws ++ v ∷ []) ds ps)
 param_follows o w ws v ds ps = sign_read kind.Comma o tt _ _ (λ p. refl)

@@ -1,5 +1,5 @@
 -- Declarations, one after another.
-use Rattle.std.proofs.Common.{◌≡◌, ℕ, ◌+◌, ◌<◌, List, length, drop, get_or, Err, ap, ◌∙◌}
+use Rattle.std.proofs.Common.{◌≡◌, ℕ, ◌+◌, ◌<◌, List, length, drop, get_or, Ok, Err, ap, ◌∙◌}
 use Rattle.ts_syntax.specs.declared.script.Decl.{Decl}
 use Rattle.ts_syntax.proofs.ListLemmas.{drop_item}
 use Rattle.ts_scope.specs.declared.fault.CheckFault.{CheckFault}
@@ -11,3 +11,9 @@ pub decls_refused : (n : ScriptNames) (ds : List Decl) (i : ℕ) (d : Decl) (fau
     → declare_all n (drop i ds) ≡ Err fault
 decls_refused n ds i d fault within item refused =
     ap (declare_all n) (drop_item ds i d within item) ∙ ap (λ r. r >>= (λ m. declare_all m (drop (i + 1) ds))) refused
+
+-- a declaration is made
+pub decls_after : (n m : ScriptNames) (ds : List Decl) (i : ℕ) (d : Decl) → i < length ds → d ≡ get_or ds i d → declare n d ≡ Ok m
+    → declare_all n (drop i ds) ≡ declare_all m (drop (i + 1) ds)
+decls_after n m ds i d within item made =
+    ap (declare_all n) (drop_item ds i d within item) ∙ ap (λ r. r >>= (λ m. declare_all m (drop (i + 1) ds))) made

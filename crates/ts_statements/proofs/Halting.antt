@@ -1,5 +1,5 @@
 -- A part stops where one of its parts does, or where a token is missing.
-use Rattle.std.proofs.Common.{◌≡◌, List, Result, Ok, Err, Bor, sym, subst}
+use Rattle.std.proofs.Common.{◌≡◌, List, Result, Ok, Err, Bor, refl, sym, subst}
 use Rattle.std.specs.Result.{IsErrAnd}
 use Rattle.ts_syntax.specs.declared.stmt.Stmt.{Stmt}
 use Rattle.ts_syntax.specs.declared.token.Token.{Token}
@@ -12,7 +12,7 @@ use Rattle.ts_machine.specs.declared.halt.Halt.TheVariants as halt
 use Rattle.ts_machine.specs.Machine.{Frame, State, block, with_act}
 use Rattle.ts_machine.specs.Parsing.{Gives, reads, Reads, Lacks, Takes, LacksName, TakesName}
 use Rattle.ts_statements.specs.Simple.{ReadsStmt}
-use Rattle.ts_machine.proofs.Parts.{halts}
+use Rattle.ts_machine.proofs.Parts.{halts, ends_as}
 
 -- where a fault of one result is that of another
 pub passed_on : {X Y : Type 0} (P : X → Type 0) (Q : List Token → Type 0) (P' : Y → Type 0) (Q' : List Token → Type 0) → ((rest : List Token) → Q rest → Q' rest) → (e : Halt) → Gives {X = X} (Err e) P Q → Gives {X = Y} (Err e) P' Q'
@@ -54,3 +54,8 @@ stmt_halts {X} {K} ts rest due got due' to s r e i h =
 pub stmt_misses : (m : TokenKind) (ts rest : List Token) (due' : Acts → Frame → State) → ((k : Acts × Frame) (more : List Token) → (more ≡ rest) × Lacks m rest → reads ts (due' k.0 k.1) ≡ Err (kinds more)) →
     (r : Result (Stmt × Bor (List Token)) Halt) (e : Halt) → IsErrAnd r (λ x. x ≡ e) → Takes m rest (Err e) → ReadsStmt ts due' r
 stmt_misses m ts rest due' s r e i h = token_misses {Y = Stmt} {L = Acts × Frame} m ts rest (λ k. due' k.0 k.1) (λ a k. block (with_act k.0 (act_of a)) k.1) s r e i h
+
+-- a statement that is all of another part
+pub stmt_ends : (ts rest : List Token) (due due' : Acts → Frame → State) → ((k : Acts × Frame) → reads ts (due' k.0 k.1) ≡ reads rest (due k.0 k.1)) → (r : Result (Stmt × Bor (List Token)) Halt) → ReadsStmt rest due r → ReadsStmt ts due' r
+stmt_ends ts rest due due' s =
+    ends_as Stmt (Acts × Frame) (Acts × Frame) ts rest (λ k. due k.0 k.1) (λ a k. block (with_act k.0 (act_of a)) k.1) (λ k. due' k.0 k.1) (λ a k. block (with_act k.0 (act_of a)) k.1) (λ k. k) s (λ x ms k. refl)

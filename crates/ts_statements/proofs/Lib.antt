@@ -1,2 +1,3 @@
 pub mod Halting
 pub mod SimpleLemmas
+pub mod TakingLemmas

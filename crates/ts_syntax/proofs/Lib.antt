@@ -1,5 +1,8 @@
+pub mod ArgsLemmas
 pub mod Begins
+pub mod BlockLemmas
 pub mod Examples
+pub mod FailureLemmas
 pub mod FromTree
 pub mod GrammarLemmas
 pub mod ListLemmas

@@ -1,18 +1,24 @@
 -- What is read from a text keeps the rules of a description, and bytes beside the text in them.
-use Rattle.std.proofs.Common.{◌≡◌, ℕ, ◌≤◌, List, length, Bool, true, ◌&&◌, is_none, Option, None, Result, Ok, Err, IsUtf8, refl, inl, inr}
-use Rattle.std.proofs.lemmas.Bool.{le-leb, cases_Bool}
+use Rattle.std.proofs.Common.{◌≡◌, ℕ, ◌≤◌, List, length, true, ◌%◌, ◌==◌, nat_le, is_none, Option, None, Result, Ok, Err, IsUtf8, refl, sym, ap, ◌∙◌, inl, inr}
+use Rattle.std.specs.Result.{IsErrAnd, IfOk}
+use Rattle.std.proofs.lemmas.Bool.{and_from, le-leb, cases_Bool}
 use Rattle.std.proofs.lemmas.Str.{IsUtf8-from_is_utf8, is_utf8-from_IsUtf8}
 use Rattle.std.specs.List.{list_all}
 use Rattle.std.specs.Str.{is_utf8}
 use Rattle.toml.specs.Parse.{parse_document}
 use Rattle.vm_desc.specs.Names.{is_name}
-use Rattle.vm_desc.specs.Limits.{Parts, is_valid, is_handler, is_function, is_trickle, is_radio, context_sum, duplicate_of, round_time, longest}
+use Rattle.vm_desc.specs.Limits.{Parts, is_valid, is_handler, is_kind, is_function, args_of, is_trickle, is_radio, context_sum, duplicate_of, round_time, longest}
 use Rattle.vm_reader.specs.Text.{description_of, of_document, ReadsDescription}
 use Rattle.vm_rules.specs.declared.fault.DescFault.TheVariants.{NotToml, BadField, OverLimit, Duplicate, SlowImax, NoMemory}
 use Rattle.vm_rules.specs.declared.fault.DescFault.{DescFault}
 use Rattle.vm_desc.specs.declared.description.Description.{Description}
+use Rattle.vm_desc.specs.declared.function.Function.{Function}
+use Rattle.vm_desc.specs.declared.handler.Handler.{Handler}
+use Rattle.vm_desc.specs.declared.settings.RadioSet.{RadioSet}
+use Rattle.vm_desc.specs.declared.settings.TrickleSet.{TrickleSet}
 use Rattle.vm_desc.specs.Whole.{parts_of}
 use Rattle.vm_fields.specs.Fields.{GivesField}
+use Rattle.mate_num.specs.Shapes.{is_device}
 
 -- the rules of a description, each by its name
 pub record Keeps (p : Parts) : Type 0 where
@@ -37,23 +43,20 @@ pub record Keeps (p : Parts) : Type 0 where
   pub distinct : duplicate_of p ≡ None
   pub timely : round_time (length p.handlers) p.radio ≤ longest p.trickle
 
-both : (a b : Bool) → a ≡ true → b ≡ true → (a && b) ≡ true
-both a b p q = rw (p, q) refl
-
 none : {A : Type 0} (o : Option A) → o ≡ None → is_none o ≡ true
 none o e = rw e refl
 
 pub is_valid-from : (p : Parts) → Keeps p → is_valid p ≡ true
 is_valid-from p k =
     let le = le-leb in
-    both _ _
-    (both _ _
-    (both _ _ (both _ _ (both _ _ (both _ _ (le _ _ k.some_handlers) (le _ _ k.few_handlers)) k.each_handler) (le _ _ k.few_contexts))
-    (both _ _ (le _ _ k.few_functions) k.each_function))
-    (both _ _
-    (both _ _ (both _ _ (both _ _ (le _ _ k.few_shared) k.each_shared) (both _ _ (le _ _ k.few_buffers) k.each_buffer)) (both _ _ (le _ _ k.few_devices) k.each_device))
-    (both _ _ (both _ _ (both _ _ (le _ _ k.vm_id) (le _ _ k.turns)) (both _ _ (le _ _ k.quantum_low) (le _ _ k.quantum_high))) (both _ _ k.trickle k.radio))))
-    (both _ _ (none (duplicate_of p) k.distinct) (le _ _ k.timely))
+    and_from _ _
+    (and_from _ _
+    (and_from _ _ (and_from _ _ (and_from _ _ (and_from _ _ (le _ _ k.some_handlers) (le _ _ k.few_handlers)) k.each_handler) (le _ _ k.few_contexts))
+    (and_from _ _ (le _ _ k.few_functions) k.each_function))
+    (and_from _ _
+    (and_from _ _ (and_from _ _ (and_from _ _ (le _ _ k.few_shared) k.each_shared) (and_from _ _ (le _ _ k.few_buffers) k.each_buffer)) (and_from _ _ (le _ _ k.few_devices) k.each_device))
+    (and_from _ _ (and_from _ _ (and_from _ _ (le _ _ k.vm_id) (le _ _ k.turns)) (and_from _ _ (le _ _ k.quantum_low) (le _ _ k.quantum_high))) (and_from _ _ k.trickle k.radio))))
+    (and_from _ _ (none (duplicate_of p) k.distinct) (le _ _ k.timely))
 
 -- bytes that are no text
 pub description_of-bytes : (bytes : List ℕ) → (IsUtf8 bytes → ⊥) → description_of bytes ≡ Err NotToml
@@ -76,3 +79,35 @@ reads-from (Err (OverLimit key)) reading e = e
 reads-from (Err (Duplicate name)) reading e = e
 reads-from (Err (SlowImax need have)) reading e = e
 reads-from (Err NoMemory) reading e = tt
+
+-- the exit of a `?` passes the refusal on
+pub refused : {X Y : Type 0} (view : X → Y) (r : Result X DescFault) (e : DescFault) (reading : Result Y DescFault) → IsErrAnd r (λ d. d ≡ e) → reading ≡ Err e → GivesField view r reading
+refused view (Ok x) e reading is reads = absurd is
+refused view (Err d) e reading is reads = reads ∙ ap Err (sym is)
+
+pub refused_same : {X : Type 0} (r : Result X DescFault) (e : DescFault) (reading : Result X DescFault) → IsErrAnd r (λ d. d ≡ e) → reading ≡ Err e → r ≡ reading
+refused_same (Ok x) e reading is reads = absurd is
+refused_same (Err d) e reading is reads = ap Err is ∙ sym reads
+
+pub refused_rules : {X : Type 0} (P : X → Type 0) (r : Result X DescFault) (e : DescFault) → IsErrAnd r (λ d. d ≡ e) → IfOk r P
+refused_rules P (Ok x) e is = absurd is
+refused_rules P (Err d) e is = tt
+
+-- the rules of one part, from those of its values
+pub is_handler-from : (h : Handler) → is_name h.name ≡ true → is_kind h.kind ≡ true → 1 ≤ h.contexts → h.contexts ≤ 4 → is_handler h ≡ true
+is_handler-from h name kind low high = and_from _ _ (and_from _ _ name kind) (and_from _ _ (le-leb _ _ low) (le-leb _ _ high))
+
+pub is_function-from : (devices : ℕ) (f : Function) → is_name f.name ≡ true → args_of f.kind ≤ 4 → is_device devices f.device ≡ true → 1 ≤ f.latency → f.latency ≤ 60000
+    → is_function devices f ≡ true
+is_function-from devices f name args device low high =
+    and_from _ _ (and_from _ _ (and_from _ _ name (le-leb _ _ args)) device) (and_from _ _ (le-leb _ _ low) (le-leb _ _ high))
+
+pub is_trickle-from : (t : TrickleSet) → 2 ≤ t.imin → t.imin ≤ 60000 → (t.imin % 2 == 0) ≡ true → t.doublings ≤ 16 → nat_le (longest t) 3600000 ≡ true → 1 ≤ t.k → t.k ≤ 255
+    → is_trickle t ≡ true
+is_trickle-from t imin_low imin_high even doublings long k_low k_high =
+    and_from _ _ (and_from _ _ (and_from _ _ (and_from _ _ (le-leb _ _ imin_low) (le-leb _ _ imin_high)) even) (and_from _ _ (le-leb _ _ doublings) long))
+    (and_from _ _ (le-leb _ _ k_low) (le-leb _ _ k_high))
+
+pub is_radio-from : (r : RadioSet) → 1 ≤ r.delay → r.delay ≤ 10000 → 1 ≤ r.gap → r.gap ≤ 10000 → is_radio r ≡ true
+is_radio-from r delay_low delay_high gap_low gap_high =
+    and_from _ _ (and_from _ _ (le-leb _ _ delay_low) (le-leb _ _ delay_high)) (and_from _ _ (le-leb _ _ gap_low) (le-leb _ _ gap_high))

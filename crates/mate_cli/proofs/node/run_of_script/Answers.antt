@@ -5,6 +5,7 @@ use Rattle.vm_desc.specs.declared.description.Description.{Description}
 use Rattle.mate_steps.specs.Parts.{Folder}
 use Rattle.mate_steps.specs.Steps.{goes_on}
 use Rattle.mate_steps.proofs.Laws.{stops_by, moved}
+use Rattle.std.proofs.lemmas.Result.{IfOk-from_err}
 use Rattle.mate_cli.proofs.node.run_of_script.Goals as goal
 
 pub returns-in_err-script-clause-does : goal.returns-in_err-script-clause-does
@@ -35,3 +36,12 @@ returns-clause-does g c =
     (moved (λ f. script_programs f c.description-desc.result.now c.args.words.fold c.in_ok-script.script (Ok c.in_ok-programs.programs)) c.in_ok-script.ensures.reads
     c.in_ok-programs.ensures.does))
     c.run_output.ensures.does)
+
+pub returns-in_err-script-clause-writable : goal.returns-in_err-script-clause-writable
+returns-in_err-script-clause-writable g c = IfOk-from_err c.from_residual.result _ c.from_residual.ensures.0
+
+pub returns-in_err-programs-clause-writable : goal.returns-in_err-programs-clause-writable
+returns-in_err-programs-clause-writable g c = IfOk-from_err c.from_residual-in_err-programs.result _ c.from_residual-in_err-programs.ensures.0
+
+pub returns-clause-writable : goal.returns-clause-writable
+returns-clause-writable g c = c.run_output.ensures.writable

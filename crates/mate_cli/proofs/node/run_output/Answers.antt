@@ -8,3 +8,15 @@ returns-then-brief-clause-does c = subst (λ (b : Bool). run_output b c.args.mac
 
 pub returns-else-brief-clause-does : goal.returns-else-brief-clause-does
 returns-else-brief-clause-does c = subst (λ (b : Bool). run_output b c.args.machine c.args.script c.args.programs (Ok (output.Run c.args.machine c.args.script c.args.programs))) (sym c.if-brief.false) refl
+
+pub returns-then-brief-clause-memory : goal.returns-then-brief-clause-memory
+returns-then-brief-clause-memory c = c.summary.ensures.memory
+
+pub returns-then-brief-clause-writable : goal.returns-then-brief-clause-writable
+returns-then-brief-clause-writable c = c.summary.ensures.writable
+
+pub returns-else-brief-clause-memory : goal.returns-else-brief-clause-memory
+returns-else-brief-clause-memory c = tt
+
+pub returns-else-brief-clause-writable : goal.returns-else-brief-clause-writable
+returns-else-brief-clause-writable c = c.requires

@@ -26,3 +26,18 @@ pub returns-clause-does : goal.returns-clause-does
 returns-clause-does g c =
     let none : SaysNothing (map string_bytes c.args.words.now.items) = search rules in
     stops Usage (inl (tt, none, refl)) refl
+
+pub returns-in-Err-NotTaken-clause-writable : goal.returns-in-Err-NotTaken-clause-writable
+returns-in-Err-NotTaken-clause-writable g c = tt
+
+pub returns-in-Err-NoMemory-clause-writable : goal.returns-in-Err-NoMemory-clause-writable
+returns-in-Err-NoMemory-clause-writable g c = tt
+
+pub returns-in-Some-clause-reads : goal.returns-in-Some-clause-reads
+returns-in-Some-clause-reads g c = c.task_output.ensures.reads
+
+pub returns-in-Some-clause-writable : goal.returns-in-Some-clause-writable
+returns-in-Some-clause-writable g c = c.task_output.ensures.writable
+
+pub returns-clause-writable : goal.returns-clause-writable
+returns-clause-writable g c = tt

@@ -29,3 +29,33 @@ pub returns-in-Expand-clause-does : goal.returns-in-Expand-clause-does
 returns-in-Expand-clause-does g c =
     let f : Folder = record { told = g.F.Files.contents c.args.files.now; steady = g.F.Files.steady c.args.files.now } in
     subst (λ (t : Command). command f (task_held t) c.output-in-Expand.result) (sym c.in-Expand.is) c.output-in-Expand.ensures.does
+
+pub returns-in-Node-clause-reads : goal.returns-in-Node-clause-reads
+returns-in-Node-clause-reads g c = c.output.ensures.reads
+
+pub returns-in-Node-clause-writable : goal.returns-in-Node-clause-writable
+returns-in-Node-clause-writable g c = c.output.ensures.writable
+
+pub returns-in-Table-clause-reads : goal.returns-in-Table-clause-reads
+returns-in-Table-clause-reads g c = c.output-in-Table.ensures.reads
+
+pub returns-in-Table-clause-writable : goal.returns-in-Table-clause-writable
+returns-in-Table-clause-writable g c = c.output-in-Table.ensures.writable
+
+pub returns-in-Compile-clause-reads : goal.returns-in-Compile-clause-reads
+returns-in-Compile-clause-reads g c = c.output-in-Compile.ensures.reads
+
+pub returns-in-Compile-clause-writable : goal.returns-in-Compile-clause-writable
+returns-in-Compile-clause-writable g c = c.output-in-Compile.ensures.writable
+
+pub returns-in-Check-clause-reads : goal.returns-in-Check-clause-reads
+returns-in-Check-clause-reads g c = c.output-in-Check.ensures.reads
+
+pub returns-in-Check-clause-writable : goal.returns-in-Check-clause-writable
+returns-in-Check-clause-writable g c = c.output-in-Check.ensures.writable
+
+pub returns-in-Expand-clause-reads : goal.returns-in-Expand-clause-reads
+returns-in-Expand-clause-reads g c = c.output-in-Expand.ensures.reads
+
+pub returns-in-Expand-clause-writable : goal.returns-in-Expand-clause-writable
+returns-in-Expand-clause-writable g c = c.output-in-Expand.ensures.writable

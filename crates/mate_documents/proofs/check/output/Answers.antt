@@ -1,8 +1,9 @@
 use Rattle.std.proofs.Common.{refl, Ok, Err}
 use Rattle.mate_steps.specs.CapsuleFiles.{capsule}
 use Rattle.mate_steps.specs.Steps.{goes_on}
-use Rattle.mate_steps.proofs.Laws.{stops_by}
+use Rattle.mate_steps.proofs.Laws.{stops_by, reads-as, reads-err, reads-then}
 use Rattle.mate_documents.proofs.MachineLemmas.{at_machine}
+use Rattle.std.proofs.lemmas.Result.{IfOk-from_err}
 use Rattle.mate_documents.proofs.check.output.Goals as goal
 
 pub returns-in_err-machine-clause-does : goal.returns-in_err-machine-clause-does
@@ -22,3 +23,20 @@ returns-clause-does g c =
     (goes_on (held.capsule, held.code)
     (at_machine (λ f d. capsule f d c.args.name.now (Ok (held.capsule, held.code))) c.in_ok-machine.machine c.description.result.now c.description.ensures c.in_ok-machine.ensures.reads c.in_ok-capsule.ensures.does)
     refl)
+
+pub returns-in_err-machine-clause-reads : goal.returns-in_err-machine-clause-reads
+returns-in_err-machine-clause-reads g c = reads-err c.in_err-machine.field-0.0 c.from_residual.result c.in_err-machine.ensures.reads c.from_residual.ensures.1
+
+pub returns-in_err-machine-clause-writable : goal.returns-in_err-machine-clause-writable
+returns-in_err-machine-clause-writable g c = IfOk-from_err c.from_residual.result _ c.from_residual.ensures.0
+
+pub returns-in_err-capsule-clause-reads : goal.returns-in_err-capsule-clause-reads
+returns-in_err-capsule-clause-reads g c =
+    reads-then c.in_ok-machine.ensures.reads
+    (reads-err c.in_err-capsule.field-0.0 c.from_residual-in_err-capsule.result c.in_err-capsule.ensures.reads c.from_residual-in_err-capsule.ensures.1)
+
+pub returns-in_err-capsule-clause-writable : goal.returns-in_err-capsule-clause-writable
+returns-in_err-capsule-clause-writable g c = IfOk-from_err c.from_residual-in_err-capsule.result _ c.from_residual-in_err-capsule.ensures.0
+
+pub returns-clause-reads : goal.returns-clause-reads
+returns-clause-reads g c = reads-then c.in_ok-machine.ensures.reads (reads-as c.in_ok-capsule.ensures.reads (λ none. none))

@@ -2,10 +2,12 @@ use Rattle.std.proofs.Common.{ℕ, List, ◌++◌, codes, Err, refl, sym, subst,
 use Rattle.hex.specs.Hex.{encode_lower}
 use Rattle.mate_steps.specs.Steps.{goes_on, stops}
 use Rattle.mate_refusals.specs.declared.refusal.Refusal.TheVariants.{Usage}
-use Rattle.mate_steps.proofs.Laws.{stops_by}
+use Rattle.mate_steps.proofs.Laws.{stops_by, reads-as, reads-err, reads-then}
 use Rattle.mate_documents.specs.Compile.{source_image}
 use Rattle.mate_documents.specs.Outputs.{writes}
 use Rattle.mate_documents.proofs.MachineLemmas.{at_machine}
+use Rattle.std.proofs.lemmas.Result.{IfOk-from_err}
+use Rattle.mate_documents.proofs.ReadsLemmas.{quiet-memory}
 use Rattle.mate_documents.proofs.compile.output.Goals as goal
 
 pub returns-in_err-machine-clause-does : goal.returns-in_err-machine-clause-does
@@ -31,3 +33,30 @@ returns-clause-does g c =
     (goes_on c.in-Some.handler (sym c.in-Some.ensures)
     (goes_on c.in_ok-source.source c.in_ok-source.ensures.does
     (subst (λ (bs : List ℕ). writes (encode_lower bs ++ codes "\n") c.image_output.result) c.encode.ensures.bytes c.image_output.ensures.does))))
+
+pub returns-in_err-machine-clause-reads : goal.returns-in_err-machine-clause-reads
+returns-in_err-machine-clause-reads g c = reads-err c.in_err-machine.field-0.0 c.from_residual.result c.in_err-machine.ensures.reads c.from_residual.ensures.1
+
+pub returns-in_err-machine-clause-writable : goal.returns-in_err-machine-clause-writable
+returns-in_err-machine-clause-writable g c = IfOk-from_err c.from_residual.result _ c.from_residual.ensures.0
+
+pub returns-in_default-clause-reads : goal.returns-in_default-clause-reads
+returns-in_default-clause-reads g c = reads-as c.in_ok-machine.ensures.reads (λ none. none)
+
+pub returns-in_default-clause-writable : goal.returns-in_default-clause-writable
+returns-in_default-clause-writable g c = tt
+
+pub returns-in_err-source-clause-reads : goal.returns-in_err-source-clause-reads
+returns-in_err-source-clause-reads g c =
+    reads-then c.in_ok-machine.ensures.reads
+    (reads-err c.in_err-source.field-0.0 c.from_residual-in_err-source.result c.in_err-source.ensures.reads c.from_residual-in_err-source.ensures.1)
+
+pub returns-in_err-source-clause-writable : goal.returns-in_err-source-clause-writable
+returns-in_err-source-clause-writable g c = IfOk-from_err c.from_residual-in_err-source.result _ c.from_residual-in_err-source.ensures.0
+
+pub returns-clause-reads : goal.returns-clause-reads
+returns-clause-reads g c =
+    reads-then c.in_ok-machine.ensures.reads (reads-as c.in_ok-source.ensures.reads (quiet-memory c.image_output.result c.image_output.ensures.memory))
+
+pub returns-clause-writable : goal.returns-clause-writable
+returns-clause-writable g c = c.image_output.ensures.writable

@@ -1,6 +1,7 @@
 use Rattle.std.proofs.Common.{refl}
 use Rattle.mate_steps.specs.Steps.{goes_on}
-use Rattle.mate_steps.proofs.Laws.{stops_by}
+use Rattle.mate_steps.proofs.Laws.{stops_by, reads-as, reads-err}
+use Rattle.std.proofs.lemmas.Result.{IfOk-from_err}
 use Rattle.mate_documents.proofs.expand.output.Goals as goal
 
 pub returns-in_err-script-clause-does : goal.returns-in_err-script-clause-does
@@ -8,3 +9,15 @@ returns-in_err-script-clause-does g c = stops_by c.in_err-script.field-0.0 c.fro
 
 pub returns-clause-does : goal.returns-clause-does
 returns-clause-does g c = goes_on c.in_ok-script.script c.in_ok-script.ensures.does refl
+
+pub returns-in_err-script-clause-reads : goal.returns-in_err-script-clause-reads
+returns-in_err-script-clause-reads g c = reads-err c.in_err-script.field-0.0 c.from_residual.result c.in_err-script.ensures.reads c.from_residual.ensures.1
+
+pub returns-in_err-script-clause-writable : goal.returns-in_err-script-clause-writable
+returns-in_err-script-clause-writable g c = IfOk-from_err c.from_residual.result _ c.from_residual.ensures.0
+
+pub returns-clause-reads : goal.returns-clause-reads
+returns-clause-reads g c = reads-as c.in_ok-script.ensures.reads (λ none. none)
+
+pub returns-clause-writable : goal.returns-clause-writable
+returns-clause-writable g c = tt

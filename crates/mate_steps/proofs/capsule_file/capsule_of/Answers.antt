@@ -7,7 +7,8 @@ use Rattle.mate_steps.specs.declared.capsule_file.VerifiedCapsule.{VerifiedCapsu
 use Rattle.capsule_codec.specs.Image.{capsule_parts}
 use Rattle.mate_steps.specs.CapsuleFiles.{SpellsVerified, RefusesText, held_pair}
 use Rattle.mate_steps.specs.Steps.{goes_on}
-use Rattle.mate_steps.proofs.Laws.{stops_by, fails_as}
+use Rattle.mate_refusals.specs.declared.cause.Cause.TheVariants as cause
+use Rattle.mate_steps.proofs.Laws.{stops_by, fails_as, told-read, reads-as, reads-err}
 use Rattle.mate_steps.proofs.capsule_file.capsule_of.Goals as goal
 
 held-refusal : (result : Result (Box VerifiedCapsule Global) Refusal) (r : Refusal) → IsErrAnd result (λ y. y ≡ r) → IsErrAnd (held_pair result) (λ y. y ≡ r)
@@ -32,3 +33,15 @@ returns-in-Some-clause-does g c =
 
 pub returns-clause-does : goal.returns-clause-does
 returns-clause-does g c = goes_on c.in_ok-text.text c.in_ok-text.ensures.does (inr refl)
+
+pub returns-in_err-text-clause-reads : goal.returns-in_err-text-clause-reads
+returns-in_err-text-clause-reads g c = reads-err c.in_err-text.field-0.0 c.from_residual.result c.in_err-text.ensures.reads c.from_residual.ensures.1
+
+pub returns-in-Err-clause-reads : goal.returns-in-Err-clause-reads
+returns-in-Err-clause-reads g c = reads-as c.in_ok-text.ensures.reads (told-read (Box VerifiedCapsule Global) c.args.name.now (cause.Capsule c.in-Err.refusal) c.in_file.result c.in_file.ensures (λ unread. unread))
+
+pub returns-in-Some-clause-reads : goal.returns-in-Some-clause-reads
+returns-in-Some-clause-reads g c = reads-as c.in_ok-text.ensures.reads (λ unread. unread)
+
+pub returns-clause-reads : goal.returns-clause-reads
+returns-clause-reads g c = reads-as c.in_ok-text.ensures.reads (λ unread. unread)

@@ -1,7 +1,7 @@
 use Rattle.std.proofs.Common.{ℕ, List, subst}
 use Rattle.mate_steps.specs.Parts.{machine_text}
 use Rattle.mate_steps.specs.Steps.{goes_on}
-use Rattle.mate_steps.proofs.Laws.{stops_by}
+use Rattle.mate_steps.proofs.Laws.{stops_by, reads-err}
 use Rattle.mate_steps.proofs.parts.machine_file.Goals as goal
 
 pub returns-in_err-bytes-clause-does : goal.returns-in_err-bytes-clause-does
@@ -10,3 +10,6 @@ returns-in_err-bytes-clause-does g c = stops_by c.in_err-bytes.field-0.0 c.from_
 pub returns-clause-does : goal.returns-clause-does
 returns-clause-does g c =
     goes_on c.in_ok-bytes.bytes c.in_ok-bytes.ensures.does (subst (λ (bs : List ℕ). machine_text bs c.machine_text.result) c.as_slice.ensures.value c.machine_text.ensures)
+
+pub returns-in_err-bytes-clause-reads : goal.returns-in_err-bytes-clause-reads
+returns-in_err-bytes-clause-reads g c = reads-err c.in_err-bytes.field-0.0 c.from_residual.result c.in_err-bytes.ensures.reads c.from_residual.ensures.1

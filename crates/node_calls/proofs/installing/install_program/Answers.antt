@@ -1,12 +1,41 @@
 -- The capsule is not newer, or the store and the install are told, and then the post of a handler that runs once.
-use Rattle.std.proofs.Common.{refl, sym}
-use Rattle.node_calls.proofs.EraLemmas.{seen-last}
+use Rattle.std.proofs.Common.{refl, sym, ◌∙◌, arith}
+use Rattle.node_calls.proofs.EraLemmas.{seen-last, told-one}
 use Rattle.node_calls.proofs.InstallLemmas.{IsNoNewer-from, newer-than, RestsAgain-once, RestsAgain-once_none}
 use Rattle.node_calls.proofs.installing.install_program.Goals as goal
 
 pub returns-then-program-held-clause-installs : goal.returns-then-program-held-clause-installs
 returns-then-program-held-clause-installs c =
     (IsNoNewer-from c.args.description.now c.args.parts.now c.args.bytes.now c.args.program c.version-held.result c.requires.rests c.requires.installable c.version-held.ensures c.if-program-held.true, refl)
+
+pub seen_in-requires-clause-room : goal.seen_in-requires-clause-room
+seen_in-requires-clause-room c = let room = c.requires.room in omega (arith, room)
+
+pub seen_in-requires-clause-few : goal.seen_in-requires-clause-few
+seen_in-requires-clause-few c = let few = c.requires.few in omega (arith, few)
+
+pub begin-requires-clause-rests : goal.begin-requires-clause-rests
+begin-requires-clause-rests c = c.seen_in.ensures.tells.again.rests
+
+pub begin-requires-clause-timely : goal.begin-requires-clause-timely
+begin-requires-clause-timely c = c.seen_in.ensures.tells.again.adds.grows.timely
+
+pub begin-requires-clause-room : goal.begin-requires-clause-room
+begin-requires-clause-room c =
+    let seen = c.seen_in.ensures.tells.again.adds in
+    let one = told-one c.args.parts.now.log.all c.seen_in.new.parts.log.all c.args.at seen.told _ seen.grows seen.made in
+    let room = c.requires.room in
+    omega (arith, one.1, room)
+
+pub begin-requires-clause-few : goal.begin-requires-clause-few
+begin-requires-clause-few c =
+    let seen = c.seen_in.ensures.tells.again.adds in
+    let one = told-one c.args.parts.now.log.all c.seen_in.new.parts.log.all c.args.at seen.told _ seen.grows seen.made in
+    let few = c.requires.few in
+    omega (arith, one.0, few)
+
+pub begin-requires-clause-held : goal.begin-requires-clause-held
+begin-requires-clause-held c = c.requires.installable.is_held
 
 pub begin-requires-clause-seen : goal.begin-requires-clause-seen
 begin-requires-clause-seen c =
@@ -15,6 +44,33 @@ begin-requires-clause-seen c =
 
 pub begin-requires-clause-handler : goal.begin-requires-clause-handler
 begin-requires-clause-handler c = c.requires.installable.handler
+
+pub post_in-requires-clause-rests : goal.post_in-requires-clause-rests
+post_in-requires-clause-rests c = c.begin.ensures.again.rests
+
+pub post_in-requires-clause-timely : goal.post_in-requires-clause-timely
+post_in-requires-clause-timely c = c.begin.ensures.again.adds.grows.timely
+
+pub post_in-requires-clause-room : goal.post_in-requires-clause-room
+post_in-requires-clause-room c =
+    let seen = c.seen_in.ensures.tells.again.adds in
+    let begun = c.begin.ensures.again.adds in
+    let one = told-one c.args.parts.now.log.all c.seen_in.new.parts.log.all c.args.at seen.told _ seen.grows seen.made in
+    let more = told-one c.seen_in.new.parts.log.all c.begin.new.parts.log.all c.args.at begun.told _ begun.grows begun.made in
+    let room = c.requires.room in
+    omega (arith, one.1, more.1, room)
+
+pub post_in-requires-clause-few : goal.post_in-requires-clause-few
+post_in-requires-clause-few c =
+    let seen = c.seen_in.ensures.tells.again.adds in
+    let begun = c.begin.ensures.again.adds in
+    let one = told-one c.args.parts.now.log.all c.seen_in.new.parts.log.all c.args.at seen.told _ seen.grows seen.made in
+    let more = told-one c.seen_in.new.parts.log.all c.begin.new.parts.log.all c.args.at begun.told _ begun.grows begun.made in
+    let few = c.requires.few in
+    omega (arith, one.0, more.0, few)
+
+pub post_in-requires-clause-handler : goal.post_in-requires-clause-handler
+post_in-requires-clause-handler c = c.requires.installable.handler
 
 pub returns-then-runs_once-clause-installs : goal.returns-then-runs_once-clause-installs
 returns-then-runs_once-clause-installs c =
@@ -26,3 +82,9 @@ pub returns-else-runs_once-clause-installs : goal.returns-else-runs_once-clause-
 returns-else-runs_once-clause-installs c =
     RestsAgain-once_none c.args.description.now c.args.parts.now c.seen_in.new.parts c.begin.new.parts c.args.at c.args.bytes.now c.args.program c.requires.installable
     (newer-than c.args.description.now c.args.parts.now c.args.program c.version-held.result c.requires.rests c.version-held.ensures c.if-program-held.false) c.seen_in.ensures.tells c.begin.ensures.again (sym c.if-runs_once.ensures)
+
+pub returns-then-runs_once-clause-gone : goal.returns-then-runs_once-clause-gone
+returns-then-runs_once-clause-gone c = c.post_in.ensures.gone ∙ c.begin.ensures.gone ∙ c.seen_in.ensures.gone
+
+pub returns-else-runs_once-clause-gone : goal.returns-else-runs_once-clause-gone
+returns-else-runs_once-clause-gone c = c.begin.ensures.gone ∙ c.seen_in.ensures.gone

@@ -1,5 +1,5 @@
 -- The seat is put back with its machine as the run leaves it.
-use Rattle.std.proofs.Common.{◌≡◌, ◌+◌, length, Some, refl, sym, arith}
+use Rattle.std.proofs.Common.{◌≡◌, ℕ, ◌+◌, Some, refl, sym, ap, arith}
 use Rattle.std.proofs.lemmas.Grind.{common_steps}
 use Rattle.node_contexts.specs.declared.seat.Seat.{Seat}
 use Rattle.node_contexts.specs.At.{seat_at}
@@ -10,8 +10,8 @@ pub returns : goal.returns
 returns c =
     let s = c.in-Some.seat in
     let now : Seat = record s { machine = c.run-ran.new.machine; count = s.count + c.from.result } in
-    let place : c.from-place.result ≡ c.args.ctx.0 = grind (arith, common_steps) in
+    let place : c.from-place.result ≡ c.args.ctx.0 = c.from-place.ensures in
     let is : seat_at c.args.contexts.now.seats c.args.ctx ≡ Some s = grind (arith, common_steps) in
-    let counted : s.count + c.from.result ≡ s.count + c.run-ran.result.instructions = grind (arith, common_steps) in
+    let counted : s.count + c.from.result ≡ s.count + c.run-ran.result.instructions = ap (λ (n : ℕ). s.count + n) c.from.ensures in
     HasTurn-from _ c.args.contexts.now c.args.heap.now c.run-ran.new.heap c.args.ctx c.args.n c.run-ran.result s now c.in-Some-get.held.now c.from-place.result _
     place is (sym c.in-Some-get.ensures) record { inv = refl; handler = refl } counted c.run-ran.ensures

@@ -1,6 +1,6 @@
 -- The ready invocation can execute, and each instruction that goes on keeps what the node keeps.
 use Rattle.std.proofs.Common.{◌<◌, ◌^◌, arith}
-use Rattle.std.proofs.lemmas.Grind.{common_steps}
+use Rattle.vm_desc.proofs.DescriptionLemmas.{bounds_of}
 use Rattle.node_turns.specs.Pacing.{most}
 use Rattle.node_turns.proofs.RunningLemmas.{CanExecute-ready, RunsFor-from}
 use Rattle.node_turns.proofs.running.run_some.Goals as goal
@@ -8,7 +8,8 @@ use Rattle.node_turns.proofs.running.run_some.Goals as goal
 pub turn-requires : goal.turn-requires
 turn-requires c =
     let d = c.args.description.now in
-    let low : most d < 2 ^ 63 = grind (arith, common_steps) in
+    let high = (bounds_of d).turns_high in
+    let low : most d < 2 ^ 63 = omega (arith, high) in
     CanExecute-ready d c.args.parts.now c.args.ctx c.requires.order.keeps c.requires.ready c.requires.small low
 
 pub returns-clause-runs : goal.returns-clause-runs

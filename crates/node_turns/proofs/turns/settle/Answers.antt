@@ -44,3 +44,21 @@ returns-clause-settles c = SettlesAll-from c.args.description.now c.args.parts.n
 
 pub loop-ctx-init : goal.loop-ctx-init
 loop-ctx-init c = record { settles = SettlesSome-none c.args.description.now c.args.parts.now c.args.at c.requires.rests c.requires.timely; gone = refl }
+
+pub give_way-requires-clause-small : goal.give_way-requires-clause-small
+give_way-requires-clause-small c = c.in-Some.ensures.small
+
+pub take_turn-requires-clause-timely : goal.take_turn-requires-clause-timely
+take_turn-requires-clause-timely c = c.loop-ctx.invariant.settles.grows.timely
+
+pub take_turn-requires-clause-small : goal.take_turn-requires-clause-small
+take_turn-requires-clause-small c = c.in-Some.ensures.small
+
+pub take_turn-requires-clause-ready : goal.take_turn-requires-clause-ready
+take_turn-requires-clause-ready c = ap (λ (a : At). a.ready) (c.give_way.ensures.each c.in-Some.ctx) ∙ first-ready c.loop-ctx.parts.contexts c.in-Some.ctx c.in-Some.ensures.first
+
+pub take_turn-requires-clause-some : goal.take_turn-requires-clause-some
+take_turn-requires-clause-some c = let are = c.length_of_turn-n.ensures.are in let quantum = c.requires.quantum in omega (arith, are, quantum)
+
+pub returns-clause-gone : goal.returns-clause-gone
+returns-clause-gone c = c.loop-ctx.invariant.gone

@@ -16,6 +16,7 @@ use Rattle.proc_expansion.specs.Pending.{body_steps, acts_steps, steps_of_bodies
 use Rattle.proc_expansion.specs.Plan.{bodies_of}
 use Rattle.proc_expansion.proofs.InOrderLemmas.{none_named, one_named}
 use Rattle.proc_expansion.proofs.CalleeLemmas.{count_before, first_at, firsts-within, fits_all}
+use Rattle.proc_renaming.proofs.WrittenLemmas.{failed}
 use Rattle.proc_expansion.proofs.ExtentLemmas.{extents-within, extents-at, none_counted}
 use Rattle.proc_expansion.proofs.WritingLemmas.{call_written, called_shallow, body_left, hides}
 use Rattle.proc_expansion.proofs.calls.call.Goals as goal
@@ -119,3 +120,13 @@ returns-clause-shallow c =
     (body_left procs c.in-Some.place p c.as_slice.result.now (hiding_of c.in_ok-of.field-0)
     (c.in_ok-of.ensures ∙ ap (λ n. hides n c.as_slice-params.result.now) number ∙ ap (hides (count_before procs c.in-Some.place)) are)
     (c.as_slice.ensures ∙ ap (λ (q : Proc). q.body) (sym c.index-plan-place.is)))
+
+pub returns-in_err-assignments : goal.returns-in_err-assignments
+returns-in_err-assignments c =
+    let is = failed c.from_residual.result c.in_err-assignments.field-0.0 c.from_residual.ensures.1 in
+    record { wrote = rw is tt; shallow = rw is tt; steps = rw is tt }
+
+pub returns-in_err-of : goal.returns-in_err-of
+returns-in_err-of c =
+    let is = failed c.from_residual-in_err-of.result c.in_err-of.field-0.0 c.from_residual-in_err-of.ensures.1 in
+    record { wrote = rw is tt; shallow = rw is tt; steps = rw is tt }

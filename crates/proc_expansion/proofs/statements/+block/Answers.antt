@@ -1,13 +1,17 @@
-use Rattle.std.proofs.Common.{◌≡◌, ◌++◌, ◌∙◌, ap, sym, rules, arith, ◌≤◌, ◌-◌, List, ℕ, map, take}
+use Rattle.std.proofs.Common.{◌≡◌, ◌++◌, ◌∙◌, ap, sym, subst, rules, arith, ◌≤◌, ◌<◌, ◌-◌, List, Option, ℕ, map, take}
+use Rattle.std.specs.Prelude.{IfOk}
 use Rattle.ts_syntax.specs.declared.procedure.Proc.{Proc}
-use Rattle.ts_syntax.specs.Seen.{act_of, acts_of, acts}
-use Rattle.ts_syntax.specs.Tree.{Act}
+use Rattle.ts_syntax.specs.Seen.{act_of, acts_of, acts, trees_of}
+use Rattle.ts_syntax.specs.Tree.{Act, run_procedure}
+use Rattle.ts_syntax.proofs.SeenLemmas.{act_run_procedure}
 use Rattle.proc_expansion.specs.declared.pending.Pending.{Pending}
 use Rattle.proc_expansion.specs.Expansion.{Callee, expanded_act, expanded_acts}
-use Rattle.proc_expansion.specs.Pending.{acts_left, left_if, left_on}
+use Rattle.proc_expansion.specs.Pending.{acts_left, left_if, left_on, steps_if, steps_of_bodies, act_steps}
 use Rattle.proc_renaming.specs.Hidden.{hiding_of}
 use Rattle.proc_expansion.specs.Plan.{bodies_of}
 use Rattle.proc_expansion.specs.Extent.{acts_depth}
+use Rattle.proc_renaming.proofs.WrittenLemmas.{failed}
+use Rattle.proc_expansion.proofs.ExitLemmas.{within_more}
 use Rattle.proc_expansion.proofs.WritingLemmas.{block_part, popped, popped_none, fewer_below, fewer, stack_next, front_depth, top_depth}
 use Rattle.proc_expansion.proofs.statements.+block.Goals as goal
 
@@ -68,3 +72,90 @@ bodies-loop-pending-preserved t c =
           ∙ c.loop-pending.invariant.whole;
       shallow = top_depth front (acts_left procs rest) below body stack top c.args.depth are tops c.loop-pending.invariant.shallow c.in_ok-body.ensures.shallow;
     }
+
+pub block-returns-in_err-body : goal.block-returns-in_err-body
+block-returns-in_err-body t c = rw (failed c.from_residual.result c.in_err-body.field-0.0 c.from_residual.ensures.1) tt
+
+pub block-returns-in_err-bodies : goal.block-returns-in_err-bodies
+block-returns-in_err-bodies t c = rw (failed c.from_residual-in_err-bodies.result c.in_err-bodies.field-0.0 c.from_residual-in_err-bodies.ensures.1) tt
+
+pub bodies-returns-in_err-push_if : goal.bodies-returns-in_err-push_if
+bodies-returns-in_err-push_if t c = rw (failed c.from_residual.result c.in_err-push_if.field-0.0 c.from_residual.ensures.1) tt
+
+pub bodies-returns-in_err-body : goal.bodies-returns-in_err-body
+bodies-returns-in_err-body t c = rw (failed c.from_residual-in_err-body.result c.in_err-body.field-0.0 c.from_residual-in_err-body.ensures.1) tt
+
+pub bodies-returns-in_err-push_next : goal.bodies-returns-in_err-push_next
+bodies-returns-in_err-push_next t c = rw (failed c.from_residual-in_err-push_next.result c.in_err-push_next.field-0.0 c.from_residual-in_err-push_next.ensures.1) tt
+
+pub statement-returns-in_err-simple-in-Set : goal.statement-returns-in_err-simple-in-Set
+statement-returns-in_err-simple-in-Set t c =
+    let is = failed c.from_residual-in_err-simple-in-Set.result c.in_err-simple-in-Set.field-0.0 c.from_residual-in_err-simple-in-Set.ensures.1 in
+    record { wrote = rw is tt; shallow = rw is tt; steps = rw is tt }
+
+pub statement-returns-in_err-body-in-If-default-default-None : goal.statement-returns-in_err-body-in-If-default-default-None
+statement-returns-in_err-body-in-If-default-default-None t c =
+    let is = failed c.from_residual.result c.in_err-body-in-If-default-default-None.field-0.0 c.from_residual.ensures.1 in
+    record { wrote = rw is tt; shallow = rw is tt; steps = rw is tt }
+
+pub statement-returns-in_err-if_then-in-If-default-default-None : goal.statement-returns-in_err-if_then-in-If-default-default-None
+statement-returns-in_err-if_then-in-If-default-default-None t c =
+    let is = failed c.from_residual-in_err-if_then-in-If-default-default-None.result c.in_err-if_then-in-If-default-default-None.field-0.0 c.from_residual-in_err-if_then-in-If-default-default-None.ensures.1 in
+    record { wrote = rw is tt; shallow = rw is tt; steps = rw is tt }
+
+pub statement-returns-in_err-body-in-If-default-default-Some : goal.statement-returns-in_err-body-in-If-default-default-Some
+statement-returns-in_err-body-in-If-default-default-Some t c =
+    let is = failed c.from_residual-in_err-body-in-If-default-default-Some.result c.in_err-body-in-If-default-default-Some.field-0.0 c.from_residual-in_err-body-in-If-default-default-Some.ensures.1 in
+    record { wrote = rw is tt; shallow = rw is tt; steps = rw is tt }
+
+pub statement-returns-in_err-other-in-If-default-default-Some : goal.statement-returns-in_err-other-in-If-default-default-Some
+statement-returns-in_err-other-in-If-default-default-Some t c =
+    let is = failed c.from_residual-in_err-other-in-If-default-default-Some.result c.in_err-other-in-If-default-default-Some.field-0.0 c.from_residual-in_err-other-in-If-default-default-Some.ensures.1 in
+    record { wrote = rw is tt; shallow = rw is tt; steps = rw is tt }
+
+pub statement-returns-in_err-if_else-in-If-default-default-Some : goal.statement-returns-in_err-if_else-in-If-default-default-Some
+statement-returns-in_err-if_else-in-If-default-default-Some t c =
+    let is = failed c.from_residual-in_err-if_else-in-If-default-default-Some.result c.in_err-if_else-in-If-default-default-Some.field-0.0 c.from_residual-in_err-if_else-in-If-default-default-Some.ensures.1 in
+    record { wrote = rw is tt; shallow = rw is tt; steps = rw is tt }
+
+pub statement-returns-in_err-body-in-For : goal.statement-returns-in_err-body-in-For
+statement-returns-in_err-body-in-For t c =
+    let is = failed c.from_residual-in_err-body-in-For.result c.in_err-body-in-For.field-0.0 c.from_residual-in_err-body-in-For.ensures.1 in
+    record { wrote = rw is tt; shallow = rw is tt; steps = rw is tt }
+
+pub statement-returns-in_err-for_next-in-For : goal.statement-returns-in_err-for_next-in-For
+statement-returns-in_err-for_next-in-For t c =
+    let is = failed c.from_residual-in_err-for_next-in-For.result c.in_err-for_next-in-For.field-0.0 c.from_residual-in_err-for_next-in-For.ensures.1 in
+    record { wrote = rw is tt; shallow = rw is tt; steps = rw is tt }
+
+pub statement-returns-in_err-body-in-While : goal.statement-returns-in_err-body-in-While
+statement-returns-in_err-body-in-While t c =
+    let is = failed c.from_residual-in_err-body-in-While.result c.in_err-body-in-While.field-0.0 c.from_residual-in_err-body-in-While.ensures.1 in
+    record { wrote = rw is tt; shallow = rw is tt; steps = rw is tt }
+
+pub statement-returns-in_err-while_do-in-While : goal.statement-returns-in_err-while_do-in-While
+statement-returns-in_err-while_do-in-While t c =
+    let is = failed c.from_residual-in_err-while_do-in-While.result c.in_err-while_do-in-While.field-0.0 c.from_residual-in_err-while_do-in-While.ensures.1 in
+    record { wrote = rw is tt; shallow = rw is tt; steps = rw is tt }
+
+pub statement-returns-in-Run-clause-wrote : goal.statement-returns-in-Run-clause-wrote
+statement-returns-in-Run-clause-wrote t c =
+    let procs : List Proc = c.args.plan.now.heads.procs.now in
+    let known : List (List ℕ × Callee) = take c.args.count (bodies_of procs) in
+    let P : Act → Type 0 = λ a. IfOk c.call.result (λ (body : Option Pending). map act_of c.call.new.written ++ left_if procs body ≡ map act_of c.args.written.now ++ expanded_act known (hiding_of c.args.hidden.now) a) in
+    subst P (sym (ap act_of c.in-Run.is ∙ act_run_procedure c.in-Run.name c.in-Run.args)) c.call.ensures.wrote
+
+pub statement-returns-in-Run-clause-shallow : goal.statement-returns-in-Run-clause-shallow
+statement-returns-in-Run-clause-shallow t c =
+    let procs : List Proc = c.args.plan.now.heads.procs.now in
+    let known : List (List ℕ × Callee) = take c.args.count (bodies_of procs) in
+    let P : Act → Type 0 = λ a. acts_depth (acts (expanded_act known (hiding_of c.args.hidden.now) a)) ≤ c.args.depth in
+    within_more c.call.result (λ (body : Option Pending). acts_depth (acts (left_if procs body))) (acts_depth (acts (expanded_act known (hiding_of c.args.hidden.now) (run_procedure c.in-Run.name (trees_of c.in-Run.args)))))
+    c.args.depth (subst P (ap act_of c.in-Run.is ∙ act_run_procedure c.in-Run.name c.in-Run.args) c.requires) c.call.ensures.shallow
+
+pub statement-returns-in-Run-clause-steps : goal.statement-returns-in-Run-clause-steps
+statement-returns-in-Run-clause-steps t c =
+    let procs : List Proc = c.args.plan.now.heads.procs.now in
+    let known : List (List ℕ × ℕ) = take c.args.count (steps_of_bodies procs) in
+    let P : Act → Type 0 = λ a. IfOk c.call.result (λ (body : Option Pending). steps_if procs body < act_steps known a) in
+    subst P (sym (ap act_of c.in-Run.is ∙ act_run_procedure c.in-Run.name c.in-Run.args)) c.call.ensures.steps

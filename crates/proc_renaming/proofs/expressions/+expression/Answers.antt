@@ -4,6 +4,7 @@ use Rattle.ts_syntax.specs.Seen.{tree_of}
 use Rattle.ts_syntax.proofs.SeenLemmas.{tree_number, tree_variable, tree_item, tree_size, tree_message_item, tree_message_size, tree_call, tree_negative, tree_inverse, tree_two, tree_paren}
 use Rattle.proc_renaming.specs.Hidden.{hiding_of}
 use Rattle.proc_renaming.proofs.RenamingLemmas.{renamed_node, renamed_next, renamed_all}
+use Rattle.proc_renaming.proofs.WrittenLemmas.{failed}
 use Rattle.proc_renaming.proofs.expressions.+expression.Goals as goal
 
 pub expression-returns-in-Num : goal.expression-returns-in-Num
@@ -68,3 +69,36 @@ arguments-loop-arg-preserved t c =
 
 pub arguments-returns : goal.arguments-returns
 arguments-returns t c = renamed_all (hiding_of c.args.hidden.now) c.args.args.now c.loop-arg.renamed c.loop-arg.arg-index c.loop-arg-test.false c.loop-arg.invariant
+
+pub expression-returns-in_err-index-in-Item : goal.expression-returns-in_err-index-in-Item
+expression-returns-in_err-index-in-Item t c = rw (failed c.from_residual.result c.in_err-index-in-Item.field-0.0 c.from_residual.ensures.1) tt
+
+pub expression-returns-in_err-boxed-in-MsgItem : goal.expression-returns-in_err-boxed-in-MsgItem
+expression-returns-in_err-boxed-in-MsgItem t c = rw (failed c.from_residual-in_err-boxed-in-MsgItem.result c.in_err-boxed-in-MsgItem.field-0.0 c.from_residual-in_err-boxed-in-MsgItem.ensures.1) tt
+
+pub expression-returns-in_err-args-in-Call : goal.expression-returns-in_err-args-in-Call
+expression-returns-in_err-args-in-Call t c = rw (failed c.from_residual-in_err-args-in-Call.result c.in_err-args-in-Call.field-0.0 c.from_residual-in_err-args-in-Call.ensures.1) tt
+
+pub expression-returns-in_err-boxed-in-Neg : goal.expression-returns-in_err-boxed-in-Neg
+expression-returns-in_err-boxed-in-Neg t c = rw (failed c.from_residual-in_err-boxed-in-Neg.result c.in_err-boxed-in-Neg.field-0.0 c.from_residual-in_err-boxed-in-Neg.ensures.1) tt
+
+pub expression-returns-in_err-boxed-in-Not : goal.expression-returns-in_err-boxed-in-Not
+expression-returns-in_err-boxed-in-Not t c = rw (failed c.from_residual-in_err-boxed-in-Not.result c.in_err-boxed-in-Not.field-0.0 c.from_residual-in_err-boxed-in-Not.ensures.1) tt
+
+pub expression-returns-in_err-left-in-Two : goal.expression-returns-in_err-left-in-Two
+expression-returns-in_err-left-in-Two t c = rw (failed c.from_residual-in_err-left-in-Two.result c.in_err-left-in-Two.field-0.0 c.from_residual-in_err-left-in-Two.ensures.1) tt
+
+pub expression-returns-in_err-right-in-Two : goal.expression-returns-in_err-right-in-Two
+expression-returns-in_err-right-in-Two t c = rw (failed c.from_residual-in_err-right-in-Two.result c.in_err-right-in-Two.field-0.0 c.from_residual-in_err-right-in-Two.ensures.1) tt
+
+pub expression-returns-in_err-boxed-in-Paren : goal.expression-returns-in_err-boxed-in-Paren
+expression-returns-in_err-boxed-in-Paren t c = rw (failed c.from_residual-in_err-boxed-in-Paren.result c.in_err-boxed-in-Paren.field-0.0 c.from_residual-in_err-boxed-in-Paren.ensures.1) tt
+
+pub boxed-returns-in_err-part : goal.boxed-returns-in_err-part
+boxed-returns-in_err-part t c = rw (failed c.from_residual.result c.in_err-part.field-0.0 c.from_residual.ensures.1) tt
+
+pub arguments-returns-in_err-expression : goal.arguments-returns-in_err-expression
+arguments-returns-in_err-expression t c = rw (failed c.from_residual.result c.in_err-expression.field-0.0 c.from_residual.ensures.1) tt
+
+pub arguments-returns-in_err-push : goal.arguments-returns-in_err-push
+arguments-returns-in_err-push t c = rw (failed c.from_residual-in_err-push.result c.in_err-push.field-0.0 c.from_residual-in_err-push.ensures.1) tt

@@ -1,13 +1,19 @@
-use Rattle.std.proofs.Common.{◌≡◌, ◌+◌, suc, ap, sym, ◌∙◌, arith}
+use Rattle.std.proofs.Common.{ℕ, ap, ◌∙◌}
+use Rattle.std.proofs.Math.Nat.{le_antisymm}
 use Rattle.std.specs.Prelude.{flat_map}
-use Rattle.mate_files.proofs.PenLemmas.{◌⟫◌, Prints-by}
+use Rattle.mate_files.proofs.PenLemmas.{Prints-nil, Prints-by}
 use Rattle.mate_journal.specs.Tidy.{below}
 use Rattle.report_summary.specs.Brief.{newest_line}
-use Rattle.report_text.proofs.EventLemmas.{flat_map-below_next}
+use Rattle.report_summary.proofs.BriefLemmas.{Prints-below}
 use Rattle.report_summary.proofs.summary.newest_lines.Goals as goal
 
+pub loop-handler-init : goal.loop-handler-init
+loop-handler-init g c = Prints-nil
+
 pub loop-handler-preserved : goal.loop-handler-preserved
-loop-handler-preserved g c =
-    let line = newest_line c.args.desc.now c.args.logs.now in
-    let more : suc c.loop-handler.handler ≡ c.loop-handler.handler + 1 = omega arith in
-    Prints-by (sym (flat_map-below_next line c.loop-handler.handler) ∙ ap (λ k. flat_map line (below k)) more) (c.loop-handler.invariant ⟫ c.newest_line.ensures)
+loop-handler-preserved g c = Prints-below (newest_line c.args.desc.now c.args.logs.now) c.loop-handler.handler c.loop-handler.invariant c.newest_line.ensures
+
+pub returns : goal.returns
+returns g c =
+    Prints-by (ap (λ (k : ℕ). flat_map (newest_line c.args.desc.now c.args.logs.now) (below k)) (le_antisymm c.loop-handler.auto.handler-end c.loop-handler-test.false ∙ c.len-handler-end.ensures.value))
+    c.loop-handler.invariant

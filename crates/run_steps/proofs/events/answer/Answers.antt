@@ -1,4 +1,4 @@
-use Rattle.std.proofs.Common.{refl, inl, inr}
+use Rattle.std.proofs.Common.{refl, ◌∙◌, arith, inl, inr}
 use Rattle.std.proofs.lemmas.Int.{to_z-of_z}
 use Rattle.std.specs.Int.{w16}
 use Rattle.mate_journal.specs.declared.entry.VoidCause.TheVariants as void
@@ -7,8 +7,17 @@ use Rattle.open_node.specs.View.{heard_of}
 use Rattle.open_node.specs.Calls.{Pacing}
 use Rattle.run_steps.specs.Running.{MakesOn}
 use Rattle.open_node.proofs.CallLemmas.{Tells-by}
-use Rattle.run_steps.proofs.EventLemmas.{Tells-void}
+use Rattle.run_steps.proofs.EventLemmas.{Tells-void, ready-still}
 use Rattle.run_steps.proofs.events.answer.Goals as goal
+
+pub answer-requires-clause-room : goal.answer-requires-clause-room
+answer-requires-clause-room c = let room = c.requires.ready.room in omega (arith, room)
+
+pub void-requires-clause-timely : goal.void-requires-clause-timely
+void-requires-clause-timely c = (ready-still c.args.node.now.node c.answer.new.self.node c.args.at c.in-Err.ensures.tells.1 c.requires.ready).0
+
+pub void-requires-clause-room : goal.void-requires-clause-room
+void-requires-clause-room c = (ready-still c.args.node.now.node c.answer.new.self.node c.args.at c.in-Err.ensures.tells.1 c.requires.ready).1
 
 pub returns-in-Ok-clause-tells : goal.returns-in-Ok-clause-tells
 returns-in-Ok-clause-tells c =
@@ -19,3 +28,9 @@ pub returns-in-Err-clause-tells : goal.returns-in-Err-clause-tells
 returns-in-Err-clause-tells c =
     Tells-void c.args.node.now.node c.answer.new.self.node c.void.new.self.node c.args.at void.NotWaiting (MakesOn c.args.node.now.node (AnswerStep c.args.ctx c.args.value)) c.in-Err.ensures.tells.1
     (λ p. (inr (record { none = c.in-Err.ensures.tells.0; made = refl }), refl)) c.void.ensures.tells
+
+pub returns-in-Ok-clause-gone : goal.returns-in-Ok-clause-gone
+returns-in-Ok-clause-gone c = c.answer.ensures.gone
+
+pub returns-in-Err-clause-gone : goal.returns-in-Err-clause-gone
+returns-in-Err-clause-gone c = c.void.ensures.gone ∙ c.answer.ensures.gone

@@ -8,7 +8,7 @@ use Rattle.open_node.specs.Calls.{Pacing}
 use Rattle.node_programs.specs.Sources.{held_as}
 use Rattle.run_steps.specs.Running.{MakesOn}
 use Rattle.open_node.proofs.CallLemmas.{Tells-by}
-use Rattle.run_steps.proofs.EventLemmas.{Tells-void, Makes-installed, Makes-not_newer}
+use Rattle.run_steps.proofs.EventLemmas.{Tells-void, not-bad_capsule, not-bad_code, Makes-installed, Makes-not_newer}
 use Rattle.run_steps.proofs.events.install.Goals as goal
 
 pub returns-in-Ok-clause-tells : goal.returns-in-Ok-clause-tells
@@ -30,3 +30,13 @@ returns-in-Err-NotNewer-clause-tells c =
     let Q : InstallFault → Type 0 = λ fault. Refuses v.description (heard_of v) c.as_slice.result.now fault in
     subst P c.as_slice.ensures.value (subst Q c.in-Err-NotNewer.field-0-is c.in-Err-NotNewer.ensures.tells.0)))
     c.void.ensures.tells
+
+pub unreachable-requires : goal.unreachable-requires
+unreachable-requires c =
+    let d = c.args.node.now.node.description in
+    not-bad_capsule d c.args.program.now c.requires.right (heard_of c.args.node.now.node) c.as_slice.result.now _ _ c.as_slice.ensures.value c.in-Err-Capsule.field-0-is c.in-Err-Capsule.ensures.tells.0
+
+pub unreachable-requires-in-Err-Code : goal.unreachable-requires-in-Err-Code
+unreachable-requires-in-Err-Code c =
+    let d = c.args.node.now.node.description in
+    not-bad_code d c.args.program.now c.requires.right (heard_of c.args.node.now.node) c.as_slice.result.now _ _ c.as_slice.ensures.value c.in-Err-Code.field-0-is c.in-Err-Code.ensures.tells.0

@@ -1,4 +1,4 @@
-use Rattle.std.proofs.Common.{ℤ, sym, subst}
+use Rattle.std.proofs.Common.{ℤ, length, sym, subst, arith}
 use Rattle.arrayvec.specs.ArrayVec.{ArrayVec}
 use Rattle.mate_num.specs.declared.bounds.TheConstants.{CODE_MAX}
 use Rattle.std.specs.Prelude.{◌+◌, ◌*◌}
@@ -9,10 +9,95 @@ use Rattle.node_turns.specs.Pacing.{SettlesWithin}
 use Rattle.node_calls.specs.Posting.{PostGives}
 use Rattle.open_node.specs.View.{heard_of, Tells}
 use Rattle.open_node.specs.Calls.{Pacing}
+use Rattle.script_reader.specs.Steps.{IsRightStep}
 use Rattle.node_programs.specs.ScriptSteps.{step_of}
 use Rattle.run_steps.specs.Running.{MakesOn}
 use Rattle.open_node.proofs.CallLemmas.{Tells-by, Occasion-given}
 use Rattle.run_steps.proofs.events.make_step.Goals as goal
+
+pub install_file-requires-clause-below : goal.install_file-requires-clause-below
+install_file-requires-clause-below c =
+    let right = subst (λ (s : Step). IsRightStep c.args.node.now.node.description (length c.args.programs.now) s) c.in-Install.is c.requires.right in
+    right.program_high
+
+pub install_file-requires-in-Load-clause-below : goal.install_file-requires-in-Load-clause-below
+install_file-requires-in-Load-clause-below c =
+    subst (λ (s : Step). IsRightStep c.args.node.now.node.description (length c.args.programs.now) s) c.in-Load.is c.requires.right
+
+pub post-requires-clause-handler : goal.post-requires-clause-handler
+post-requires-clause-handler c =
+    let right = subst (λ (s : Step). IsRightStep c.args.node.now.node.description (length c.args.programs.now) s) c.in-Post.is c.requires.right in
+    right.handler_high
+
+pub post-requires-clause-few : goal.post-requires-clause-few
+post-requires-clause-few c = let few = c.requires.ready.few in omega (arith, few)
+
+pub post-requires-clause-room : goal.post-requires-clause-room
+post-requires-clause-room c = let room = c.requires.ready.room in omega (arith, room)
+
+pub take_turn-requires-clause-right : goal.take_turn-requires-clause-right
+take_turn-requires-clause-right c =
+    subst (λ (s : Step). IsRightStep c.args.node.now.node.description (length c.args.programs.now) s) c.in-Step.is c.requires.right
+
+pub answer-requires-clause-context : goal.answer-requires-clause-context
+answer-requires-clause-context c =
+    let right = subst (λ (s : Step). IsRightStep c.args.node.now.node.description (length c.args.programs.now) s) c.in-Answer.is c.requires.right in
+    let contexts = c.requires.contexts in
+    omega (arith, right, contexts)
+
+pub seen-requires-clause-few : goal.seen-requires-clause-few
+seen-requires-clause-few c = let few = c.requires.ready.few in omega (arith, few)
+
+pub seen-requires-clause-room : goal.seen-requires-clause-room
+seen-requires-clause-room c = let room = c.requires.ready.room in omega (arith, room)
+
+pub reset-requires-clause-few : goal.reset-requires-clause-few
+reset-requires-clause-few c = let few = c.requires.ready.few in omega (arith, few)
+
+pub reset-requires-clause-room : goal.reset-requires-clause-room
+reset-requires-clause-room c = let room = c.requires.ready.room in omega (arith, room)
+
+pub returns-in-Install-clause-tells : goal.returns-in-Install-clause-tells
+returns-in-Install-clause-tells c =
+    let v = c.args.node.now.node in
+    let P : Step → Type 0 = λ s. Tells v c.install_file.new.node.node c.args.at (MakesOn v (step_of c.args.programs.now s)) in
+    subst P (sym c.in-Install.is) c.install_file.ensures.tells
+
+pub returns-in-Load-clause-tells : goal.returns-in-Load-clause-tells
+returns-in-Load-clause-tells c =
+    let v = c.args.node.now.node in
+    let P : Step → Type 0 = λ s. Tells v c.install_file-in-Load.new.node.node c.args.at (MakesOn v (step_of c.args.programs.now s)) in
+    subst P (sym c.in-Load.is) c.install_file-in-Load.ensures.tells
+
+pub returns-in-Step-clause-tells : goal.returns-in-Step-clause-tells
+returns-in-Step-clause-tells c =
+    let v = c.args.node.now.node in
+    let P : Step → Type 0 = λ s. Tells v c.take_turn.new.node.node c.args.at (MakesOn v (step_of c.args.programs.now s)) in
+    subst P (sym c.in-Step.is) c.take_turn.ensures.tells
+
+pub returns-in-Install-clause-gone : goal.returns-in-Install-clause-gone
+returns-in-Install-clause-gone c = c.install_file.ensures.gone
+
+pub returns-in-Load-clause-gone : goal.returns-in-Load-clause-gone
+returns-in-Load-clause-gone c = c.install_file-in-Load.ensures.gone
+
+pub returns-in-Post-clause-gone : goal.returns-in-Post-clause-gone
+returns-in-Post-clause-gone c = c.post.ensures.gone
+
+pub returns-in-Step-clause-gone : goal.returns-in-Step-clause-gone
+returns-in-Step-clause-gone c = c.take_turn.ensures.gone
+
+pub returns-in-Run-clause-gone : goal.returns-in-Run-clause-gone
+returns-in-Run-clause-gone c = c.settle.ensures.gone
+
+pub returns-in-Answer-clause-gone : goal.returns-in-Answer-clause-gone
+returns-in-Answer-clause-gone c = c.answer.ensures.gone
+
+pub returns-in-Show-clause-gone : goal.returns-in-Show-clause-gone
+returns-in-Show-clause-gone c = c.seen.ensures.gone
+
+pub returns-in-Reset-clause-gone : goal.returns-in-Reset-clause-gone
+returns-in-Reset-clause-gone c = c.reset.ensures.gone
 
 pub returns-in-Post-clause-tells : goal.returns-in-Post-clause-tells
 returns-in-Post-clause-tells c =

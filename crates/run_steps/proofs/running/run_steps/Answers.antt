@@ -1,12 +1,22 @@
-use Rattle.std.proofs.Common.{length, take, sym, ◌∙◌, ap, subst, arith}
+use Rattle.std.proofs.Common.{length, take, refl, sym, ◌∙◌, ap, subst, arith}
 use Rattle.std.proofs.lemmas.Bool.{leb-false, leb-true}
 use Rattle.vm_desc.specs.declared.description.Description.{Description}
 use Rattle.mate_journal.specs.NodeScript.{Whole, Full}
 use Rattle.mate_journal.specs.declared.entry.Stamped.{Stamped}
 use Rattle.mate_journal.specs.declared.report.TheConstants.{RECORDS_MAX}
 use Rattle.node_programs.specs.Right.{AreRightPrograms}
-use Rattle.run_steps.proofs.RunLemmas.{HasRun-same, HasRun-step, timely-next, few-entries, run-whole, run-full, reported}
+use Rattle.run_steps.proofs.RunLemmas.{HasRun-new, HasRun-same, HasRun-step, timely-next, few-entries, run-whole, run-full, reported, right-step, few-contexts}
 use Rattle.run_steps.proofs.running.run_steps.Goals as goal
+
+pub loop-step-init : goal.loop-step-init
+loop-step-init c =
+    let fresh = c.in_ok-node.ensures in
+    record {
+      run = HasRun-new c.args.desc.now c.args.programs.now c.in_ok-node.node.node fresh.description fresh.empty fresh.pace;
+      count = refl;
+      gone = fresh.whole;
+      one = c.in_ok-logs.ensures.count;
+    }
 
 pub report_of-requires-clause-one : goal.report_of-requires-clause-one
 report_of-requires-clause-one c = c.loop-step.invariant.one
@@ -35,6 +45,16 @@ make-requires-clause-ready c =
       few = omega (arith, few, entries);
       room = c.in_ok-reserve.ensures.room;
     }
+
+pub make-requires-clause-right : goal.make-requires-clause-right
+make-requires-clause-right c =
+    right-step c.args.desc.now c.reserve.new.self.node.description c.args.steps.now c.args.programs.now c.steps-list.result.now c.loop-step.step-index c.step-item.result c.requires c.steps-list.ensures c.loop-step-test.true c.step-item.is
+    (c.in_ok-reserve.ensures.same.description ∙ c.loop-step.invariant.run.description)
+
+pub make-requires-clause-contexts : goal.make-requires-clause-contexts
+make-requires-clause-contexts c =
+    few-contexts c.args.desc.now c.reserve.new.self.node.description c.contexts-contexts.result c.contexts-contexts.ensures.value c.contexts-contexts.ensures.high
+    (c.in_ok-reserve.ensures.same.description ∙ c.loop-step.invariant.run.description)
 
 pub make-requires-clause-programs : goal.make-requires-clause-programs
 make-requires-clause-programs c =
@@ -67,6 +87,9 @@ seen-requires-clause-few c =
     let i = c.loop-step.invariant in
     let run = HasRun-same c.args.desc.now c.args.programs.now (take c.loop-step.step-index c.steps-list.result.now) c.loop-step.node.node c.reserve-2.new.self.node c.in_ok-reserve-2.ensures.same c.in_ok-reserve-2.ensures.pace i.run in
     few-entries c.args.desc.now c.args.programs.now (take c.loop-step.step-index c.steps-list.result.now) c.reserve-2.new.self.node run c.told-told.ensures.keeps
+
+pub seen-requires-clause-room : goal.seen-requires-clause-room
+seen-requires-clause-room c = c.in_ok-reserve-2.ensures.room
 
 pub report_of-requires-2-clause-one : goal.report_of-requires-2-clause-one
 report_of-requires-2-clause-one c = c.loop-step.invariant.one

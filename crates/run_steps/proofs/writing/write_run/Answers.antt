@@ -11,9 +11,9 @@ use Rattle.open_log.specs.OpenLog.{Gone}
 use Rattle.run_steps.specs.Passing.{with_report, PassWrites}
 use Rattle.run_steps.specs.Running.{report_with}
 use Rattle.run_steps.specs.declared.writing.Pass.{Pass}
-use Rattle.run_steps.proofs.KeptLemmas.{stays-first, stays-then}
-use Rattle.run_steps.proofs.RunLemmas.{HasRun-new, HasRun-same, HasRun-step, timely-at, timely-next, few-entries, run-whole, run-full, run-cut, reported, keeps-by, ok-room}
-use Rattle.run_steps.proofs.WrittenLemmas.{lines-none, lines-room, lines-last, event-written, stopped-within, stopped-behind, stopped-with, ended-whole, ended-full}
+use Rattle.run_steps.proofs.KeptLemmas.{stays-first, stays-then, stays-back}
+use Rattle.run_steps.proofs.RunLemmas.{HasRun-new, HasRun-same, HasRun-step, timely-at, timely-next, few-entries, run-whole, run-full, run-cut, reported, keeps-by, ok-room, right-step, few-contexts}
+use Rattle.run_steps.proofs.WrittenLemmas.{lines-none, lines-room, lines-last, event-written, stopped-within, stopped-behind, stopped-with, ended-later, ended-whole, ended-full}
 use Rattle.run_steps.proofs.writing.write_run.Goals as goal
 
 pub loop-step-init : goal.loop-step-init
@@ -36,10 +36,10 @@ returns-then-is_full-clause-gives g c =
     (leb-true RECORDS_MAX (length c.loop-step.node.node.log.entries) (sym c.is_full.ensures.full ∙ c.if-is_full.true)) in
     let keeps = keeps-by d c.loop-step.node.node i.run.description c.is_full.ensures.keeps in
     let timely = timely-at d c.args.programs.now c.steps-list.result.now c.loop-step.step-index c.loop-step.events c.loop-step.node.node i.run (omega (arith, below)) i.count in
-    (ended-full d c.args.steps.now c.args.programs.now (g.S.Sink.written c.args.out.now) (g.S.Sink.written c.loop-step.out) (g.S.Sink.written c.write_last.new.out) (g.S.Sink.faults c.args.out.now)
+    ended-full d c.args.steps.now c.args.programs.now (g.S.Sink.written c.args.out.now) (g.S.Sink.written c.loop-step.out) (g.S.Sink.written c.write_last.new.out) (g.S.Sink.faults c.args.out.now)
     (g.S.Sink.faults c.loop-step.out) (g.S.Sink.faults c.write_last.new.out) c.loop-step.node.node.log c.loop-step.events c.loop-step.events (with_report c.write_last.result.result (report_with c.loop-step.node.node.log c.write_last.result.events c.write_last.result.whole))
     (reported d c.args.steps.now c.args.programs.now Full c.steps-list.result.now c.loop-step.node.node c.loop-step.events c.steps-list.ensures c.requires.programs.programs i.run.description c.is_full.ensures.keeps run _ refl)
-    refl (lines-last d c.loop-step.node.node.log c.loop-step.events keeps timely) i.sent i.later c.write_last.ensures).0
+    refl (lines-last d c.loop-step.node.node.log c.loop-step.events keeps timely) i.sent i.later c.write_last.ensures
 
 -- memory was refused before a step
 pub returns-then-is_err-clause-gives : goal.returns-then-is_err-clause-gives
@@ -74,6 +74,15 @@ make-requires-clause-ready g c =
       few = omega (arith, few, entries);
       room = ok-room c.make_room.result _ (sym c.is_err.ensures.value ∙ c.if-is_err.false) c.make_room.ensures.room;
     }
+
+pub make-requires-clause-right : goal.make-requires-clause-right
+make-requires-clause-right g c =
+    right-step c.args.desc.now c.make_room.new.self.node.description c.args.steps.now c.args.programs.now c.steps-list.result.now c.loop-step.step-index c.step-item.result c.requires.programs c.steps-list.ensures c.loop-step-test.true c.step-item.is
+    (c.make_room.ensures.same.description ∙ c.loop-step.invariant.run.description)
+
+pub make-requires-clause-contexts : goal.make-requires-clause-contexts
+make-requires-clause-contexts g c =
+    few-contexts c.args.desc.now c.make_room.new.self.node.description c.contexts-contexts.result c.contexts-contexts.ensures.value c.contexts-contexts.ensures.high (c.make_room.ensures.same.description ∙ c.loop-step.invariant.run.description)
 
 pub make-requires-clause-programs : goal.make-requires-clause-programs
 make-requires-clause-programs g c =
@@ -175,6 +184,9 @@ seen-requires-clause-few g c =
     let run = HasRun-same c.args.desc.now c.args.programs.now (take c.loop-step.step-index c.steps-list.result.now) c.loop-step.node.node c.reserve.new.self.node c.reserve.ensures.same c.reserve.ensures.pace i.run in
     few-entries c.args.desc.now c.args.programs.now (take c.loop-step.step-index c.steps-list.result.now) c.reserve.new.self.node run c.next_position-from-2.ensures.keeps
 
+pub seen-requires-clause-room : goal.seen-requires-clause-room
+seen-requires-clause-room g c = ok-room c.reserve.result _ (sym c.is_err-2.ensures.value ∙ c.if-is_err-2.false) c.reserve.ensures.room
+
 pub write_new-requires-2 : goal.write_new-requires-2
 write_new-requires-2 g c =
     let position = c.next_position-from-2.ensures.position in
@@ -236,6 +248,63 @@ returns-clause-gives g c =
     let last : suc c.loop-step.events ≡ c.loop-step.events + 1 = omega arith in
     let later = i.later in
     let rose = c.in_default-write_new.ensures.writes.later in
-    (ended-whole d c.args.steps.now ps (g.S.Sink.written c.args.out.now) (g.S.Sink.written c.write_new-2.new.out) (g.S.Sink.written c.write_last-2.new.out) (g.S.Sink.faults c.args.out.now) (g.S.Sink.faults c.write_new-2.new.out)
+    ended-whole d c.args.steps.now ps (g.S.Sink.written c.args.out.now) (g.S.Sink.written c.write_new-2.new.out) (g.S.Sink.written c.write_last-2.new.out) (g.S.Sink.faults c.args.out.now) (g.S.Sink.faults c.write_new-2.new.out)
     (g.S.Sink.faults c.write_last-2.new.out) new.log c.loop-step.events (c.loop-step.events + 1) (with_report c.write_last-2.result.result (report_with new.log c.write_last-2.result.events c.write_last-2.result.whole)) report last
-    (lines-last d new.log (c.loop-step.events + 1) keeps c.seen.ensures.tells.grows.timely) all (omega (arith, later, rose)) c.write_last-2.ensures).0
+    (lines-last d new.log (c.loop-step.events + 1) keeps c.seen.ensures.tells.grows.timely) all (omega (arith, later, rose)) c.write_last-2.ensures
+
+-- ---- the sink's faults, and what is gone
+
+pub returns-then-is_full-clause-later : goal.returns-then-is_full-clause-later
+returns-then-is_full-clause-later g c =
+    let later = c.loop-step.invariant.later in
+    let rose = ended-later (report_with c.loop-step.node.node.log c.loop-step.events false) (g.S.Sink.written c.loop-step.out) (g.S.Sink.written c.write_last.new.out) (g.S.Sink.faults c.loop-step.out) (g.S.Sink.faults c.write_last.new.out)
+    (with_report c.write_last.result.result (report_with c.loop-step.node.node.log c.write_last.result.events c.write_last.result.whole)) c.write_last.ensures in
+    omega (arith, later, rose)
+
+pub returns-then-is_full-clause-gone : goal.returns-then-is_full-clause-gone
+returns-then-is_full-clause-gone g c = c.loop-step.invariant.gone
+
+pub make_room-requires : goal.make_room-requires
+make_room-requires g c =
+    let few = leb-false RECORDS_MAX (length c.loop-step.node.node.log.entries) (sym c.is_full.ensures.full ∙ c.if-is_full.false) in
+    omega (arith, few)
+
+pub returns-then-is_err-clause-later : goal.returns-then-is_err-clause-later
+returns-then-is_err-clause-later g c = c.loop-step.invariant.later
+
+pub returns-then-is_err-clause-gone : goal.returns-then-is_err-clause-gone
+returns-then-is_err-clause-gone g c =
+    stays-then c.args.written c.args.node.now.gone c.loop-step.node.gone c.make_room.new.self.gone c.make_room.new.self.gone c.loop-step.invariant.gone c.make_room.ensures.gone refl
+
+pub returns-in-Err-clause-later : goal.returns-in-Err-clause-later
+returns-in-Err-clause-later g c = let later = c.loop-step.invariant.later in let rose = c.in-Err.ensures.writes.later in omega (arith, later, rose)
+
+pub returns-in-Err-clause-gone : goal.returns-in-Err-clause-gone
+returns-in-Err-clause-gone g c =
+    stays-then c.args.written c.args.node.now.gone c.loop-step.node.gone c.make_room.new.self.gone c.make.new.self.gone c.loop-step.invariant.gone c.make_room.ensures.gone c.make.ensures.gone
+
+pub returns-then-is_err-2-clause-later : goal.returns-then-is_err-2-clause-later
+returns-then-is_err-2-clause-later g c = c.loop-step.invariant.later
+
+pub returns-then-is_err-2-clause-gone : goal.returns-then-is_err-2-clause-gone
+returns-then-is_err-2-clause-gone g c =
+    stays-back c.args.written c.args.node.now.gone c.loop-step.node.gone c.reserve.new.self.gone c.loop-step.invariant.gone c.reserve.ensures.gone
+
+pub returns-in-Err-write_new-clause-later : goal.returns-in-Err-write_new-clause-later
+returns-in-Err-write_new-clause-later g c = let later = c.loop-step.invariant.later in let rose = c.in-Err-write_new.ensures.writes.later in omega (arith, later, rose)
+
+pub returns-in-Err-write_new-clause-gone : goal.returns-in-Err-write_new-clause-gone
+returns-in-Err-write_new-clause-gone g c =
+    stays-back c.args.written c.args.node.now.gone c.loop-step.node.gone c.seen.new.self.gone c.loop-step.invariant.gone (c.seen.ensures.gone ∙ c.reserve.ensures.gone)
+
+pub returns-clause-later : goal.returns-clause-later
+returns-clause-later g c =
+    let later = c.loop-step.invariant.later in
+    let wrote = c.in_default-write_new.ensures.writes.later in
+    let rose = ended-later (report_with c.seen.new.self.node.log c.loop-step.events true) (g.S.Sink.written c.write_new-2.new.out) (g.S.Sink.written c.write_last-2.new.out) (g.S.Sink.faults c.write_new-2.new.out)
+    (g.S.Sink.faults c.write_last-2.new.out) (with_report c.write_last-2.result.result (report_with c.seen.new.self.node.log c.write_last-2.result.events c.write_last-2.result.whole)) c.write_last-2.ensures in
+    omega (arith, later, wrote, rose)
+
+pub returns-clause-gone : goal.returns-clause-gone
+returns-clause-gone g c =
+    stays-back c.args.written c.args.node.now.gone c.loop-step.node.gone c.seen.new.self.gone c.loop-step.invariant.gone (c.seen.ensures.gone ∙ c.reserve.ensures.gone)

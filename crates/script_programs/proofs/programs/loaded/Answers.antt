@@ -5,7 +5,9 @@ use Rattle.mate_steps.specs.CapsuleFiles.{capsule}
 use Rattle.mate_steps.specs.declared.capsule_file.VerifiedCapsule.{VerifiedCapsule}
 use Rattle.mate_steps.specs.Parts.{Folder}
 use Rattle.mate_steps.specs.Steps.{goes_on}
-use Rattle.mate_steps.proofs.Laws.{stops_by}
+use Rattle.mate_steps.proofs.Laws.{stops_by, reads-as, reads-err}
+use Rattle.node_programs.specs.Right.{IsRightProgram}
+use Rattle.script_programs.proofs.ReadLemmas.{if-err}
 use Rattle.script_programs.proofs.EachLemmas.{capsule-text}
 use Rattle.script_programs.proofs.RightLemmas.{IsRightProgram-loaded}
 use Rattle.script_programs.proofs.programs.loaded.Goals as goal
@@ -31,3 +33,12 @@ returns-clause-right g c =
     let text = capsule-text f c.args.desc.now c.args.name.now (held.capsule, held.code) (subst Is (sym same) c.in_ok-held.ensures.does) in
     let p : Program = record { handler = held.capsule.handler; version = held.capsule.version; source = None; image = c.encode.result } in
     IsRightProgram-loaded c.args.desc.now held.code (capsule_parts held.capsule) p text.1.is_verified text.1.is_for.shape_is text.1.is_for.bytes_are c.encode.ensures.fits text.1.is_for.of_machine refl refl refl c.encode.ensures.bytes
+
+pub returns-in_err-held-clause-reads : goal.returns-in_err-held-clause-reads
+returns-in_err-held-clause-reads g c = reads-err c.in_err-held.field-0.0 c.from_residual.result c.in_err-held.ensures.reads c.from_residual.ensures.1
+
+pub returns-in_err-held-clause-right : goal.returns-in_err-held-clause-right
+returns-in_err-held-clause-right g c = if-err (IsRightProgram c.args.desc.now) c.in_err-held.field-0.0 c.from_residual.result c.from_residual.ensures.1
+
+pub returns-clause-reads : goal.returns-clause-reads
+returns-clause-reads g c = reads-as c.in_ok-held.ensures.reads (λ unread. unread)

@@ -6,11 +6,13 @@ use Rattle.mate_refusals.specs.declared.refusal.Refusal.{Refusal}
 use Rattle.mate_refusals.specs.declared.refusal.Refusal.TheVariants.{NoMemory}
 use Rattle.mate_steps.specs.Parts.{Folder}
 use Rattle.mate_steps.specs.Steps.{goes_on}
-use Rattle.mate_steps.proofs.Laws.{stops_by, moved}
+use Rattle.mate_steps.proofs.Laws.{stops_by, moved, reads-then, reads-as, reads-err}
 use Rattle.node_programs.specs.Right.{IsRightProgram}
 use Rattle.script_reader.specs.declared.steps.Step.{Step}
 use Rattle.script_programs.specs.Programs.{step_program, programs_after, script_programs, Owing}
 use Rattle.script_programs.proofs.StepLaws.{at_step, gives-nothing, step_wants, All-with}
+use Rattle.node_programs.specs.ScriptSteps.{AreProgramsOf}
+use Rattle.script_programs.proofs.ReadLemmas.{if-err}
 use Rattle.script_programs.proofs.EachLemmas.{are_made}
 use Rattle.script_programs.proofs.programs.programs_of.Goals.{then-names_file+in_ok-program+in_ok-push, else-names_file}
 use Rattle.script_programs.proofs.programs.programs_of.Goals as goal
@@ -103,3 +105,16 @@ returns-clause-programs g c =
     c.loop-step.invariant.owing.owed (Ok ps) (subst (λ (l : List Step). programs_after f d c.args.fold s.files ps l (Ok ps)) (sym nothing) refl) in
     let made = are_made f d c.args.fold s.files [] s.steps (length s.files) ps c.requires.in_order does in
     record { steps = c.requires.right; programs = c.loop-step.invariant.right; count = made.count; each = made.each }
+
+pub returns-in_err-program-clause-reads : goal.returns-in_err-program-clause-reads
+returns-in_err-program-clause-reads g c =
+    reads-err c.in_err-program.field-0.0 c.from_residual.result (reads-then c.loop-step.invariant.reads c.in_err-program.ensures.reads) c.from_residual.ensures.1
+
+pub returns-in_err-program-clause-programs : goal.returns-in_err-program-clause-programs
+returns-in_err-program-clause-programs g c = if-err (AreProgramsOf c.args.desc.now c.args.script.now) c.in_err-program.field-0.0 c.from_residual.result c.from_residual.ensures.1
+
+pub returns-in_err-push-clause-programs : goal.returns-in_err-push-clause-programs
+returns-in_err-push-clause-programs g c = if-err (AreProgramsOf c.args.desc.now c.args.script.now) c.in_err-push.field-0.0 c.from_residual-in_err-push.result c.from_residual-in_err-push.ensures.1
+
+pub returns-clause-reads : goal.returns-clause-reads
+returns-clause-reads g c = reads-as c.loop-step.invariant.reads (λ unread. unread)

@@ -1,10 +1,14 @@
-use Rattle.std.proofs.Common.{ℕ, List, [], length, Some, Ok, Err, sym, ◌∙◌, subst}
+use Rattle.std.proofs.Common.{ℕ, List, [], length, Option, Some, None, Ok, Err, sym, ◌∙◌, subst}
 use Rattle.std.proofs.lemmas.List.{get_or_default}
 use Rattle.mate_journal.specs.declared.program.Program.{Program}
 use Rattle.mate_steps.specs.Parts.{Folder}
 use Rattle.script_reader.specs.Steps.{IsRightStep}
 use Rattle.script_reader.specs.declared.steps.Step.{Step}
+use Rattle.mate_steps.proofs.Laws.{reads-as, reads-err}
 use Rattle.script_programs.specs.Programs.{installed, loaded, name_at, step_program}
+use Rattle.std.specs.Prelude.{IfSome}
+use Rattle.node_programs.specs.Right.{IsRightProgram}
+use Rattle.script_programs.proofs.ReadLemmas.{if-err}
 use Rattle.script_programs.proofs.StepLaws.{gives-stops}
 use Rattle.script_programs.proofs.programs.step_program.Goals as goal
 
@@ -54,3 +58,75 @@ returns-in_ok-program-in-Load-clause-does g c =
     let name = c.as_str-name-in-Load.ensures ∙ c.index-names-program-in-Load.is ∙ get_or_default names i.program c.index-names-program-in-Load.result [] right in
     subst (λ (s : Step). step_program f c.args.desc.now c.args.fold names s (Ok (Some p))) (sym i.is)
     (subst (λ (n : List ℕ). loaded f c.args.desc.now n (Ok p)) name c.in_ok-program-in-Load.ensures.does)
+
+pub returns-in_err-program-in-Install-clause-reads : goal.returns-in_err-program-in-Install-clause-reads
+returns-in_err-program-in-Install-clause-reads g c = reads-err c.in_err-program-in-Install.field-0.0 c.from_residual.result c.in_err-program-in-Install.ensures.reads c.from_residual.ensures.1
+
+pub returns-in_err-program-in-Install-clause-right : goal.returns-in_err-program-in-Install-clause-right
+returns-in_err-program-in-Install-clause-right g c = if-err (λ (o : Option Program). IfSome o (IsRightProgram c.args.desc.now)) c.in_err-program-in-Install.field-0.0 c.from_residual.result c.from_residual.ensures.1
+
+pub returns-in_ok-program-in-Install-clause-reads : goal.returns-in_ok-program-in-Install-clause-reads
+returns-in_ok-program-in-Install-clause-reads g c = reads-as c.in_ok-program-in-Install.ensures.reads (λ unread. unread)
+
+pub returns-in_ok-program-in-Install-clause-right : goal.returns-in_ok-program-in-Install-clause-right
+returns-in_ok-program-in-Install-clause-right g c = c.in_ok-program-in-Install.ensures.right
+
+pub returns-in_err-program-in-Load-clause-reads : goal.returns-in_err-program-in-Load-clause-reads
+returns-in_err-program-in-Load-clause-reads g c = reads-err c.in_err-program-in-Load.field-0.0 c.from_residual-in_err-program-in-Load.result c.in_err-program-in-Load.ensures.reads c.from_residual-in_err-program-in-Load.ensures.1
+
+pub returns-in_err-program-in-Load-clause-right : goal.returns-in_err-program-in-Load-clause-right
+returns-in_err-program-in-Load-clause-right g c = if-err (λ (o : Option Program). IfSome o (IsRightProgram c.args.desc.now)) c.in_err-program-in-Load.field-0.0 c.from_residual-in_err-program-in-Load.result c.from_residual-in_err-program-in-Load.ensures.1
+
+pub returns-in_ok-program-in-Load-clause-reads : goal.returns-in_ok-program-in-Load-clause-reads
+returns-in_ok-program-in-Load-clause-reads g c = reads-as c.in_ok-program-in-Load.ensures.reads (λ unread. unread)
+
+pub returns-in_ok-program-in-Load-clause-right : goal.returns-in_ok-program-in-Load-clause-right
+returns-in_ok-program-in-Load-clause-right g c = c.in_ok-program-in-Load.ensures.right
+
+pub installed-requires-clause-handler : goal.installed-requires-clause-handler
+installed-requires-clause-handler g c =
+    let right = subst (λ (s : Step). IsRightStep c.args.desc.now (length c.args.names.now) s) c.in-Install.is c.requires in
+    right.handler_high
+
+pub installed-requires-clause-version : goal.installed-requires-clause-version
+installed-requires-clause-version g c =
+    let right = subst (λ (s : Step). IsRightStep c.args.desc.now (length c.args.names.now) s) c.in-Install.is c.requires in
+    right.version_low
+
+pub bounds-names-program : goal.bounds-names-program
+bounds-names-program g c =
+    let right = subst (λ (s : Step). IsRightStep c.args.desc.now (length c.args.names.now) s) c.in-Install.is c.requires in
+    right.program_high
+
+pub bounds-names-program-in-Load : goal.bounds-names-program-in-Load
+bounds-names-program-in-Load g c = subst (λ (s : Step). IsRightStep c.args.desc.now (length c.args.names.now) s) c.in-Load.is c.requires
+
+pub returns-in-Post-clause-does : goal.returns-in-Post-clause-does
+returns-in-Post-clause-does g c =
+    let f : Folder = record { told = g.F.Files.contents c.args.files.now; steady = g.F.Files.steady c.args.files.now } in
+    subst (λ (s : Step). step_program f c.args.desc.now c.args.fold c.args.names.now s (Ok None)) (sym c.in-Post.is) tt
+
+pub returns-in-Step-clause-does : goal.returns-in-Step-clause-does
+returns-in-Step-clause-does g c =
+    let f : Folder = record { told = g.F.Files.contents c.args.files.now; steady = g.F.Files.steady c.args.files.now } in
+    subst (λ (s : Step). step_program f c.args.desc.now c.args.fold c.args.names.now s (Ok None)) (sym c.in-Step.is) tt
+
+pub returns-in-Run-clause-does : goal.returns-in-Run-clause-does
+returns-in-Run-clause-does g c =
+    let f : Folder = record { told = g.F.Files.contents c.args.files.now; steady = g.F.Files.steady c.args.files.now } in
+    subst (λ (s : Step). step_program f c.args.desc.now c.args.fold c.args.names.now s (Ok None)) (sym c.in-Run.is) tt
+
+pub returns-in-Answer-clause-does : goal.returns-in-Answer-clause-does
+returns-in-Answer-clause-does g c =
+    let f : Folder = record { told = g.F.Files.contents c.args.files.now; steady = g.F.Files.steady c.args.files.now } in
+    subst (λ (s : Step). step_program f c.args.desc.now c.args.fold c.args.names.now s (Ok None)) (sym c.in-Answer.is) tt
+
+pub returns-in-Show-clause-does : goal.returns-in-Show-clause-does
+returns-in-Show-clause-does g c =
+    let f : Folder = record { told = g.F.Files.contents c.args.files.now; steady = g.F.Files.steady c.args.files.now } in
+    subst (λ (s : Step). step_program f c.args.desc.now c.args.fold c.args.names.now s (Ok None)) (sym c.in-Show.is) tt
+
+pub returns-in-Reset-clause-does : goal.returns-in-Reset-clause-does
+returns-in-Reset-clause-does g c =
+    let f : Folder = record { told = g.F.Files.contents c.args.files.now; steady = g.F.Files.steady c.args.files.now } in
+    subst (λ (s : Step). step_program f c.args.desc.now c.args.fold c.args.names.now s (Ok None)) (sym c.in-Reset.is) tt

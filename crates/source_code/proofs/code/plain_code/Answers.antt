@@ -2,6 +2,7 @@ use Rattle.std.proofs.Common.{false, refl, subst}
 use Rattle.mate_num.specs.declared.shape.Shape.{Shape}
 use Rattle.ts_syntax.specs.Checked.{tree_of, shape_of as shape_of_script}
 use Rattle.source_code.specs.SourceCode.{IsCodeOf}
+use Rattle.source_code.proofs.CodeLemmas.{filled}
 use Rattle.source_code.proofs.code.plain_code.Goals as goal
 
 pub returns-in-Ok-clause-gives : goal.returns-in-Ok-clause-gives
@@ -19,3 +20,6 @@ returns-in-Ok-clause-gives c =
       tree_is = refl;
       code_is = subst (λ (s : Shape). IsCodeOf s false tree c.in-Ok.code) c.requires is;
     }
+
+pub returns-in-Ok-clause-filled : goal.returns-in-Ok-clause-filled
+returns-in-Ok-clause-filled c = filled (shape_of_script c.args.script) (tree_of c.args.script) c.in-Ok.code c.in-Ok.ensures.gives

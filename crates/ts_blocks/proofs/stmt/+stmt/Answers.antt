@@ -1,23 +1,23 @@
-use Rattle.std.proofs.Common.{◌≡◌, refl, subst, List, Option, Some, None, sym, ◌∙◌, ap, arith}
+use Rattle.std.proofs.Common.{◌≡◌, refl, subst, List, Option, Some, None, sym, ◌∙◌, ap, arith, le_refl, le_trans, lt_trans, le_of_lt, lt_of_le_of_lt, lt_of_lt_of_le, lit<}
 use Rattle.ts_syntax.specs.declared.expr.Expr.{Expr}
 use Rattle.ts_syntax.specs.declared.stmt.Stmt.{Stmt}
 use Rattle.ts_syntax.specs.declared.stmt.ForHead.{ForHead}
 use Rattle.ts_syntax.specs.declared.stmt.Stmt.TheVariants as does
 use Rattle.ts_syntax.specs.declared.word.Word.{Word}
 use Rattle.ts_syntax.specs.Seen.{tree_of, act_of, acts_of}
-use Rattle.ts_syntax.specs.Tree.{Acts, no_acts, if_else}
+use Rattle.ts_syntax.specs.Tree.{Acts, no_acts, if_then, if_else}
 use Rattle.ts_syntax.proofs.SeenLemmas.{act_if_then, act_if_else, act_for_next, act_while_do}
-use Rattle.ts_machine.specs.Machine.{Frame, stmt_named, cleared, do_word, in_if, in_while, block, for_word, expr_due, with_act}
+use Rattle.ts_machine.specs.Machine.{Frame, Whole, have, stmt_named, cleared, do_word, in_if, in_while, block, for_word, expr_due, with_act}
 use Rattle.ts_machine.specs.Parsing.{reads}
 use Rattle.ts_blocks.specs.Blocks.{opened_by, FrameIn, ReadsStmtIn, Choice, if_made, then_block, choice_made, Branch, branch_due, Repetition, repeated_block, repetition_made, Count, counted_block, count_made}
 use Rattle.ts_statements.specs.Simple.{head_read}
-use Rattle.ts_blocks.proofs.DialectLemmas.{stmt_halts_in, narrowed}
+use Rattle.ts_blocks.proofs.DialectLemmas.{stmt_halts_in, narrowed, untold, no_more, no_more_named, no_longer, forgotten, lower, lowest, inner}
 use Rattle.ts_statements.proofs.Halting.{token_misses, name_misses}
-use Rattle.ts_machine.proofs.Parts.{halts}
-use Rattle.ts_blocks.proofs.OpeningLemmas.{stmt_opens, opens_shorter, acts_of_push, then_read, body_due}
+use Rattle.ts_machine.proofs.Parts.{halts, starts_shorter}
+use Rattle.ts_blocks.proofs.OpeningLemmas.{stmt_opens, opens_shorter, acts_of_push, then_read, then_left, body_due, branch_stops}
 use Rattle.ts_syntax.specs.declared.token.TokenKind.TheVariants as kind
 use Rattle.ts_blocks.specs.declared.opening.Opening.TheVariants as opening
-use Rattle.ts_blocks.proofs.BlockLemmas.{then_in, else_in, while_in, for_in, while_open, while_end, while_named, while_left, for_open, for_left, for_next_read, else_begins, else_open, else_end, if_named, if_left}
+use Rattle.ts_blocks.proofs.BlockLemmas.{then_in, else_in, while_in, for_in, while_open, while_end, while_named, while_left, for_open, for_left, for_next_read, else_begins, else_open, else_end, then_end, if_named, if_left}
 use Rattle.ts_blocks.proofs.stmt.+stmt.Goals as goal
 
 pub block-returns-in_err-stmt-clause-reads : goal.block-returns-in_err-stmt-clause-reads
@@ -190,3 +190,218 @@ pub statement-returns-in-Do-clause-reads : goal.statement-returns-in-Do-clause-r
 statement-returns-in-Do-clause-reads t c =
     subst (λ o. ReadsStmtIn c.args.dialect c.args.tokens.now (opened_by o) c.running.result) (sym c.in-Do.is)
     (narrowed c.args.dialect c.args.tokens.now do_word c.running.result c.running.ensures.reads)
+
+pub statement-returns-in-If-clause-reads : goal.statement-returns-in-If-clause-reads
+statement-returns-in-If-clause-reads t c = subst (λ o. ReadsStmtIn c.args.dialect c.args.tokens.now (opened_by o) c.choice.result) (sym c.in-If.is) c.choice.ensures.reads
+
+pub statement-returns-in-For-clause-reads : goal.statement-returns-in-For-clause-reads
+statement-returns-in-For-clause-reads t c = subst (λ o. ReadsStmtIn c.args.dialect c.args.tokens.now (opened_by o) c.counting.result) (sym c.in-For.is) c.counting.ensures.reads
+
+pub statement-returns-in-While-clause-reads : goal.statement-returns-in-While-clause-reads
+statement-returns-in-While-clause-reads t c = subst (λ o. ReadsStmtIn c.args.dialect c.args.tokens.now (opened_by o) c.repetition.result) (sym c.in-While.is) c.repetition.ensures.reads
+
+pub choice-returns-in_err-test-clause-reads : goal.choice-returns-in_err-test-clause-reads
+choice-returns-in_err-test-clause-reads t c =
+    stmt_halts_in {X = Expr} {K = Whole} c.args.dialect c.args.tokens.now c.args.tokens.now (λ k. expr_due k) (λ e k. have (tree_of e) k) (λ a f. expr_due (in_if a f))
+    (λ k. in_if k.0 k.1.frame) (λ k. refl) c.from_residual.result c.in_err-test.field-0.0 c.from_residual.ensures.1 c.in_err-test.ensures.reads
+
+pub repetition-returns-in_err-test-clause-reads : goal.repetition-returns-in_err-test-clause-reads
+repetition-returns-in_err-test-clause-reads t c =
+    stmt_halts_in {X = Expr} {K = Whole} c.args.dialect c.args.tokens.now c.args.tokens.now (λ k. expr_due k) (λ e k. have (tree_of e) k) (λ a f. expr_due (in_while a f))
+    (λ k. in_while k.0 k.1.frame) (λ k. refl) c.from_residual.result c.in_err-test.field-0.0 c.from_residual.ensures.1 c.in_err-test.ensures.reads
+
+pub block-loop-opening-init : goal.block-loop-opening-init
+block-loop-opening-init t c = (le_refl _, λ f. ap (λ z. reads c.args.tokens.now (block (acts_of z) f.frame)) (sym c.new-stmts.ensures))
+
+pub block-returns-in_err-push-clause-reads : goal.block-returns-in_err-push-clause-reads
+block-returns-in_err-push-clause-reads t c =
+    forgotten {X = List Stmt} {K = FrameIn c.args.dialect} c.args.tokens.now (λ f. block no_acts f.frame) (λ b f. block (acts_of b) f.frame) c.from_residual-in_err-push.result c.from_residual-in_err-push.ensures.1
+
+pub block-returns-clause-reads : goal.block-returns-clause-reads
+block-returns-clause-reads t c = c.loop-opening.invariant.1
+
+pub choice-returns-in_err-rest-clause-reads : goal.choice-returns-in_err-rest-clause-reads
+choice-returns-in_err-rest-clause-reads t c =
+    token_misses {Y = Stmt} {L = Acts × FrameIn c.args.dialect} kind.Then c.args.tokens.now c.in_ok-test.rest.now (λ k. expr_due (in_if k.0 k.1.frame)) (λ s k. block (with_act k.0 (act_of s)) k.1.frame)
+    (λ k more l. c.in_ok-test.ensures.reads (in_if k.0 k.1.frame) ∙ then_left c.in_ok-test.ensures.over l (tree_of c.in_ok-test.test) k.0 k.1.frame)
+    c.from_residual-in_err-rest.result c.in_err-rest.field-0.0 c.from_residual-in_err-rest.ensures.1 c.in_err-rest.ensures
+
+pub other_branch-returns-in_err-rest-3-clause-reads : goal.other_branch-returns-in_err-rest-3-clause-reads
+other_branch-returns-in_err-rest-3-clause-reads t c =
+    token_misses {Y = Option (List Stmt)} {L = Branch c.args.dialect} kind.End c.args.tokens.now c.args.tokens.now (λ k. branch_due k) (λ b k. choice_made k.choice k.body b)
+    (λ k more l. branch_stops c.requires c.in_default.ensures l k.body k.choice.test k.choice.before k.choice.frame.frame k.choice.frame.speaks)
+    c.from_residual-in_err-rest-3.result c.in_err-rest-3.field-0.0 c.from_residual-in_err-rest-3.ensures.1 c.in_err-rest-3.ensures
+
+pub other_branch-returns-in_err-rest-4-clause-reads : goal.other_branch-returns-in_err-rest-4-clause-reads
+other_branch-returns-in_err-rest-4-clause-reads t c =
+    token_misses {Y = Option (List Stmt)} {L = Branch c.args.dialect} kind.If c.args.tokens.now c.in_ok-rest-3.rest.now (λ k. branch_due k) (λ b k. choice_made k.choice k.body b)
+    (λ k more l. then_end c.in_ok-rest-3.ensures k.body k.choice.test k.choice.before k.choice.frame.frame ∙ if_left l (if_then k.choice.test k.body) k.choice.before k.choice.frame.frame)
+    c.from_residual-in_err-rest-4.result c.in_err-rest-4.field-0.0 c.from_residual-in_err-rest-4.ensures.1 c.in_err-rest-4.ensures
+
+pub other_branch-returns-clause-reads : goal.other_branch-returns-clause-reads
+other_branch-returns-clause-reads t c =
+    λ k. then_end c.in_ok-rest-3.ensures k.body k.choice.test k.choice.before k.choice.frame.frame
+    ∙ if_named c.in_ok-rest-4.ensures (if_then k.choice.test k.body) k.choice.before k.choice.frame.frame
+
+-- ---- what is left behind a part
+
+pub block-returns-in_err-stmt-clause-over : goal.block-returns-in_err-stmt-clause-over
+block-returns-in_err-stmt-clause-over t c = untold _ c.from_residual.result c.in_err-stmt.field-0.0 c.from_residual.ensures.1
+
+pub block-returns-in_err-stmt-clause-shorter : goal.block-returns-in_err-stmt-clause-shorter
+block-returns-in_err-stmt-clause-shorter t c = untold _ c.from_residual.result c.in_err-stmt.field-0.0 c.from_residual.ensures.1
+
+pub branches-returns-in_err-body-clause-shorter : goal.branches-returns-in_err-body-clause-shorter
+branches-returns-in_err-body-clause-shorter t c = untold _ c.from_residual.result c.in_err-body.field-0.0 c.from_residual.ensures.1
+
+pub branches-returns-in_err-other-clause-shorter : goal.branches-returns-in_err-other-clause-shorter
+branches-returns-in_err-other-clause-shorter t c = untold _ c.from_residual-in_err-other.result c.in_err-other.field-0.0 c.from_residual-in_err-other.ensures.1
+
+pub choice-returns-in_err-test-clause-shorter : goal.choice-returns-in_err-test-clause-shorter
+choice-returns-in_err-test-clause-shorter t c = untold _ c.from_residual.result c.in_err-test.field-0.0 c.from_residual.ensures.1
+
+pub choice-returns-in_err-rest-clause-shorter : goal.choice-returns-in_err-rest-clause-shorter
+choice-returns-in_err-rest-clause-shorter t c = untold _ c.from_residual-in_err-rest.result c.in_err-rest.field-0.0 c.from_residual-in_err-rest.ensures.1
+
+pub choice-returns-in_err-body-clause-shorter : goal.choice-returns-in_err-body-clause-shorter
+choice-returns-in_err-body-clause-shorter t c = untold _ c.from_residual-in_err-body.result c.in_err-body.field-0.0 c.from_residual-in_err-body.ensures.1
+
+pub counting-returns-in_err-head-clause-shorter : goal.counting-returns-in_err-head-clause-shorter
+counting-returns-in_err-head-clause-shorter t c = untold _ c.from_residual.result c.in_err-head.field-0.0 c.from_residual.ensures.1
+
+pub counting-returns-in_err-body-clause-shorter : goal.counting-returns-in_err-body-clause-shorter
+counting-returns-in_err-body-clause-shorter t c = untold _ c.from_residual-in_err-body.result c.in_err-body.field-0.0 c.from_residual-in_err-body.ensures.1
+
+pub repetition-returns-in_err-test-clause-shorter : goal.repetition-returns-in_err-test-clause-shorter
+repetition-returns-in_err-test-clause-shorter t c = untold _ c.from_residual.result c.in_err-test.field-0.0 c.from_residual.ensures.1
+
+pub repetition-returns-in_err-body-clause-shorter : goal.repetition-returns-in_err-body-clause-shorter
+repetition-returns-in_err-body-clause-shorter t c = untold _ c.from_residual-in_err-body.result c.in_err-body.field-0.0 c.from_residual-in_err-body.ensures.1
+
+pub repeated-returns-in_err-body-clause-shorter : goal.repeated-returns-in_err-body-clause-shorter
+repeated-returns-in_err-body-clause-shorter t c = untold _ c.from_residual.result c.in_err-body.field-0.0 c.from_residual.ensures.1
+
+pub repeated-returns-in_err-rest-clause-shorter : goal.repeated-returns-in_err-rest-clause-shorter
+repeated-returns-in_err-rest-clause-shorter t c = untold _ c.from_residual-in_err-rest.result c.in_err-rest.field-0.0 c.from_residual-in_err-rest.ensures.1
+
+pub repeated-returns-in_err-rest-2-clause-shorter : goal.repeated-returns-in_err-rest-2-clause-shorter
+repeated-returns-in_err-rest-2-clause-shorter t c = untold _ c.from_residual-in_err-rest-2.result c.in_err-rest-2.field-0.0 c.from_residual-in_err-rest-2.ensures.1
+
+pub counted-returns-in_err-body-clause-shorter : goal.counted-returns-in_err-body-clause-shorter
+counted-returns-in_err-body-clause-shorter t c = untold _ c.from_residual.result c.in_err-body.field-0.0 c.from_residual.ensures.1
+
+pub counted-returns-in_err-rest-clause-shorter : goal.counted-returns-in_err-rest-clause-shorter
+counted-returns-in_err-rest-clause-shorter t c = untold _ c.from_residual-in_err-rest.result c.in_err-rest.field-0.0 c.from_residual-in_err-rest.ensures.1
+
+pub counted-returns-in_err-last-clause-shorter : goal.counted-returns-in_err-last-clause-shorter
+counted-returns-in_err-last-clause-shorter t c = untold _ c.from_residual-in_err-last.result c.in_err-last.field-0.0 c.from_residual-in_err-last.ensures.1
+
+pub other_branch-returns-in_err-other-clause-shorter : goal.other_branch-returns-in_err-other-clause-shorter
+other_branch-returns-in_err-other-clause-shorter t c = untold _ c.from_residual.result c.in_err-other.field-0.0 c.from_residual.ensures.1
+
+pub other_branch-returns-in_err-rest-clause-shorter : goal.other_branch-returns-in_err-rest-clause-shorter
+other_branch-returns-in_err-rest-clause-shorter t c = untold _ c.from_residual-in_err-rest.result c.in_err-rest.field-0.0 c.from_residual-in_err-rest.ensures.1
+
+pub other_branch-returns-in_err-rest-2-clause-shorter : goal.other_branch-returns-in_err-rest-2-clause-shorter
+other_branch-returns-in_err-rest-2-clause-shorter t c = untold _ c.from_residual-in_err-rest-2.result c.in_err-rest-2.field-0.0 c.from_residual-in_err-rest-2.ensures.1
+
+pub choice-returns-clause-shorter : goal.choice-returns-clause-shorter
+choice-returns-clause-shorter t c = le_trans c.in_ok-body.ensures.shorter (le_of_lt (lt_trans (starts_shorter kind.Then c.in_ok-rest.ensures) c.in_ok-test.ensures.shorter))
+
+pub branches-returns-clause-shorter : goal.branches-returns-clause-shorter
+branches-returns-clause-shorter t c = le_trans c.in_ok-other.ensures.shorter c.in_ok-body.ensures.shorter
+
+pub repetition-returns-clause-shorter : goal.repetition-returns-clause-shorter
+repetition-returns-clause-shorter t c = le_trans c.in_ok-body.ensures.shorter (le_of_lt c.in_ok-test.ensures.shorter)
+
+pub repeated-returns-clause-shorter : goal.repeated-returns-clause-shorter
+repeated-returns-clause-shorter t c = le_trans (no_more kind.While c.in_ok-rest-2.ensures) (le_trans (no_more kind.End c.in_ok-rest.ensures) c.in_ok-body.ensures.shorter)
+
+pub counting-returns-clause-shorter : goal.counting-returns-clause-shorter
+counting-returns-clause-shorter t c = le_trans c.in_ok-body.ensures.shorter (le_of_lt c.in_ok-head.ensures.shorter)
+
+pub counted-returns-clause-shorter : goal.counted-returns-clause-shorter
+counted-returns-clause-shorter t c = le_trans (no_more_named c.in_ok-last.last c.in_ok-last.ensures) (le_trans (no_more kind.Next c.in_ok-rest.ensures) c.in_ok-body.ensures.shorter)
+
+pub other_branch-returns-in-Some-clause-shorter : goal.other_branch-returns-in-Some-clause-shorter
+other_branch-returns-in-Some-clause-shorter t c = le_trans (no_more kind.If c.in_ok-rest-2.ensures) (le_trans (no_more kind.End c.in_ok-rest.ensures) (le_trans c.in_ok-other.ensures.shorter (no_more kind.Else c.in-Some.ensures)))
+
+pub statement-returns-in-Named-clause-shorter : goal.statement-returns-in-Named-clause-shorter
+statement-returns-in-Named-clause-shorter t c = no_longer c.args.tokens.now c.behind_name.result c.behind_name.ensures.shorter
+
+pub statement-returns-in-Clear-clause-shorter : goal.statement-returns-in-Clear-clause-shorter
+statement-returns-in-Clear-clause-shorter t c = no_longer c.args.tokens.now c.clearing.result c.clearing.ensures.shorter
+
+pub statement-returns-in-Do-clause-shorter : goal.statement-returns-in-Do-clause-shorter
+statement-returns-in-Do-clause-shorter t c = no_longer c.args.tokens.now c.running.result c.running.ensures.shorter
+
+pub statement-returns-in-If-clause-shorter : goal.statement-returns-in-If-clause-shorter
+statement-returns-in-If-clause-shorter t c = c.choice.ensures.shorter
+
+pub statement-returns-in-For-clause-shorter : goal.statement-returns-in-For-clause-shorter
+statement-returns-in-For-clause-shorter t c = c.counting.ensures.shorter
+
+pub statement-returns-in-While-clause-shorter : goal.statement-returns-in-While-clause-shorter
+statement-returns-in-While-clause-shorter t c = c.repetition.ensures.shorter
+
+pub block-returns-in_err-push-clause-over : goal.block-returns-in_err-push-clause-over
+block-returns-in_err-push-clause-over t c = untold _ c.from_residual-in_err-push.result _ c.from_residual-in_err-push.ensures.1
+
+pub block-returns-in_err-push-clause-shorter : goal.block-returns-in_err-push-clause-shorter
+block-returns-in_err-push-clause-shorter t c = untold _ c.from_residual-in_err-push.result _ c.from_residual-in_err-push.ensures.1
+
+pub block-returns-clause-over : goal.block-returns-clause-over
+block-returns-clause-over t c = c.in_default.ensures
+
+pub block-returns-clause-shorter : goal.block-returns-clause-shorter
+block-returns-clause-shorter t c = c.loop-opening.invariant.0
+
+pub other_branch-returns-clause-shorter : goal.other_branch-returns-clause-shorter
+other_branch-returns-clause-shorter t c = le_trans (no_more kind.If c.in_ok-rest-4.ensures) (no_more kind.End c.in_ok-rest-3.ensures)
+
+pub other_branch-returns-in_err-rest-3-clause-shorter : goal.other_branch-returns-in_err-rest-3-clause-shorter
+other_branch-returns-in_err-rest-3-clause-shorter t c = untold _ c.from_residual-in_err-rest-3.result c.in_err-rest-3.field-0.0 c.from_residual-in_err-rest-3.ensures.1
+
+pub other_branch-returns-in_err-rest-4-clause-shorter : goal.other_branch-returns-in_err-rest-4-clause-shorter
+other_branch-returns-in_err-rest-4-clause-shorter t c = untold _ c.from_residual-in_err-rest-4.result c.in_err-rest-4.field-0.0 c.from_residual-in_err-rest-4.ensures.1
+
+-- ---- each part begins with less
+
+pub block-loop-opening-smaller : goal.block-loop-opening-smaller
+block-loop-opening-smaller t c = lt_of_le_of_lt c.in_ok-stmt.ensures.shorter (opens_shorter c.in-Some.ensures)
+
+pub block-statement-requires : goal.block-statement-requires
+block-statement-requires t c = (inner (lt_of_lt_of_le (opens_shorter c.in-Some.ensures) c.loop-opening.invariant.0) c.decreases, tt)
+
+pub statement-choice-requires : goal.statement-choice-requires
+statement-choice-requires t c = (lower 3 4 (lit< tt) (le_refl _) c.decreases, tt)
+
+pub statement-counting-requires : goal.statement-counting-requires
+statement-counting-requires t c = (lower 3 4 (lit< tt) (le_refl _) c.decreases, tt)
+
+pub choice-branches-requires : goal.choice-branches-requires
+choice-branches-requires t c = (lower 2 3 (lit< tt) (le_of_lt (lt_trans (starts_shorter kind.Then c.in_ok-rest.ensures) c.in_ok-test.ensures.shorter)) c.decreases, tt)
+
+pub branches-block-requires : goal.branches-block-requires
+branches-block-requires t c = (lowest 2 (lit< tt) (le_refl _) c.decreases, tt)
+
+pub branches-other_branch-requires : goal.branches-other_branch-requires
+branches-other_branch-requires t c = (lower 1 2 (lit< tt) c.in_ok-body.ensures.shorter c.decreases, c.in_ok-body.ensures.over)
+
+pub other_branch-block-requires : goal.other_branch-block-requires
+other_branch-block-requires t c = (lowest 1 (lit< tt) (no_more kind.Else c.in-Some.ensures) c.decreases, tt)
+
+pub repetition-repeated-requires : goal.repetition-repeated-requires
+repetition-repeated-requires t c = (lower 1 3 (lit< tt) (le_of_lt c.in_ok-test.ensures.shorter) c.decreases, tt)
+
+pub repeated-block-requires : goal.repeated-block-requires
+repeated-block-requires t c = (lowest 1 (lit< tt) (le_refl _) c.decreases, tt)
+
+pub counting-counted-requires : goal.counting-counted-requires
+counting-counted-requires t c = (lower 1 3 (lit< tt) (le_of_lt c.in_ok-head.ensures.shorter) c.decreases, tt)
+
+pub counted-block-requires : goal.counted-block-requires
+counted-block-requires t c = (lowest 1 (lit< tt) (le_refl _) c.decreases, tt)
+
+pub statement-repetition-requires : goal.statement-repetition-requires
+statement-repetition-requires t c = (lower 3 4 (lit< tt) (le_refl _) c.decreases, tt)

@@ -1,15 +1,20 @@
-use Rattle.std.proofs.Common.{◌≡◌, ◌∙◌, ap, sym, refl, List, Result, Ok}
+use Rattle.std.proofs.Common.{◌≡◌, ◌∙◌, ap, sym, subst, refl, Bool, List, Result, Ok}
 use Rattle.ts_syntax.specs.Tree as given
+use Rattle.ts_syntax.specs.Tree.{Tree}
+use Rattle.ts_syntax.specs.Expression.{Item}
+use Rattle.ts_syntax.specs.declared.checked_expr.CExpr.{CExpr}
+use Rattle.ts_syntax.proofs.SeenLemmas.{tree_variable, tree_item, tree_size, tree_message_item, tree_call, tree_negative, tree_inverse, tree_paren}
 use Rattle.ts_syntax.specs.Seen.{tree_of, trees_of}
 use Rattle.ts_syntax.specs.TreeOf.{expr_tree, args_trees}
 use Rattle.ts_syntax.specs.declared.expr.Expr.{Expr}
 use Rattle.ts_scope.specs.declared.fault.CheckFault.{CheckFault}
-use Rattle.ts_scope.specs.Refusal.{◌>>=◌}
-use Rattle.ts_checker.specs.Checks.{Called, calls, checked_expr, checked_args, checked_call}
+use Rattle.ts_scope.specs.Refusal.{◌>>=◌, GivesChecked}
+use Rattle.ts_scope.specs.Names.{ScriptNames}
+use Rattle.ts_checker.specs.Checks.{Called, calls, sends, sent, checked_expr, checked_args, checked_call}
 use Rattle.ts_scope.specs.Seen.{scope_names}
 use Rattle.ts_checker.specs.Seen.{arguments_of, boxed_expression, call_of}
-use Rattle.ts_checker.proofs.CallLemmas.{call_counted, call_miscounted}
-use Rattle.ts_checker.proofs.RefusalLemmas.{refused_part}
+use Rattle.ts_checker.proofs.CallLemmas.{call_unfound, call_barred, call_sends, call_counted, call_miscounted}
+use Rattle.ts_checker.proofs.RefusalLemmas.{refused_part, refused_by, left_refused, right_refused}
 use Rattle.ts_checker.proofs.LoopLemmas.{args_next, args_refused, args_end}
 use Rattle.ts_checker.proofs.exprs.+expression.Goals as goal
 
@@ -95,3 +100,83 @@ call_in-returns-in_err-call t c =
     let trees = trees_of c.args.args.now in
     refused_part expr_tree c.in_err-call.field-0.0 c.from_residual.result (checked_call n c.args.calls c.args.word.now trees (checked_args n c.args.calls trees))
     (checked_expr n c.args.calls (given.call c.args.word.now trees)) (λ f refused. rw refused refl) c.from_residual.ensures.1 c.in_err-call.ensures
+
+-- an answer for one expression is that for the tree that it is
+gives_for : (n : ScriptNames) (allowed : Bool) (result : Result CExpr CheckFault) {a b : Tree} → a ≡ b → GivesChecked expr_tree result (checked_expr n allowed b) → GivesChecked expr_tree result (checked_expr n allowed a)
+gives_for n allowed result is h = subst (λ x. GivesChecked expr_tree result (checked_expr n allowed x)) (sym is) h
+
+pub expression-returns-in-Var : goal.expression-returns-in-Var
+expression-returns-in-Var t c =
+    gives_for (scope_names c.args.scope.now) c.args.calls c.variable.result (ap tree_of c.in-Var.is ∙ tree_variable c.in-Var.word) c.variable.ensures
+
+pub expression-returns-in-Item : goal.expression-returns-in-Item
+expression-returns-in-Item t c =
+    gives_for (scope_names c.args.scope.now) c.args.calls c.item.result (ap tree_of c.in-Item.is ∙ tree_item c.in-Item.word c.in-Item.index ∙ ap (λ e. given.item c.in-Item.word (tree_of e)) (sym c.deref.ensures)) c.item.ensures
+
+pub expression-returns-in-Size : goal.expression-returns-in-Size
+expression-returns-in-Size t c =
+    gives_for (scope_names c.args.scope.now) c.args.calls c.size.result (ap tree_of c.in-Size.is ∙ tree_size c.in-Size.word) c.size.ensures
+
+pub expression-returns-in-MsgItem : goal.expression-returns-in-MsgItem
+expression-returns-in-MsgItem t c =
+    gives_for (scope_names c.args.scope.now) c.args.calls c.message_item.result (ap tree_of c.in-MsgItem.is ∙ tree_message_item c.in-MsgItem.index ∙ ap (λ e. given.message_item (tree_of e)) (sym c.deref-in-MsgItem.ensures)) c.message_item.ensures
+
+pub expression-returns-in-Call : goal.expression-returns-in-Call
+expression-returns-in-Call t c =
+    gives_for (scope_names c.args.scope.now) c.args.calls c.call_in.result (ap tree_of c.in-Call.is ∙ tree_call c.in-Call.word c.in-Call.args) c.call_in.ensures
+
+pub expression-returns-in-Neg : goal.expression-returns-in-Neg
+expression-returns-in-Neg t c =
+    gives_for (scope_names c.args.scope.now) c.args.calls c.negative.result (ap tree_of c.in-Neg.is ∙ tree_negative c.in-Neg.of ∙ ap (λ e. given.negative (tree_of e)) (sym c.deref-in-Neg.ensures)) c.negative.ensures
+
+pub expression-returns-in-Not : goal.expression-returns-in-Not
+expression-returns-in-Not t c =
+    gives_for (scope_names c.args.scope.now) c.args.calls c.inverse.result (ap tree_of c.in-Not.is ∙ tree_inverse c.in-Not.of ∙ ap (λ e. given.inverse (tree_of e)) (sym c.deref-in-Not.ensures)) c.inverse.ensures
+
+pub expression-returns-in-Paren : goal.expression-returns-in-Paren
+expression-returns-in-Paren t c =
+    gives_for (scope_names c.args.scope.now) c.args.calls c.expression.result (ap tree_of c.in-Paren.is ∙ tree_paren c.in-Paren.of ∙ ap (λ e. given.paren (tree_of e)) (sym c.deref-in-Paren.ensures)) c.expression.ensures
+
+pub expression-returns-in_err-left-in-Two : goal.expression-returns-in_err-left-in-Two
+expression-returns-in_err-left-in-Two t c =
+    let n = scope_names c.args.scope.now in
+    refused_part expr_tree c.in_err-left-in-Two.field-0.0 c.from_residual.result (checked_expr n c.args.calls (tree_of c.deref-in-Two.result.now)) (checked_expr n c.args.calls (tree_of c.args.expr.now))
+    (left_refused n c.args.calls c.in-Two.op c.in-Two.left c.in-Two.right c.deref-in-Two.result.now c.in-Two.is c.deref-in-Two.ensures) c.from_residual.ensures.1 c.in_err-left-in-Two.ensures
+
+pub expression-returns-in_err-right-in-Two : goal.expression-returns-in_err-right-in-Two
+expression-returns-in_err-right-in-Two t c =
+    let n = scope_names c.args.scope.now in
+    refused_part expr_tree c.in_err-right-in-Two.field-0.0 c.from_residual-in_err-right-in-Two.result (checked_expr n c.args.calls (tree_of c.deref-in-Two-2.result.now)) (checked_expr n c.args.calls (tree_of c.args.expr.now))
+    (right_refused n c.args.calls c.in-Two.op c.in-Two.left c.in-Two.right c.deref-in-Two.result.now c.deref-in-Two-2.result.now _ c.in-Two.is c.deref-in-Two.ensures c.deref-in-Two-2.ensures
+    c.in_ok-left-in-Two.ensures) c.from_residual-in_err-right-in-Two.ensures.1 c.in_err-right-in-Two.ensures
+
+pub item-returns-in_err-buffer : goal.item-returns-in_err-buffer
+item-returns-in_err-buffer t c =
+    let e = checked_expr (scope_names c.args.scope.now) c.args.calls (tree_of c.args.index.now) in
+    refused_by expr_tree c.in_err-buffer.field-0.0 c.from_residual.result (checked_expr (scope_names c.args.scope.now) c.args.calls (given.item c.args.word.now (tree_of c.args.index.now)))
+    (ap (λ r. r >>= (λ p. e >>= (λ i. Ok (Item p i)))) (sym c.buffer.ensures ∙ c.in_err-buffer.was)) c.from_residual.ensures.1
+
+pub call-returns-in_err-fun : goal.call-returns-in_err-fun
+call-returns-in_err-fun t c =
+    refused_by call_of c.in_err-fun.field-0.0 c.from_residual.result
+    (checked_call (scope_names c.args.scope.now) c.args.calls c.args.word.now (trees_of c.args.args.now) (checked_args (scope_names c.args.scope.now) c.args.calls (trees_of c.args.args.now)))
+    (call_unfound (scope_names c.args.scope.now) c.args.calls c.args.word.now c.args.args.now _ c.in_err-fun.field-0.0 (sym c.function.ensures ∙ c.in_err-fun.was)) c.from_residual.ensures.1
+
+pub call-returns-then-not-calls : goal.call-returns-then-not-calls
+call-returns-then-not-calls t c =
+    call_barred (scope_names c.args.scope.now) c.args.calls c.args.word.now c.args.args.now _ (c.in_ok-fun.fun, c.in_ok-fun.kind)
+    (sym c.function.ensures ∙ c.in_ok-fun.was) c.if-not-calls.true
+
+pub call-returns-in_err-sent : goal.call-returns-in_err-sent
+call-returns-in_err-sent t c =
+    refused_by call_of c.in_err-sent.field-0.0 c.from_residual-in_err-sent.result
+    (checked_call (scope_names c.args.scope.now) c.args.calls c.args.word.now (trees_of c.args.args.now) (checked_args (scope_names c.args.scope.now) c.args.calls (trees_of c.args.args.now)))
+    (call_sends (scope_names c.args.scope.now) c.args.calls c.args.word.now c.args.args.now _ (c.in_ok-fun.fun, c.in_ok-fun.kind)
+    (sym c.function.ensures ∙ c.in_ok-fun.was) c.if-not-calls.false (sym c.sends.ensures ∙ c.if-sends.true)
+    ∙ ap (λ r. r >>= (λ p. Ok (sends c.in_ok-fun.fun p))) (ap (λ (es : List Expr). sent (scope_names c.args.scope.now) c.args.word.now.place (trees_of es)) (sym c.as_slice.ensures) ∙ sym c.sent.ensures ∙ c.in_err-sent.was)) c.from_residual-in_err-sent.ensures.1
+
+pub call-returns-then-sends : goal.call-returns-then-sends
+call-returns-then-sends t c =
+    call_sends (scope_names c.args.scope.now) c.args.calls c.args.word.now c.args.args.now _ (c.in_ok-fun.fun, c.in_ok-fun.kind)
+    (sym c.function.ensures ∙ c.in_ok-fun.was) c.if-not-calls.false (sym c.sends.ensures ∙ c.if-sends.true)
+    ∙ ap (λ r. r >>= (λ p. Ok (sends c.in_ok-fun.fun p))) (ap (λ (es : List Expr). sent (scope_names c.args.scope.now) c.args.word.now.place (trees_of es)) (sym c.as_slice.ensures) ∙ sym c.sent.ensures ∙ c.in_ok-sent.was)

@@ -3,15 +3,15 @@ use Rattle.ts_syntax.specs.Seen.{tree_of, act_of, acts_of}
 use Rattle.ts_syntax.specs.Tree as given
 use Rattle.ts_syntax.specs.Tree.{Act}
 use Rattle.ts_syntax.specs.declared.checked_stmt.CStmt.{CStmt}
-use Rattle.ts_syntax.proofs.SeenLemmas.{act_set, act_set_item, act_append, act_take_last, act_clear, act_call_alone, act_for_next, act_while_do}
+use Rattle.ts_syntax.proofs.SeenLemmas.{act_set, act_set_item, act_append, act_take_last, act_clear, act_call_alone, act_for_next, act_while_do, act_run_procedure}
 use Rattle.ts_scope.specs.declared.fault.CheckFault.{CheckFault}
-use Rattle.ts_scope.specs.Refusal.{GivesChecked}
+use Rattle.ts_scope.specs.Refusal.{GivesChecked, RefusesScript}
 use Rattle.ts_scope.specs.Names.{ScriptNames}
 use Rattle.ts_syntax.specs.TreeOf.{stmt_tree, block_tree, block_trees}
 use Rattle.ts_checker.specs.Checks.{checked_expr, checked_head, checked_stmt, checked_block}
 use Rattle.ts_scope.specs.Seen.{scope_names}
 use Rattle.ts_checker.proofs.LoopLemmas.{stmts_next, stmts_refused, stmts_end}
-use Rattle.ts_checker.proofs.RefusalLemmas.{refused_part, if_test_refused, if_body_refused}
+use Rattle.ts_checker.proofs.RefusalLemmas.{refused_part, refused_by, if_test_refused, if_body_refused}
 use Rattle.ts_checker.proofs.stmts.+block.Goals as goal
 
 pub block-loop-stmt-preserved : goal.block-loop-stmt-preserved
@@ -111,3 +111,15 @@ while_do-returns-in_err-block t c =
     refused_part stmt_tree c.in_err-block.field-0.0 c.from_residual-in_err-block.result (checked_block n (acts_of c.args.body.now))
     (checked_stmt n (given.while_do (tree_of c.args.test.now) (acts_of c.args.body.now)))
     (λ f refused. rw (c.in_ok-test.ensures, refused) refl) c.from_residual-in_err-block.ensures.1 c.in_err-block.ensures
+
+pub for_next-returns-in_err-closes : goal.for_next-returns-in_err-closes
+for_next-returns-in_err-closes t c =
+    let h = c.args.head.now in
+    refused_by stmt_tree c.in_err-closes.field-0.0 c.from_residual-in_err-closes.result
+    (checked_stmt (scope_names c.args.scope.now) (given.for_next h.var (tree_of h.from) (tree_of h.to) h.step (acts_of c.args.body.now) c.args.next.now))
+    (rw (c.in_ok-checked.ensures, c.in_ok-body.ensures, sym c.closes.ensures ∙ c.in_err-closes.was) refl) c.from_residual-in_err-closes.ensures.1
+
+pub statement-returns-in-Run : goal.statement-returns-in-Run
+statement-returns-in-Run t c =
+    let P : CheckFault → Type 0 = λ f. RefusesScript f (checked_stmt (scope_names c.args.scope.now) (act_of c.args.stmt.now)) in
+    subst P (sym c.no_procedure.ensures) (ap (checked_stmt (scope_names c.args.scope.now)) (ap act_of c.in-Run.is ∙ act_run_procedure c.in-Run.word c.in-Run.field-1))

@@ -1,9 +1,9 @@
-use Rattle.std.proofs.Common.{◌≡◌, ◌∙◌, sym, refl, true, false}
+use Rattle.std.proofs.Common.{◌∙◌, sym, refl, true, false}
 use Rattle.ts_syntax.specs.Seen.{tree_of}
 use Rattle.ts_checker.specs.Checks.{checked_expr, checked_head}
 use Rattle.ts_checker.specs.Seen.{checked_head_of}
 use Rattle.ts_scope.specs.Seen.{scope_names}
-use Rattle.ts_checker.proofs.RefusalLemmas.{refused_part}
+use Rattle.ts_checker.proofs.RefusalLemmas.{refused_part, refused_by}
 use Rattle.ts_checker.proofs.stmts.for_head.Goals as goal
 
 pub returns-in_err-from : goal.returns-in_err-from
@@ -19,3 +19,15 @@ returns-in_err-to c =
     let h = c.args.head.now in
     refused_part checked_head_of c.in_err-to.field-0.0 c.from_residual-in_err-to.result (checked_expr n false (tree_of h.to)) (checked_head n h.var (tree_of h.from) (tree_of h.to) h.step)
     (λ f refused. rw (sym c.variable.ensures ∙ c.in_ok-var.was, c.in_ok-from.ensures, refused) refl) c.from_residual-in_err-to.ensures.1 c.in_err-to.ensures
+
+pub returns-in_err-var : goal.returns-in_err-var
+returns-in_err-var c =
+    let h = c.args.head.now in
+    refused_by checked_head_of c.in_err-var.field-0.0 c.from_residual.result (checked_head (scope_names c.args.scope.now) h.var (tree_of h.from) (tree_of h.to) h.step)
+    (rw (sym c.variable.ensures ∙ c.in_err-var.was) refl) c.from_residual.ensures.1
+
+pub returns-in_err-step : goal.returns-in_err-step
+returns-in_err-step c =
+    let h = c.args.head.now in
+    refused_by checked_head_of c.in_err-step.field-0.0 c.from_residual-in_err-step.result (checked_head (scope_names c.args.scope.now) h.var (tree_of h.from) (tree_of h.to) h.step)
+    (rw (sym c.variable.ensures ∙ c.in_ok-var.was, c.in_ok-from.ensures, c.in_ok-to.ensures, sym c.step_size.ensures ∙ c.in_err-step.was) refl) c.from_residual-in_err-step.ensures.1

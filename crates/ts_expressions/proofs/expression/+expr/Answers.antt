@@ -1,15 +1,18 @@
-use Rattle.std.proofs.Common.{length, refl, sym, ◌∙◌, ap, arith}
+use Rattle.std.proofs.Common.{List, length, refl, sym, ◌∙◌, ap, arith}
+use Rattle.std.specs.declared.alloc.Global.{Global}
+use Rattle.std.specs.declared.boxed.Box.{Box}
 use Rattle.ts_expressions.specs.Boxed.{boxed_tree}
+use Rattle.ts_syntax.specs.declared.expr.Expr.{Expr}
 use Rattle.ts_syntax.specs.Seen.{trees_of}
 use Rattle.ts_syntax.specs.Spelling.{kinds}
 use Rattle.ts_syntax.specs.declared.token.TokenKind.TheVariants as kind
-use Rattle.ts_machine.specs.Machine.{first_product, in_product, first_sum, in_sum, first_compare, in_compare, first_and, in_and, in_inverse, first_or, in_or, in_paren, in_item, in_message, want, want_inverse, message, sum_due, inverse_due, expr_due, give, have_product, have_sum, have_inverse, have_and, have}
-use Rattle.ts_machine.specs.Parsing.{reads, noted_then, of_operand, called, called_with}
+use Rattle.ts_machine.specs.Machine.{Operand, Whole, first_product, in_product, first_sum, in_sum, first_compare, in_compare, first_and, in_and, in_inverse, first_or, in_or, in_paren, in_item, in_message, want, want_inverse, message, sum_due, inverse_due, expr_due, give, have_product, have_sum, have_inverse, have_and, have}
+use Rattle.ts_machine.specs.Parsing.{reads, noted_then, Caller, of_operand, called_open, called, called_with}
 use Rattle.ts_machine.proofs.Turns.{inverse_is_read, inverse_is_first, inverse_is_next}
-use Rattle.ts_machine.proofs.Parts.{starts_shorter}
-use Rattle.ts_machine.proofs.Reading.{sign_read}
-use Rattle.ts_expressions.proofs.ExprLemmas.{part_halts, not_read, and_read, call_read, variable_read, comma_read, arguments_closed, trees_more, call_halts, comparison_read}
+use Rattle.ts_machine.proofs.Parts.{halts, starts_shorter}
+use Rattle.ts_expressions.proofs.ExprLemmas.{part_halts, not_read, and_read, call_read, item_read, message_begins, paren_closed, item_closed, message_closed, variable_read, comma_read, no_arguments, arguments_closed, trees_more, call_halts, comparison_read}
 use Rattle.ts_expressions.proofs.OperatorLemmas.{product_read, sum_read, or_read, product_over, and_over, sum_over, sum_alone, comparison_sign_read}
+use Rattle.ts_expressions.proofs.StoppingLemmas.{sign_halts, box_missing, paren_open, item_open, message_open, arguments_open}
 use Rattle.ts_expressions.proofs.expression.+expr.Goals as goal
 
 pub arguments-returns-in_default-after-clause-reads : goal.arguments-returns-in_default-after-clause-reads
@@ -184,7 +187,7 @@ behind_open_box-returns-in_err-index-clause-reads t c =
 pub behind_message-returns-in_err-index-clause-reads : goal.behind_message-returns-in_err-index-clause-reads
 behind_message-returns-in_err-index-clause-reads t c =
     part_halts c.args.tokens.now c.in_ok-rest.rest.now expr_due have message (λ d k. give k d) in_message
-    (λ k. sign_read kind.OpenBox c.in_ok-rest.ensures tt (message k) (expr_due (in_message k)) (λ p. refl))
+    (λ k. message_begins k c.in_ok-rest.ensures)
     c.from_residual-in_err-index.result c.in_err-index.field-0.0 c.from_residual-in_err-index.ensures.1 c.in_err-index.ensures.reads
 
 pub behind_open-returns-in_err-of-clause-reads : goal.behind_open-returns-in_err-of-clause-reads
@@ -192,3 +195,61 @@ behind_open-returns-in_err-of-clause-reads t c =
     part_halts c.args.tokens.now c.args.tokens.now expr_due have (λ k. expr_due (in_paren k)) (λ d k. give k d) in_paren
     (λ k. refl)
     c.from_residual.result c.in_err-of.field-0.0 c.from_residual.ensures.1 c.in_err-of.ensures.reads
+
+pub arguments-returns-in-Some-clause-reads : goal.arguments-returns-in-Some-clause-reads
+arguments-returns-in-Some-clause-reads t c =
+    λ k. no_arguments k c.in-Some.ensures ∙ ap (λ z. reads c.in-Some.rest.now (called k (trees_of z))) (sym c.new-args.ensures)
+
+pub arguments-returns-in_err-arg-clause-reads : goal.arguments-returns-in_err-arg-clause-reads
+arguments-returns-in_err-arg-clause-reads t c =
+    halts (Box Expr Global) (List Expr) Whole Caller c.args.tokens.now c.loop-args.rest.now expr_due (λ e k. have (boxed_tree e) k) called_open (λ es k. called k (trees_of es))
+    (λ k. called_with k (trees_of c.loop-args.args)) c.loop-args.invariant.1
+    c.from_residual.result c.in_err-arg.field-0.0 c.from_residual.ensures.1 c.in_err-arg.ensures.reads
+
+pub arguments-returns-in_err-behind-clause-reads : goal.arguments-returns-in_err-behind-clause-reads
+arguments-returns-in_err-behind-clause-reads t c =
+    sign_halts {X = List Expr} {K = Caller} kind.Close c.args.tokens.now c.in_ok-arg.behind.now called_open (λ es k. called k (trees_of es))
+    (λ l k. c.loop-args.invariant.1 k ∙ c.in_ok-arg.ensures.reads (called_with k (trees_of c.loop-args.args))
+    ∙ arguments_open c.in_ok-arg.behind.now k (trees_of c.loop-args.args) (boxed_tree c.in_ok-arg.arg) c.in_ok-arg.ensures.over c.in_default-after.ensures l)
+    c.from_residual-in_err-behind.result c.in_err-behind.field-0.0 c.from_residual-in_err-behind.ensures.1 c.in_err-behind.ensures
+
+pub behind_name-returns-in-Some-after-clause-reads : goal.behind_name-returns-in-Some-after-clause-reads
+behind_name-returns-in-Some-after-clause-reads t c = item_read c.args.word c.in-Some-after.ensures c.behind_open_box.result c.behind_open_box.ensures.reads
+
+pub behind_open_box-returns-in_err-rest-clause-reads : goal.behind_open_box-returns-in_err-rest-clause-reads
+behind_open_box-returns-in_err-rest-clause-reads t c =
+    sign_halts {X = Box Expr Global} {K = Operand} kind.CloseBox c.args.tokens.now c.in_ok-index.rest.now (λ k. expr_due (in_item c.args.buffer k)) (λ d k. give k (boxed_tree d))
+    (λ l k. c.in_ok-index.ensures.reads (in_item c.args.buffer k) ∙ item_open c.in_ok-index.rest.now (boxed_tree c.in_ok-index.index) c.args.buffer k c.in_ok-index.ensures.over l)
+    c.from_residual-in_err-rest.result c.in_err-rest.field-0.0 c.from_residual-in_err-rest.ensures.1 c.in_err-rest.ensures
+
+pub behind_open_box-returns-clause-reads : goal.behind_open_box-returns-clause-reads
+behind_open_box-returns-clause-reads t c =
+    λ k. c.in_ok-index.ensures.reads (in_item c.args.buffer k) ∙ item_closed (boxed_tree c.in_ok-index.index) c.args.buffer k c.in_ok-rest.ensures
+    ∙ ap (λ x. reads c.in_ok-rest.rest.now (give k x)) (sym c.in_ok-item.ensures)
+
+pub behind_message-returns-in_err-rest-clause-reads : goal.behind_message-returns-in_err-rest-clause-reads
+behind_message-returns-in_err-rest-clause-reads t c =
+    sign_halts {X = Box Expr Global} {K = Operand} kind.OpenBox c.args.tokens.now c.args.tokens.now message (λ d k. give k (boxed_tree d)) (λ l k. box_missing c.args.tokens.now k l)
+    c.from_residual.result c.in_err-rest.field-0.0 c.from_residual.ensures.1 c.in_err-rest.ensures
+
+pub behind_message-returns-in_err-rest-2-clause-reads : goal.behind_message-returns-in_err-rest-2-clause-reads
+behind_message-returns-in_err-rest-2-clause-reads t c =
+    sign_halts {X = Box Expr Global} {K = Operand} kind.CloseBox c.args.tokens.now c.in_ok-index.rest.now message (λ d k. give k (boxed_tree d))
+    (λ l k. message_begins k c.in_ok-rest.ensures ∙ c.in_ok-index.ensures.reads (in_message k) ∙ message_open c.in_ok-index.rest.now (boxed_tree c.in_ok-index.index) k c.in_ok-index.ensures.over l)
+    c.from_residual-in_err-rest-2.result c.in_err-rest-2.field-0.0 c.from_residual-in_err-rest-2.ensures.1 c.in_err-rest-2.ensures
+
+pub behind_message-returns-clause-reads : goal.behind_message-returns-clause-reads
+behind_message-returns-clause-reads t c =
+    λ k. message_begins k c.in_ok-rest.ensures ∙ c.in_ok-index.ensures.reads (in_message k) ∙ message_closed (boxed_tree c.in_ok-index.index) k c.in_ok-rest-2.ensures
+    ∙ ap (λ x. reads c.in_ok-rest-2.rest.now (give k x)) (sym c.in_ok-message_item.ensures)
+
+pub behind_open-returns-in_err-rest-clause-reads : goal.behind_open-returns-in_err-rest-clause-reads
+behind_open-returns-in_err-rest-clause-reads t c =
+    sign_halts {X = Box Expr Global} {K = Operand} kind.Close c.args.tokens.now c.in_ok-of.rest.now (λ k. expr_due (in_paren k)) (λ d k. give k (boxed_tree d))
+    (λ l k. c.in_ok-of.ensures.reads (in_paren k) ∙ paren_open c.in_ok-of.rest.now (boxed_tree c.in_ok-of.of) k c.in_ok-of.ensures.over l)
+    c.from_residual-in_err-rest.result c.in_err-rest.field-0.0 c.from_residual-in_err-rest.ensures.1 c.in_err-rest.ensures
+
+pub behind_open-returns-clause-reads : goal.behind_open-returns-clause-reads
+behind_open-returns-clause-reads t c =
+    λ k. c.in_ok-of.ensures.reads (in_paren k) ∙ paren_closed (boxed_tree c.in_ok-of.of) k c.in_ok-rest.ensures
+    ∙ ap (λ x. reads c.in_ok-rest.rest.now (give k x)) (sym c.in_ok-paren.ensures)

@@ -2,17 +2,31 @@ use Rattle.std.proofs.Common.{List, [], ◌∷◌, ◌++◌, ◌∙◌}
 use Rattle.ts_syntax.specs.declared.procedure.Proc.{Proc}
 use Rattle.ts_syntax.specs.declared.script.Decl.{Decl}
 use Rattle.ts_syntax.specs.declared.stmt.Stmt.{Stmt}
+use Rattle.ts_syntax.specs.declared.token.TokenKind.TheVariants as kind
 use Rattle.ts_syntax.specs.declared.word.Word.{Word}
 use Rattle.ts_syntax.specs.Seen.{acts_of, procedure_of}
 use Rattle.ts_syntax.specs.Tree.{Procedure}
 use Rattle.ts_machine.specs.Machine.{proc_word, procedures}
 use Rattle.ts_machine.proofs.Parts.{halts}
 use Rattle.ts_parser.specs.Scripts.{Header, params_due, header_read, Routine, routine_due, routine_read}
-use Rattle.ts_parser.proofs.ScriptLemmas.{header_begins}
+use Rattle.ts_parser.proofs.ScriptLemmas.{header_missing, header_open, header_begins}
+use Rattle.ts_statements.proofs.Halting.{token_misses, name_misses}
 use Rattle.ts_parser.proofs.procs.procedure.Goals as goal
 
 header : Word → List Decl × List Procedure → Header
 header w k = record { name = w; decls = k.0; procs = k.1 }
+
+pub returns-in_err-word-clause-reads : goal.returns-in_err-word-clause-reads
+returns-in_err-word-clause-reads c =
+    name_misses {Y = Proc} {L = List Decl × List Procedure} c.args.tokens.now c.args.tokens.now (λ k. proc_word k.0 k.1) (λ p k. procedures k.0 (k.1 ++ procedure_of p ∷ []))
+    (λ k more l. header_missing l k.0 k.1)
+    c.from_residual.result c.in_err-word.field-0.0 c.from_residual.ensures.1 c.in_err-word.ensures
+
+pub returns-in_err-rest-clause-reads : goal.returns-in_err-rest-clause-reads
+returns-in_err-rest-clause-reads c =
+    token_misses {Y = Proc} {L = List Decl × List Procedure} kind.Open c.args.tokens.now c.in_ok-word.rest.now (λ k. proc_word k.0 k.1) (λ p k. procedures k.0 (k.1 ++ procedure_of p ∷ []))
+    (λ k more l. header_open c.in_ok-word.ensures l k.0 k.1)
+    c.from_residual-in_err-rest.result c.in_err-rest.field-0.0 c.from_residual-in_err-rest.ensures.1 c.in_err-rest.ensures
 
 pub returns-in_err-params-clause-reads : goal.returns-in_err-params-clause-reads
 unfolding header

@@ -1,12 +1,17 @@
-use Rattle.std.proofs.Common.{◌≡◌, arith}
-use Rattle.std.proofs.lemmas.Grind.{common_steps}
-use Rattle.mate_num.specs.declared.shape.Shape.{Shape}
-use Rattle.vm_desc.specs.Shapes.{shape_of}
-use Rattle.vm_desc.proofs.DescriptionLemmas.{shape_of-limits}
+use Rattle.vm_desc.specs.Shapes.{fun_shape}
+use Rattle.vm_desc.proofs.DescriptionLemmas.{shape_with, shape_with-all, shape_of-limits}
+use Rattle.vm_desc.proofs.ListLemmas.{map_pushed}
 use Rattle.vm_desc.proofs.shape_of.shape.Goals as goal
 
+pub loop-function-preserved : goal.loop-function-preserved
+loop-function-preserved c =
+    map_pushed fun_shape c.as_slice-function-items.result.now c.loop-function.function-index c.function-item.result c.shape_of_function.result c.loop-function.functions.items c.push.new.self.items
+    c.loop-function-test.true c.function-item.is c.shape_of_function.ensures c.loop-function.invariant c.push.ensures.items
+
+pub returns-clause-value : goal.returns-clause-value
+returns-clause-value c =
+    shape_with-all c.args.desc.now c.len.result c.len-2.result c.loop-function.function-index c.as_slice-function-items.result.now c.loop-function.functions.items
+    c.len.ensures.value c.len-2.ensures.value c.as_slice-function-items.ensures.value c.loop-function-test.false c.loop-function.invariant
+
 pub returns-clause-limits : goal.returns-clause-limits
-returns-clause-limits c =
-    let s : Shape = record { shared = c.len.result; buffers = c.len-2.result; functions = c.loop-function.functions } in
-    let same : s ≡ shape_of c.args.desc.now = grind (arith, common_steps) in
-    shape_of-limits c.args.desc.now s same
+returns-clause-limits c = shape_of-limits c.args.desc.now (shape_with c.len.result c.len-2.result c.loop-function.functions.items) (returns-clause-value c)

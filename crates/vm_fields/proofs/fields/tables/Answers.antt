@@ -1,12 +1,11 @@
-use Rattle.std.proofs.Common.{◌≡◌, true}
-use Rattle.std.proofs.lemmas.Grind.{common_steps}
-use Rattle.std.proofs.Common.{arith}
-use Rattle.toml.specs.View.{array_view}
-use Rattle.vm_fields.specs.Fields.{are_tables}
-use Rattle.vm_fields.proofs.FieldLemmas.{length-tables_in}
+use Rattle.vm_fields.proofs.FieldLemmas.{length-tables_in, allowed-holds}
 use Rattle.vm_fields.proofs.fields.tables.Goals as goal
 
+pub returns-clause-tables : goal.returns-clause-tables
+returns-clause-tables c = allowed-holds _ _ (rw c.are_tables.ensures at c.in_ok-allowed.ensures)
+
+pub returns-clause-few : goal.returns-clause-few
+returns-clause-few c = c.in_ok-items.ensures.few
+
 pub returns-clause-count : goal.returns-clause-count
-returns-clause-count c =
-    let all : are_tables (array_view c.in_ok-items.items.now) ≡ true = grind (arith, common_steps) in
-    length-tables_in c.in_ok-items.items.now.items all
+returns-clause-count c = length-tables_in c.in_ok-items.items.now.items (returns-clause-tables c)

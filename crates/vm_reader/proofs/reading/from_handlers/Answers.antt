@@ -1,6 +1,57 @@
+use Rattle.std.proofs.Common.{refl}
+use Rattle.toml.specs.View.{table_view}
 use Rattle.vm_desc.specs.Limits.{Parts}
-use Rattle.vm_reader.proofs.ReadingLemmas.{Keeps, is_valid-from}
+use Rattle.vm_desc.specs.Whole.{parts_of}
+use Rattle.vm_reader.specs.Openings.{seen_opening}
+use Rattle.vm_reader.specs.Reading.{from_handlers_at, ruled}
+use Rattle.vm_reader.proofs.ReadingLemmas.{Keeps, is_valid-from, refused}
 use Rattle.vm_reader.proofs.reading.from_handlers.Goals as goal
+
+pub returns-in_err-handlers : goal.returns-in_err-handlers
+unfolding from_handlers_at ruled
+returns-in_err-handlers c =
+    refused parts_of c.from_residual.result c.in_err-handlers.field-0.0 (from_handlers_at (seen_opening c.args.opening) (table_view c.args.document.now)) c.from_residual.ensures.1
+    (rw (rw c.at.ensures at c.in_err-handlers.ensures.value) refl)
+
+pub returns-in_err-functions : goal.returns-in_err-functions
+unfolding from_handlers_at ruled
+returns-in_err-functions c =
+    refused parts_of c.from_residual-in_err-functions.result c.in_err-functions.field-0.0 (from_handlers_at (seen_opening c.args.opening) (table_view c.args.document.now)) c.from_residual-in_err-functions.ensures.1
+    (rw (rw c.at.ensures at c.in_ok-handlers.ensures.value, rw c.at-2.ensures at c.in_err-functions.ensures.value) refl)
+
+pub returns-in_err-trickle : goal.returns-in_err-trickle
+unfolding from_handlers_at ruled
+returns-in_err-trickle c =
+    refused parts_of c.from_residual-in_err-trickle.result c.in_err-trickle.field-0.0 (from_handlers_at (seen_opening c.args.opening) (table_view c.args.document.now)) c.from_residual-in_err-trickle.ensures.1
+    (rw (rw c.at.ensures at c.in_ok-handlers.ensures.value, rw c.at-2.ensures at c.in_ok-functions.ensures.value, ← c.in_err-trickle.ensures.value) refl)
+
+pub returns-in_err-radio : goal.returns-in_err-radio
+unfolding from_handlers_at ruled
+returns-in_err-radio c =
+    refused parts_of c.from_residual-in_err-radio.result c.in_err-radio.field-0.0 (from_handlers_at (seen_opening c.args.opening) (table_view c.args.document.now)) c.from_residual-in_err-radio.ensures.1
+    (rw (rw c.at.ensures at c.in_ok-handlers.ensures.value, rw c.at-2.ensures at c.in_ok-functions.ensures.value, ← c.in_ok-trickle.ensures.value, ← c.in_err-radio.ensures.value) refl)
+
+pub returns-in_err-few_contexts : goal.returns-in_err-few_contexts
+unfolding from_handlers_at ruled
+returns-in_err-few_contexts c =
+    refused parts_of c.from_residual-in_err-few_contexts.result c.in_err-few_contexts.field-0.0 (from_handlers_at (seen_opening c.args.opening) (table_view c.args.document.now)) c.from_residual-in_err-few_contexts.ensures.1
+    (rw (rw c.at.ensures at c.in_ok-handlers.ensures.value, rw c.at-2.ensures at c.in_ok-functions.ensures.value, ← c.in_ok-trickle.ensures.value, ← c.in_ok-radio.ensures.value, ← c.in_err-few_contexts.ensures.value) refl)
+
+pub returns-in_err-no_repeat : goal.returns-in_err-no_repeat
+unfolding from_handlers_at ruled
+returns-in_err-no_repeat c =
+    refused parts_of c.from_residual-in_err-no_repeat.result c.in_err-no_repeat.field-0.0 (from_handlers_at (seen_opening c.args.opening) (table_view c.args.document.now)) c.from_residual-in_err-no_repeat.ensures.1
+    (rw (rw c.at.ensures at c.in_ok-handlers.ensures.value, rw c.at-2.ensures at c.in_ok-functions.ensures.value, ← c.in_ok-trickle.ensures.value, ← c.in_ok-radio.ensures.value, ← c.in_ok-few_contexts.ensures.value, ← c.in_err-no_repeat.ensures.value) refl)
+
+pub returns-in_err-in_time : goal.returns-in_err-in_time
+unfolding from_handlers_at ruled
+returns-in_err-in_time c =
+    refused parts_of c.from_residual-in_err-in_time.result c.in_err-in_time.field-0.0 (from_handlers_at (seen_opening c.args.opening) (table_view c.args.document.now)) c.from_residual-in_err-in_time.ensures.1
+    (rw (rw c.at.ensures at c.in_ok-handlers.ensures.value, rw c.at-2.ensures at c.in_ok-functions.ensures.value, ← c.in_ok-trickle.ensures.value, ← c.in_ok-radio.ensures.value, ← c.in_ok-few_contexts.ensures.value, ← c.in_ok-no_repeat.ensures.value, ← (rw c.len.ensures.value at c.in_err-in_time.ensures.value)) refl)
+
+pub returns : goal.returns
+unfolding from_handlers_at ruled
+returns c = rw (rw c.at.ensures at c.in_ok-handlers.ensures.value, rw c.at-2.ensures at c.in_ok-functions.ensures.value, ← c.in_ok-trickle.ensures.value, ← c.in_ok-radio.ensures.value, ← c.in_ok-few_contexts.ensures.value, ← c.in_ok-no_repeat.ensures.value, ← (rw c.len.ensures.value at c.in_ok-in_time.ensures.value)) refl
 
 pub invariant_of-result : goal.invariant_of-result
 invariant_of-result c =

@@ -3,13 +3,14 @@ use Rattle.std.specs.Int.{w16}
 use Rattle.std.proofs.lemmas.Int.{to_z-of_z}
 use Rattle.mate_code.specs.declared.instr.Instr.{Instr}
 use Rattle.mate_code.specs.Instr.{size_of}
-use Rattle.ts_syntax.specs.Expression.{Expression}
-use Rattle.ts_syntax.specs.Statement.{Statement, Block, block, IfElse}
-use Rattle.ts_syntax.specs.TreeOf.{expr_tree, stmt_tree, block_tree, block_trees}
+use Rattle.ts_syntax.specs.Expression.{Expression, arguments}
+use Rattle.ts_syntax.specs.Statement.{Statement, Block, block, Set, SetItem, Append, Take, Clear, Do, DoSend, If, IfElse, For, While}
+use Rattle.ts_syntax.specs.TreeOf.{expr_tree, args_trees, stmt_tree, block_tree, block_trees}
 use Rattle.ts_syntax.specs.declared.checked_stmt.CStmt.{CStmt, the_lemmas}
-use Rattle.ts_translation.specs.Translation.{size_of_instrs, number_code, stmt_code, block_code}
+use Rattle.ts_translation.specs.Translation.{size_of_instrs, number_code, expr_code, stmt_code, block_code}
 use Rattle.ts_compiler.specs.Parts.{HasRoom, WritesInstrs}
-use Rattle.ts_compiler.proofs.PartLemmas.{◌⟫◌, BlockFrom, block_room, block_step, block_end, rest_more, rest_none, guarded_small, guarded_test, guarded_jump, guarded_body, guarded_writes, other_small, other_jump, other_body, other_writes, else_room_first, else_room_second, else_writes, while_room_first, while_room_second, while_writes, for_head_room, for_small, for_jump, for_body_room, for_step, for_back, for_writes}
+use Rattle.ts_compiler.proofs.PartLemmas.{◌⟫◌, BlockFrom, block_room, block_step, block_end, rest_more, rest_none, guarded_small, guarded_test, guarded_jump, guarded_body, guarded_writes, other_small, other_jump, other_body, other_writes, else_room_first, else_room_second, else_writes, while_room_first, while_room_second, while_writes, for_head_room, for_small, for_jump, for_body_room, for_step, for_back, for_writes, room_stmt, writes_stmt, room_last, writes_last}
+use Rattle.ts_compiler.proofs.TreeLemmas.{tree-Set, tree-SetItem, tree-Append, tree-Take, tree-Clear, tree-Do, tree-DoSend, tree-For, tree-While}
 use Rattle.ts_compiler.proofs.emitter.Emitter.+stmt.Goals as goal
 
 -- ---- a test, and a part that runs where it is true
@@ -144,3 +145,65 @@ stmt-returns-in-Some t c =
     let W : Statement → Type 0 = λ x. WritesInstrs c.args.self.now (stmt_code (size_of_instrs c.args.self.now) x) c.otherwise.new.self in
     let seen : stmt_tree c.args.stmt.now ≡ IfElse e a b = search (rules, the_lemmas) in
     subst W (sym seen) (else_writes e a b c.guarded.ensures c.otherwise.ensures)
+
+-- ---- a statement that one call writes
+
+pub stmt-expr_then-requires : goal.stmt-expr_then-requires
+stmt-expr_then-requires t c = let seen : stmt_tree c.args.stmt.now ≡ Set c.in-Set.variable (expr_tree c.in-Set.value) = ap stmt_tree c.in-Set.is ∙ tree-Set c.in-Set.variable c.in-Set.value in room_last (expr_code (expr_tree c.in-Set.value)) c.set_instr.ensures (room_stmt seen c.requires)
+
+pub stmt-returns-in-Set : goal.stmt-returns-in-Set
+stmt-returns-in-Set t c = let seen : stmt_tree c.args.stmt.now ≡ Set c.in-Set.variable (expr_tree c.in-Set.value) = ap stmt_tree c.in-Set.is ∙ tree-Set c.in-Set.variable c.in-Set.value in writes_stmt seen (writes_last (expr_code (expr_tree c.in-Set.value)) c.set_instr.ensures c.expr_then.ensures)
+
+pub stmt-set_item-requires : goal.stmt-set_item-requires
+stmt-set_item-requires t c = let seen : stmt_tree c.args.stmt.now ≡ SetItem c.in-SetItem.buffer (expr_tree c.in-SetItem.index) (expr_tree c.in-SetItem.value) = ap stmt_tree c.in-SetItem.is ∙ tree-SetItem c.in-SetItem.buffer c.in-SetItem.index c.in-SetItem.value in room_stmt seen c.requires
+
+pub stmt-returns-in-SetItem : goal.stmt-returns-in-SetItem
+stmt-returns-in-SetItem t c = let seen : stmt_tree c.args.stmt.now ≡ SetItem c.in-SetItem.buffer (expr_tree c.in-SetItem.index) (expr_tree c.in-SetItem.value) = ap stmt_tree c.in-SetItem.is ∙ tree-SetItem c.in-SetItem.buffer c.in-SetItem.index c.in-SetItem.value in writes_stmt seen c.set_item.ensures
+
+pub stmt-expr_then-requires-in-Append : goal.stmt-expr_then-requires-in-Append
+stmt-expr_then-requires-in-Append t c = let seen : stmt_tree c.args.stmt.now ≡ Append c.in-Append.buffer (expr_tree c.in-Append.value) = ap stmt_tree c.in-Append.is ∙ tree-Append c.in-Append.buffer c.in-Append.value in room_stmt seen c.requires
+
+pub stmt-returns-in-Append : goal.stmt-returns-in-Append
+stmt-returns-in-Append t c = let seen : stmt_tree c.args.stmt.now ≡ Append c.in-Append.buffer (expr_tree c.in-Append.value) = ap stmt_tree c.in-Append.is ∙ tree-Append c.in-Append.buffer c.in-Append.value in writes_stmt seen c.expr_then-in-Append.ensures
+
+pub stmt-take-requires : goal.stmt-take-requires
+stmt-take-requires t c = let seen : stmt_tree c.args.stmt.now ≡ Take c.in-Take.variable c.in-Take.buffer = ap stmt_tree c.in-Take.is ∙ tree-Take c.in-Take.variable c.in-Take.buffer in room_stmt seen c.requires
+
+pub stmt-returns-in-Take : goal.stmt-returns-in-Take
+stmt-returns-in-Take t c = let seen : stmt_tree c.args.stmt.now ≡ Take c.in-Take.variable c.in-Take.buffer = ap stmt_tree c.in-Take.is ∙ tree-Take c.in-Take.variable c.in-Take.buffer in writes_stmt seen c.take.ensures
+
+pub stmt-push-requires : goal.stmt-push-requires
+stmt-push-requires t c = let seen : stmt_tree c.args.stmt.now ≡ Clear c.in-Clear.buffer = ap stmt_tree c.in-Clear.is ∙ tree-Clear c.in-Clear.buffer in room_stmt seen c.requires
+
+pub stmt-returns-in-Clear : goal.stmt-returns-in-Clear
+stmt-returns-in-Clear t c = let seen : stmt_tree c.args.stmt.now ≡ Clear c.in-Clear.buffer = ap stmt_tree c.in-Clear.is ∙ tree-Clear c.in-Clear.buffer in writes_stmt seen c.push.ensures
+
+pub stmt-call_alone-requires : goal.stmt-call_alone-requires
+stmt-call_alone-requires t c = let seen : stmt_tree c.args.stmt.now ≡ Do c.in-Do.fun (arguments (args_trees c.in-Do.args)) = ap stmt_tree c.in-Do.is ∙ tree-Do c.in-Do.fun c.in-Do.args in room_stmt seen c.requires
+
+pub stmt-returns-in-Do : goal.stmt-returns-in-Do
+stmt-returns-in-Do t c = let seen : stmt_tree c.args.stmt.now ≡ Do c.in-Do.fun (arguments (args_trees c.in-Do.args)) = ap stmt_tree c.in-Do.is ∙ tree-Do c.in-Do.fun c.in-Do.args in writes_stmt seen c.call_alone.ensures
+
+pub stmt-both-requires : goal.stmt-both-requires
+stmt-both-requires t c = let seen : stmt_tree c.args.stmt.now ≡ DoSend c.in-SendBuf.fun c.in-SendBuf.buffer = ap stmt_tree c.in-SendBuf.is ∙ tree-DoSend c.in-SendBuf.fun c.in-SendBuf.buffer in room_stmt seen c.requires
+
+pub stmt-returns-in-SendBuf : goal.stmt-returns-in-SendBuf
+stmt-returns-in-SendBuf t c = let seen : stmt_tree c.args.stmt.now ≡ DoSend c.in-SendBuf.fun c.in-SendBuf.buffer = ap stmt_tree c.in-SendBuf.is ∙ tree-DoSend c.in-SendBuf.fun c.in-SendBuf.buffer in writes_stmt seen c.both.ensures
+
+pub stmt-if_then-requires : goal.stmt-if_then-requires
+stmt-if_then-requires t c = let seen : stmt_tree c.args.stmt.now ≡ If (expr_tree c.in-If.test) (block_tree c.in-If.body) = search (rules, the_lemmas) in (search (rules, the_lemmas), room_stmt seen c.requires)
+
+pub stmt-returns-in-None : goal.stmt-returns-in-None
+stmt-returns-in-None t c = let seen : stmt_tree c.args.stmt.now ≡ If (expr_tree c.in-If.test) (block_tree c.in-If.body) = search (rules, the_lemmas) in writes_stmt seen c.if_then.ensures
+
+pub stmt-for_loop-requires : goal.stmt-for_loop-requires
+stmt-for_loop-requires t c = let seen : stmt_tree c.args.stmt.now ≡ For c.in-For.head.var (expr_tree c.in-For.head.from) (expr_tree c.in-For.head.to) c.in-For.head.step (block_tree c.in-For.body) = ap stmt_tree c.in-For.is ∙ tree-For c.in-For.head c.in-For.body in (search (rules, the_lemmas), room_stmt seen c.requires)
+
+pub stmt-returns-in-For : goal.stmt-returns-in-For
+stmt-returns-in-For t c = let seen : stmt_tree c.args.stmt.now ≡ For c.in-For.head.var (expr_tree c.in-For.head.from) (expr_tree c.in-For.head.to) c.in-For.head.step (block_tree c.in-For.body) = ap stmt_tree c.in-For.is ∙ tree-For c.in-For.head c.in-For.body in writes_stmt seen c.for_loop.ensures
+
+pub stmt-while_loop-requires : goal.stmt-while_loop-requires
+stmt-while_loop-requires t c = let seen : stmt_tree c.args.stmt.now ≡ While (expr_tree c.in-While.test) (block_tree c.in-While.body) = ap stmt_tree c.in-While.is ∙ tree-While c.in-While.test c.in-While.body in (search (rules, the_lemmas), room_stmt seen c.requires)
+
+pub stmt-returns-in-While : goal.stmt-returns-in-While
+stmt-returns-in-While t c = let seen : stmt_tree c.args.stmt.now ≡ While (expr_tree c.in-While.test) (block_tree c.in-While.body) = ap stmt_tree c.in-While.is ∙ tree-While c.in-While.test c.in-While.body in writes_stmt seen c.while_loop.ensures

@@ -22,7 +22,7 @@ expr-returns-in-Item g t c =
 pub expr-returns-in-Size : goal.expr-returns-in-Size
 expr-returns-in-Size g t c =
     tokens_by (ap spelled (ap tree_of c.in-Size.is ∙ tree_size _))
-    (c.token-in-Size.ensures kind.Size refl ⋙ c.token-in-Size-2.ensures kind.Open refl ⋙ c.name-in-Size.ensures ⋙ c.token-in-Size-3.ensures kind.Close refl)
+    (c.token-in-Size.ensures kind.Size refl ⋙ c.parens.ensures)
 
 pub expr-returns-in-MsgItem : goal.expr-returns-in-MsgItem
 expr-returns-in-MsgItem g t c =

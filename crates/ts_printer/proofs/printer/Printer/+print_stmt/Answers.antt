@@ -12,35 +12,32 @@ use Rattle.ts_printer.proofs.printer.Printer.+print_stmt.Goals as goal
 pub stmt-returns-in-Set : goal.stmt-returns-in-Set
 stmt-returns-in-Set g t c =
     tokens_by (ap act_spelled (ap act_of c.in-Set.is ∙ act_set _ _))
-    (c.name.ensures ⋙ c.token.ensures kind.Eq refl ⋙ c.expr.ensures ⋙ c.token-in-Set.ensures kind.Semi refl)
+    (c.name.ensures ⋙ c.assigned.ensures)
 
 pub stmt-returns-in-SetItem : goal.stmt-returns-in-SetItem
 stmt-returns-in-SetItem g t c =
     tokens_by (ap act_spelled (ap act_of c.in-SetItem.is ∙ act_set_item _ _ _))
-    (c.name-in-SetItem.ensures ⋙ c.token-in-SetItem.ensures kind.OpenBox refl
-    ⋙ (c.expr-in-SetItem.ensures ⋙ (c.token-in-SetItem-2.ensures kind.CloseBox refl ⋙ c.token-in-SetItem-3.ensures kind.Eq refl ⋙ c.expr-in-SetItem-2.ensures ⋙ c.token-in-SetItem-4.ensures kind.Semi refl)))
+    (c.name-in-SetItem.ensures ⋙ c.token.ensures kind.OpenBox refl ⋙ (c.expr.ensures ⋙ (c.token-in-SetItem.ensures kind.CloseBox refl ⋙ c.assigned-in-SetItem.ensures)))
 
 pub stmt-returns-in-Append : goal.stmt-returns-in-Append
 stmt-returns-in-Append g t c =
     tokens_by (ap act_spelled (ap act_of c.in-Append.is ∙ act_append _ _))
-    (c.name-in-Append.ensures ⋙ c.token-in-Append.ensures kind.OpenBox refl ⋙ c.token-in-Append-2.ensures kind.CloseBox refl ⋙ c.token-in-Append-3.ensures kind.Eq refl
-    ⋙ c.expr-in-Append.ensures ⋙ c.token-in-Append-4.ensures kind.Semi refl)
+    (c.name-in-Append.ensures ⋙ c.boxes.ensures ⋙ c.assigned-in-Append.ensures)
 
 pub stmt-returns-in-Take : goal.stmt-returns-in-Take
 stmt-returns-in-Take g t c =
     tokens_by (ap act_spelled (ap act_of c.in-Take.is ∙ act_take_last _ _))
-    (c.name-in-Take.ensures ⋙ c.token-in-Take.ensures kind.Eq refl ⋙ c.name-in-Take-2.ensures ⋙ c.token-in-Take-2.ensures kind.OpenBox refl ⋙ c.token-in-Take-3.ensures kind.CloseBox refl
-    ⋙ c.token-in-Take-4.ensures kind.Semi refl)
+    (c.name-in-Take.ensures ⋙ c.token-in-Take.ensures kind.Eq refl ⋙ c.name-in-Take-2.ensures ⋙ c.boxes-in-Take.ensures ⋙ c.token-in-Take-2.ensures kind.Semi refl)
 
 pub stmt-returns-in-Clear : goal.stmt-returns-in-Clear
 stmt-returns-in-Clear g t c =
     tokens_by (ap act_spelled (ap act_of c.in-Clear.is ∙ act_clear _))
-    (c.token-in-Clear.ensures kind.Clear refl ⋙ c.token-in-Clear-2.ensures kind.Open refl ⋙ c.name-in-Clear.ensures ⋙ c.token-in-Clear-3.ensures kind.Close refl ⋙ c.token-in-Clear-4.ensures kind.Semi refl)
+    (c.token-in-Clear.ensures kind.Clear refl ⋙ c.parens.ensures ⋙ c.token-in-Clear-2.ensures kind.Semi refl)
 
 pub stmt-returns-in-Do : goal.stmt-returns-in-Do
 stmt-returns-in-Do g t c =
     tokens_by (ap act_spelled (ap act_of c.in-Do.is ∙ act_call_alone _ _))
-    (c.name-in-Do.ensures ⋙ c.token-in-Do.ensures kind.Open refl ⋙ (c.args-in-Do.ensures ⋙ (c.token-in-Do-2.ensures kind.Close refl ⋙ c.token-in-Do-3.ensures kind.Semi refl)))
+    c.call_alone.ensures
 
 pub stmt-returns-in-None : goal.stmt-returns-in-None
 stmt-returns-in-None g t c =
@@ -66,8 +63,7 @@ stmt-returns-in-While g t c =
 pub stmt-returns-in-Run : goal.stmt-returns-in-Run
 stmt-returns-in-Run g t c =
     tokens_by (ap act_spelled (ap act_of c.in-Run.is ∙ act_run_procedure _ _))
-    (c.token-in-Run.ensures kind.Do refl ⋙ c.name-in-Run.ensures ⋙ c.token-in-Run-2.ensures kind.Open refl
-    ⋙ (c.args-in-Run.ensures ⋙ (c.token-in-Run-3.ensures kind.Close refl ⋙ c.token-in-Run-4.ensures kind.Semi refl)))
+    (c.token-in-Run.ensures kind.Do refl ⋙ c.call_alone-in-Run.ensures)
 
 pub block-loop-stmt-init : goal.block-loop-stmt-init
 block-loop-stmt-init g t c = acts_start _ _ _ _

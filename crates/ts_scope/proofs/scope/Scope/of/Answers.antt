@@ -1,8 +1,9 @@
 use Rattle.std.proofs.Common.{ap, sym, ◌∙◌}
+use Rattle.std.proofs.lemmas.List.{drop_all}
 use Rattle.ts_scope.specs.Names.{names_before, declare, declare_all}
 use Rattle.ts_scope.specs.Seen.{scope_names}
 use Rattle.ts_scope.proofs.CheckLemmas.{refuses_along, gives_refusal}
-use Rattle.ts_scope.proofs.DeclLemmas.{decls_refused}
+use Rattle.ts_scope.proofs.DeclLemmas.{decls_refused, decls_after}
 use Rattle.ts_scope.proofs.RoomLemmas.{fit_none}
 use Rattle.ts_scope.proofs.scope.Scope.of.Goals as goal
 
@@ -16,3 +17,16 @@ returns-in_err-declare c =
     (refuses_along c.in_err-declare.field-0.0 (declare (scope_names c.loop-decl.scope) c.decl-item.result) (declare_all (names_before c.args.desc.now) c.args.decls.now)
     (λ f refused. c.loop-decl.invariant.0 ∙ decls_refused (scope_names c.loop-decl.scope) c.args.decls.now c.loop-decl.decl-index c.decl-item.result f c.loop-decl-test.true c.decl-item.is refused)
     c.in_err-declare.ensures.value)
+
+pub declare-requires : goal.declare-requires
+declare-requires c = c.loop-decl.invariant.1
+
+pub loop-decl-preserved : goal.loop-decl-preserved
+loop-decl-preserved c = (
+  c.loop-decl.invariant.0 ∙ decls_after (scope_names c.loop-decl.scope) (scope_names c.declare.new.self) c.args.decls.now c.loop-decl.decl-index c.decl-item.result c.loop-decl-test.true c.decl-item.is
+      c.in_ok-declare.ensures.value,
+  c.in_ok-declare.ensures.fit,
+)
+
+pub returns : goal.returns
+returns c = c.loop-decl.invariant.0 ∙ ap (declare_all (scope_names c.loop-decl.scope)) (drop_all _ _ c.loop-decl-test.false)

@@ -1,0 +1,46 @@
+use Rattle.std.proofs.Common.{List, length, sym, ◌∙◌, ap, arith}
+use Rattle.ts_syntax.specs.declared.token.TokenKind.TheVariants as kind
+use Rattle.ts_syntax.specs.declared.word.Word.{Word}
+use Rattle.ts_machine.specs.Machine.{param_due}
+use Rattle.ts_machine.specs.Parsing.{reads}
+use Rattle.ts_machine.proofs.Parts.{starts_shorter}
+use Rattle.ts_parser.specs.Scripts.{Header, params_due, header_read}
+use Rattle.ts_parser.proofs.ScriptLemmas.{no_params, params_begin, param_missing, param_taken, param_follows, params_close, param_stops}
+use Rattle.ts_statements.proofs.Halting.{token_misses, name_misses}
+use Rattle.ts_parser.proofs.procs.parameters.Goals as goal
+
+pub returns-in-Some-clause-reads : goal.returns-in-Some-clause-reads
+returns-in-Some-clause-reads c = λ k. no_params c.in-Some.ensures k.name k.decls k.procs ∙ ap (λ z. reads c.in-Some.rest.now (header_read k z)) (sym c.new-params.ensures)
+
+pub loop-params-init : goal.loop-params-init
+loop-params-init c = (
+  λ k. params_begin c.args.tokens.now c.in_default.ensures k ∙ ap (λ z. reads c.args.tokens.now (param_due k.name z k.decls k.procs)) (sym c.new-params.ensures),
+  omega arith,
+)
+
+pub returns-in_err-word-clause-reads : goal.returns-in_err-word-clause-reads
+returns-in_err-word-clause-reads c =
+    name_misses {Y = List Word} {L = Header} c.args.tokens.now c.loop-params.rest.now (λ k. params_due k) (λ ws k. header_read k ws)
+    (λ k more l. c.loop-params.invariant.0 k ∙ param_missing l k.name c.loop-params.params k.decls k.procs)
+    c.from_residual.result c.in_err-word.field-0.0 c.from_residual.ensures.1 c.in_err-word.ensures
+
+pub returns-in_err-behind-clause-reads : goal.returns-in_err-behind-clause-reads
+returns-in_err-behind-clause-reads c =
+    token_misses {Y = List Word} {L = Header} kind.Close c.args.tokens.now c.in_ok-word.behind.now (λ k. params_due k) (λ ws k. header_read k ws)
+    (λ k more l. c.loop-params.invariant.0 k ∙ param_taken c.in_ok-word.ensures k.name c.loop-params.params k.decls k.procs
+    ∙ param_stops c.in_default-after.ensures l k.name c.loop-params.params c.in_ok-word.word k.decls k.procs)
+    c.from_residual-in_err-behind.result c.in_err-behind.field-0.0 c.from_residual-in_err-behind.ensures.1 c.in_err-behind.ensures
+
+pub returns-in_default-after-clause-reads : goal.returns-in_default-after-clause-reads
+returns-in_default-after-clause-reads c =
+    λ k. c.loop-params.invariant.0 k ∙ param_taken c.in_ok-word.ensures k.name c.loop-params.params k.decls k.procs
+    ∙ params_close c.in_ok-behind.ensures k.name c.loop-params.params c.in_ok-word.word k.decls k.procs
+    ∙ ap (λ z. reads c.in_ok-behind.behind.now (header_read k z)) (sym c.in_ok-push.ensures)
+
+pub loop-params-preserved : goal.loop-params-preserved
+loop-params-preserved c = (
+  λ k. c.loop-params.invariant.0 k ∙ param_taken c.in_ok-word.ensures k.name c.loop-params.params k.decls k.procs
+      ∙ param_follows c.in-Some-after.ensures k.name c.loop-params.params c.in_ok-word.word k.decls k.procs
+      ∙ ap (λ z. reads c.in-Some-after.next.now (param_due k.name z k.decls k.procs)) (sym c.in_ok-push.ensures),
+  omega (arith, starts_shorter kind.Comma c.in-Some-after.ensures, ap length c.in_ok-word.ensures.are, c.loop-params.invariant.1),
+)
