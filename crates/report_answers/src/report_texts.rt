@@ -5,8 +5,8 @@ ghost use Rattle.report_text.specs.Tidy.{IsTidy};
 
 use mate_journal::Report;
 use memory_files::MemSink;
+use report_merge::write;
 use report_reading::{TextFault, read};
-use report_text::write;
 use std::alloc::{AllocError, Global};
 use vm_desc::Description;
 

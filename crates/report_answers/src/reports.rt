@@ -10,8 +10,9 @@ use mate_files::SinkFault;
 use mate_journal::{Air, Aired, Airs, Entry, NodeLog, NodeLogs, Report, Stamped};
 use mate_num::{NoMemory, Stamp, Store};
 use memory_files::MemSink;
+use report_merge::write;
 use report_summary::brief;
-use report_text::{write, write_end};
+use report_text::write_end;
 use std::alloc::{AllocError, Global};
 use vm_desc::Description;
 

@@ -62,6 +62,16 @@ at_event-none ev k (x ∷ xs) h =
 pub rest-from : {A : Type 0} (xs ys : List A) (n : ℕ) → xs ≡ ys → take (length xs - n) (drop n xs) ≡ drop n ys
 rest-from xs ys n e = take_all (length xs - n) (drop n xs) (omega (arith, length-drop n xs)) ∙ ap (drop n) e
 
+-- a place and the item there, where the list is equal to another
+pub within-same : {A : Type 0} (xs ys : List A) (n : ℕ) → xs ≡ ys → n < length xs → n < length ys
+within-same xs ys n e p = subst (λ (zs : List _). n < length zs) e p
+
+pub item-same : {A : Type 0} (xs ys : List A) (n : ℕ) (x : A) → xs ≡ ys → x ≡ get_or xs n x → x ≡ get_or ys n x
+item-same xs ys n x e is = is ∙ ap (λ (zs : List _). get_or zs n x) e
+
+pub behind-same : {A : Type 0} (xs ys : List A) (n : ℕ) → xs ≡ ys → length xs ≤ n → length ys ≤ n
+behind-same xs ys n e p = subst (λ (zs : List _). length zs ≤ n) e p
+
 -- ---- a run of items of one event
 
 -- what stands from a place on is of no earlier event than the item there

@@ -1,4 +1,5 @@
 pub mod WordLemmas
+pub mod ChunkLemmas
 pub mod PrintLemmas
 pub mod EventLemmas
 pub mod TextLemmas

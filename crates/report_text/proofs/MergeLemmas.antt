@@ -1,10 +1,14 @@
 -- Lemmas on `specs/Progress.antt`, and on the lines of one event.
-use Rattle.std.proofs.Common.{◌≡◌, ◌≢◌, ℕ, suc, ◌+◌, ◌<◌, ◌≤◌, max, List, ◌++◌, ◌∷◌, [], length, map, take, get_or, set, refl, ap, sym, subst, ◌∙◌, arith, zero-add, inl, inr, get_or-set_other, get_or-set_same}
+use Rattle.std.proofs.Common.{◌≡◌, ◌≢◌, ℕ, suc, ◌+◌, ◌<◌, ◌≤◌, max, List, Result, ◌++◌, ◌∷◌, [], length, map, take, get_or, set, refl, ap, sym, subst, ◌∙◌, arith, zero-add, inl, inr, get_or-set_other, get_or-set_same}
 use Rattle.std.specs.Prelude.{flat_map, fold, All, Option, None, Some, IfSome, slice_get, slice_index_or}
 use Rattle.std.specs.Option.{option_map}
 use Rattle.std.proofs.lemmas.Bool.{cases_lt}
+use Rattle.std.proofs.lemmas.List.{take_all}
 use Rattle.std.proofs.lemmas.List.Elements.{All-weaker, All-head, All-tail, All-get_or, at_read}
 use Rattle.std.proofs.lemmas.Option.{slice_get_cases}
+use Rattle.mate_files.specs.Pen.{Prints}
+use Rattle.mate_files.proofs.PenLemmas.{◌⟫◌, Prints-by}
+use Rattle.mate_files.specs.declared.sink.SinkFault.{SinkFault}
 use Rattle.vm_desc.specs.declared.description.Description.{Description}
 use Rattle.mate_journal.specs.Log.{Log}
 use Rattle.mate_journal.specs.declared.air.Aired.{Aired}
@@ -27,6 +31,11 @@ entry_lines-push d event logs node log p is =
     ∙ entry_lines-next d event 0 logs node log p
     ∙ ap (λ ys. entry_lines d event 0 (take node logs) ++ ys) (ap (λ l. piece l (0 + node)) (sym is) ∙ ap (piece log) (zero-add node)))
 
+pub Prints-log : {w0 w1 w2 : Option (List ℕ)} {f0 f1 f2 : ℕ} {r0 r1 r2 : Result (Unit {0}) SinkFault} (d : Description) (event : ℕ) (logs : List Log) (node : ℕ) (log : Log)
+    → node < length logs → log ≡ get_or logs node log → Prints w0 f0 r0 w1 f1 r1 (entry_lines d event 0 (take node logs))
+    → Prints w1 f1 r1 w2 f2 r2 (flat_map (entry_line d log node) (at_event entry_event event log.entries)) → Prints w0 f0 r0 w2 f2 r2 (entry_lines d event 0 (take (node + 1) logs))
+Prints-log d event logs node log p is before here = Prints-by (entry_lines-push d event logs node log p is) (before ⟫ here)
+
 -- one more position is a cut
 pub cuts-next : (event : ℕ) (logs : List Log) (cursors : List ℕ) (node : ℕ) (log : Log) (next : ℕ) → node < length logs → node < length cursors → log ≡ get_or logs node log
     → IsCut entry_event event log.entries next
@@ -40,6 +49,41 @@ cuts-next event logs cursors node log next p room is cut cuts k d q =
           subst (λ (j : ℕ). IsCut entry_event event (get_or logs j d).entries (get_or (set cursors node next) j 0)) e
           (rw get_or-set_same (at_read logs (λ (l : Log). IsCut entry_event event l.entries next) node log p is cut d))
     ]
+
+-- no position is behind the first node's
+pub cuts-start : (event : ℕ) (logs : List Log) (cursors : List ℕ) (k : ℕ) (d : Log) → k < 0 → IsCut entry_event event (get_or logs k d).entries (get_or cursors k 0)
+cuts-start event logs cursors k d p = absurd (omega (arith, p))
+
+-- the positions of the later nodes stay
+pub cuts-left : (event : ℕ) (logs : List Log) (cursors : List ℕ) (node next : ℕ)
+    → ((k : ℕ) (d : Log) → node ≤ k → k < length logs → IsCut entry_event event (get_or logs k d).entries (get_or cursors k 0))
+    → (k : ℕ) (d : Log) → node + 1 ≤ k → k < length logs → IsCut entry_event event (get_or logs k d).entries (get_or (set cursors node next) k 0)
+cuts-left event logs cursors node next cuts k d p q =
+    let other : k ≢ node = omega (arith, p) in rw get_or-set_other (cuts k d (omega (arith, p)) q)
+
+-- the position of the next node is a cut of its log
+pub cut-here : (event : ℕ) (logs : List Log) (cursors : List ℕ) (node : ℕ) (log : Log) → node < length logs → log ≡ get_or logs node log
+    → ((k : ℕ) (d : Log) → node ≤ k → k < length logs → IsCut entry_event event (get_or logs k d).entries (get_or cursors k 0))
+    → IsCut entry_event event log.entries (get_or cursors node 0)
+cut-here event logs cursors node log p is cuts =
+    subst (λ (l : Log). IsCut entry_event event l.entries (get_or cursors node 0)) (sym is) (cuts node log (omega arith) p)
+
+-- behind the last node all positions are cuts, and all lines are printed
+pub cuts-all : (event : ℕ) (logs : List Log) (cursors : List ℕ) (node : ℕ) → length logs ≤ node
+    → ((k : ℕ) (d : Log) → k < node → IsCut entry_event event (get_or logs k d).entries (get_or cursors k 0)) → AreCuts event logs cursors
+cuts-all event logs cursors node p cuts = λ k d q. cuts k d (omega (arith, p, q))
+
+pub entry_lines-all : (d : Description) (event : ℕ) (logs : List Log) (node : ℕ) → length logs ≤ node → entry_lines d event 0 (take node logs) ≡ entry_lines d event 0 logs
+entry_lines-all d event logs node p = ap (entry_lines d event 0) (take_all node logs p)
+
+-- a place in as many logs as there are positions is one of a position
+pub has-cursor : (node logs old now : ℕ) → now ≡ old → old ≡ logs → node < logs → node < now
+has-cursor node logs old now e same p = omega (arith, e, same, p)
+
+-- the events rise along the log at a place
+pub rises-here : (logs : List Log) (node : ℕ) (log : Log) → node < length logs → log ≡ get_or logs node log
+    → All (λ (l : Log). EventsRise entry_event 0 l.entries) logs → EventsRise entry_event 0 log.entries
+rises-here logs node log p is all = subst (λ (l : Log). EventsRise entry_event 0 l.entries) (sym is) (all node log p)
 
 -- ---- the first event that is left
 
@@ -127,6 +171,9 @@ reached r (Some event) = event
 pub record IsAt (r : Report) (air : ℕ) (cursors : List ℕ) (event : ℕ) : Type 0 where
   pub on_air : IsCut air_event event r.air air
   pub in_logs : AreCuts event r.nodes cursors
+
+pub IsAt-some : (r : Report) (air : ℕ) (cursors : List ℕ) (next : Option ℕ) (event : ℕ) → next ≡ Some event → IfSome next (IsAt r air cursors) → IsAt r air cursors event
+IsAt-some r air cursors next event is at = subst (λ (o : Option ℕ). IfSome o (IsAt r air cursors)) is at
 
 IsAt-left : (r : Report) (air : ℕ) (cursors : List ℕ) (event : ℕ) → IsAt r air cursors event → AreLeftFrom r air cursors event
 IsAt-left r air cursors event h = record { on_air = h.on_air.after; in_logs = λ k d p. (h.in_logs k d p).after }

@@ -1,14 +1,13 @@
-//! The text of a report, line by line.
+//! The text of a report, line by line and piece by piece.
 #![tactic(auto)]
 
-mod air_line;
+pub mod air_line;
 mod chunk;
 pub mod entry_line;
 pub mod laws;
-mod merge;
 mod store_words;
 pub mod text;
 pub mod words;
 
 pub use laws::node_report_is_tidy;
-pub use text::{write, write_end, write_event};
+pub use text::{write_end, write_event};

@@ -1,23 +1,18 @@
-//! The text of a report.
+//! The pieces of a report's text: the lines of an event, and the last line.
 
 ghost use Rattle.std.specs.Prelude.{◌≡◌, ◌≤◌, ◌++◌, ◌*◌, ◌^◌, length, [], drop, flat_map, sum_by, IsTrue};
 ghost use Rattle.mate_files.specs.Pen.{Prints};
 ghost use Rattle.mate_files.specs.Sink.{Puts};
-ghost use Rattle.report_text.specs.Text.{air_line, event_piece, lines, entry_line, end_word, end_line, records, text};
-ghost use Rattle.report_text.specs.Tidy.{IsTidy};
+ghost use Rattle.report_text.specs.Text.{air_line, event_piece, lines, entry_line, end_word, end_line, records};
 ghost use Rattle.report_text.specs.Pieces.{AddsPiece};
 ghost use Rattle.mate_journal.specs.declared.report.Report.{Report};
 
 use crate::air_line::air_line;
 use crate::entry_line::entry_line;
-use crate::merge::records;
 use crate::words::number;
 use mate_files::{Pen, Sink, SinkFault};
 use mate_journal::{Aired, NodeLog, Report, Stamped};
 use vm_desc::Description;
-
-// The most nodes that a tidy report has.
-const NODES_MAX: usize = 64;
 
 fn count_entries(logs: &[NodeLog]) -> u64
     requires { length logs.now ≤ 64 }
@@ -70,8 +65,15 @@ pub fn end_word(whole: bool) -> &'static str
     if whole { "end" } else { "full" }
 }
 
-/// The last line of a report.
-fn end_line<S: Sink>(pen: &mut Pen, out: &mut S, records: u64, events: u64, nodes: u64, whole: bool)
+/// Prints the last line of a report: `end` or `full`, and the numbers of records, events and nodes.
+pub fn end_line<S: Sink>(
+    pen: &mut Pen,
+    out: &mut S,
+    records: u64,
+    events: u64,
+    nodes: u64,
+    whole: bool,
+)
     ensures { Prints (S.written out.old) (S.faults out.old) pen.old.result (S.written out.new) (S.faults out.new) pen.new.result (end_line records events nodes whole) }
 {
     pen.text(out, end_word(whole));
@@ -118,27 +120,5 @@ pub fn write_end<S: Sink>(
 {
     let mut pen = Pen::new();
     end_line(&mut pen, out, records, events, nodes as u64, whole);
-    pen.finish()
-}
-
-/// Writes the text of a tidy report: a line per record, in the order of events, and the last line.
-///
-/// A fault is the sink's, which then holds a prefix of the text. It takes no memory.
-pub fn write<S: Sink>(desc: &Description, report: &Report, out: &mut S) -> Result<(), SinkFault>
-    requires { IsTidy desc.now report.now }
-    ensures { Puts (S.written out.old) (S.faults out.old) (S.written out.new) (S.faults out.new) result (text desc.now report.now) }
-{
-    let mut pen = Pen::new();
-    let nodes = report.nodes().len();
-    let mut cursors = [0; NODES_MAX];
-    records(&mut pen, out, desc, report, &mut cursors[..nodes]);
-    end_line(
-        &mut pen,
-        out,
-        count_records(report),
-        report.events(),
-        nodes as u64,
-        report.whole(),
-    );
     pen.finish()
 }

@@ -29,3 +29,12 @@ returns-in-Seen g c =
 pub returns-in-Void : goal.returns-in-Void
 returns-in-Void g c =
     Prints-by (sym (ap (entry_words c.args.desc.now c.args.log.now) c.in-Void.is)) (c.text-in-Void.ensures ⟫ c.void_words.ensures)
+
+pub returns-in-Start : goal.returns-in-Start
+returns-in-Start g c = Prints-by (sym (ap (entry_words c.args.desc.now c.args.log.now) c.in-Start.is)) c.invocation.ensures
+
+pub returns-in-Halt : goal.returns-in-Halt
+returns-in-Halt g c = Prints-by (sym (ap (entry_words c.args.desc.now c.args.log.now) c.in-Halt.is)) c.invocation-in-Halt.ensures
+
+pub returns-in-Reset : goal.returns-in-Reset
+returns-in-Reset g c = Prints-by (sym (ap (entry_words c.args.desc.now c.args.log.now) c.in-Reset.is)) c.text-in-Reset.ensures

@@ -5,3 +5,9 @@ use Rattle.report_text.proofs.words.void_words.Goals as goal
 
 pub returns-in-NotNewer : goal.returns-in-NotNewer
 returns-in-NotNewer g c = Prints-by (sym (ap void_words c.in-NotNewer.is)) (c.text-in-NotNewer.ensures ⟫ c.number.ensures)
+
+pub returns-in-NotReady : goal.returns-in-NotReady
+returns-in-NotReady g c = Prints-by (sym (ap void_words c.in-NotReady.is)) c.text.ensures
+
+pub returns-in-NotWaiting : goal.returns-in-NotWaiting
+returns-in-NotWaiting g c = Prints-by (sym (ap void_words c.in-NotWaiting.is)) c.text-in-NotWaiting.ensures

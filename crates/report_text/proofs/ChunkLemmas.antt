@@ -1,0 +1,54 @@
+-- Texts that are built from their ends in a chunk.
+use Rattle.std.proofs.Common.{◌≡◌, ℕ, ◌+◌, ◌<◌, ◌≤◌, List, ◌++◌, ◌∷◌, [], length, ap, sym, ◌∙◌, arith, append-nil, append_assoc, length-append}
+use Rattle.std.specs.Prelude.{codes}
+use Rattle.report_text.specs.Words.{word}
+
+-- ---- how long a chunk is at most
+
+pub at_most-new : {c : List ℕ} → c ≡ [] → length c ≤ 0
+at_most-new e = omega (arith, ap length e)
+
+pub at_most-byte : {c d : List ℕ} (b n : ℕ) → d ≡ b ∷ c → length c ≤ n → length d ≤ n + 1
+at_most-byte b n e p = omega (arith, ap length e, p)
+
+pub at_most-text : (c d t : List ℕ) (m n : ℕ) → d ≡ t ++ c → length t ≤ m → length c ≤ n → length d ≤ m + n
+at_most-text c d t m n e q p = omega (arith, ap length e, length-append t c, q, p)
+
+pub at_most-digits : (c d : List ℕ) (more n : ℕ) → length d ≤ length c + more → length c ≤ n → length d ≤ n + more
+at_most-digits c d more n e p = omega (arith, e, p)
+
+-- there is room for a byte, and for a text
+pub room-byte : (c : List ℕ) (n : ℕ) → length c ≤ n → n < 64 → length c < 64
+room-byte c n p q = omega (arith, p, q)
+
+pub room-text : (c t : List ℕ) (m n : ℕ) → length t ≤ m → length c ≤ n → m + n ≤ 64 → length t + length c ≤ 64
+room-text c t m n p q r = omega (arith, p, q, r)
+
+-- ---- what stands in a chunk
+
+-- a text, and a word behind it
+pub two-words : {c0 c1 c2 c3 : List ℕ} (a b : List ℕ) → c0 ≡ [] → c1 ≡ b ++ c0 → c2 ≡ 32 ∷ c1 → c3 ≡ a ++ c2 → c3 ≡ a ++ word b
+two-words a b e0 e1 e2 e3 = e3 ∙ ap (λ (z : List ℕ). a ++ z) (e2 ∙ ap word (e1 ∙ ap (λ (z : List ℕ). b ++ z) e0 ∙ append-nil b))
+
+-- and two words
+pub three-words : {c0 c1 c2 c3 c4 c5 : List ℕ} (a b c : List ℕ) → c0 ≡ [] → c1 ≡ c ++ c0 → c2 ≡ 32 ∷ c1 → c3 ≡ b ++ c2 → c4 ≡ 32 ∷ c3 → c5 ≡ a ++ c4
+    → c5 ≡ a ++ word b ++ word c
+three-words a b c e0 e1 e2 e3 e4 e5 =
+    e5 ∙ ap (λ (z : List ℕ). a ++ z) (e4 ∙ ap word (two-words b c e0 e1 e2 e3)) ∙ sym (append_assoc a (word b) (word c))
+
+-- a text and a word at the end of a line
+pub two-words_line : {c0 c1 c2 c3 c4 : List ℕ} (a b : List ℕ) → c0 ≡ [] → c1 ≡ 10 ∷ c0 → c2 ≡ b ++ c1 → c3 ≡ 32 ∷ c2 → c4 ≡ a ++ c3 → c4 ≡ a ++ word b ++ codes "\n"
+two-words_line a b e0 e1 e2 e3 e4 =
+    e4 ∙ ap (λ (z : List ℕ). a ++ z) (e3 ∙ ap word (e2 ∙ ap (λ (z : List ℕ). b ++ z) (e1 ∙ ap (λ (z : List ℕ). 10 ∷ z) e0)))
+    ∙ sym (append_assoc a (word b) (codes "\n"))
+
+-- the head of a post
+pub post-words : {c0 c1 c2 c3 c4 c5 c6 : List ℕ} (inv handler ctx : List ℕ) → c0 ≡ [] → c1 ≡ ctx ++ c0 → c2 ≡ 32 ∷ c1 → c3 ≡ handler ++ c2 → c4 ≡ 32 ∷ c3 → c5 ≡ inv ++ c4
+    → c6 ≡ codes " post " ++ c5 → c6 ≡ codes " post" ++ word inv ++ word handler ++ word ctx
+post-words inv handler ctx e0 e1 e2 e3 e4 e5 e6 = e6 ∙ ap (λ (z : List ℕ). codes " post " ++ z) (three-words inv handler ctx e0 e1 e2 e3 e4 e5)
+
+-- a name and what it is
+pub named-words : {c0 c1 c2 c3 c4 : List ℕ} (name v : List ℕ) → c0 ≡ [] → c1 ≡ v ++ c0 → c2 ≡ 61 ∷ c1 → c3 ≡ name ++ c2 → c4 ≡ 32 ∷ c3 → c4 ≡ codes " " ++ name ++ codes "=" ++ v
+named-words name v e0 e1 e2 e3 e4 =
+    e4 ∙ ap word (e3 ∙ ap (λ (z : List ℕ). name ++ z) (e2 ∙ ap (λ (z : List ℕ). 61 ∷ z) (e1 ∙ ap (λ (z : List ℕ). v ++ z) e0 ∙ append-nil v))
+    ∙ sym (append_assoc name (codes "=") v))
