@@ -9,9 +9,14 @@ use std::alloc::Global;
 use std::marker::Model;
 
 /// The ready contexts, none twice. Contracts see the list of them, from the next turn on.
-#[derive(Drop)]
 pub struct Ring {
     ready: HeapCircularBuffer<ContextId>,
+}
+
+impl Drop for Ring {
+    fn drop(self) {
+        let Ring { ready: _ready } = self;
+    }
 }
 
 impl Model for Ring {

@@ -10,11 +10,20 @@ use std::alloc::Global;
 use std::marker::Model;
 
 /// What happened on one node, in order. After a `reserve` it is written without memory.
-#[derive(Drop)]
 pub struct NodeLog {
     entries: Vec<Stamped>,
     images: Vec<Image>,
     stores: Vec<Store>,
+}
+
+impl Drop for NodeLog {
+    fn drop(self) {
+        let NodeLog {
+            entries: _entries,
+            images: _images,
+            stores: _stores,
+        } = self;
+    }
 }
 
 impl Model for NodeLog {

@@ -32,10 +32,18 @@ use vm_desc::Description;
 ///
 /// Each call that takes a stamp has the conditions that neither the event nor the time of the stamp is below those of the
 /// last entry, that the time is the last entry's where the event is, and that there is room for the entries.
-#[derive(Drop)]
 pub struct OpenNode {
     pub(crate) description: Description,
     pub(crate) parts: Parts,
+}
+
+impl Drop for OpenNode {
+    fn drop(self) {
+        let OpenNode {
+            description: _description,
+            parts: _parts,
+        } = self;
+    }
 }
 
 impl Model for OpenNode {
@@ -212,6 +220,10 @@ impl OpenNode {
         ensures keeps { KeepsJournal self.node.description (machine_in self.node.description) self.node.log }
     {
         keeps_journal(&self.description, &self.parts);
-        self.parts.log.into_whole()
+        let OpenNode {
+            description: _description,
+            parts,
+        } = self;
+        parts.log.into_whole()
     }
 }

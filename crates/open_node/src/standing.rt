@@ -3,7 +3,7 @@
 use mate_num::{ContextId, FunId, Payload};
 
 /// What can go on.
-#[derive(Clone, Copy, PartialEq, Eq, Debug)]
+#[derive(Clone, Copy)]
 pub enum Standing {
     /// The invocation in the context is ready to run.
     Can(ContextId),
@@ -14,7 +14,7 @@ pub enum Standing {
 }
 
 /// The call that an invocation waits with.
-#[derive(PartialEq, Eq, Debug, Drop)]
+#[derive(Drop)]
 pub struct Asked {
     pub inv: u32,
     pub fun: FunId,

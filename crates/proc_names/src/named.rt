@@ -13,11 +13,17 @@ use ts_syntax::{Decls, PBlock, ProcScript, Procs};
 /// A script with procedures. The type keeps that each `do` names a procedure that is declared before it and gives it as
 /// many arguments as it has parameters, that no two procedures and no two parameters of one head share a name, that no
 /// name begins with `_`, and that there are fewer than 2^32 parameters.
-#[derive(Drop)]
 pub struct PScript {
     script: ProcScript,
     pub ghost named: { IsTrue (is_none (name_fault (procedure_source_of script))) },
     pub ghost few: { parameter_count (procedure_source_of script).procs < 2 ^ 32 },
+}
+
+/// What is to be dropped of it is dropped in one function, and so by one call wherever a script ends.
+impl Drop for PScript {
+    fn drop(self) {
+        let PScript { script: _script } = self;
+    }
 }
 
 impl PScript {

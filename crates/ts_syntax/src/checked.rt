@@ -10,11 +10,20 @@ use mate_num::Shape;
 /// A script that passed all checks for a machine of its shape. The type keeps that its body is right for
 /// the shape: each name is in range, each call has its function's arguments, no call stands in the limit
 /// of a `for`, and no step is 0.
-#[derive(Debug, Drop)]
 pub struct Checked {
     shape: Shape,
     body: CBlock,
     pub ghost right: { IsTrue (is_right shape (block_tree body)) },
+}
+
+/// What is to be dropped of it is dropped in one function, and so by one call wherever a script ends.
+impl Drop for Checked {
+    fn drop(self) {
+        let Checked {
+            shape: _shape,
+            body: _body,
+        } = self;
+    }
 }
 
 impl Checked {

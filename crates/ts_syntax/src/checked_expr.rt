@@ -8,7 +8,7 @@ use std::alloc::Global;
 
 /// An expression whose names are resolved.
 #[cycle(expr)]
-#[derive(Debug, Drop)]
+#[derive(Debug)]
 pub enum CExpr {
     /// A number.
     Num(i16),
@@ -38,9 +38,30 @@ pub enum CExpr {
 
 /// The arguments of a call, in order.
 #[cycle(expr)]
-#[derive(Debug, Drop)]
+#[derive(Debug)]
 pub struct CArgs {
     pub items: Vec<CExpr>,
+}
+
+impl Drop for CExpr {
+    #[cycle(expr)]
+    fn drop(self) {
+        match self {
+            CExpr::Num(_) | CExpr::Shared(_) | CExpr::Private(_) => {}
+            CExpr::Size(_) | CExpr::MsgSize | CExpr::SendBuf(_, _) => {}
+            CExpr::Item(_, _part) | CExpr::MsgItem(_part) => {}
+            CExpr::Neg(_part) | CExpr::Not(_part) => {}
+            CExpr::Call(_, _args) => {}
+            CExpr::Two(_, _left, _right) => {}
+        }
+    }
+}
+
+impl Drop for CArgs {
+    #[cycle(expr)]
+    fn drop(self) {
+        let CArgs { items: _items } = self;
+    }
 }
 
 impl CArgs {

@@ -16,7 +16,7 @@ pub enum CVar {
 }
 
 /// The head of `for var = from to to step step`.
-#[derive(Debug, Drop)]
+#[derive(Debug)]
 pub struct CForHead {
     pub var: CVar,
     pub from: CExpr,
@@ -25,9 +25,20 @@ pub struct CForHead {
     pub step: i16,
 }
 
+impl Drop for CForHead {
+    fn drop(self) {
+        let CForHead {
+            var: _,
+            from: _from,
+            to: _to,
+            step: _,
+        } = self;
+    }
+}
+
 /// A statement whose names are resolved.
 #[cycle(stmt)]
-#[derive(Debug, Drop)]
+#[derive(Debug)]
 pub enum CStmt {
     /// `x = e;`
     Set(CVar, CExpr),
@@ -53,9 +64,32 @@ pub enum CStmt {
 
 /// Statements, one after another.
 #[cycle(stmt)]
-#[derive(Debug, Drop)]
+#[derive(Debug)]
 pub struct CBlock {
     pub items: Vec<CStmt>,
+}
+
+impl Drop for CStmt {
+    #[cycle(stmt)]
+    fn drop(self) {
+        match self {
+            CStmt::Set(_, _value) => {}
+            CStmt::SetItem(_, _index, _value) => {}
+            CStmt::Append(_, _value) => {}
+            CStmt::Take(_, _) | CStmt::Clear(_) | CStmt::SendBuf(_, _) => {}
+            CStmt::Do(_, _args) => {}
+            CStmt::If(_test, _then, _else) => {}
+            CStmt::For(_head, _body) => {}
+            CStmt::While(_test, _body) => {}
+        }
+    }
+}
+
+impl Drop for CBlock {
+    #[cycle(stmt)]
+    fn drop(self) {
+        let CBlock { items: _items } = self;
+    }
 }
 
 impl CBlock {

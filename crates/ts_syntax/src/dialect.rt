@@ -1,7 +1,7 @@
 //! TinyScript, and its dialect with procedures.
 
 /// What a source is written in.
-#[derive(Clone, Copy, PartialEq, Eq, Debug)]
+#[derive(Clone, Copy)]
 pub enum Dialect {
     /// TinyScript, in which `proc` and `do` are names as any other.
     Plain,

@@ -25,8 +25,17 @@ pub struct Decl {
 pub type Decls = Items<Decl>;
 
 /// A script: its declarations, then its statements.
-#[derive(Drop)]
 pub struct Script {
     pub decls: Decls,
     pub body: Block,
+}
+
+/// What is to be dropped of it is dropped in one function, and so by one call wherever a script ends.
+impl Drop for Script {
+    fn drop(self) {
+        let Script {
+            decls: _decls,
+            body: _body,
+        } = self;
+    }
 }
