@@ -22,8 +22,10 @@ use world_event::finish::finish;
 use world_script::World;
 use world_step::{Effect, Mote};
 
-/// The end of the interval before comes no more where one begins.
-pub fn the_end_of_the_interval_before_is_gone(
+/// After an event the end of the interval before comes no more where one begins; where the next period and a delivery fall on one
+/// time the period comes first, and of a pump and an answer the pump; and a packet that the exchange asks for is sent before the
+/// messages of the node's programs.
+pub fn an_event_ends_in_its_order(
     radio: &mut Radio,
     mote: &mut Mote,
     desc: &Description,
@@ -35,73 +37,19 @@ pub fn the_end_of_the_interval_before_is_gone(
     at: Stamp,
 ) -> Result<(), NoMemory>
     requires { MayFinish desc.now world.now radio.old mote.old number effect from at.time }
-    ensures { OnOk result ((programs : List ProgramOfFile) (s : WorldState) (m : Moment) (t : ℕ)
+    ensures interval { OnOk result ((programs : List ProgramOfFile) (s : WorldState) (m : Moment) (t : ℕ)
         → IsMoment (code_world desc.now world.now programs) s m radio.old mote.old number event.now effect from at.time
         → t ≤ world.now.until → t ≢ m.time → effect.begins ≡ true → s.due t ≡ Expire number ∷ [] → of_time t (schedules (code_world desc.now world.now programs) s m) ≡ []
         → due_at t radio.new.agenda.items ≡ []) }
-{
-    finish(radio, mote, desc, world, number, event, effect, from, at)?;
-    Ok(())
-}
-
-/// Where the next period and a delivery fall on one time, the period comes first.
-pub fn a_period_comes_before_a_delivery(
-    radio: &mut Radio,
-    mote: &mut Mote,
-    desc: &Description,
-    world: &World,
-    number: u8,
-    event: &Event,
-    effect: Effect,
-    from: usize,
-    at: Stamp,
-) -> Result<(), NoMemory>
-    requires { MayFinish desc.now world.now radio.old mote.old number effect from at.time }
-    ensures { OnOk result ((programs : List ProgramOfFile) (s : WorldState) (m : Moment) (h : Handler) (period : ℕ)
+    ensures period { OnOk result ((programs : List ProgramOfFile) (s : WorldState) (m : Moment) (h : Handler) (period : ℕ)
         → IsMomentBefore (m.time + period) (code_world desc.now world.now programs) s m radio.old mote.old number event.now effect from at.time
         → m.cause ≡ Period number h → period_of (code_world desc.now world.now programs) h.0 ≡ Some period
         → slice_get (due_at (m.time + period) radio.new.agenda.items) 0 ≡ Some (radio_kind.Period number h)) }
-{
-    finish(radio, mote, desc, world, number, event, effect, from, at)?;
-    Ok(())
-}
-
-/// Where a pump and an answer fall on one time, the pump comes first.
-pub fn a_pump_comes_before_an_answer(
-    radio: &mut Radio,
-    mote: &mut Mote,
-    desc: &Description,
-    world: &World,
-    number: u8,
-    event: &Event,
-    effect: Effect,
-    from: usize,
-    at: Stamp,
-) -> Result<(), NoMemory>
-    requires { MayFinish desc.now world.now radio.old mote.old number effect from at.time }
-    ensures { OnOk result ((programs : List ProgramOfFile) (s : WorldState) (m : Moment)
+    ensures pump { OnOk result ((programs : List ProgramOfFile) (s : WorldState) (m : Moment)
         → IsMomentBefore (m.time + desc.now.radio.gap) (code_world desc.now world.now programs) s m radio.old mote.old number event.now effect from at.time
         → IsPumpFirst (code_world desc.now world.now programs) s m
         → slice_get (due_at (m.time + desc.now.radio.gap) radio.new.agenda.items) 0 ≡ Some (radio_kind.Pump number)) }
-{
-    finish(radio, mote, desc, world, number, event, effect, from, at)?;
-    Ok(())
-}
-
-/// A packet that the exchange asks for is sent before the messages of the node's programs.
-pub fn a_request_is_sent_before_a_message(
-    radio: &mut Radio,
-    mote: &mut Mote,
-    desc: &Description,
-    world: &World,
-    number: u8,
-    event: &Event,
-    effect: Effect,
-    from: usize,
-    at: Stamp,
-) -> Result<(), NoMemory>
-    requires { MayFinish desc.now world.now radio.old mote.old number effect from at.time }
-    ensures { OnOk result ((programs : List ProgramOfFile) (s : WorldState) (m : Moment) (p : Packet)
+    ensures request { OnOk result ((programs : List ProgramOfFile) (s : WorldState) (m : Moment) (p : Packet)
         → IsMoment (code_world desc.now world.now programs) s m radio.old mote.old number event.now effect from at.time
         → SendsAlone (code_world desc.now world.now programs) s m p
         → (rest : List Aired) × (radio.new.air ≡ radio.old.air ++ aired_at at number (Sent (suc (length s.senders)) (sent_bytes (code_world desc.now world.now programs) p)) ∷ rest)) }
