@@ -5,7 +5,7 @@ ghost use Rattle.std.specs.Prelude.{◌≤◌, length};
 use mate_num::{Code, HandlerId};
 
 /// Code for one handler of one machine, with its version.
-#[derive(PartialEq, Eq, Debug, Drop)]
+#[derive(Drop)]
 pub struct Capsule {
     /// The machine's number.
     pub vm_id: u32,

@@ -10,7 +10,7 @@ use mate_num::{BufId, DeviceId, LockSet, Name, Resource, VarId};
 use vm_desc::Description;
 
 /// The groups of resources, each of which is a list of a description.
-#[derive(Clone, Copy, Debug)]
+#[derive(Clone, Copy)]
 pub enum Group {
     Shared,
     Buffers,

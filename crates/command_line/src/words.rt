@@ -11,7 +11,7 @@ use clap::{Arg, ArgAction, ArgMatches, Command, Error};
 use std::alloc::{AllocError, Global};
 
 /// What the words of a command line say.
-#[derive(Debug, Drop)]
+#[derive(Drop)]
 pub struct CommandLine<'a> {
     /// Whether `--brief` is among them.
     pub brief: bool,

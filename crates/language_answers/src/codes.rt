@@ -3,7 +3,7 @@
 use crate::sources::accepted;
 use mate_code::Table;
 use std::alloc::{AllocError, Global};
-use ts_compiler::compile;
+use ts_compiler::{CompileFault, compile};
 use ts_fold::fold;
 use vm_desc::Description;
 
@@ -15,7 +15,8 @@ pub fn answer(alloc: Global, machine: &Description, source: &str) -> Result<Stri
     };
     match compile(&Table::of(script.shape()), &script) {
         Ok(code) => hex::encode(alloc, code.as_slice()),
-        Err(fault) => format!(in alloc; "{fault}"),
+        Err(CompileFault::StackDepth { need }) => format!(in alloc; "depth {need}"),
+        Err(CompileFault::TooLong { size }) => format!(in alloc; "size {size}"),
     }
 }
 

@@ -2,6 +2,7 @@
 
 use case_files::marked_bytes;
 use std::alloc::{AllocError, Global};
+use ts_scope::CheckFault;
 use ts_source::{SourceRefusal, accept};
 use ts_syntax::Checked;
 use vm_desc::Description;
@@ -32,7 +33,19 @@ pub fn accepted(
 
 fn words_of(alloc: Global, refusal: SourceRefusal) -> Result<String, AllocError> {
     match refusal {
-        SourceRefusal::Meaning(fault) => format!(in alloc; "{fault}"),
+        SourceRefusal::Meaning(fault) => meaning_words(alloc, &fault),
         SourceRefusal::Spelling(fault) => format!(in alloc; "{fault:?}"),
+    }
+}
+
+fn meaning_words(alloc: Global, fault: &CheckFault) -> Result<String, AllocError> {
+    match fault {
+        CheckFault::Undeclared { name, place } => format!(in alloc; "undeclared {name} {place}"),
+        CheckFault::NotInVm { name } => format!(in alloc; "notinvm {name}"),
+        CheckFault::Twice { name } => format!(in alloc; "twice {name}"),
+        CheckFault::Kind { place } => format!(in alloc; "kind {place}"),
+        CheckFault::Arity { place } => format!(in alloc; "arity {place}"),
+        CheckFault::TooManyPrivates => "privates".to_string(alloc),
+        CheckFault::NoMemory => "no memory".to_string(alloc),
     }
 }

@@ -3,7 +3,7 @@
 use mate_num::{ContextId, LockSet};
 
 /// A context and the set that it waits for or holds.
-#[derive(Clone, Copy, Debug)]
+#[derive(Clone, Copy)]
 pub struct Claim {
     pub ctx: ContextId,
     pub set: LockSet,

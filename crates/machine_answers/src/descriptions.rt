@@ -5,6 +5,7 @@ use mate_num::ContextId;
 use std::alloc::{AllocError, Global};
 use vm_desc::{Description, Function, Handler, shape};
 use vm_reader::read;
+use vm_rules::DescFault;
 
 /// The number of instructions that the machine of a case has, or why its text describes none: there are 28,
 /// six more with a buffer, and one a function. Behind the text stands the end of its line.
@@ -16,7 +17,7 @@ pub fn instructions(alloc: Global, case: &str) -> Result<String, AllocError> {
             let buffers = if desc.buffers.is_empty() { 0 } else { 6 };
             format!(in alloc; "ok {}", 28 + buffers + desc.functions.len())
         }
-        Err(fault) => format!(in alloc; "{fault}"),
+        Err(fault) => fault_words(alloc, &fault),
     }
 }
 
@@ -27,7 +28,18 @@ pub fn parts(alloc: Global, case: &str) -> Result<String, AllocError> {
     }
     match read(alloc, marked_bytes(alloc, case)?.as_slice()) {
         Ok(desc) => described(alloc, &desc.copy()),
-        Err(fault) => format!(in alloc; "{fault}"),
+        Err(fault) => fault_words(alloc, &fault),
+    }
+}
+
+fn fault_words(alloc: Global, fault: &DescFault) -> Result<String, AllocError> {
+    match fault {
+        DescFault::NotToml => "toml".to_string(alloc),
+        DescFault::BadField { key } => format!(in alloc; "field {}", key.word()),
+        DescFault::OverLimit { key } => format!(in alloc; "limit {}", key.word()),
+        DescFault::Duplicate { name } => format!(in alloc; "duplicate {name}"),
+        DescFault::SlowImax { need, have } => format!(in alloc; "slow {need} {have}"),
+        DescFault::NoMemory => "no memory".to_string(alloc),
     }
 }
 

@@ -36,6 +36,8 @@ fn main(rt: HostRuntime) -> ExitCode {
 }
 
 /// Writes what is left in the buffer of standard output. Where that fails, what was done isn't all written.
+// (A call of its own, as `words` is: what is inlined here says where the loop of `exec_unit::running::run` begins, and at some
+// places it runs a fifth slower.)
 #[inline(never)]
 fn flushed<W: Write + Drop, E: Sink>(status: Status, mut writer: W, err: &mut E) -> Status {
     let flushed = writer.flush().is_ok();

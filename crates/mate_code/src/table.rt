@@ -54,7 +54,7 @@ static BUFFER_GROUP: [Kind; 6] = [
 
 /// Which kinds of instructions a machine has, and the opcode of each: 28 that each machine has, 6 for
 /// buffers where it has one, and one for each function, in their order.
-#[derive(Debug, Drop)]
+#[derive(Drop)]
 pub struct Table {
     // Whether the machine has a buffer.
     buffer: bool,

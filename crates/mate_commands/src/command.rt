@@ -10,7 +10,7 @@ use crate::script_run::ScriptRun;
 use command_line::CommandLine;
 
 /// A command, with the words that go to it.
-#[derive(Clone, Copy, Debug)]
+#[derive(Clone, Copy)]
 pub enum Command<'a> {
     /// Runs a node script.
     Node(ScriptRun<'a>),

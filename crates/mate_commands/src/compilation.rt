@@ -3,7 +3,7 @@
 ghost use Rattle.std.specs.Prelude.{◌≤◌};
 
 /// What to compile: the source in a file, as a version for the handler of this name.
-#[derive(Clone, Copy, Debug)]
+#[derive(Clone, Copy)]
 pub struct Compilation<'a> {
     /// A description's file, or `builtin`.
     pub machine: &'a str,

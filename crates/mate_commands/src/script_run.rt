@@ -1,7 +1,7 @@
 //! What the command `node` is asked for.
 
 /// Which node script to run: the one in a file, on a machine.
-#[derive(Clone, Copy, Debug)]
+#[derive(Clone, Copy)]
 pub struct ScriptRun<'a> {
     /// A description's file, or `builtin`.
     pub machine: &'a str,

@@ -3,7 +3,7 @@
 use mate_num::{Items, PacketBytes, Stamp};
 
 /// One thing that happened at a node's Trickle timer or on the radio. Transmissions are numbered from 1.
-#[derive(PartialEq, Eq, Debug, Drop)]
+#[derive(Drop)]
 pub enum Air {
     /// An interval of this length, in ms, begins.
     Interval { length: u32 },
@@ -20,7 +20,7 @@ pub enum Air {
 }
 
 /// What happened, at which node and when.
-#[derive(PartialEq, Eq, Debug, Drop)]
+#[derive(Drop)]
 pub struct Aired {
     pub stamp: Stamp,
     pub node: u8,

@@ -3,7 +3,7 @@
 use mate_num::{ContextId, FaultKind, FunId, HandlerId, Payload, Stamp};
 
 /// Why an event for a handler made no invocation.
-#[derive(Clone, Copy, PartialEq, Eq, Debug)]
+#[derive(Clone, Copy)]
 pub enum DropCause {
     /// Nothing is installed for the handler.
     NoCode,
@@ -12,7 +12,7 @@ pub enum DropCause {
 }
 
 /// Why a step of a script did nothing.
-#[derive(Clone, Copy, PartialEq, Eq, Debug)]
+#[derive(Clone, Copy)]
 pub enum VoidCause {
     /// No ready invocation is in the context.
     NotReady,
@@ -24,7 +24,7 @@ pub enum VoidCause {
 
 /// One thing that happened on a node. Invocations are numbered from 1 in the order of their posts;
 /// an image or a store is named by its position in the log's lists.
-#[derive(PartialEq, Eq, Debug, Drop)]
+#[derive(Drop)]
 pub enum Entry {
     /// An event for the handler became an invocation, which has the context from now on.
     Post {
@@ -81,7 +81,7 @@ pub enum Entry {
 }
 
 /// An entry, and when it was made.
-#[derive(PartialEq, Eq, Debug, Drop)]
+#[derive(Drop)]
 pub struct Stamped {
     pub stamp: Stamp,
     pub entry: Entry,

@@ -8,7 +8,7 @@ use crate::resource::Resource;
 
 /// A set of resources to read and a set of resources to write. Bit v stands for shared variable v,
 /// bit 16 + b for buffer b and bit 24 + d for device d.
-#[derive(Clone, Copy, Debug)]
+#[derive(Clone, Copy)]
 pub struct LockSet {
     read: u32,
     written: u32,

@@ -5,7 +5,7 @@ ghost use Rattle.mate_num.specs.Number.{wrap, IsNumber, IsCongruent, num, quotie
 
 /// A number from -32768 to 32767. Sums, differences and products wrap modulo 65536; every value but 0
 /// counts as true, and a test gives 1 or 0.
-#[derive(Clone, Copy, Debug)]
+#[derive(Clone, Copy)]
 pub struct Num16(pub i16);
 
 /// A law on `wrap`, by which sums, differences, products and quotients are stated: `wrap n` is a 16-bit

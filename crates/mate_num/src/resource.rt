@@ -3,7 +3,7 @@
 use crate::id::{BufId, DeviceId, VarId};
 
 /// One thing that several handlers may use.
-#[derive(Clone, Copy, Debug)]
+#[derive(Clone, Copy)]
 pub enum Resource {
     /// A shared variable.
     Shared(VarId),

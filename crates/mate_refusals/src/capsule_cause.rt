@@ -1,6 +1,6 @@
 //! Why a text is no capsule of a machine, as the program tells it.
 
-ghost use Rattle.std.specs.Prelude.{codes};
+ghost use Rattle.std.specs.Prelude.{◌≡◌, codes};
 ghost use Rattle.mate_files.specs.Pen.{Prints};
 ghost use Rattle.mate_refusals.specs.CapsuleCauses.{digit_words, image_words, verify_words, capsule_words};
 
@@ -10,7 +10,7 @@ use code_verifier::VerifyFault;
 use mate_files::{Pen, Sink};
 
 /// The first thing that is wrong with a text that should spell a capsule of a machine.
-#[derive(Clone, Copy, Debug)]
+#[derive(Clone, Copy)]
 pub enum CapsuleCause {
     /// It isn't the hexadecimal digits of an image.
     Digits(HexFault),
@@ -26,32 +26,32 @@ impl CapsuleCause {
         ensures { Prints (E.written err.old) (E.faults err.old) pen.old.result (E.written err.new) (E.faults err.new) pen.new.result (capsule_words self) }
     {
         match self {
-            CapsuleCause::Digits(fault) => print_digits(pen, err, fault),
-            CapsuleCause::Image(fault) => print_image(pen, err, fault),
+            CapsuleCause::Digits(fault) => pen.text(err, words_of_digits(fault)),
+            CapsuleCause::Image(fault) => pen.text(err, words_of_image(fault)),
             CapsuleCause::Code(fault) => print_code(pen, err, fault),
         }
     }
 }
 
-fn print_digits<E: Sink>(pen: &mut Pen, err: &mut E, fault: HexFault)
-    ensures { Prints (E.written err.old) (E.faults err.old) pen.old.result (E.written err.new) (E.faults err.new) pen.new.result (digit_words fault) }
+fn words_of_digits(fault: HexFault) -> &'static str
+    ensures { result.now ≡ digit_words fault }
 {
     match fault {
-        HexFault::BadHex => pen.text(err, "hex\n"),
-        HexFault::TooLong => pen.text(err, "length\n"),
+        HexFault::BadHex => "hex\n",
+        HexFault::TooLong => "length\n",
     }
 }
 
-fn print_image<E: Sink>(pen: &mut Pen, err: &mut E, fault: CapsuleFault)
-    ensures { Prints (E.written err.old) (E.faults err.old) pen.old.result (E.written err.new) (E.faults err.new) pen.new.result (image_words fault) }
+fn words_of_image(fault: CapsuleFault) -> &'static str
+    ensures { result.now ≡ image_words fault }
 {
     match fault {
-        CapsuleFault::BadMagic => pen.text(err, "magic\n"),
-        CapsuleFault::BadFormat => pen.text(err, "format\n"),
-        CapsuleFault::OtherVm { .. } => pen.text(err, "vm\n"),
-        CapsuleFault::BadHandler => pen.text(err, "handler\n"),
-        CapsuleFault::BadLength => pen.text(err, "length\n"),
-        CapsuleFault::BadVersion => pen.text(err, "version\n"),
+        CapsuleFault::BadMagic => "magic\n",
+        CapsuleFault::BadFormat => "format\n",
+        CapsuleFault::OtherVm { .. } => "vm\n",
+        CapsuleFault::BadHandler => "handler\n",
+        CapsuleFault::BadLength => "length\n",
+        CapsuleFault::BadVersion => "version\n",
     }
 }
 

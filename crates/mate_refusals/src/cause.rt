@@ -16,7 +16,7 @@ use mate_files::{Pen, Sink};
 use ts_compiler::CompileFault;
 
 /// Why a file's bytes are not to be had.
-#[derive(Clone, Copy, PartialEq, Eq, Debug)]
+#[derive(Clone, Copy, PartialEq, Eq)]
 pub enum Unread {
     /// It could not be read.
     Failed,
@@ -25,7 +25,7 @@ pub enum Unread {
 }
 
 /// What is wrong with a file.
-#[derive(Debug, Drop)]
+#[derive(Drop)]
 pub enum Cause {
     Unread(Unread),
     /// It is no source of the machine.

@@ -10,7 +10,7 @@ use mate_num::Name;
 use vm_rules::{DescFault, Key};
 
 /// The first thing that is wrong with a description's text: what `DescFault` tells, but for want of memory.
-#[derive(Debug, Drop)]
+#[derive(Drop)]
 pub enum DescriptionCause {
     NotToml,
     BadField { key: Key },

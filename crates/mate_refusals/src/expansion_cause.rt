@@ -13,7 +13,7 @@ use proc_names::ProcFault;
 
 /// The first thing that is wrong with a source with procedures: what `ProcFault` tells, but for want of memory. A place is
 /// an offset in bytes.
-#[derive(Debug, Drop)]
+#[derive(Drop)]
 pub enum ExpansionCause {
     /// The text spells no script with procedures.
     Spelling(SpellingCause),

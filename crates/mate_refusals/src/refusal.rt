@@ -16,7 +16,7 @@ use mate_num::Text;
 use std::alloc::Global;
 
 /// Why a call of the program did not do its work.
-#[derive(Debug, Drop)]
+#[derive(Drop)]
 pub enum Refusal {
     Usage,
     /// The machine's description is refused, for this cause.

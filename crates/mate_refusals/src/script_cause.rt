@@ -1,6 +1,6 @@
 //! Why a line of a script is refused, as the program tells it.
 
-ghost use Rattle.std.specs.Prelude.{◌++◌, codes, decimal};
+ghost use Rattle.std.specs.Prelude.{◌≡◌, ◌++◌, codes, decimal};
 ghost use Rattle.mate_files.specs.Pen.{Prints};
 ghost use Rattle.mate_refusals.specs.ScriptCauses.{bad_line_words, cause_words};
 
@@ -13,20 +13,21 @@ pub fn print_line<E: Sink>(pen: &mut Pen, err: &mut E, line: u32, cause: Cause)
 {
     pen.number(err, line as u64);
     pen.text(err, " ");
-    print_cause(pen, err, cause);
+    pen.text(err, words_of(cause));
 }
 
-fn print_cause<E: Sink>(pen: &mut Pen, err: &mut E, cause: Cause)
-    ensures { Prints (E.written err.old) (E.faults err.old) pen.old.result (E.written err.new) (E.faults err.new) pen.new.result (cause_words cause) }
+// The words for a cause, and a line feed.
+fn words_of(cause: Cause) -> &'static str
+    ensures { result.now ≡ cause_words cause }
 {
     match cause {
-        Cause::Word => pen.text(err, "word\n"),
-        Cause::Number => pen.text(err, "number\n"),
-        Cause::Range => pen.text(err, "range\n"),
-        Cause::TimeBack => pen.text(err, "timeback\n"),
-        Cause::OldVersion => pen.text(err, "oldversion\n"),
-        Cause::Name => pen.text(err, "name\n"),
-        Cause::Node => pen.text(err, "node\n"),
-        Cause::Packet => pen.text(err, "packet\n"),
+        Cause::Word => "word\n",
+        Cause::Number => "number\n",
+        Cause::Range => "range\n",
+        Cause::TimeBack => "timeback\n",
+        Cause::OldVersion => "oldversion\n",
+        Cause::Name => "name\n",
+        Cause::Node => "node\n",
+        Cause::Packet => "packet\n",
     }
 }

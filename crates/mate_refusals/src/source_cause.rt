@@ -9,7 +9,7 @@ use mate_files::{Pen, Sink};
 use mate_num::Name;
 
 /// The first thing that is wrong with a source's text, but for want of memory. A place is an offset in bytes.
-#[derive(Debug, Drop)]
+#[derive(Drop)]
 pub enum SourceCause {
     /// The text spells no script.
     Spelling(SpellingCause),

@@ -7,7 +7,7 @@ use crate::line_ends::print_numbered;
 use mate_files::{Pen, Sink};
 
 /// The first thing that is wrong with the spelling of a text. A place is an offset in bytes.
-#[derive(Clone, Copy, Debug)]
+#[derive(Clone, Copy)]
 pub enum SpellingCause {
     /// A byte that begins no token.
     BadByte { place: u32 },

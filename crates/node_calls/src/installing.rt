@@ -26,7 +26,7 @@ use node_invariant::Parts;
 use vm_desc::{Description, HandlerKind, shape};
 
 /// Why a capsule isn't installed.
-#[derive(Clone, Copy, PartialEq, Eq, Debug)]
+#[derive(Clone, Copy)]
 pub enum InstallFault {
     /// The bytes are no capsule of the machine.
     Capsule(CapsuleFault),

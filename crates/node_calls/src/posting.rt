@@ -18,7 +18,7 @@ use node_invariant::{Parts, tell};
 use vm_desc::Description;
 
 /// What became of an event.
-#[derive(Clone, Copy, PartialEq, Eq, Debug)]
+#[derive(Clone, Copy)]
 pub enum PostAnswer {
     /// It is the invocation of this number.
     Posted { inv: u32 },

@@ -6,7 +6,7 @@ use mate_num::{Name, NoMemory};
 ///
 /// The text comes first, with the first of its faults; then the names, from left to right by place, where at one name
 /// `Reserved` comes before `NoProc` and `Again`, and these before `Params`; and then the size of the expansion, before its depth.
-#[derive(Debug, Drop)]
+#[derive(Drop)]
 pub enum ProcFault {
     /// A byte that begins no token, the 17th byte of a name, or a letter or `_` directly behind a literal.
     BadByte { place: u32 },

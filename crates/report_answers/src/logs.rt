@@ -20,7 +20,17 @@ pub fn answer(alloc: Global, case: &str) -> Result<String, AllocError> {
     let whole = lengths(alloc, &log)?;
     log.cut(1, 0, 1);
     let cut = lengths(alloc, &log)?;
-    format!(in alloc; "{whole}, {cut} {:?}", log.entries())
+    match log.entries() {
+        [
+            Stamped {
+                stamp,
+                entry: Entry::Seen { store },
+            },
+        ] => format!(in alloc;
+            "{whole}, {cut} [Stamped {{ stamp: {stamp:?}, entry: Seen {{ store: {store} }} }}]"
+        ),
+        _ => format!(in alloc; "{whole}, {cut} other entries"),
+    }
 }
 
 fn lengths(alloc: Global, log: &NodeLog) -> Result<String, AllocError> {

@@ -18,7 +18,7 @@ use report_fields::{Words, store_of};
 use vm_desc::Description;
 
 /// What happened.
-#[derive(PartialEq, Eq, Debug, Drop)]
+#[derive(Drop)]
 pub enum Told {
     /// It happened at a node's timer or on the radio.
     OnAir(Air),
@@ -35,7 +35,7 @@ pub enum Told {
 }
 
 /// When, on which node, and what.
-#[derive(PartialEq, Eq, Debug, Drop)]
+#[derive(Drop)]
 pub struct Line {
     pub stamp: Stamp,
     /// Below 64.

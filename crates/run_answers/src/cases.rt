@@ -140,7 +140,7 @@ fn verdict(alloc: Global, desc: &Description, made: &Report, wanted: &str) -> &'
         return " too long";
     }
     match read(alloc, desc, wanted.as_bytes()) {
-        Ok(report) if are_same(made, &report) => " as wanted",
+        Ok(report) if are_same(alloc, desc, made, &report) => " as wanted",
         Ok(_) => " another report",
         Err(_) => " no report",
     }

@@ -1,21 +1,51 @@
 //! Whether two reports tell the same.
 
-use mate_journal::{NodeLog, Report};
+use mate_files::SinkFault;
+use mate_journal::{Aired, NodeLog, Report};
+use memory_files::MemSink;
+use report_text::write_event;
+use std::alloc::Global;
+use vm_desc::Description;
 
-/// Whether two reports tell the same.
-pub fn are_same(a: &Report, b: &Report) -> bool {
+/// Whether two reports tell the same. It tells no where a text finds no memory.
+pub fn are_same(alloc: Global, desc: &Description, a: &Report, b: &Report) -> bool {
     if a.events() != b.events() || a.whole() != b.whole() || a.nodes().len() != b.nodes().len() {
         return false;
     }
     for (node, log) in a.nodes().iter().enumerate() {
         match b.nodes().get(node) {
-            Some(other) if are_same_logs(log, other) => {}
+            Some(other) if are_same_logs(alloc, desc, log, other) => {}
             _ => return false,
         }
     }
-    a.air() == b.air()
+    let none = NodeLog::new(alloc);
+    are_same_lines(
+        lines(alloc, desc, a.air(), &none),
+        lines(alloc, desc, b.air(), &none),
+    )
 }
 
-fn are_same_logs(a: &NodeLog, b: &NodeLog) -> bool {
-    a.entries() == b.entries() && a.images() == b.images() && a.stores() == b.stores()
+fn are_same_logs(alloc: Global, desc: &Description, a: &NodeLog, b: &NodeLog) -> bool {
+    a.images() == b.images()
+        && a.stores() == b.stores()
+        && are_same_lines(lines(alloc, desc, &[], a), lines(alloc, desc, &[], b))
+}
+
+// The lines of what happened on the air and of a log's entries, each as of node 0.
+fn lines(
+    alloc: Global,
+    desc: &Description,
+    air: &[Aired],
+    log: &NodeLog,
+) -> Result<MemSink, SinkFault> {
+    let mut sink = MemSink::new(alloc);
+    write_event(desc, air, log, 0, 0, &mut sink)?;
+    Ok(sink)
+}
+
+fn are_same_lines(a: Result<MemSink, SinkFault>, b: Result<MemSink, SinkFault>) -> bool {
+    match (a, b) {
+        (Ok(a), Ok(b)) => a.bytes() == b.bytes(),
+        _ => false,
+    }
 }

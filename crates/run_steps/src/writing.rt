@@ -24,7 +24,7 @@ use std::alloc::Global;
 use vm_desc::Description;
 
 /// Why a run that is written as its events end was not written whole.
-#[derive(Clone, Copy, PartialEq, Eq, Debug)]
+#[derive(Clone, Copy)]
 pub enum WriteFault {
     /// 1,000,000 records or more stood, and an event was left. The report was written whole.
     LogFull,

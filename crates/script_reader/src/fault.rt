@@ -3,7 +3,7 @@
 use std::fmt;
 
 /// What is wrong with a line.
-#[derive(Clone, Copy, Debug)]
+#[derive(Clone, Copy)]
 pub enum Cause {
     /// An unknown, a missing or an extra word, or a byte that is no blank and no printable ASCII.
     Word,

@@ -23,7 +23,7 @@ pub struct CompiledScript {
 }
 
 /// Why an accepted script has no code.
-#[derive(Clone, Copy, PartialEq, Eq, Debug)]
+#[derive(Clone, Copy)]
 pub enum CodeFault {
     /// The tree that is compiled needs too deep a stack, or its code is too long.
     Uncompiled(CompileFault),

@@ -1,7 +1,7 @@
 //! Why a text isn't cut into tokens.
 
 /// Why a text has no tokens. A place is counted in bytes from the start of the text.
-#[derive(Clone, Copy, PartialEq, Eq, Debug)]
+#[derive(Clone, Copy)]
 pub enum TokenFault {
     /// The byte at `place` begins no token, is the 17th of a name, or is a letter or `_` directly behind a literal.
     BadByte { place: u32 },

@@ -7,7 +7,7 @@ ghost use Rattle.ts_syntax.specs.Depth.{role, is_end};
 use ts_syntax::TokenKind;
 
 /// What a token does to the depth.
-#[derive(Clone, Copy, PartialEq, Eq, Debug)]
+#[derive(Clone, Copy)]
 pub enum Role {
     /// It opens a block, except behind `end`.
     Opener,

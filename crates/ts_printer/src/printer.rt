@@ -115,6 +115,16 @@ impl Printer {
         self.begun = true;
     }
 
+    /// Prints a name in parentheses.
+    fn parens<S: Sink>(&mut self, out: &mut S, word: &Word)
+        ensures { PrintsTokens (S.written out.old) (S.faults out.old) self.old
+            (S.written out.new) (S.faults out.new) self.new (kind.Open ∷ name word.now ∷ kind.Close ∷ []) }
+    {
+        self.token(out, " (");
+        self.name(out, word);
+        self.token(out, " )");
+    }
+
     #[cycle(print_expr)]
     fn expr<S: Sink>(&mut self, out: &mut S, expr: &Expr)
         ensures { PrintsTokens (S.written out.old) (S.faults out.old) self.old
@@ -135,9 +145,7 @@ impl Printer {
             }
             Expr::Size(word) => {
                 self.token(out, " size");
-                self.token(out, " (");
-                self.name(out, word);
-                self.token(out, " )");
+                self.parens(out, word);
             }
             Expr::MsgItem(index) => {
                 self.token(out, " msg");
@@ -237,6 +245,37 @@ impl Printer {
         self.step(out, head.step);
     }
 
+    /// Prints what is set, and the end of the statement.
+    fn assigned<S: Sink>(&mut self, out: &mut S, value: &Expr)
+        ensures { PrintsTokens (S.written out.old) (S.faults out.old) self.old
+            (S.written out.new) (S.faults out.new) self.new (kind.Eq ∷ spelled (tree_of value.now) ++ (kind.Semi ∷ [])) }
+    {
+        self.token(out, " =");
+        self.expr(out, value);
+        self.token(out, " ;");
+    }
+
+    /// Prints what stands behind a buffer that is appended to or taken from.
+    fn boxes<S: Sink>(&mut self, out: &mut S)
+        ensures { PrintsTokens (S.written out.old) (S.faults out.old) self.old
+            (S.written out.new) (S.faults out.new) self.new (kind.OpenBox ∷ kind.CloseBox ∷ []) }
+    {
+        self.token(out, " [");
+        self.token(out, " ]");
+    }
+
+    /// Prints a call that is a statement, and its end.
+    fn call_alone<S: Sink>(&mut self, out: &mut S, word: &Word, args: &Args)
+        ensures { PrintsTokens (S.written out.old) (S.faults out.old) self.old
+            (S.written out.new) (S.faults out.new) self.new (name word.now ∷ kind.Open ∷ args_spelled (trees_of args.now) ++ (kind.Close ∷ kind.Semi ∷ [])) }
+    {
+        self.name(out, word);
+        self.token(out, " (");
+        self.args(out, args);
+        self.token(out, " )");
+        self.token(out, " ;");
+    }
+
     /// Prints the end of a block that `keyword` opened, which is given with a space before it.
     fn end<S: Sink>(&mut self, out: &mut S, keyword: &str)
         ensures { (k : TokenKind) → keyword.now ≡ 32 ∷ token_text k → PrintsTokens (S.written out.old) (S.faults out.old) self.old
@@ -254,48 +293,34 @@ impl Printer {
         match stmt {
             Stmt::Set(word, value) => {
                 self.name(out, word);
-                self.token(out, " =");
-                self.expr(out, value);
-                self.token(out, " ;");
+                self.assigned(out, value);
             }
             Stmt::SetItem(word, index, value) => {
                 self.name(out, word);
                 self.token(out, " [");
                 self.expr(out, index);
                 self.token(out, " ]");
-                self.token(out, " =");
-                self.expr(out, value);
-                self.token(out, " ;");
+                self.assigned(out, value);
             }
             Stmt::Append(word, value) => {
                 self.name(out, word);
-                self.token(out, " [");
-                self.token(out, " ]");
-                self.token(out, " =");
-                self.expr(out, value);
-                self.token(out, " ;");
+                self.boxes(out);
+                self.assigned(out, value);
             }
             Stmt::Take(word, buffer) => {
                 self.name(out, word);
                 self.token(out, " =");
                 self.name(out, buffer);
-                self.token(out, " [");
-                self.token(out, " ]");
+                self.boxes(out);
                 self.token(out, " ;");
             }
             Stmt::Clear(word) => {
                 self.token(out, " clear");
-                self.token(out, " (");
-                self.name(out, word);
-                self.token(out, " )");
+                self.parens(out, word);
                 self.token(out, " ;");
             }
             Stmt::Do(word, args) => {
-                self.name(out, word);
-                self.token(out, " (");
-                self.args(out, args);
-                self.token(out, " )");
-                self.token(out, " ;");
+                self.call_alone(out, word, args);
             }
             Stmt::If(condition, block, otherwise) => {
                 self.token(out, " if");
@@ -327,11 +352,7 @@ impl Printer {
             }
             Stmt::Run(word, args) => {
                 self.token(out, " do");
-                self.name(out, word);
-                self.token(out, " (");
-                self.args(out, args);
-                self.token(out, " )");
-                self.token(out, " ;");
+                self.call_alone(out, word, args);
             }
         }
     }

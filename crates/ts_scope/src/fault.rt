@@ -2,13 +2,11 @@
 
 use mate_num::{Name, NoMemory};
 use std::alloc::AllocFailed;
-use std::error::Error;
-use std::fmt;
 
 /// Why a script is refused for a machine. Declarations come first, and then the statements, word by word
 /// from left to right; of several refusals the first is given. A place is the offset in bytes of a word's
 /// first byte in the source.
-#[derive(Debug, Drop)]
+#[derive(Drop)]
 pub enum CheckFault {
     /// The name at `place`, of a variable or a buffer, isn't declared; or it stands behind `do`, and a machine has no
     /// procedures.
@@ -52,19 +50,3 @@ impl<T: Drop> From<AllocFailed<T>> for CheckFault {
         CheckFault::NoMemory
     }
 }
-
-impl fmt::Display for CheckFault {
-    fn fmt<W: fmt::Write>(&self, f: &mut fmt::Formatter<W>) -> fmt::Result {
-        match self {
-            CheckFault::Undeclared { name, place } => write!(f, "undeclared {name} {place}"),
-            CheckFault::NotInVm { name } => write!(f, "notinvm {name}"),
-            CheckFault::Twice { name } => write!(f, "twice {name}"),
-            CheckFault::Kind { place } => write!(f, "kind {place}"),
-            CheckFault::Arity { place } => write!(f, "arity {place}"),
-            CheckFault::TooManyPrivates => f.write_str("privates"),
-            CheckFault::NoMemory => f.write_str("no memory"),
-        }
-    }
-}
-
-impl Error for CheckFault {}

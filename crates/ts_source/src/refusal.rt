@@ -4,7 +4,7 @@ use ts_checker::CheckFault;
 use ts_parser::SourceFault;
 
 /// The first refusal of a source: its bytes come before its grammar, and its grammar before the checks of its script.
-#[derive(Debug, Drop)]
+#[derive(Drop)]
 pub enum SourceRefusal {
     /// The bytes spell no script.
     Spelling(SourceFault),

@@ -15,7 +15,7 @@ use mate_num::{ContextId, HandlerId, Name};
 /// Every description keeps the rules of its text: the lengths of its lists, the ranges of its
 /// numbers, the form of its names, no name twice in a list (shared variables and buffers count as
 /// one list), and the longest Trickle interval is long enough for a round of all handlers' packets.
-#[derive(Debug, Drop)]
+#[derive(Drop)]
 pub struct Description {
     /// The machine's number, which its capsules and packets have.
     pub vm_id: u32,

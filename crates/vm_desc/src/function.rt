@@ -23,7 +23,7 @@ pub enum FunKind {
 }
 
 /// A function of the machine. A call of it waits for its answer.
-#[derive(Default, Debug, Drop)]
+#[derive(Default, Drop)]
 pub struct Function {
     pub name: Name,
     pub kind: FunKind,

@@ -19,7 +19,7 @@ pub enum HandlerKind {
 }
 
 /// A handler: one script, which runs in each of its contexts.
-#[derive(Default, Debug, Drop)]
+#[derive(Default, Drop)]
 pub struct Handler {
     pub name: Name,
     pub kind: HandlerKind,

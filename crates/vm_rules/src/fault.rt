@@ -2,12 +2,10 @@
 
 use crate::key::Key;
 use mate_num::Name;
-use std::error::Error;
-use std::fmt;
 
 /// Why a text is no description. Where several causes hold, the first in this order is given; of
 /// the causes that name a key, the key that comes first counts, and at one key `OverLimit`.
-#[derive(PartialEq, Eq, Debug, Drop)]
+#[derive(Drop)]
 pub enum DescFault {
     /// The text is no TOML, or its bytes are no UTF-8.
     NotToml,
@@ -25,18 +23,3 @@ pub enum DescFault {
     /// Memory was refused.
     NoMemory,
 }
-
-impl fmt::Display for DescFault {
-    fn fmt<W: fmt::Write>(&self, f: &mut fmt::Formatter<W>) -> fmt::Result {
-        match self {
-            DescFault::NotToml => f.write_str("toml"),
-            DescFault::BadField { key } => write!(f, "field {}", key.word()),
-            DescFault::OverLimit { key } => write!(f, "limit {}", key.word()),
-            DescFault::Duplicate { name } => write!(f, "duplicate {name}"),
-            DescFault::SlowImax { need, have } => write!(f, "slow {need} {have}"),
-            DescFault::NoMemory => f.write_str("no memory"),
-        }
-    }
-}
-
-impl Error for DescFault {}
