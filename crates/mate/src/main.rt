@@ -36,9 +36,6 @@ fn main(rt: HostRuntime) -> ExitCode {
 }
 
 /// Writes what is left in the buffer of standard output. Where that fails, what was done isn't all written.
-// (A call of its own, as `words` is: what is inlined here says where the loop of `exec_unit::running::run` begins, and at some
-// places it runs a fifth slower.)
-#[inline(never)]
 fn flushed<W: Write + Drop, E: Sink>(status: Status, mut writer: W, err: &mut E) -> Status {
     let flushed = writer.flush().is_ok();
     match status {
@@ -48,7 +45,6 @@ fn flushed<W: Write + Drop, E: Sink>(status: Status, mut writer: W, err: &mut E)
 }
 
 /// The words of the command line, without the program's own name. Words that aren't UTF-8 are no command's.
-#[inline(never)]
 fn words(rt: &(impl Env + AllocGlobal)) -> Result<Vec<String>, Refusal> {
     let args = match env::args(rt) {
         Ok(args) => args,
