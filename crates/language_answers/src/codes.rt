@@ -1,6 +1,7 @@
 //! The code of sources, and what they fold to.
 
 use crate::sources::accepted;
+use crate::tree_text::block_text;
 use mate_code::Table;
 use std::alloc::{AllocError, Global};
 use ts_compiler::{CompileFault, compile};
@@ -27,7 +28,7 @@ pub fn folded(alloc: Global, machine: &Description, source: &str) -> Result<Stri
         Err(refusal) => return Ok(refusal),
     };
     match fold(alloc, &script) {
-        Ok(folded) => format!(in alloc; "{:?}", folded.body()),
+        Ok(folded) => block_text(alloc, folded.body()),
         Err(_) => "no memory".to_string(alloc),
     }
 }

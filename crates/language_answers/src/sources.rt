@@ -1,7 +1,9 @@
 //! Sources and what they are for a machine.
 
+use crate::tree_text::block_text;
 use case_files::marked_bytes;
 use std::alloc::{AllocError, Global};
+use ts_parser::SourceFault;
 use ts_scope::CheckFault;
 use ts_source::{SourceRefusal, accept};
 use ts_syntax::Checked;
@@ -10,7 +12,7 @@ use vm_desc::Description;
 /// The checked tree of a source, or its first refusal.
 pub fn tree(alloc: Global, machine: &Description, source: &str) -> Result<String, AllocError> {
     match accepted(alloc, machine, source)? {
-        Ok(script) => format!(in alloc; "{:?}", script.body()),
+        Ok(script) => block_text(alloc, script.body()),
         Err(refusal) => Ok(refusal),
     }
 }
@@ -34,7 +36,17 @@ pub fn accepted(
 fn words_of(alloc: Global, refusal: SourceRefusal) -> Result<String, AllocError> {
     match refusal {
         SourceRefusal::Meaning(fault) => meaning_words(alloc, &fault),
-        SourceRefusal::Spelling(fault) => format!(in alloc; "{fault:?}"),
+        SourceRefusal::Spelling(fault) => spelling_words(alloc, fault),
+    }
+}
+
+fn spelling_words(alloc: Global, fault: SourceFault) -> Result<String, AllocError> {
+    match fault {
+        SourceFault::BadByte { place } => format!(in alloc; "BadByte {{ place: {place} }}"),
+        SourceFault::BigLiteral { place } => format!(in alloc; "BigLiteral {{ place: {place} }}"),
+        SourceFault::Unexpected { place } => format!(in alloc; "Unexpected {{ place: {place} }}"),
+        SourceFault::TooDeep { place } => format!(in alloc; "TooDeep {{ place: {place} }}"),
+        SourceFault::NoMemory => "NoMemory".to_string(alloc),
     }
 }
 

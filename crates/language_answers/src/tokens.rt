@@ -39,6 +39,51 @@ fn shown(alloc: Global, token: &Token) -> Result<String, AllocError> {
     match &token.kind {
         TokenKind::Name(name) => format!(in alloc; "{:?} {from}-{to}", name.as_str()),
         TokenKind::Num(value) => format!(in alloc; "{value} {from}-{to}"),
-        kind => format!(in alloc; "{kind:?} {from}-{to}"),
+        kind => format!(in alloc; "{} {from}-{to}", kind_name(kind)),
+    }
+}
+
+/// The name of a kind of tokens.
+fn kind_name(kind: &TokenKind) -> &'static str {
+    match kind {
+        TokenKind::Shared => "Shared",
+        TokenKind::Private => "Private",
+        TokenKind::Buffer => "Buffer",
+        TokenKind::If => "If",
+        TokenKind::Then => "Then",
+        TokenKind::Else => "Else",
+        TokenKind::End => "End",
+        TokenKind::For => "For",
+        TokenKind::To => "To",
+        TokenKind::Step => "Step",
+        TokenKind::Next => "Next",
+        TokenKind::While => "While",
+        TokenKind::And => "And",
+        TokenKind::Or => "Or",
+        TokenKind::Not => "Not",
+        TokenKind::Size => "Size",
+        TokenKind::Clear => "Clear",
+        TokenKind::Msg => "Msg",
+        TokenKind::Proc => "Proc",
+        TokenKind::Do => "Do",
+        TokenKind::Semi => "Semi",
+        TokenKind::Comma => "Comma",
+        TokenKind::Open => "Open",
+        TokenKind::Close => "Close",
+        TokenKind::OpenBox => "OpenBox",
+        TokenKind::CloseBox => "CloseBox",
+        TokenKind::Eq => "Eq",
+        TokenKind::Ne => "Ne",
+        TokenKind::Lt => "Lt",
+        TokenKind::Gt => "Gt",
+        TokenKind::Le => "Le",
+        TokenKind::Ge => "Ge",
+        TokenKind::Plus => "Plus",
+        TokenKind::Minus => "Minus",
+        TokenKind::Star => "Star",
+        TokenKind::Slash => "Slash",
+        TokenKind::Percent => "Percent",
+        TokenKind::Name(_) => "Name",
+        TokenKind::Num(_) => "Num",
     }
 }

@@ -1,7 +1,7 @@
 //! Why a source is refused.
 
 /// Why a source is refused: the first fault in its text, by its place, counted in bytes.
-#[derive(Clone, Copy, Debug)]
+#[derive(Clone, Copy)]
 pub enum SourceFault {
     /// A byte that begins no token, the 17th byte of a name, or a letter or `_` directly behind a literal.
     BadByte { place: u32 },

@@ -1,7 +1,7 @@
 //! The operators between two expressions.
 
 /// An operator, in the order of binding: `or` binds least.
-#[derive(Clone, Copy, PartialEq, Eq, Debug)]
+#[derive(Clone, Copy)]
 pub enum BinOp {
     Or,
     And,

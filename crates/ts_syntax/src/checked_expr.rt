@@ -1,6 +1,6 @@
 //! Checked expressions: each name is resolved to its number.
 
-ghost use Rattle.std.specs.Prelude.{◌≡◌, ◌==◌, ◌∷◌, ◌++◌, [], length, map, OnErr, OnOk, slice_get, option_map};
+ghost use Rattle.std.specs.Prelude.{◌≡◌, ◌∷◌, ◌++◌, [], length, OnErr, OnOk};
 
 use crate::bin_op::BinOp;
 use mate_num::{BufId, FunId, NoMemory, VarId};
@@ -8,7 +8,6 @@ use std::alloc::Global;
 
 /// An expression whose names are resolved.
 #[cycle(expr)]
-#[derive(Debug)]
 pub enum CExpr {
     /// A number.
     Num(i16),
@@ -38,7 +37,6 @@ pub enum CExpr {
 
 /// The arguments of a call, in order.
 #[cycle(expr)]
-#[derive(Debug)]
 pub struct CArgs {
     pub items: Vec<CExpr>,
 }
@@ -80,26 +78,6 @@ impl CArgs {
         ensures { result ≡ length (args_trees self.now) }
     {
         self.items.len()
-    }
-
-    /// Whether there are no arguments.
-    pub fn is_empty(&self) -> bool
-        ensures { result ≡ (length (args_trees self.now) == 0) }
-    {
-        self.items.is_empty()
-    }
-
-    /// The argument at `index`, from 0; None exactly from the length on.
-    pub fn get(&self, index: usize) -> Option<&CExpr>
-        ensures { option_map (λ e. expr_tree e.now) result ≡ slice_get (args_trees self.now) index }
-    {
-        self.items.get(index)
-    }
-
-    pub fn as_slice(&self) -> &[CExpr]
-        ensures { map expr_tree result.now ≡ args_trees self.now }
-    {
-        self.items.as_slice()
     }
 
     /// Appends an argument. `NoMemory` leaves the arguments as they were.

@@ -1,13 +1,13 @@
 //! Checked statements: each name is resolved to its number.
 
-ghost use Rattle.std.specs.Prelude.{◌≡◌, ◌==◌, ◌∷◌, ◌++◌, [], length, map, OnErr, OnOk, slice_get, option_map};
+ghost use Rattle.std.specs.Prelude.{◌≡◌, ◌∷◌, ◌++◌, [], OnErr, OnOk};
 
 use crate::checked_expr::{CArgs, CExpr};
 use mate_num::{BufId, FunId, NoMemory, VarId};
 use std::alloc::Global;
 
 /// A variable that can be set.
-#[derive(Clone, Copy, Debug)]
+#[derive(Clone, Copy)]
 pub enum CVar {
     /// A shared variable.
     Shared(VarId),
@@ -16,7 +16,6 @@ pub enum CVar {
 }
 
 /// The head of `for var = from to to step step`.
-#[derive(Debug)]
 pub struct CForHead {
     pub var: CVar,
     pub from: CExpr,
@@ -38,7 +37,6 @@ impl Drop for CForHead {
 
 /// A statement whose names are resolved.
 #[cycle(stmt)]
-#[derive(Debug)]
 pub enum CStmt {
     /// `x = e;`
     Set(CVar, CExpr),
@@ -64,7 +62,6 @@ pub enum CStmt {
 
 /// Statements, one after another.
 #[cycle(stmt)]
-#[derive(Debug)]
 pub struct CBlock {
     pub items: Vec<CStmt>,
 }
@@ -102,32 +99,6 @@ impl CBlock {
         CBlock {
             items: Vec::new(alloc),
         }
-    }
-
-    pub fn len(&self) -> usize
-        ensures { result ≡ length (block_trees self.now) }
-    {
-        self.items.len()
-    }
-
-    /// Whether there are no statements.
-    pub fn is_empty(&self) -> bool
-        ensures { result ≡ (length (block_trees self.now) == 0) }
-    {
-        self.items.is_empty()
-    }
-
-    /// The statement at `index`, from 0; None exactly from the length on.
-    pub fn get(&self, index: usize) -> Option<&CStmt>
-        ensures { option_map (λ s. stmt_tree s.now) result ≡ slice_get (block_trees self.now) index }
-    {
-        self.items.get(index)
-    }
-
-    pub fn as_slice(&self) -> &[CStmt]
-        ensures { map stmt_tree result.now ≡ block_trees self.now }
-    {
-        self.items.as_slice()
     }
 
     /// Appends a statement. `NoMemory` leaves the block as it was.

@@ -3,7 +3,7 @@
 use mate_num::{Items, Name};
 
 /// What a token is: a keyword, a sign, a name or a literal.
-#[derive(Debug, Drop)]
+#[derive(Drop)]
 pub enum TokenKind {
     Shared,
     Private,
