@@ -11,7 +11,7 @@ use mate_num::{CODE_MAX, Code, HandlerId, SHORT_CODE};
 use vm_desc::Description;
 
 /// Why bytes are no capsule of the machine.
-#[derive(Clone, Copy, Debug)]
+#[derive(Clone, Copy)]
 pub enum CapsuleFault {
     /// The first four bytes aren't there, or differ.
     BadMagic,

@@ -10,7 +10,7 @@ use mate_num::{IMAGE_MAX, Image, NoMemory};
 use std::alloc::Global;
 
 /// Why a text spells no image.
-#[derive(Clone, Copy, PartialEq, Eq, Debug)]
+#[derive(Clone, Copy)]
 pub enum HexFault {
     /// It isn't an even number of hexadecimal digits.
     BadHex,

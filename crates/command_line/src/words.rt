@@ -24,7 +24,7 @@ pub struct CommandLine<'a> {
 }
 
 /// Why words say nothing.
-#[derive(Clone, Copy, PartialEq, Eq, Debug)]
+#[derive(Clone, Copy)]
 pub enum WordsFault {
     /// They are no command and flags: an unknown flag, one that is given twice or with a value, or no command.
     NotTaken,

@@ -6,7 +6,7 @@ ghost use Rattle.exec_unit.specs.Follows.{step_end};
 use mate_num::{BufId, FaultKind, FunId, Payload};
 
 /// How a step ended.
-#[derive(Debug, Drop)]
+#[derive(Drop)]
 pub enum StepEnd {
     /// The machine goes on at its next instruction.
     Next,

@@ -1,7 +1,8 @@
 //! Runs of sources by their meaning, all with one message and the same answers.
 
 use crate::sources::accepted;
-use mate_num::{End, Payload, Store};
+use case_files::{fault_word, zero_store};
+use mate_num::{End, Payload};
 use std::alloc::{AllocError, Global};
 use ts_play::play;
 use ts_syntax::Checked;
@@ -25,7 +26,7 @@ fn played(alloc: Global, machine: &Description, script: &Checked) -> Result<Stri
     let Ok(message) = Payload::try_from(MESSAGE.as_slice()) else {
         return "a long message".to_string(alloc);
     };
-    let before = Store::zero(machine.shared.len() as u8, machine.buffers.len() as u8);
+    let before = zero_store(machine.shared.len() as u8, machine.buffers.len() as u8);
     let Ok(played) = play(alloc, script, &before, &message, &ANSWERS, machine.turns) else {
         return "no memory".to_string(alloc);
     };
@@ -39,7 +40,7 @@ fn played(alloc: Global, machine: &Description, script: &Checked) -> Result<Stri
 fn end_words(alloc: Global, end: &End) -> Result<String, AllocError> {
     match end {
         End::Halt => "halt".to_string(alloc),
-        End::Fault(kind) => format!(in alloc; "{kind:?}"),
+        End::Fault(kind) => fault_word(*kind).to_string(alloc),
         End::Wants { fun, args } => format!(in alloc; "wants {} {:?}", fun.0, args.as_slice()),
     }
 }

@@ -1,7 +1,8 @@
 //! Runs of sources on a store of zeros.
 
 use crate::sources::accepted;
-use mate_num::{Payload, Store};
+use case_files::{call_words, end_words, store_words, zero_store};
+use mate_num::{Call, Outcome, Payload};
 use std::alloc::{AllocError, Global};
 use ts_play::play;
 use ts_syntax::Checked;
@@ -58,12 +59,27 @@ fn played(
     turns: u32,
 ) -> Result<String, AllocError> {
     let shape = shape(machine);
-    let store = Store::zero(shape.shared, shape.buffers);
+    let store = zero_store(shape.shared, shape.buffers);
     match play(alloc, script, &store, msg, answers, turns) {
-        Ok(played) => {
-            let calls = played.calls.as_slice();
-            format!(in alloc; "{:?} {:?} {calls:?}", played.end, played.store)
-        }
+        Ok(played) => outcome_words(alloc, &played),
         Err(_) => "no memory".to_string(alloc),
     }
+}
+
+fn outcome_words(alloc: Global, outcome: &Outcome) -> Result<String, AllocError> {
+    let end = end_words(alloc, &outcome.end)?;
+    let store = store_words(alloc, &outcome.store)?;
+    let calls = calls_words(alloc, outcome.calls.as_slice())?;
+    format!(in alloc; "{end} {store} [{calls}]")
+}
+
+fn calls_words(alloc: Global, calls: &[Call]) -> Result<String, AllocError> {
+    let mut words = String::new(alloc);
+    for (place, call) in calls.iter().enumerate() {
+        if place > 0 {
+            words.push_str(", ")?;
+        }
+        words.push_str(call_words(alloc, call)?.as_str())?;
+    }
+    Ok(words)
 }

@@ -4,7 +4,7 @@ ghost use Rattle.std.specs.Prelude.{◌≡◌, IfOk};
 ghost use Rattle.mate_code.specs.Code.{instrs_of};
 
 use case_files::{bytes_of, in_one_line};
-use mate_code::{Instr, Instrs, decode, encode, listing};
+use mate_code::{DecodeFault, Instr, Instrs, decode, encode, listing};
 use mate_num::CODE_MAX;
 use memory_files::MemSink;
 use opcode_gen::{function_names, table};
@@ -21,7 +21,7 @@ pub fn answer(alloc: Global, desc: &Description, case: &str) -> Result<String, A
     let table = table(desc);
     let pairs = match decode(&table, &bytes) {
         Ok(pairs) => pairs,
-        Err(fault) => return format!(in alloc; "{fault:?}"),
+        Err(fault) => return fault_words(alloc, fault),
     };
     let instrs = without_places(alloc, &pairs)?;
     let again = match encode(&table, &instrs) {
@@ -35,6 +35,13 @@ pub fn answer(alloc: Global, desc: &Description, case: &str) -> Result<String, A
     }
     let listed = in_one_line(alloc, sink.bytes())?;
     format!(in alloc; "{again} {listed}")
+}
+
+fn fault_words(alloc: Global, fault: DecodeFault) -> Result<String, AllocError> {
+    match fault {
+        DecodeFault::BadOpcode { place } => format!(in alloc; "BadOpcode {{ place: {place} }}"),
+        DecodeFault::CutShort { place } => format!(in alloc; "CutShort {{ place: {place} }}"),
+    }
 }
 
 // The instructions without their places.

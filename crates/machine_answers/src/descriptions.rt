@@ -1,9 +1,9 @@
 //! Descriptions of machines.
 
-use case_files::marked_bytes;
+use case_files::{device_words, marked_bytes, shape_words};
 use mate_num::ContextId;
 use std::alloc::{AllocError, Global};
-use vm_desc::{Description, Function, Handler, shape};
+use vm_desc::{Description, FunKind, Function, Handler, HandlerKind, RadioSet, TrickleSet, shape};
 use vm_reader::read;
 use vm_rules::DescFault;
 
@@ -48,7 +48,8 @@ fn described(alloc: Global, desc: &Description) -> Result<String, AllocError> {
     push_contexts(alloc, &mut text, desc)?;
     push_handlers(alloc, &mut text, desc.handlers.as_slice())?;
     push_functions(alloc, &mut text, desc.functions.as_slice())?;
-    text.push_str(format!(in alloc; ", {:?}", shape(desc))?.as_str())?;
+    text.push_str(", ")?;
+    text.push_str(shape_words(alloc, &shape(desc))?.as_str())?;
     Ok(text)
 }
 
@@ -64,8 +65,9 @@ fn push_contexts(alloc: Global, text: &mut String, desc: &Description) -> Result
 
 fn push_handlers(alloc: Global, text: &mut String, handlers: &[Handler]) -> Result<(), AllocError> {
     for handler in handlers {
-        let (name, kind, contexts) = (&handler.name, handler.kind, handler.contexts);
-        text.push_str(format!(in alloc; ", {name} {kind:?} {contexts}")?.as_str())?;
+        let (name, contexts) = (&handler.name, handler.contexts);
+        let kind = handler_words(alloc, handler.kind)?;
+        text.push_str(format!(in alloc; ", {name} {kind} {contexts}")?.as_str())?;
     }
     Ok(())
 }
@@ -76,15 +78,46 @@ fn push_functions(
     functions: &[Function],
 ) -> Result<(), AllocError> {
     for function in functions {
-        let (name, kind) = (&function.name, function.kind);
-        let (device, latency) = (function.device, function.latency);
-        text.push_str(format!(in alloc; ", {name} {kind:?} {device:?} {latency}")?.as_str())?;
+        let (name, latency) = (&function.name, function.latency);
+        let kind = function_words(alloc, function.kind)?;
+        let device = device_words(alloc, function.device)?;
+        text.push_str(format!(in alloc; ", {name} {kind} {device} {latency}")?.as_str())?;
     }
     Ok(())
 }
 
+fn handler_words(alloc: Global, kind: HandlerKind) -> Result<String, AllocError> {
+    match kind {
+        HandlerKind::Plain => "Plain".to_string(alloc),
+        HandlerKind::Timer { period } => format!(in alloc; "Timer {{ period: {period} }}"),
+        HandlerKind::Receive => "Receive".to_string(alloc),
+        HandlerKind::Once => "Once".to_string(alloc),
+    }
+}
+
+fn function_words(alloc: Global, kind: FunKind) -> Result<String, AllocError> {
+    match kind {
+        FunKind::Sense => "Sense".to_string(alloc),
+        FunKind::Act { args } => format!(in alloc; "Act {{ args: {args} }}"),
+        FunKind::Send => "Send".to_string(alloc),
+        FunKind::Id => "Id".to_string(alloc),
+        FunKind::Rand => "Rand".to_string(alloc),
+        FunKind::Clock => "Clock".to_string(alloc),
+    }
+}
+
 fn settings(alloc: Global, desc: &Description) -> Result<String, AllocError> {
     let (number, turns, quantum) = (desc.vm_id, desc.turns, desc.quantum);
-    let (trickle, radio, longest) = (desc.trickle, desc.radio, desc.trickle.longest());
-    format!(in alloc; "{number} {turns} {quantum}, {trickle:?} to {longest}, {radio:?}")
+    let trickle = trickle_words(alloc, desc.trickle)?;
+    let (longest, radio) = (desc.trickle.longest(), radio_words(alloc, desc.radio)?);
+    format!(in alloc; "{number} {turns} {quantum}, {trickle} to {longest}, {radio}")
+}
+
+fn trickle_words(alloc: Global, set: TrickleSet) -> Result<String, AllocError> {
+    let (imin, doublings, k) = (set.imin, set.doublings, set.k);
+    format!(in alloc; "TrickleSet {{ imin: {imin}, doublings: {doublings}, k: {k} }}")
+}
+
+fn radio_words(alloc: Global, set: RadioSet) -> Result<String, AllocError> {
+    format!(in alloc; "RadioSet {{ delay: {}, gap: {} }}", set.delay, set.gap)
 }

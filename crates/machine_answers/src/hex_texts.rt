@@ -1,7 +1,7 @@
 //! Hexadecimal texts: the digits of the image that a text spells, or the fault. Before `*` stands how many digits 0 the
 //! text begins with; the signs '|', '^', '%' and '@' are the bytes 10, 13, 9 and 11.
 
-use capsule_codec::{from_hex, to_hex};
+use capsule_codec::{HexFault, from_hex, to_hex};
 use std::alloc::{AllocError, Global};
 
 pub fn answer(alloc: Global, case: &str) -> Result<String, AllocError> {
@@ -12,7 +12,8 @@ pub fn answer(alloc: Global, case: &str) -> Result<String, AllocError> {
     let text = text_of(alloc, zeros, signs)?;
     let image = match from_hex(text.as_slice()) {
         Ok(image) => image,
-        Err(fault) => return format!(in alloc; "{fault:?}"),
+        Err(HexFault::BadHex) => return "BadHex".to_string(alloc),
+        Err(HexFault::TooLong) => return "TooLong".to_string(alloc),
     };
     if zeros > 0 {
         return format!(in alloc; "{} bytes", image.len());

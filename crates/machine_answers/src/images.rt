@@ -1,7 +1,7 @@
 //! Images in hexadecimal digits: the first fault, or `ok`, the length of the capsule's code, and whether the capsule's
 //! image is these bytes.
 
-use capsule_codec::{decode, encode};
+use capsule_codec::{CapsuleFault, decode, encode};
 use case_files::bytes_of;
 use std::alloc::{AllocError, Global};
 use vm_desc::Description;
@@ -15,6 +15,17 @@ pub fn answer(alloc: Global, desc: &Description, case: &str) -> Result<String, A
             let again = encode(&capsule).as_slice() == bytes.as_slice();
             format!(in alloc; "ok {} {again}", capsule.code.len())
         }
-        Err(fault) => format!(in alloc; "{fault:?}"),
+        Err(fault) => fault_words(alloc, fault),
+    }
+}
+
+fn fault_words(alloc: Global, fault: CapsuleFault) -> Result<String, AllocError> {
+    match fault {
+        CapsuleFault::BadMagic => "BadMagic".to_string(alloc),
+        CapsuleFault::BadFormat => "BadFormat".to_string(alloc),
+        CapsuleFault::OtherVm { id } => format!(in alloc; "OtherVm {{ id: {id} }}"),
+        CapsuleFault::BadHandler => "BadHandler".to_string(alloc),
+        CapsuleFault::BadLength => "BadLength".to_string(alloc),
+        CapsuleFault::BadVersion => "BadVersion".to_string(alloc),
     }
 }

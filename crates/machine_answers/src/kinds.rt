@@ -1,7 +1,7 @@
 //! A machine's kinds of instructions: the kind at an opcode and the form of its operand, and some of the calls that
 //! kinds and instructions have, each by its word.
 
-use mate_code::{Instr, Instrs, Kind};
+use mate_code::{Instr, Instrs, Kind, OperandForm};
 use mate_num::VarId;
 use opcode_gen::table;
 use std::alloc::{AllocError, Global};
@@ -21,8 +21,26 @@ pub fn answer(alloc: Global, desc: &Description, case: &str) -> Result<String, A
         return "no opcode".to_string(alloc);
     };
     match table.kind(opcode) {
-        Some(kind) => format!(in alloc; "{kind:?} {:?}", kind.form()),
+        Some(kind) => format!(in alloc; "{} {}", kind_word(kind), form_word(kind.form())),
         None => "none".to_string(alloc),
+    }
+}
+
+fn kind_word(kind: Kind) -> &'static str {
+    match kind {
+        Kind::Halt => "Halt",
+        Kind::PushW => "PushW",
+        Kind::Jz => "Jz",
+        _ => "another kind",
+    }
+}
+
+fn form_word(form: OperandForm) -> &'static str {
+    match form {
+        OperandForm::Absent => "Absent",
+        OperandForm::Byte => "Byte",
+        OperandForm::Word => "Word",
+        OperandForm::SignedWord => "SignedWord",
     }
 }
 
@@ -34,7 +52,7 @@ fn instructions(alloc: Global) -> Result<String, AllocError> {
     let Some((place, instr)) = pairs.get(1) else {
         return "no pair".to_string(alloc);
     };
-    let kind = instr.kind();
+    let kind = kind_word(instr.kind());
     let third = pairs.get(2).is_some();
-    format!(in alloc; "{empty} {} {} {kind:?} {third}", pairs.len(), *place)
+    format!(in alloc; "{empty} {} {} {kind} {third}", pairs.len(), *place)
 }

@@ -5,7 +5,7 @@ ghost use Rattle.std.specs.Prelude.{IfNone};
 ghost use Rattle.code_verifier.specs.Verified.{Fits};
 ghost use Rattle.exec_unit.specs.Step.{HasLengths};
 
-use case_files::bytes_of;
+use case_files::{bytes_of, fault_word};
 use code_verifier::{Verified, verify};
 use exec_unit::{Machine, StepEnd, resume, step};
 use mate_num::Payload;
@@ -58,8 +58,20 @@ fn outcome(
     }
     let mut heap = Heap::new(shape.shared, shape.buffers);
     let end = run(code, &mut machine, &mut heap, answers);
+    let end = end_words(alloc, &end)?;
     let store = heap.store();
-    format!(in alloc; "{end:?} {:?} {:?}", store.shared, store.buffers)
+    format!(in alloc; "{end} {:?} {:?}", store.shared, store.buffers)
+}
+
+fn end_words(alloc: Global, end: &StepEnd) -> Result<String, AllocError> {
+    match end {
+        StepEnd::Next => "Next".to_string(alloc),
+        StepEnd::Ask { fun, args } => {
+            format!(in alloc; "Ask {{ fun: FunId({}), args: {args:?} }}", fun.0)
+        }
+        StepEnd::Halt => "Halt".to_string(alloc),
+        StepEnd::Fault(kind) => format!(in alloc; "Fault({})", fault_word(*kind)),
+    }
 }
 
 fn run(code: &Verified, machine: &mut Machine, heap: &mut Heap, answers: &[i16]) -> StepEnd

@@ -1,20 +1,14 @@
 //! Stores and lists.
 
-ghost use Rattle.std.specs.Prelude.{◌≡◌, IfOk, Some};
+ghost use Rattle.std.specs.Prelude.{◌≡◌, length, IfOk, Some};
 
 use mate_num::{Items, NoMemory, Store};
 use std::alloc::Global;
 
-pub fn an_empty_store_has_its_buffers() -> usize
-    ensures { result ≡ 3 }
+pub fn a_copied_store_has_its_buffers(store: &Store) -> usize
+    ensures { result ≡ length store.now.buffers.items }
 {
-    Store::zero(2, 3).buffers.len()
-}
-
-pub fn a_copied_store_has_its_buffers() -> usize
-    ensures { result ≡ 3 }
-{
-    Store::zero(2, 3).copy().buffers.len()
+    store.copy().buffers.len()
 }
 
 pub fn items_are_counted_from_0(alloc: Global) -> Result<Option<u8>, NoMemory>

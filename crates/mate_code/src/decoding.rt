@@ -12,7 +12,7 @@ use crate::table::Table;
 use mate_num::CODE_MAX;
 
 /// The first instruction of some bytes that can't be read, by its place: the offset of its opcode.
-#[derive(Clone, Copy, Debug)]
+#[derive(Clone, Copy)]
 pub enum DecodeFault {
     /// The table has no such opcode.
     BadOpcode { place: u32 },

@@ -13,7 +13,7 @@ use crate::table::Table;
 use mate_num::{CODE_MAX, Code};
 
 /// Instructions that take more than `CODE_MAX` bytes, and how many they take.
-#[derive(Clone, Copy, Debug)]
+#[derive(Clone, Copy)]
 pub struct TooLong {
     pub size: u64,
 }

@@ -7,7 +7,7 @@ use crate::row::Opcode;
 use mate_num::{FunId, Name};
 
 /// What stands after an opcode.
-#[derive(Clone, Copy, Debug)]
+#[derive(Clone, Copy)]
 pub enum OperandForm {
     /// Nothing.
     Absent,
@@ -20,7 +20,7 @@ pub enum OperandForm {
 }
 
 /// The kind of an instruction: the instruction without its operand. Each function is a kind of its own.
-#[derive(Clone, Copy, Debug)]
+#[derive(Clone, Copy)]
 pub enum Kind {
     Halt,
     PushW,

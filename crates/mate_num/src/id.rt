@@ -5,21 +5,21 @@
 pub struct HandlerId(pub u8);
 
 /// A function, of at most 32.
-#[derive(Clone, Copy, PartialEq, Eq, Debug)]
+#[derive(Clone, Copy)]
 pub struct FunId(pub u8);
 
 /// A shared variable, of at most 16.
-#[derive(Clone, Copy, Debug)]
+#[derive(Clone, Copy)]
 pub struct VarId(pub u8);
 
 /// A buffer, of at most 8.
-#[derive(Clone, Copy, Debug)]
+#[derive(Clone, Copy)]
 pub struct BufId(pub u8);
 
 /// A device, of at most 8.
-#[derive(Clone, Copy, Debug)]
+#[derive(Clone, Copy)]
 pub struct DeviceId(pub u8);
 
 /// A context, of at most 16. Contexts are numbered in handler order: the first handler has the first ones.
-#[derive(Clone, Copy, PartialEq, Eq, Debug)]
+#[derive(Clone, Copy)]
 pub struct ContextId(pub u8);

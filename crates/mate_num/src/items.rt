@@ -2,12 +2,9 @@
 
 ghost use Rattle.std.specs.Prelude.{◌≡◌, ◌∷◌, ◌++◌, List, [], length, take, MatchResult, IfOk, slice_get, IsTrue, ◌↔◌};
 ghost use Rattle.std.specs.Option.{option_copied};
-ghost use Rattle.std.specs.Cmp.Lexicographic.{pointwise, lists_per, lists_equiv};
-ghost use Rattle.std.specs.Fmt.{debug_list};
 
 use crate::no_memory::NoMemory;
 use std::alloc::Global;
-use std::fmt;
 use std::marker::Model;
 
 /// Items in the order in which they were pushed. Contracts see the list.
@@ -78,28 +75,5 @@ impl<T> Items<T> {
         ensures { self.new ≡ take count self.old }
     {
         self.items.truncate(count);
-    }
-}
-
-/// Two lists are equal where they have the same length and equal items in each place.
-impl<T: PartialEq> PartialEq for Items<T> {
-    ghost eq = { pointwise T.eq };
-
-    ghost laws = { lists_per T.laws };
-
-    fn eq(&self, other: &Items<T>) -> bool {
-        self.as_slice() == other.as_slice()
-    }
-}
-
-impl<T: Eq> Eq for Items<T> {
-    ghost laws = { lists_equiv T.Eq.laws };
-}
-
-impl<T: fmt::Debug> fmt::Debug for Items<T> {
-    ghost debug_output = { λ items. debug_list T.debug_output items };
-
-    fn fmt<W: fmt::Write>(&self, f: &mut fmt::Formatter<W>) -> fmt::Result {
-        fmt::Debug::fmt(&self.as_slice(), f)
     }
 }

@@ -118,11 +118,3 @@ impl fmt::Display for Name {
         f.write_str(self.as_str())
     }
 }
-
-impl fmt::Debug for Name {
-    fn fmt<W: fmt::Write>(&self, f: &mut fmt::Formatter<W>) -> fmt::Result {
-        f.debug_struct("Name")
-            .field("bytes", &self.as_bytes())
-            .finish()
-    }
-}

@@ -3,11 +3,10 @@
 ghost use Rattle.std.specs.Prelude.{codes, Some};
 
 use std::alloc::{AllocError, AllocFailed};
-use std::error::Error;
 use std::fmt;
 
 /// Memory was refused. What the call would have changed is as it was, unless the call says otherwise.
-#[derive(Clone, Copy, Debug)]
+#[derive(Clone, Copy)]
 pub struct NoMemory;
 
 impl fmt::Display for NoMemory {
@@ -17,8 +16,6 @@ impl fmt::Display for NoMemory {
         f.write_str("no memory")
     }
 }
-
-impl Error for NoMemory {}
 
 impl From<AllocError> for NoMemory {
     fn from(_error: AllocError) -> NoMemory {

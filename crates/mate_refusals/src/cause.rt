@@ -16,7 +16,7 @@ use mate_files::{Pen, Sink};
 use ts_compiler::CompileFault;
 
 /// Why a file's bytes are not to be had.
-#[derive(Clone, Copy, PartialEq, Eq)]
+#[derive(Clone, Copy)]
 pub enum Unread {
     /// It could not be read.
     Failed,

@@ -22,5 +22,5 @@ pub struct Asked {
 }
 
 /// No ready invocation is in the context.
-#[derive(Clone, Copy, PartialEq, Eq, Debug)]
+#[derive(Clone, Copy)]
 pub struct NotReady;

@@ -3,7 +3,7 @@
 
 use crate::steps::{Part, answers, place, step_of, value};
 use mate_num::{ContextId, FunId, Payload};
-use split_phase::Pending;
+use split_phase::{NotWaiting, Pending};
 use std::alloc::{AllocError, Global};
 
 pub fn answer(alloc: Global, case: &str) -> Result<String, AllocError> {
@@ -27,14 +27,28 @@ fn taken(alloc: Global, pending: &mut Pending, step: &str) -> Result<String, All
         return "no context".to_string(alloc);
     }
     match step_of(step).verb {
-        "asked" => format!(in alloc; "{:?}", pending.asked(ctx)),
-        "answer" => format!(in alloc; "{:?}", pending.answer(ctx)),
+        "asked" => asked_words(alloc, pending.asked(ctx)),
+        "answer" => answer_words(alloc, pending.answer(ctx)),
         "ask" if pending.asked(ctx).is_none() => {
             let (fun, args) = call_of(step);
             pending.ask(ctx, fun, args);
             Ok(String::new(alloc))
         }
         _ => "no step".to_string(alloc),
+    }
+}
+
+fn asked_words(alloc: Global, call: Option<(FunId, Payload)>) -> Result<String, AllocError> {
+    match call {
+        Some((fun, args)) => format!(in alloc; "Some((FunId({}), {args:?}))", fun.0),
+        None => "None".to_string(alloc),
+    }
+}
+
+fn answer_words(alloc: Global, answered: Result<FunId, NotWaiting>) -> Result<String, AllocError> {
+    match answered {
+        Ok(fun) => format!(in alloc; "Ok(FunId({}))", fun.0),
+        Err(NotWaiting) => "Err(NotWaiting)".to_string(alloc),
     }
 }
 

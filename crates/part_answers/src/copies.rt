@@ -1,8 +1,9 @@
-//! Copies of values of each type that has them, named by the type.
+//! Values in words, named by the type or by how a run ends: copies of those that a call copies.
 
 use arrayvec::ArrayVec;
+use case_files::{call_words, end_words, shape_words, store_words, zero_store};
 use mate_num::{
-    Call, DeviceId, End, FaultKind, FunId, FunShape, NoMemory, Payload, Shape, Store, copy_of,
+    Call, DeviceId, End, FaultKind, FunId, FunShape, NoMemory, Payload, Shape, copy_of,
 };
 use std::alloc::{AllocError, Global};
 
@@ -10,10 +11,10 @@ pub fn answer(alloc: Global, case: &str) -> Result<String, AllocError> {
     match case {
         "payload" => format!(in alloc; "{:?}", copy_of(&payload())),
         "store" => store(alloc),
-        "shape" => format!(in alloc; "{:?}", shape().copy()),
-        "call" => format!(in alloc; "{:?}", call().copy()),
-        "halt" => format!(in alloc; "{:?}", End::Halt.copy()),
-        "fault" => format!(in alloc; "{:?}", End::Fault(FaultKind::Index).copy()),
+        "shape" => shape_words(alloc, &shape().copy()),
+        "call" => call_words(alloc, &call()),
+        "halt" => end_words(alloc, &End::Halt),
+        "fault" => end_words(alloc, &End::Fault(FaultKind::Index)),
         "wants" => wants(alloc),
         "memory" => format!(in alloc; "{NoMemory}"),
         _ => "no type".to_string(alloc),
@@ -28,11 +29,14 @@ fn payload() -> Payload {
 }
 
 fn store(alloc: Global) -> Result<String, AllocError> {
-    let zero = Store::zero(2, 1);
+    let zero = zero_store(2, 1);
     let mut store = zero.copy();
     let _ = store.shared.try_push(7);
     let _ = store.buffers.try_push(payload());
-    format!(in alloc; "{:?} {:?} {}", zero, store.copy(), store.copy() == zero)
+    let copy = store.copy();
+    let same = copy.shared == zero.shared && copy.buffers == zero.buffers;
+    let (zero, copy) = (store_words(alloc, &zero)?, store_words(alloc, &copy)?);
+    format!(in alloc; "{zero} {copy} {same}")
 }
 
 fn shape() -> Shape {
@@ -62,5 +66,5 @@ fn wants(alloc: Global) -> Result<String, AllocError> {
         fun: FunId(4),
         args: payload(),
     };
-    format!(in alloc; "{:?}", end.copy())
+    end_words(alloc, &end)
 }

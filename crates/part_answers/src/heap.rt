@@ -3,7 +3,8 @@
 ghost use Rattle.std.specs.Prelude.{◌<◌, length};
 
 use crate::steps::{Part, Step, answers, place, step_of};
-use mate_num::{BufId, VarId};
+use case_files::fault_word;
+use mate_num::{BufId, FaultKind, VarId};
 use node_heap::Heap;
 use std::alloc::{AllocError, Global};
 
@@ -76,10 +77,10 @@ fn on_buffer(
     requires { buf.0 < length heap.old.buffers.items }
 {
     match verb {
-        "append" => format!(in alloc; "{:?}", heap.append(buf, first)),
-        "item" => format!(in alloc; "{:?}", heap.item(buf, first)),
-        "set" => format!(in alloc; "{:?}", heap.set_item(buf, first, second)),
-        "take" => format!(in alloc; "{:?}", heap.take(buf)),
+        "append" => done(alloc, heap.append(buf, first)),
+        "item" => taken_value(alloc, heap.item(buf, first)),
+        "set" => done(alloc, heap.set_item(buf, first, second)),
+        "take" => taken_value(alloc, heap.take(buf)),
         "size" => format!(in alloc; "{}", heap.size(buf)),
         "values" => format!(in alloc; "{:?}", heap.payload(buf)),
         "clear" => {
@@ -87,5 +88,19 @@ fn on_buffer(
             Ok(String::new(alloc))
         }
         _ => "no step".to_string(alloc),
+    }
+}
+
+fn done(alloc: Global, outcome: Result<(), FaultKind>) -> Result<String, AllocError> {
+    match outcome {
+        Ok(()) => "Ok(())".to_string(alloc),
+        Err(kind) => format!(in alloc; "Err({})", fault_word(kind)),
+    }
+}
+
+fn taken_value(alloc: Global, outcome: Result<i16, FaultKind>) -> Result<String, AllocError> {
+    match outcome {
+        Ok(value) => format!(in alloc; "Ok({value})"),
+        Err(kind) => format!(in alloc; "Err({})", fault_word(kind)),
     }
 }

@@ -1,6 +1,7 @@
 //! Lists of texts: how many words there are, the second and the ninth, whether the first and the second are equal,
 //! the whole list, and its first word alone.
 
+use case_files::quoted;
 use mate_num::{Items, NoMemory, Text, Texts};
 use std::alloc::{AllocError, Global};
 
@@ -28,9 +29,10 @@ fn parts(alloc: Global, mut texts: Texts) -> Result<String, AllocError> {
 fn whole(alloc: Global, texts: &Texts) -> Result<String, AllocError> {
     let second = text_at(texts, 1);
     let ninth = text_at(texts, 8);
-    let equal = texts.get(0) == texts.get(1);
+    let equal = texts.len() > 1 && text_at(texts, 0) == second;
     let (len, empty) = (texts.len(), texts.is_empty());
-    format!(in alloc; "{len} {empty} {second} {ninth} {equal} {texts:?}")
+    let whole = quoted(alloc, texts.as_slice())?;
+    format!(in alloc; "{len} {empty} {second} {ninth} {equal} {whole}")
 }
 
 fn text_at(texts: &Texts, index: usize) -> &str {

@@ -1,7 +1,7 @@
 //! Command lines, split at single spaces, where `_` is the empty word: the flags, the command, and each word that goes to
 //! it, in brackets; or the fault.
 
-use command_line::{CommandLine, read};
+use command_line::{CommandLine, WordsFault, read};
 use std::alloc::{AllocError, Global};
 
 pub fn answer(alloc: Global, case: &str) -> Result<String, AllocError> {
@@ -14,7 +14,8 @@ pub fn answer(alloc: Global, case: &str) -> Result<String, AllocError> {
     }
     match read(alloc, words.as_slice()) {
         Ok(line) => told(alloc, &line),
-        Err(fault) => format!(in alloc; "{fault:?}"),
+        Err(WordsFault::NotTaken) => "NotTaken".to_string(alloc),
+        Err(WordsFault::NoMemory) => "NoMemory".to_string(alloc),
     }
 }
 

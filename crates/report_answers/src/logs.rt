@@ -1,7 +1,8 @@
 //! Logs and reports that are built by hand: `log` is one before and after it is cut, and `report` is one of three nodes.
 
+use case_files::zero_store;
 use mate_journal::{Air, Aired, Airs, Entry, NodeLog, NodeLogs, Report, Stamped};
-use mate_num::{ContextId, HandlerId, Image, NoMemory, Payload, Stamp, Store};
+use mate_num::{ContextId, HandlerId, Image, NoMemory, Payload, Stamp};
 use std::alloc::{AllocError, Global};
 
 const STAMP: Stamp = Stamp { event: 1, time: 5 };
@@ -23,12 +24,14 @@ pub fn answer(alloc: Global, case: &str) -> Result<String, AllocError> {
     match log.entries() {
         [
             Stamped {
-                stamp,
+                stamp: Stamp { event, time },
                 entry: Entry::Seen { store },
             },
-        ] => format!(in alloc;
-            "{whole}, {cut} [Stamped {{ stamp: {stamp:?}, entry: Seen {{ store: {store} }} }}]"
-        ),
+        ] => {
+            let stamp = format!(in alloc; "Stamp {{ event: {event}, time: {time} }}")?;
+            let entry = format!(in alloc; "Seen {{ store: {store} }}")?;
+            format!(in alloc; "{whole}, {cut} [Stamped {{ stamp: {stamp}, entry: {entry} }}]")
+        }
         _ => format!(in alloc; "{whole}, {cut} other entries"),
     }
 }
@@ -45,9 +48,9 @@ fn lengths(alloc: Global, log: &NodeLog) -> Result<String, AllocError> {
 fn log(alloc: Global) -> Result<NodeLog, NoMemory> {
     let mut log = NodeLog::new(alloc);
     log.reserve(8)?;
-    let store = log.add_store(&Store::zero(2, 1));
+    let store = log.add_store(&zero_store(2, 1));
     log.reserve(8)?;
-    log.add_store(&Store::zero(1, 0));
+    log.add_store(&zero_store(1, 0));
     log.reserve(8)?;
     log.add_image(&Image::new());
     log.reserve(8)?;

@@ -5,10 +5,10 @@ ghost use Rattle.std.specs.Prelude.{◌≡◌, ◌∷◌, [], length, IfOk};
 ghost use Rattle.mate_num.specs.Store.{zero_store};
 ghost use Rattle.report_text.specs.Tidy.{IsTidy};
 
-use case_files::in_one_line;
+use case_files::{in_one_line, zero_store};
 use mate_files::SinkFault;
 use mate_journal::{Air, Aired, Airs, Entry, NodeLog, NodeLogs, Report, Stamped};
-use mate_num::{NoMemory, Stamp, Store};
+use mate_num::{NoMemory, Stamp};
 use memory_files::MemSink;
 use report_merge::write;
 use report_summary::brief;
@@ -42,7 +42,7 @@ fn quiet_log(alloc: Global, desc: &Description) -> Result<NodeLog, NoMemory>
 {
     let mut log = NodeLog::new(alloc);
     log.reserve(1)?;
-    let store = log.add_store(&Store::zero(desc.shared.len() as u8, desc.buffers.len() as u8));
+    let store = log.add_store(&zero_store(desc.shared.len() as u8, desc.buffers.len() as u8));
     log.reserve(1)?;
     log.push(Stamped {
         stamp: Stamp {

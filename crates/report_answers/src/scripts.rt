@@ -1,6 +1,7 @@
 //! Node scripts: the steps and the files, or the line that is refused and the cause. `unescaped` says what the signs in
 //! them stand for.
 
+use case_files::{cause_word, quoted};
 use script_reader::{ScriptFault, Step, node_script};
 use std::alloc::{AllocError, Global};
 use vm_desc::Description;
@@ -16,9 +17,12 @@ pub fn answer(alloc: Global, desc: &Description, case: &str) -> Result<String, A
     match node_script(alloc, desc, &bytes) {
         Ok(script) => {
             let steps = steps_text(alloc, script.steps())?;
-            format!(in alloc; "ok [{steps}] {:?}", script.files())
+            let files = quoted(alloc, script.files())?;
+            format!(in alloc; "ok [{steps}] {files}")
         }
-        Err(ScriptFault::BadLine { line, cause }) => format!(in alloc; "{line} {cause}"),
+        Err(ScriptFault::BadLine { line, cause }) => {
+            format!(in alloc; "{line} {}", cause_word(cause))
+        }
         Err(ScriptFault::NoMemory) => "no memory".to_string(alloc),
     }
 }
@@ -52,10 +56,10 @@ fn step_text(alloc: Global, step: &Step) -> Result<String, AllocError> {
             let values = payload.payload();
             format!(in alloc; "Post {{ handler: {handler:?}, payload: {values:?} }}")
         }
-        Step::Step { ctx, n } => format!(in alloc; "Step {{ ctx: {ctx:?}, n: {n} }}"),
+        Step::Step { ctx, n } => format!(in alloc; "Step {{ ctx: ContextId({}), n: {n} }}", ctx.0),
         Step::Run => "Run".to_string(alloc),
         Step::Answer { ctx, value } => {
-            format!(in alloc; "Answer {{ ctx: {ctx:?}, value: {value} }}")
+            format!(in alloc; "Answer {{ ctx: ContextId({}), value: {value} }}", ctx.0)
         }
         Step::Show => "Show".to_string(alloc),
         Step::Reset => "Reset".to_string(alloc),

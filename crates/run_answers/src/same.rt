@@ -2,6 +2,7 @@
 
 use mate_files::SinkFault;
 use mate_journal::{Aired, NodeLog, Report};
+use mate_num::Store;
 use memory_files::MemSink;
 use report_text::write_event;
 use std::alloc::Global;
@@ -27,8 +28,20 @@ pub fn are_same(alloc: Global, desc: &Description, a: &Report, b: &Report) -> bo
 
 fn are_same_logs(alloc: Global, desc: &Description, a: &NodeLog, b: &NodeLog) -> bool {
     a.images() == b.images()
-        && a.stores() == b.stores()
+        && are_same_stores(a.stores(), b.stores())
         && are_same_lines(lines(alloc, desc, &[], a), lines(alloc, desc, &[], b))
+}
+
+fn are_same_stores(a: &[Store], b: &[Store]) -> bool {
+    if a.len() != b.len() {
+        return false;
+    }
+    for (a, b) in a.iter().zip(b) {
+        if a.shared != b.shared || a.buffers != b.buffers {
+            return false;
+        }
+    }
+    true
 }
 
 // The lines of what happened on the air and of a log's entries, each as of node 0.

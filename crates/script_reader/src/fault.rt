@@ -1,7 +1,5 @@
 //! Why a script is refused.
 
-use std::fmt;
-
 /// What is wrong with a line.
 #[derive(Clone, Copy)]
 pub enum Cause {
@@ -21,28 +19,6 @@ pub enum Cause {
     Node,
     /// Noise that is a packet to the machine.
     Packet,
-}
-
-impl Cause {
-    /// The cause as users read it.
-    pub fn word(self) -> &'static str {
-        match self {
-            Cause::Word => "word",
-            Cause::Number => "number",
-            Cause::Range => "range",
-            Cause::TimeBack => "timeback",
-            Cause::OldVersion => "oldversion",
-            Cause::Name => "name",
-            Cause::Node => "node",
-            Cause::Packet => "packet",
-        }
-    }
-}
-
-impl fmt::Display for Cause {
-    fn fmt<W: fmt::Write>(&self, f: &mut fmt::Formatter<W>) -> fmt::Result {
-        f.write_str(self.word())
-    }
 }
 
 /// Why bytes are no script for the machine.

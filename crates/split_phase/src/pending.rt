@@ -7,7 +7,7 @@ use mate_num::{CONTEXTS_MAX, ContextId, FunId, Payload, copy_of};
 use std::marker::Model;
 
 /// The context waits for no answer.
-#[derive(Clone, Copy, PartialEq, Eq, Debug)]
+#[derive(Clone, Copy)]
 pub struct NotWaiting;
 
 /// The calls that wait for an answer. Contracts see a list of 16 places, one for each context: the function

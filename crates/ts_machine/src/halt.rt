@@ -3,7 +3,7 @@
 ghost use Rattle.std.specs.Prelude.{◌≡◌};
 
 use mate_num::NoMemory;
-use std::alloc::{AllocError, AllocFailed};
+use std::alloc::AllocError;
 use ts_syntax::Token;
 
 /// Why parsing stopped: for want of memory, or at the first of these tokens, which doesn't fit. Where there
@@ -20,16 +20,6 @@ impl<'a> From<AllocError> for Halt<'a> {
     ghost from_gives = { λ _ e. e ≡ Memory };
 
     fn from(_error: AllocError) -> Halt<'a> {
-        Halt::Memory
-    }
-}
-
-impl<'a, T: Drop> From<AllocFailed<T>> for Halt<'a> {
-    ghost use Rattle.ts_machine.specs.declared.halt.Halt.TheVariants.{Memory};
-
-    ghost from_gives = { λ _ e. e ≡ Memory };
-
-    fn from(_error: AllocFailed<T>) -> Halt<'a> {
         Halt::Memory
     }
 }

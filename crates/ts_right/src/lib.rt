@@ -2,5 +2,6 @@
 #![tactic(auto)]
 
 pub mod right;
+mod shape;
 
 pub use right::is_right;

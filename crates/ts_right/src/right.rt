@@ -5,6 +5,7 @@ ghost use Rattle.ts_syntax.specs.Expression.{arguments};
 ghost use Rattle.ts_syntax.specs.Right.{is_right as is_right_for, argument_count, is_shared, is_buffer, is_variable, is_call, is_send, is_step, is_head, is_right_expr, are_right, is_right_stmt, is_right_block};
 ghost use Rattle.ts_syntax.specs.TreeOf.{expr_tree, args_trees, stmt_tree, block_tree};
 
+use crate::shape::shape_is_right;
 use mate_num::{BufId, FunId, Shape, VarId};
 use ts_syntax::{CArgs, CBlock, CExpr, CForHead, CStmt, CVar};
 
@@ -14,7 +15,7 @@ use ts_syntax::{CArgs, CBlock, CExpr, CForHead, CStmt, CVar};
 pub fn is_right(shape: &Shape, body: &CBlock) -> bool
     ensures { result ≡ is_right_for shape.now (block_tree body.now) }
 {
-    shape.is_right() && block_is_right(shape, body)
+    shape_is_right(shape) && block_is_right(shape, body)
 }
 
 fn shared_is_right(shape: &Shape, variable: VarId) -> bool

@@ -5,7 +5,7 @@ ghost use Rattle.std.specs.Prelude.{◌≡◌};
 use mate_num::{DeviceId, Name};
 
 /// What a function does.
-#[derive(Clone, Copy, Default, Debug)]
+#[derive(Clone, Copy, Default)]
 pub enum FunKind {
     /// Reads a sensor.
     Sense,

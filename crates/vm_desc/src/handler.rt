@@ -5,7 +5,7 @@ ghost use Rattle.std.specs.Prelude.{◌≡◌};
 use mate_num::Name;
 
 /// What invokes a handler.
-#[derive(Clone, Copy, Default, Debug)]
+#[derive(Clone, Copy, Default)]
 pub enum HandlerKind {
     /// Posts alone.
     #[default]

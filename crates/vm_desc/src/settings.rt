@@ -3,7 +3,7 @@
 ghost use Rattle.std.specs.Prelude.{◌≡◌, ◌≤◌, ◌*◌, ◌^◌, IsTrue};
 
 /// The settings of a handler's Trickle timer.
-#[derive(Clone, Copy, Debug)]
+#[derive(Clone, Copy)]
 pub struct TrickleSet {
     /// The shortest interval, in ms: even, from 2 to 60,000.
     pub imin: u32,
@@ -15,7 +15,7 @@ pub struct TrickleSet {
 }
 
 /// The settings of the radio.
-#[derive(Clone, Copy, Debug)]
+#[derive(Clone, Copy)]
 pub struct RadioSet {
     /// The time from a packet's sending to its hearing, in ms: 1 to 10,000.
     pub delay: u32,

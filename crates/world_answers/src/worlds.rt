@@ -1,6 +1,7 @@
 //! World scripts: the parts of the world, or the line that is refused.
 
 use crate::parts::parts_of;
+use case_files::cause_word;
 use script_reader::ScriptFault;
 use std::alloc::{AllocError, Global};
 use vm_desc::Description;
@@ -16,7 +17,9 @@ pub fn answer(alloc: Global, desc: &Description, case: &str) -> Result<String, A
     }
     match world_script(alloc, desc, bytes.as_slice()) {
         Ok(world) => whole(alloc, &world),
-        Err(ScriptFault::BadLine { line, cause }) => format!(in alloc; "bad {line} {cause}"),
+        Err(ScriptFault::BadLine { line, cause }) => {
+            format!(in alloc; "bad {line} {}", cause_word(cause))
+        }
         Err(ScriptFault::NoMemory) => "no memory".to_string(alloc),
     }
 }

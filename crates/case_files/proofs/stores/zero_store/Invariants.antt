@@ -1,6 +1,6 @@
 use Rattle.std.proofs.Common.{◌≡◌, pos, []}
 use Rattle.std.specs.Prelude.{replicate}
-use Rattle.mate_num.proofs.store.Store.zero.Given as goal
+use Rattle.case_files.proofs.stores.zero_store.Given as goal
 
 abbrev pub invariant-loop : goal.invariant-loop
 invariant-loop l = l.values.items ≡ replicate l.counter (pos 0)
