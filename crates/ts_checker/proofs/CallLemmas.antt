@@ -1,8 +1,8 @@
 -- A call whose function was found, case by case.
-use Rattle.std.proofs.Common.{◌≡◌, ℕ, suc, ◌==◌, Bool, true, false, List, [], ◌∷◌, length, Result, Ok, Err, refl, ap, ◌∙◌, arith, ◌<◌}
+use Rattle.std.proofs.Common.{◌≡◌, ℕ, suc, ◌==◌, Bool, true, false, List, [], ◌∷◌, length, Result, Ok, Err, refl, ap, sym, ◌∙◌, arith, ◌<◌}
 use Rattle.std.specs.Int.{w16, int_wrap, cast_signed}
 use Rattle.std.specs.Prelude.{pos, ◌%◌}
-use Rattle.std.proofs.lemmas.Bool.Decides.{nat_tests}
+use Rattle.std.proofs.lemmas.Bool.{eq-eqb, ne_eqb}
 use Rattle.mate_num.specs.Number.{wrap}
 use Rattle.mate_num.specs.declared.id.FunId.{FunId}
 use Rattle.vm_desc.specs.Limits.{args_of}
@@ -38,8 +38,7 @@ pub call_counted : (n : ScriptNames) (allowed : Bool) (w : Word) (es : List Expr
     → function n w ≡ Ok f → allowed ≡ true → is_send f.1 ≡ false → length es ≡ args_of f.1
     → checked_call n allowed w (trees_of es) args ≡ (args >>= (λ checked. Ok (calls f.0 checked)))
 call_counted n allowed w es args f found here plain same =
-    let counted : (tree_count (trees_of es) == args_of f.1) ≡ true =
-    (let e : tree_count (trees_of es) ≡ args_of f.1 = tree_count-trees_of es ∙ same in grind (arith, nat_tests)) in
+    let counted : (tree_count (trees_of es) == args_of f.1) ≡ true = eq-eqb (tree_count (trees_of es)) (args_of f.1) (tree_count-trees_of es ∙ same) in
     rw (found, here, plain, counted) refl
 
 pub call_miscounted : (n : ScriptNames) (allowed : Bool) (w : Word) (es : List Expr) (args : Result Arguments CheckFault) (f : FunId × FunKind)
@@ -47,7 +46,7 @@ pub call_miscounted : (n : ScriptNames) (allowed : Bool) (w : Word) (es : List E
     → checked_call n allowed w (trees_of es) args ≡ Err (Arity w.place)
 call_miscounted n allowed w es args f found here plain other =
     let counted : (tree_count (trees_of es) == args_of f.1) ≡ false =
-    (let e : tree_count (trees_of es) ≡ length es = tree_count-trees_of es in grind (arith, nat_tests)) in
+    ne_eqb (tree_count (trees_of es)) (args_of f.1) (λ e. other (sym (tree_count-trees_of es) ∙ e)) in
     rw (found, here, plain, counted) refl
 
 -- a function that isn't found, and a call where none is allowed

@@ -10,12 +10,13 @@ use Rattle.ts_syntax.specs.declared.expr.Expr.{Expr}
 use Rattle.ts_scope.specs.declared.fault.CheckFault.{CheckFault}
 use Rattle.ts_scope.specs.Refusal.{◌>>=◌, GivesChecked}
 use Rattle.ts_scope.specs.Names.{ScriptNames}
-use Rattle.ts_checker.specs.Checks.{Called, calls, sends, sent, checked_expr, checked_args, checked_call}
+use Rattle.ts_checker.specs.Checks.{Called, calls, sends, as_expression, sent, checked_expr, checked_args, checked_call}
 use Rattle.ts_scope.specs.Seen.{scope_names}
 use Rattle.ts_checker.specs.Seen.{arguments_of, boxed_expression, call_of}
 use Rattle.ts_checker.proofs.CallLemmas.{call_unfound, call_barred, call_sends, call_counted, call_miscounted}
 use Rattle.ts_checker.proofs.RefusalLemmas.{refused_part, refused_by, left_refused, right_refused}
 use Rattle.ts_checker.proofs.LoopLemmas.{args_next, args_refused, args_end}
+use Rattle.ts_checker.proofs.PassedLemmas.{message_size_passes, item_passes, message_item_passes, negative_passes, inverse_passes, two_pass}
 use Rattle.ts_checker.proofs.exprs.+expression.Goals as goal
 
 pub arguments-loop-arg-preserved : goal.arguments-loop-arg-preserved
@@ -180,3 +181,30 @@ call-returns-then-sends t c =
     call_sends (scope_names c.args.scope.now) c.args.calls c.args.word.now c.args.args.now _ (c.in_ok-fun.fun, c.in_ok-fun.kind)
     (sym c.function.ensures ∙ c.in_ok-fun.was) c.if-not-calls.false (sym c.sends.ensures ∙ c.if-sends.true)
     ∙ ap (λ r. r >>= (λ p. Ok (sends c.in_ok-fun.fun p))) (ap (λ (es : List Expr). sent (scope_names c.args.scope.now) c.args.word.now.place (trees_of es)) (sym c.as_slice.ensures) ∙ sym c.sent.ensures ∙ c.in_ok-sent.was)
+
+-- ---- where all parts pass
+
+pub expression-returns-in-MsgSize : goal.expression-returns-in-MsgSize
+expression-returns-in-MsgSize t c = message_size_passes (scope_names c.args.scope.now) c.args.calls c.in-MsgSize.is
+
+pub expression-returns-in_ok-right-in-Two : goal.expression-returns-in_ok-right-in-Two
+expression-returns-in_ok-right-in-Two t c =
+    two_pass (scope_names c.args.scope.now) c.args.calls c.in-Two.op c.in-Two.left c.in-Two.right c.deref-in-Two.result.now c.deref-in-Two-2.result.now
+    c.in_ok-left-in-Two.left c.in_ok-right-in-Two.right c.in-Two.is c.deref-in-Two.ensures c.deref-in-Two-2.ensures c.in_ok-left-in-Two.ensures c.in_ok-right-in-Two.ensures
+
+pub item-returns : goal.item-returns
+item-returns t c =
+    item_passes (scope_names c.args.scope.now) c.args.calls c.args.word.now (tree_of c.args.index.now) c.in_ok-buffer.buffer c.in_ok-operand.field-0
+    (sym c.buffer.ensures ∙ c.in_ok-buffer.was) c.in_ok-operand.ensures
+
+pub message_item-returns : goal.message_item-returns
+message_item-returns t c = message_item_passes (scope_names c.args.scope.now) c.args.calls (tree_of c.args.index.now) c.in_ok-operand.field-0 c.in_ok-operand.ensures
+
+pub negative-returns : goal.negative-returns
+negative-returns t c = negative_passes (scope_names c.args.scope.now) c.args.calls (tree_of c.args.of.now) c.in_ok-operand.field-0 c.in_ok-operand.ensures
+
+pub inverse-returns : goal.inverse-returns
+inverse-returns t c = inverse_passes (scope_names c.args.scope.now) c.args.calls (tree_of c.args.of.now) c.in_ok-operand.field-0 c.in_ok-operand.ensures
+
+pub call_in-returns : goal.call_in-returns
+call_in-returns t c = ap (λ r. r >>= (λ x. Ok (as_expression x))) c.in_ok-call.ensures ∙ ap Ok (sym c.into_expr.ensures)

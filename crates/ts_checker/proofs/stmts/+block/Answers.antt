@@ -12,6 +12,7 @@ use Rattle.ts_checker.specs.Checks.{checked_expr, checked_head, checked_stmt, ch
 use Rattle.ts_scope.specs.Seen.{scope_names}
 use Rattle.ts_checker.proofs.LoopLemmas.{stmts_next, stmts_refused, stmts_end}
 use Rattle.ts_checker.proofs.RefusalLemmas.{refused_part, refused_by, if_test_refused, if_body_refused}
+use Rattle.ts_checker.proofs.PassedLemmas.{while_passes, for_passes}
 use Rattle.ts_checker.proofs.stmts.+block.Goals as goal
 
 pub block-loop-stmt-preserved : goal.block-loop-stmt-preserved
@@ -123,3 +124,15 @@ pub statement-returns-in-Run : goal.statement-returns-in-Run
 statement-returns-in-Run t c =
     let P : CheckFault → Type 0 = λ f. RefusesScript f (checked_stmt (scope_names c.args.scope.now) (act_of c.args.stmt.now)) in
     subst P (sym c.no_procedure.ensures) (ap (checked_stmt (scope_names c.args.scope.now)) (ap act_of c.in-Run.is ∙ act_run_procedure c.in-Run.word c.in-Run.field-1))
+
+-- ---- where all parts pass
+
+pub for_next-returns : goal.for_next-returns
+for_next-returns t c =
+    let h = c.args.head.now in
+    for_passes (scope_names c.args.scope.now) h.var (tree_of h.from) (tree_of h.to) h.step (acts_of c.args.body.now) c.args.next.now c.in_ok-checked.checked c.in_ok-body.body
+    c.in_ok-checked.ensures c.in_ok-body.ensures (sym c.closes.ensures ∙ c.in_ok-closes.was)
+
+pub while_do-returns : goal.while_do-returns
+while_do-returns t c =
+    while_passes (scope_names c.args.scope.now) (tree_of c.args.test.now) (acts_of c.args.body.now) c.in_ok-test.test c.in_ok-block.field-0 c.in_ok-test.ensures c.in_ok-block.ensures
