@@ -1,7 +1,7 @@
 -- What is written so far, and what is left.
 use Rattle.std.proofs.Common.{◌≡◌, ℕ, suc, zero, ◌+◌, ◌<◌, ◌≤◌, List, [], ◌∷◌, ◌++◌, length, take, drop, get_or, Option, Some, ap, sym, ◌∙◌, arith, append_assoc}
 use Rattle.std.specs.Prelude.{min}
-use Rattle.std.proofs.lemmas.List.{append-nil}
+use Rattle.std.proofs.lemmas.List.{append-nil, drop_all}
 use Rattle.ts_syntax.specs.declared.expr.Expr.{Expr}
 use Rattle.ts_syntax.specs.declared.procedure.Proc.{Proc}
 use Rattle.ts_syntax.specs.declared.stmt.Stmt.{Stmt}
@@ -22,6 +22,18 @@ use Rattle.proc_expansion.proofs.ExtentLemmas.{acts_depth-append}
 pub block_from : (known : List (List ℕ × Callee)) (h : Hiding) (stmts : List Stmt) (i : ℕ) (s : Stmt) → i < length stmts → s ≡ get_or stmts i s
     → expanded_acts known h (acts_of (drop i stmts)) ≡ expanded_act known h (act_of s) ++ expanded_acts known h (acts_of (drop (i + 1) stmts))
 block_from known h stmts i s within is = ap (λ ss. expanded_acts known h (acts_of ss)) (drop_item stmts i s within is)
+
+-- one more statement is written, with the body that it called
+pub block_next : (old more new body becomes rest left whole : List Act) → new ≡ more ++ body → more ++ body ≡ old ++ becomes → left ≡ becomes ++ rest → old ++ left ≡ whole
+    → new ++ rest ≡ whole
+block_next old more new body becomes rest left whole done wrote splits so_far =
+    ap (λ xs. xs ++ rest) (done ∙ wrote) ∙ append_assoc old becomes rest ∙ ap (λ xs. old ++ xs) (sym splits) ∙ so_far
+
+-- all statements are written
+pub block_end : (known : List (List ℕ × Callee)) (h : Hiding) (stmts : List Stmt) (i : ℕ) (new whole : List Act) → length stmts ≤ i
+    → new ++ expanded_acts known h (acts_of (drop i stmts)) ≡ whole → new ≡ whole
+block_end known h stmts i new whole past so_far =
+    sym (ap (λ ss. new ++ expanded_acts known h (acts_of ss)) (drop_all i stmts past) ∙ append-nil new) ∙ so_far
 
 -- what stands within a part nests no deeper than the whole
 pub part_depth : (whole front part rest : List Act) (depth : ℕ) → front ++ (part ++ rest) ≡ whole → acts_depth (acts whole) ≤ depth → acts_depth (acts part) ≤ depth

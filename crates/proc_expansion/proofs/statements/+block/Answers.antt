@@ -1,5 +1,6 @@
-use Rattle.std.proofs.Common.{◌≡◌, ◌++◌, ◌∙◌, ap, sym, subst, rules, arith, ◌≤◌, ◌<◌, ◌-◌, List, Option, ℕ, map, take}
+use Rattle.std.proofs.Common.{◌≡◌, ◌++◌, ◌∙◌, ap, sym, subst, rules, arith, ◌≤◌, ◌<◌, ◌-◌, ◌+◌, List, Option, ℕ, map, take, drop}
 use Rattle.std.specs.Prelude.{IfOk}
+use Rattle.std.proofs.lemmas.List.{append-nil}
 use Rattle.ts_syntax.specs.declared.procedure.Proc.{Proc}
 use Rattle.ts_syntax.specs.Seen.{act_of, acts_of, acts, trees_of}
 use Rattle.ts_syntax.specs.Tree.{Act, run_procedure}
@@ -8,11 +9,12 @@ use Rattle.proc_expansion.specs.declared.pending.Pending.{Pending}
 use Rattle.proc_expansion.specs.Expansion.{Callee, expanded_act, expanded_acts}
 use Rattle.proc_expansion.specs.Pending.{acts_left, left_if, left_on, steps_if, steps_of_bodies, act_steps}
 use Rattle.proc_renaming.specs.Hidden.{hiding_of}
+use Rattle.proc_renaming.specs.Renaming.{Hiding}
 use Rattle.proc_expansion.specs.Plan.{bodies_of}
 use Rattle.proc_expansion.specs.Extent.{acts_depth}
 use Rattle.proc_renaming.proofs.WrittenLemmas.{failed}
 use Rattle.proc_expansion.proofs.ExitLemmas.{within_more}
-use Rattle.proc_expansion.proofs.WritingLemmas.{block_part, popped, popped_none, fewer_below, fewer, stack_next, front_depth, top_depth}
+use Rattle.proc_expansion.proofs.WritingLemmas.{block_from, block_next, block_end, block_part, popped, popped_none, fewer_below, fewer, stack_next, front_depth, top_depth}
 use Rattle.proc_expansion.proofs.statements.+block.Goals as goal
 
 pub block-statement-requires : goal.block-statement-requires
@@ -24,6 +26,34 @@ block-statement-requires t c =
       block_part known (hiding_of c.args.hidden.now) c.args.stmts.now c.loop-stmt.stmt-index c.stmt-item.result (map act_of c.loop-stmt.written) whole (c.args.depth - 1)
           c.loop-stmt-test.true c.stmt-item.is c.loop-stmt.invariant shallow,
     )
+
+pub block-bodies-requires : goal.block-bodies-requires
+block-bodies-requires t c = (first_of (omega arith, search rules), c.in_ok-body.ensures.shallow)
+
+pub block-loop-stmt-preserved : goal.block-loop-stmt-preserved
+block-loop-stmt-preserved t c =
+    let procs : List Proc = c.args.plan.now.heads.procs.now in
+    let known : List (List ℕ × Callee) = take c.args.count (bodies_of procs) in
+    let h : Hiding = hiding_of c.args.hidden.now in
+    block_next (map act_of c.loop-stmt.written) (map act_of c.statement.new.written) (map act_of c.bodies.new.written) (left_if procs c.in_ok-body.body)
+    (expanded_act known h (act_of c.stmt-item.result)) (expanded_acts known h (acts_of (drop (c.loop-stmt.stmt-index + 1) c.args.stmts.now)))
+    (expanded_acts known h (acts_of (drop c.loop-stmt.stmt-index c.args.stmts.now))) (expanded_acts known h (acts_of c.args.stmts.now))
+    c.in_ok-bodies.ensures c.in_ok-body.ensures.wrote (block_from known h c.args.stmts.now c.loop-stmt.stmt-index c.stmt-item.result c.loop-stmt-test.true c.stmt-item.is) c.loop-stmt.invariant
+
+pub block-returns : goal.block-returns
+block-returns t c =
+    let known : List (List ℕ × Callee) = take c.args.count (bodies_of c.args.plan.now.heads.procs.now) in
+    block_end known (hiding_of c.args.hidden.now) c.args.stmts.now c.loop-stmt.stmt-index (map act_of c.loop-stmt.written)
+    (expanded_acts known (hiding_of c.args.hidden.now) (acts_of c.args.stmts.now)) c.loop-stmt-test.false c.loop-stmt.invariant
+
+pub bodies-loop-pending-init : goal.bodies-loop-pending-init
+bodies-loop-pending-init t c =
+    let procs : List Proc = c.args.plan.now.heads.procs.now in
+    let body : List Act = left_if procs c.args.body in
+    let same : left_on procs c.push_if.new.stack.items ≡ body =
+    c.in_ok-push_if.ensures.left procs ∙ ap (λ (s : List Pending). body ++ left_on procs s) c.new-stack.ensures.items ∙ append-nil body in
+    let P : List Act → Type 0 = λ xs. acts_depth (acts xs) ≤ c.args.depth in
+    record { whole = ap (λ (xs : List Act). map act_of c.args.written.now ++ xs) same; shallow = subst P (sym same) c.requires }
 
 pub bodies-loop-pending-smaller-in_default-split_first : goal.bodies-loop-pending-smaller-in_default-split_first
 bodies-loop-pending-smaller-in_default-split_first t c = fewer_below c.args.plan.now.heads.procs.now c.loop-pending.stack.items c.pop.new.self.items c.in-Some.pending c.in-Some.ensures.items
