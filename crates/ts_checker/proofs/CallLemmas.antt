@@ -1,5 +1,5 @@
 -- A call whose function was found, case by case.
-use Rattle.std.proofs.Common.{◌≡◌, ℕ, suc, ◌==◌, Bool, true, false, List, [], ◌∷◌, length, Result, Ok, Err, refl, ap, sym, ◌∙◌, arith, ◌<◌}
+use Rattle.std.proofs.Common.{◌≡◌, ℕ, suc, ◌==◌, Bool, true, false, List, [], ◌∷◌, length, get_or, Option, Result, Ok, Err, refl, ap, sym, ◌∙◌, arith, ◌<◌, ◌≤◌}
 use Rattle.std.specs.Int.{w16, int_wrap, cast_signed}
 use Rattle.std.specs.Prelude.{pos, ◌%◌}
 use Rattle.std.proofs.lemmas.Bool.{eq-eqb, ne_eqb}
@@ -9,14 +9,14 @@ use Rattle.vm_desc.specs.Limits.{args_of}
 use Rattle.vm_desc.specs.Shapes.{is_send}
 use Rattle.vm_desc.specs.declared.function.FunKind.{FunKind}
 use Rattle.ts_syntax.specs.Expression.{Arguments}
-use Rattle.ts_syntax.specs.Seen.{trees_of}
+use Rattle.ts_syntax.specs.Seen.{tree_of, trees_of}
 use Rattle.ts_syntax.specs.declared.expr.Expr.{Expr}
 use Rattle.ts_syntax.specs.declared.word.Word.{Word}
 use Rattle.ts_scope.specs.declared.fault.CheckFault.{CheckFault}
 use Rattle.ts_scope.specs.declared.fault.CheckFault.TheVariants.{Arity, Kind}
 use Rattle.ts_scope.specs.Refusal.{◌>>=◌}
 use Rattle.ts_scope.specs.Names.{ScriptNames, function}
-use Rattle.ts_checker.specs.Checks.{calls, sends, sent, tree_count, checked_call}
+use Rattle.ts_checker.specs.Checks.{calls, sends, name_alone, sent_name, sent, tree_count, checked_call}
 
 -- a literal of at most 65535, read as a 16-bit number
 pub wrap-literal : (n : ℕ) → n < 65536 → cast_signed w16 n ≡ wrap (pos n)
@@ -32,6 +32,13 @@ pub sent_other : (n : ScriptNames) (place : ℕ) (es : List Expr) → (length es
 sent_other n place [] other = refl
 sent_other n place (e ∷ []) other = absurd (other refl)
 sent_other n place (e ∷ (d ∷ es)) other = refl
+
+-- a call of one argument sends the buffer of the name that it is
+pub sent_one : (n : ScriptNames) (place : ℕ) (es : List Expr) (arg : Expr) (o : Option Word) → 1 ≤ length es → length es < 2 → arg ≡ get_or es 0 arg → o ≡ name_alone (tree_of arg)
+    → sent_name n place o ≡ sent n place (trees_of es)
+sent_one n place [] arg o some few is named = absurd (omega (arith, some))
+sent_one n place (e ∷ []) arg o some few is named = ap (sent_name n place) (named ∙ ap (λ x. name_alone (tree_of x)) is)
+sent_one n place (e ∷ (d ∷ es)) arg o some few is named = absurd (omega (arith, few))
 
 -- the arguments of a function that sends no buffer are counted, and then checked
 pub call_counted : (n : ScriptNames) (allowed : Bool) (w : Word) (es : List Expr) (args : Result Arguments CheckFault) (f : FunId × FunKind)
