@@ -1,11 +1,11 @@
-use Rattle.std.proofs.Common.{rules, ◌≡◌, ◌∙◌, List, map, refl, ap, sym}
+use Rattle.std.proofs.Common.{◌∙◌, List, map, refl, ap, sym}
 use Rattle.std.proofs.lemmas.Result.{err_from_is_err_and}
 use Rattle.ts_syntax.specs.Expression.{Expression, arguments, Shared, Private, Size, MsgSize, SendBuf}
 use Rattle.ts_syntax.specs.TreeOf.{expr_step, args_step, expr_tree, args_trees}
-use Rattle.ts_syntax.specs.declared.checked_expr.CExpr.{the_lemmas}
 use Rattle.ts_syntax.specs.declared.checked_expr.CExpr.TheFolds.{fold-roll-CExpr}
 use Rattle.ts_syntax.specs.declared.checked_expr.CExpr.TheOpen.{CExpr-F}
 use Rattle.ts_syntax.specs.declared.checked_expr.CExpr.TheVariants as expr
+use Rattle.ts_syntax.proofs.ArgsLemmas.{args_seen}
 use Rattle.ts_fold.specs.Folded.{folded_args}
 use Rattle.ts_fold.proofs.LoopLemmas.{args_next, args_end, negation_folds, inverse_folds, operation_folds, call_folds, leaf_stays}
 use Rattle.ts_fold.proofs.expressions.+expression.Goals as goal
@@ -18,9 +18,7 @@ arguments-loop-arg-preserved t c =
 
 pub arguments-returns : goal.arguments-returns
 arguments-returns t c =
-    let seen : args_trees c.args.args.now ≡ map expr_tree c.args.args.now.items.items = search (rules, the_lemmas) in
-    let all : args_trees c.args.args.now ≡ map expr_tree c.as_slice-arg-items.result.now = seen ∙ ap (map expr_tree) (sym c.as_slice-arg-items.ensures.value) in
-    sym (ap (λ (es : List Expression). folded_args (arguments es)) all ∙ c.loop-arg.invariant
+    sym (ap (λ (es : List Expression). folded_args (arguments es)) (args_seen c.args.args.now ∙ ap (map expr_tree) (sym c.as_slice-arg-items.ensures.value)) ∙ c.loop-arg.invariant
     ∙ args_end c.as_slice-arg-items.result.now c.loop-arg.arg-index (args_trees c.loop-arg.folded) c.loop-arg-test.false)
 
 pub arguments-returns-in_err-expression : goal.arguments-returns-in_err-expression

@@ -14,6 +14,7 @@ use Rattle.ts_syntax.specs.declared.checked_stmt.CStmt.TheOpen.{CStmt-F}
 use Rattle.ts_syntax.specs.declared.checked_stmt.CVar.{CVar}
 use Rattle.mate_num.specs.declared.id.BufId.{BufId}
 use Rattle.mate_num.specs.declared.id.FunId.{FunId}
+use Rattle.ts_syntax.proofs.BlockLemmas.{block_seen}
 use Rattle.ts_fold.specs.Folded.{folded_stmt, folded_stmts}
 use Rattle.ts_fold.proofs.LoopLemmas.{stmts_next, stmts_end, decides, if_true, if_false, if_stays, if_else_stays, while_false, for_stays, stays, on_ok}
 use Rattle.ts_fold.proofs.statements.+block.Goals as goal
@@ -26,9 +27,7 @@ statements-loop-stmt-preserved t c =
 
 pub statements-returns : goal.statements-returns
 statements-returns t c =
-    let seen : block_trees c.args.body.now ≡ map stmt_tree c.args.body.now.items.items = search (rules, the_lemmas) in
-    let all : block_trees c.args.body.now ≡ map stmt_tree c.as_slice-stmt-items.result.now = seen ∙ ap (map stmt_tree) (sym c.as_slice-stmt-items.ensures.value) in
-    sym (ap (λ (ss : List Statement). block_trees c.args.into.now ++ folded_stmts (block ss)) all ∙ c.loop-stmt.invariant
+    sym (ap (λ (ss : List Statement). block_trees c.args.into.now ++ folded_stmts (block ss)) (block_seen c.args.body.now ∙ ap (map stmt_tree) (sym c.as_slice-stmt-items.ensures.value)) ∙ c.loop-stmt.invariant
     ∙ stmts_end c.as_slice-stmt-items.result.now c.loop-stmt.stmt-index (block_trees c.loop-stmt.into) c.loop-stmt-test.false)
 
 -- the tree of an `if` with its `else`
