@@ -1,9 +1,10 @@
 -- The numbers of parameters: how many stand before a procedure's, and that all fit.
 use Rattle.std.proofs.Common.{◌≡◌, ℕ, suc, zero, ◌+◌, ◌<◌, ◌≤◌, List, [], ◌∷◌, ◌++◌, length, map, take, drop, get_or, Some, option_map, slice_get, ap, sym, ◌∙◌, arith}
-use Rattle.std.specs.Prelude.{sum_by}
-use Rattle.std.proofs.lemmas.List.{get_or_default, map-append, take_all, drop_all, length-map}
+use Rattle.std.specs.Prelude.{◌^◌, min, sum_by}
+use Rattle.std.proofs.lemmas.List.{get_or_default, map-append, take_all, drop_all, length-map, length-take}
 use Rattle.std.proofs.lemmas.Option.{slice_get-map, slice_get-get_or}
 use Rattle.std.proofs.lemmas.List.Sums.{sum_by-append}
+use Rattle.ts_syntax.specs.declared.expr.Expr.{Expr}
 use Rattle.ts_syntax.specs.declared.procedure.Proc.{Proc}
 use Rattle.ts_syntax.specs.Seen.{procedure_of}
 use Rattle.ts_syntax.proofs.ListLemmas.{drop_item}
@@ -79,3 +80,11 @@ first_at procs i p ns n are within is item =
 
 pub firsts-within : (procs : List Proc) (ns : List ℕ) (i : ℕ) → ns ≡ firsts_of (bodies_of procs) → i < length procs → i < length ns
 firsts-within procs ns i are within = omega (arith, ap length are, length-map (bodies_of procs) (λ (c : List ℕ × Callee). c.1.first), length-declared_in_order callee procs)
+
+-- all parameters of a procedure have numbers, and so have those of them that get an argument
+pub params_fit : (first before n params all : ℕ) → first ≡ before → n ≡ params → before + params ≤ all → all < 2 ^ 32 → first + n ≤ 2 ^ 32
+params_fit first before n params all number same fits few = omega arith
+
+pub args_fit : (first before m k n params all : ℕ) (xs : List Expr) → first ≡ before → n ≡ params → before + params ≤ all → all < 2 ^ 32 → m ≡ min k n
+    → first + length (take m xs) ≤ 2 ^ 32
+args_fit first before m k n params all xs number same fits few least = let taken : length (take m xs) ≡ min m (length xs) = length-take m xs in omega arith

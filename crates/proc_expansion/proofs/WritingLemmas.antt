@@ -143,3 +143,7 @@ called_shallow h w es callee o body called is =
       ap (λ o. acts_depth (acts (body_called h w es o))) called,
       acts_depth-append (assigned h w.place callee.first (first_trees callee.params es)) callee.body,
     )
+
+-- the steps of what is left of a `do` are fewer than those of the `do`
+pub called_steps : (here there body : ℕ) → here ≡ body → there ≡ body → suc here < suc (suc there)
+called_steps here there body is was = omega arith

@@ -1,6 +1,5 @@
-use Rattle.std.proofs.Common.{◌≡◌, ◌≤◌, ◌<◌, ◌+◌, ◌++◌, ◌∙◌, List, [], ℕ, Option, ap, sym, arith, length, map, take, min}
+use Rattle.std.proofs.Common.{◌≡◌, ◌≤◌, ◌<◌, ◌+◌, ◌++◌, ◌∙◌, List, [], ℕ, Option, ap, sym, subst, length, map, take, min}
 use Rattle.std.specs.Prelude.{unwrap_or}
-use Rattle.std.proofs.lemmas.List.{length-take}
 use Rattle.ts_syntax.specs.declared.expr.Expr.{Expr}
 use Rattle.ts_syntax.specs.declared.procedure.Proc.{Proc}
 use Rattle.ts_syntax.specs.declared.stmt.Stmt.{Stmt}
@@ -15,10 +14,10 @@ use Rattle.proc_renaming.specs.Hidden.{hiding_of}
 use Rattle.proc_expansion.specs.Pending.{body_steps, acts_steps, steps_of_bodies}
 use Rattle.proc_expansion.specs.Plan.{bodies_of}
 use Rattle.proc_expansion.proofs.InOrderLemmas.{none_named, one_named}
-use Rattle.proc_expansion.proofs.CalleeLemmas.{count_before, first_at, firsts-within, fits_all}
+use Rattle.proc_expansion.proofs.CalleeLemmas.{count_before, first_at, firsts-within, fits_all, params_fit, args_fit}
 use Rattle.proc_renaming.proofs.WrittenLemmas.{failed}
 use Rattle.proc_expansion.proofs.ExtentLemmas.{extents-within, extents-at, none_counted}
-use Rattle.proc_expansion.proofs.WritingLemmas.{call_written, called_shallow, body_left, hides}
+use Rattle.proc_expansion.proofs.WritingLemmas.{call_written, called_shallow, called_steps, body_left, hides}
 use Rattle.proc_expansion.proofs.calls.call.Goals as goal
 
 pub returns-in_default-clause-wrote : goal.returns-in_default-clause-wrote
@@ -31,7 +30,8 @@ index-first-requires c =
     let h : c.in-Some.place < length c.args.plan.now.firsts.items =
     firsts-within c.args.plan.now.heads.procs.now c.args.plan.now.firsts.items c.in-Some.place c.args.plan.now.numbered c.in-Some.ensures.within in
     let len : c.args.plan.now.firsts.len ≡ length c.args.plan.now.firsts.items = c.args.plan.now.firsts.ok.0 in
-    omega (arith, h, len)
+    let P : ℕ → Type 0 = λ n. c.in-Some.place < n in
+    subst P (sym len) h
 
 pub assignments-requires : goal.assignments-requires
 assignments-requires c =
@@ -41,14 +41,16 @@ assignments-requires c =
     first_at procs c.in-Some.place p c.args.plan.now.firsts.items c.index-first.result.now c.args.plan.now.numbered c.in-Some.ensures.within c.index-plan-place.is c.index-first.ensures in
     let params : length c.as_slice-params.result.now ≡ length p.params = ap length c.as_slice-params.ensures ∙ ap (λ (q : Proc). length q.params) (sym c.index-plan-place.is) in
     let fits : count_before procs c.in-Some.place + length p.params ≤ parameter_count (map procedure_of procs) = fits_all procs c.in-Some.place p c.in-Some.ensures.within c.index-plan-place.is in
-    omega (arith, number, params, fits, c.min.ensures, length-take c.min.result c.as_slice-args.result.now, c.args.plan.now.few)
+    args_fit c.index-first.result.now (count_before procs c.in-Some.place) c.min.result (length c.as_slice-args.result.now) (length c.as_slice-params.result.now) (length p.params)
+    (parameter_count (map procedure_of procs)) c.as_slice-args.result.now number params fits c.args.plan.now.few c.min.ensures
 
 pub index-requires : goal.index-requires
 index-requires c =
     let h : c.in-Some.place < length c.args.plan.now.extents.items =
     extents-within c.args.plan.now.heads.procs.now c.args.plan.now.extents.items c.in-Some.place c.args.plan.now.measured c.in-Some.ensures.within in
     let len : c.args.plan.now.extents.len ≡ length c.args.plan.now.extents.items = c.args.plan.now.extents.ok.0 in
-    omega (arith, h, len)
+    let P : ℕ → Type 0 = λ n. c.in-Some.place < n in
+    subst P (sym len) h
 
 pub returns-then-index-eq0-clause-wrote : goal.returns-then-index-eq0-clause-wrote
 returns-then-index-eq0-clause-wrote c =
@@ -75,7 +77,8 @@ of-requires c =
     first_at procs c.in-Some.place p c.args.plan.now.firsts.items c.index-first.result.now c.args.plan.now.numbered c.in-Some.ensures.within c.index-plan-place.is c.index-first.ensures in
     let params : length c.as_slice-params.result.now ≡ length p.params = ap length c.as_slice-params.ensures ∙ ap (λ (q : Proc). length q.params) (sym c.index-plan-place.is) in
     let fits : count_before procs c.in-Some.place + length p.params ≤ parameter_count (map procedure_of procs) = fits_all procs c.in-Some.place p c.in-Some.ensures.within c.index-plan-place.is in
-    omega (arith, number, params, fits, c.args.plan.now.few)
+    params_fit c.index-first.result.now (count_before procs c.in-Some.place) (length c.as_slice-params.result.now) (length p.params) (parameter_count (map procedure_of procs))
+    number params fits c.args.plan.now.few
 
 pub returns-clause-wrote : goal.returns-clause-wrote
 returns-clause-wrote c =
@@ -105,7 +108,8 @@ returns-clause-steps c =
     (one_named body_steps procs c.args.count c.args.name.now.name c.in-Some.place p c.in-Some.ensures.value c.in-Some.ensures.below c.in-Some.ensures.within c.index-plan-place.is) in
     let here : acts_steps known (acts_of c.as_slice.result.now) ≡ acts_steps known (acts_of p.body) =
     ap (λ (ss : List Stmt). acts_steps known (acts_of ss)) (c.as_slice.ensures ∙ ap (λ (q : Proc). q.body) (sym c.index-plan-place.is)) in
-    omega (arith, there, here)
+    called_steps (acts_steps known (acts_of c.as_slice.result.now)) (unwrap_or (declared_as (take c.args.count (steps_of_bodies procs)) c.args.name.now.name) 0)
+    (acts_steps known (acts_of p.body)) here there
 
 pub returns-clause-shallow : goal.returns-clause-shallow
 returns-clause-shallow c =
