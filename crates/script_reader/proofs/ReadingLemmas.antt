@@ -8,10 +8,6 @@ use Rattle.script_reader.specs.declared.fault.Cause.{Cause}
 use Rattle.script_reader.specs.declared.fault.Cause.TheVariants.{Name}
 use Rattle.script_reader.specs.Words.{handler_from}
 
--- what a comparison of bytes with given ones tells
-pub compared : (bytes given known : List ℕ) (r b : Bool) → given ≡ known → r ≡ bytes_eq bytes given → r ≡ b → bytes_eq bytes known ≡ b
-compared bytes given known r b same is told = ap (bytes_eq bytes) (sym same) ∙ sym is ∙ told
-
 -- ---- the handlers from a number on, one of which is looked at
 
 pub record LooksAt (handlers : List Handler) (k : ℕ) (h : Handler) : Type 0 where

@@ -39,7 +39,7 @@ impl Message {
     pub fn payload(&self) -> Payload
         ensures { result ≡ self.now }
     {
-        let count = usize::from(self.count).min(PAYLOAD_MAX);
+        let count = (self.count as usize).min(PAYLOAD_MAX);
         let Ok(payload) = Payload::try_from(&self.values[..count]) else {
             unreachable!()
         };

@@ -8,7 +8,7 @@ use mate_num::HandlerId;
 pub fn newest_of(newest: &[u32; 8], handler: HandlerId) -> u32
     ensures { result ≡ slice_index newest.now handler.0 }
 {
-    match newest.get(usize::from(handler.0)) {
+    match newest.get(handler.0 as usize) {
         Some(version) => *version,
         None => 0,
     }
@@ -18,7 +18,7 @@ pub fn newest_of(newest: &[u32; 8], handler: HandlerId) -> u32
 pub fn note_newest(newest: &mut [u32; 8], handler: HandlerId, version: u32)
     ensures { newest.new ≡ slice_set newest.old handler.0 version }
 {
-    let place = usize::from(handler.0);
+    let place = handler.0 as usize;
     if place < newest.len() {
         newest[place] = version;
     }

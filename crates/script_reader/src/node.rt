@@ -14,7 +14,7 @@ use crate::lines::Lines;
 use crate::message::Message;
 use crate::newest::{newest_of, note_newest};
 use crate::steps::{Step, Steps};
-use crate::words::Words;
+use crate::words::{Words, spells};
 use std::alloc::Global;
 use vm_desc::Description;
 
@@ -145,13 +145,13 @@ fn behind<'a>(
     ensures value { Reads said_of (behind desc.now newest.now files verb.now) (words_of words.old) result (words_of words.new) }
     ensures right { IfOk result (λ said. IsRightSaid desc.now newest.now files (said_of said)) }
 {
-    if verb == b"install".as_slice() {
+    if spells(verb, "install") {
         install_in(desc, newest, files, words)
-    } else if verb == b"load".as_slice() {
+    } else if spells(verb, "load") {
         load_in(files, words)
-    } else if verb == b"post".as_slice() {
+    } else if spells(verb, "post") {
         post_in(desc, words)
-    } else if verb == b"step".as_slice() {
+    } else if spells(verb, "step") {
         step_in(desc, words)
     } else {
         behind_others(desc, verb, words)
@@ -168,13 +168,13 @@ fn behind_others<'a>(
     ensures value { Reads said_of (behind_others desc.now verb.now) (words_of words.old) result (words_of words.new) }
     ensures right { IfOk result (λ said. (newest : List ℕ) (files : ℕ) → IsRightSaid desc.now newest files (said_of said)) }
 {
-    if verb == b"run".as_slice() {
+    if spells(verb, "run") {
         Ok(alone(Step::Run))
-    } else if verb == b"answer".as_slice() {
+    } else if spells(verb, "answer") {
         answer_in(desc, words)
-    } else if verb == b"show".as_slice() {
+    } else if spells(verb, "show") {
         Ok(alone(Step::Show))
-    } else if verb == b"reset".as_slice() {
+    } else if spells(verb, "reset") {
         Ok(alone(Step::Reset))
     } else {
         Err(Cause::Word)
@@ -201,13 +201,12 @@ fn install_in<'a>(
     let handler = words.handler(desc)?;
     let version = words.version(newest_of(newest, handler))?;
     let file = words.word()?;
-    let step = Step::Install {
-        handler,
-        version,
-        program: files,
-    };
     Ok(Said {
-        step,
+        step: Step::Install {
+            handler,
+            version,
+            program: files,
+        },
         file: Some(file),
     })
 }
@@ -231,11 +230,11 @@ fn post_in<'a>(desc: &Description, words: &mut Words<'a>) -> Result<Said<'a>, Ca
 {
     let handler = words.handler(desc)?;
     let payload = words.payload()?;
-    let step = Step::Post {
-        handler,
-        payload: Message::of(&payload),
-    };
-    Ok(Said { step, file: None })
+    let payload = Message::of(&payload);
+    Ok(Said {
+        step: Step::Post { handler, payload },
+        file: None,
+    })
 }
 
 #[tactic(auto, unfolding(crate::specs::NodeScript::a_step))]
@@ -245,8 +244,10 @@ fn step_in<'a>(desc: &Description, words: &mut Words<'a>) -> Result<Said<'a>, Ca
 {
     let ctx = words.context(desc)?;
     let n = words.number(1, 1_000_000, Cause::Range)?;
-    let step = Step::Step { ctx, n: n as u32 };
-    Ok(Said { step, file: None })
+    Ok(Said {
+        step: Step::Step { ctx, n: n as u32 },
+        file: None,
+    })
 }
 
 #[tactic(auto, unfolding(crate::specs::NodeScript::an_answer))]
@@ -256,6 +257,8 @@ fn answer_in<'a>(desc: &Description, words: &mut Words<'a>) -> Result<Said<'a>, 
 {
     let ctx = words.context(desc)?;
     let value = words.value()?;
-    let step = Step::Answer { ctx, value };
-    Ok(Said { step, file: None })
+    Ok(Said {
+        step: Step::Answer { ctx, value },
+        file: None,
+    })
 }

@@ -3,6 +3,7 @@
 ghost use Rattle.std.specs.Prelude.{◌≡◌, ◌<◌, ◌≤◌, ◌+◌, ◌^◌, ◌∷◌, [], length, true, not, ◌==◌, IfOk, MatchOption, MatchResult, pos, neg_ℤ, Ok, Err};
 ghost use Rattle.std.specs.List.{prefix_len, list_all};
 ghost use Rattle.std.specs.Char.{is_ascii_digit};
+ghost use Rattle.std.specs.Str.{bytes_eq};
 ghost use Rattle.std.specs.Str.Parse.{digits_value};
 ghost use Rattle.vm_desc.specs.Whole.{context_count};
 ghost use Rattle.script_reader.specs.Lines.{is_blank, words_of, is_skipped};
@@ -103,8 +104,10 @@ impl<'a> Words<'a> {
         ensures low { IfOk result (λ n. low ≤ n) }
         ensures high { IfOk result (λ n. n ≤ high) }
     {
-        let word = self.word()?;
-        number_in(word, low, high, outside)
+        match self.word() {
+            Ok(word) => number_in(word, low, high, outside),
+            Err(cause) => Err(cause),
+        }
     }
 
     /// A value of a script.
@@ -112,8 +115,10 @@ impl<'a> Words<'a> {
     pub fn value(&mut self) -> Result<i16, Cause>
         ensures { Reads (λ v. v) a_value (words_of self.old) result (words_of self.new) }
     {
-        let word = self.word()?;
-        value_in(word)
+        match self.word() {
+            Ok(word) => value_in(word),
+            Err(cause) => Err(cause),
+        }
     }
 
     /// The values of the words that are left, but of no more than ten.
@@ -135,8 +140,10 @@ impl<'a> Words<'a> {
         ensures value { Reads (λ h. h) (a_handler desc.now) (words_of self.old) result (words_of self.new) }
         ensures below { IfOk result (λ h. h.0 < length desc.now.handlers.items) }
     {
-        let word = self.plain()?;
-        handler_of(desc, word)
+        match self.plain() {
+            Ok(word) => handler_of(desc, word),
+            Err(cause) => Err(cause),
+        }
     }
 
     /// A version that is newer than `newest`.
@@ -147,8 +154,10 @@ impl<'a> Words<'a> {
         ensures high { IfOk result (λ v. v ≤ 4294967295) }
         ensures newer { IfOk result (λ v. newest < v) }
     {
-        let version = self.number(1, 4_294_967_295, Cause::Range)?;
-        newer(newest, version as u32)
+        match self.number(1, 4_294_967_295, Cause::Range) {
+            Ok(version) => newer(newest, version as u32),
+            Err(cause) => Err(cause),
+        }
     }
 
     /// The number of a context of the machine.
@@ -157,10 +166,17 @@ impl<'a> Words<'a> {
         ensures value { Reads (λ c. c) (a_context desc.now) (words_of self.old) result (words_of self.new) }
         ensures below { IfOk result (λ c. c.0 < context_count desc.now) }
     {
-        let last = u64::from(desc.contexts() - 1);
+        let last = (desc.contexts() - 1) as u64;
         let context = self.number(0, last, Cause::Range)?;
         Ok(ContextId(context as u8))
     }
+}
+
+/// Whether the bytes are those of the text.
+pub(crate) fn spells(bytes: &[u8], text: &str) -> bool
+    ensures { result ≡ bytes_eq bytes.now text.now }
+{
+    bytes == text.as_bytes()
 }
 
 // A space or a tab.
