@@ -5,7 +5,7 @@ use Rattle.std.specs.List.{list_any}
 use Rattle.std.proofs.lemmas.Bool.{eqb-true, eq-eqb, ne_eqb, ltb-true, lt-ltb, cases_Bool, and_parts}
 use Rattle.std.proofs.lemmas.List.{take_all}
 use Rattle.std.proofs.lemmas.List.Folds.{list_any_more}
-use Rattle.std.proofs.lemmas.Option.{slice_get-map, slice_get-get_or}
+use Rattle.std.proofs.lemmas.Option.{slice_get-map, slice_get-get_or, slice_get_past}
 use Rattle.std.specs.Option.{IfSome, option_map}
 use Rattle.mate_num.specs.declared.id.BufId.{BufId}
 use Rattle.mate_num.specs.declared.id.DeviceId.{DeviceId}
@@ -163,12 +163,12 @@ below_eight devices None few h = tt
 below_eight devices (Some d) few h = let k : d.0 < devices = ltb-true d.0 devices h in omega arith
 
 -- a description's function has its device, which is one of 8
-pub device-some : (d : Description) (functions : List Function) (n : ℕ) (fun : FunId) (f : Function) → functions ≡ d.functions.items → n ≡ fun.0 → n < length functions → f ≡ get_or functions n f
+pub device-some : (d : Description) (functions : List Function) (fun : FunId) (f : Function) → functions ≡ d.functions.items → fun.0 < length functions → f ≡ get_or functions fun.0 f
     → (f.device ≡ device_in (function_shape (shape_of d) fun)) × IfSome f.device (λ device. device.0 < 8)
-device-some d functions n fun f same at lt is =
+device-some d functions fun f same lt is =
     let fs = d.functions.items in
     let lt' : fun.0 < length fs = (let k : length functions ≡ length fs = ap length same in omega arith) in
-    let is' : f ≡ get_or fs fun.0 f = is ∙ ap (λ (xs : List Function). get_or xs n f) same ∙ ap (λ (k : ℕ). get_or fs k f) at in
+    let is' : f ≡ get_or fs fun.0 f = is ∙ ap (λ (xs : List Function). get_or xs fun.0 f) same in
     let found : function_shape (shape_of d) fun ≡ Some (fun_shape (get_or fs fun.0 f)) =
     slice_get-map fun_shape fs fun.0 ∙ ap (option_map fun_shape) (slice_get-get_or fs fun.0 f lt') in
     let rules : is_function (length d.devices.items) f ≡ true = ap (is_function (length d.devices.items)) is' ∙ function_at d fun.0 f lt' in
@@ -176,6 +176,14 @@ device-some d functions n fun f same at lt is =
       ap (λ (g : Function). g.device) is' ∙ sym (ap device_in found),
       below_eight (length d.devices.items) f.device (bounds_of d).devices_high there,
     )
+
+-- a function that a description doesn't have has none
+pub device-none : (d : Description) (functions : List Function) (fun : FunId) → functions ≡ d.functions.items → length functions ≤ fun.0 → None ≡ device_in (function_shape (shape_of d) fun)
+device-none d functions fun same past =
+    let fs = d.functions.items in
+    let past' : length fs ≤ fun.0 = (let k : length functions ≡ length fs = ap length same in omega arith) in
+    let none : function_shape (shape_of d) fun ≡ None = slice_get-map fun_shape fs fun.0 ∙ ap (option_map fun_shape) (slice_get_past fs fun.0 past') in
+    sym (ap device_in none)
 
 -- ---- the loop over them
 

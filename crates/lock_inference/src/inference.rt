@@ -56,7 +56,7 @@ fn device_of(desc: &Description, fun: FunId) -> Option<DeviceId>
     ensures value { result ≡ device_in (function_shape (shape_of desc.now) fun) }
     ensures below { IfSome result (λ device. device.0 < 8) }
 {
-    match desc.functions.get(usize::from(fun.0)) {
+    match desc.functions.get(fun.0 as usize) {
         Some(function) => function.device,
         None => None,
     }
