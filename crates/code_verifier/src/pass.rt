@@ -51,9 +51,9 @@ fn check_instr(
     requires marks { length marks.old ≡ CODE_MAX + 1 }
     ensures { CheckGives shape.now code.now place instr (marks_in marks.old) result (marks_in marks.new) }
 {
-    let at = u32::from(place);
+    let at = place as u32;
     let flow = instr.flow();
-    if matches!(marks[usize::from(place)], Mark::Clash) {
+    if matches!(marks[place as usize], Mark::Clash) {
         return Err(VerifyFault::DepthDiffers { place: at });
     }
     if !instr.is_in_range(shape) {
@@ -65,20 +65,20 @@ fn check_instr(
     if !has_direction(place, flow) {
         return Err(VerifyFault::BackJump { place: at });
     }
-    let before = depth(marks, usize::from(place));
+    let before = depth(marks, place as usize);
     let taken = instr.pops(shape);
     if before < taken {
         return Err(VerifyFault::Underflow { place: at });
     }
-    let after = u16::from(before - taken) + u16::from(instr.pushes());
-    if usize::from(after) > STACK_MAX {
+    let after = (before - taken) as u16 + instr.pushes() as u16;
+    if after as usize > STACK_MAX {
         return Err(VerifyFault::Overflow { place: at });
     }
     let after = after as u8;
     if !has_back_depth(marks, after, flow) {
         return Err(VerifyFault::DepthDiffers { place: at });
     }
-    give_on(marks, flow, usize::from(place) + instr.size(), after);
+    give_on(marks, flow, place as usize + instr.size(), after);
     Ok(())
 }
 
@@ -112,7 +112,7 @@ fn has_back_depth(marks: &[Mark], after: u8, flow: Flow) -> bool
 {
     match flow {
         Flow::Next | Flow::Ends | Flow::Branches(_) | Flow::Jumps(_) => true,
-        Flow::Returns(target) => depth(marks, usize::from(target)) == after,
+        Flow::Returns(target) => depth(marks, target as usize) == after,
     }
 }
 
@@ -126,10 +126,10 @@ fn give_on(marks: &mut [Mark], flow: Flow, next: usize, after: u8)
     match flow {
         Flow::Next => give(marks, next, after),
         Flow::Branches(target) => {
-            give(marks, usize::from(target), after);
+            give(marks, target as usize, after);
             give(marks, next, after);
         }
-        Flow::Jumps(target) => give(marks, usize::from(target), after),
+        Flow::Jumps(target) => give(marks, target as usize, after),
         Flow::Ends | Flow::Returns(_) => {}
     }
 }

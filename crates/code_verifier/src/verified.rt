@@ -57,7 +57,7 @@ impl Verified {
         requires { IsTrue (is_start self.now.code place) }
         ensures value { fetch self.now.code place ≡ Some result }
     {
-        *self.at(usize::from(place))
+        *self.at(place as usize)
     }
 
     /// The instruction that starts at the place, as it stands in the code.
