@@ -61,7 +61,7 @@ fn read_instr<'a>(
         (λ read. instr_at table.now place opcode bytes.now ≡ Ok (read.0, read.1.now))
         (λ fault. instr_at table.now place opcode bytes.now ≡ Err fault) }
 {
-    let place = u32::from(place);
+    let place = place as u32;
     let Some(kind) = table.kind(opcode) else {
         return Err(DecodeFault::BadOpcode { place });
     };
@@ -81,7 +81,7 @@ fn read_operand(form: OperandForm, bytes: &[u8]) -> u16
 {
     match form {
         OperandForm::Absent => 0,
-        OperandForm::Byte => u16::from(bytes[0]),
+        OperandForm::Byte => bytes[0] as u16,
         OperandForm::Word => u16::from_be_bytes([bytes[0], bytes[1]]),
         OperandForm::SignedWord => u16::from_be_bytes([bytes[0], bytes[1]]),
     }

@@ -74,10 +74,10 @@ impl Instr {
         let number = self.operand();
         match self.kind().row().access {
             Access::Nothing | Access::Calls(_) => true,
-            Access::Private => usize::from(number) < PRIVATES,
-            Access::GetsVariable | Access::SetsVariable => number < u16::from(shape.shared),
+            Access::Private => (number as usize) < PRIVATES,
+            Access::GetsVariable | Access::SetsVariable => number < shape.shared as u16,
             Access::GetsBuffer | Access::SetsBuffer | Access::Sends(_) => {
-                number < u16::from(shape.buffers)
+                number < shape.buffers as u16
             }
         }
     }
@@ -87,7 +87,7 @@ impl Instr {
 pub fn args(shape: &Shape, fun: FunId) -> u8
     ensures { result ≡ args_of shape.now fun }
 {
-    match shape.functions.get(usize::from(fun.0)) {
+    match shape.functions.get(fun.0 as usize) {
         Some(function) => function.args,
         None => 0,
     }

@@ -89,7 +89,7 @@ pub struct Row {
 
 impl Kind {
     /// The kind's row. The columns are those of `Row`, in their order: the opcode, the name, what stands after the opcode,
-    /// how many values it pops and pushes, where a run goes on, and what it names. A row by `plain` or `of_buffer` leaves out
+    /// how many values it pops and pushes, where a run goes on, and what it names. A row by `plain` or `of_byte` leaves out
     /// the columns that all of its sort share.
     pub fn row(self) -> Row
         ensures { row_in result ≡ row_of self }
@@ -97,11 +97,11 @@ impl Kind {
         match self {
             Kind::Halt => columns(Base(0x00), "HALT", Absent, Values(0), 0, Ends, Nothing),
             Kind::PushW => columns(Base(0x01), "PUSHW", SignedWord, Values(0), 1, Next, Nothing),
-            Kind::PushB => columns(Base(0x02), "PUSHB", Byte, Values(0), 1, Next, Nothing),
-            Kind::GetS => columns(Base(0x03), "GETS", Byte, Values(0), 1, Next, GetsVariable),
-            Kind::SetS => columns(Base(0x04), "SETS", Byte, Values(1), 0, Next, SetsVariable),
-            Kind::GetP => columns(Base(0x05), "GETP", Byte, Values(0), 1, Next, Private),
-            Kind::SetP => columns(Base(0x06), "SETP", Byte, Values(1), 0, Next, Private),
+            Kind::PushB => of_byte(Base(0x02), "PUSHB", 0, 1, Nothing),
+            Kind::GetS => of_byte(Base(0x03), "GETS", 0, 1, GetsVariable),
+            Kind::SetS => of_byte(Base(0x04), "SETS", 1, 0, SetsVariable),
+            Kind::GetP => of_byte(Base(0x05), "GETP", 0, 1, Private),
+            Kind::SetP => of_byte(Base(0x06), "SETP", 1, 0, Private),
             Kind::Add => plain(0x07, "ADD", 2, 1),
             Kind::Sub => plain(0x08, "SUB", 2, 1),
             Kind::Mul => plain(0x09, "MUL", 2, 1),
@@ -123,14 +123,14 @@ impl Kind {
             Kind::Drop => plain(0x19, "DROP", 1, 0),
             Kind::MsgGet => plain(0x1a, "MSGGET", 1, 1),
             Kind::MsgSize => plain(0x1b, "MSGSIZE", 0, 1),
-            Kind::BGet => of_buffer(0x1c, "BGET", 1, 1, GetsBuffer),
-            Kind::BSet => of_buffer(0x1d, "BSET", 2, 0, SetsBuffer),
-            Kind::BAdd => of_buffer(0x1e, "BADD", 1, 0, SetsBuffer),
-            Kind::BTake => of_buffer(0x1f, "BTAKE", 0, 1, SetsBuffer),
-            Kind::BSize => of_buffer(0x20, "BSIZE", 0, 1, GetsBuffer),
-            Kind::BClear => of_buffer(0x21, "BCLEAR", 0, 0, SetsBuffer),
+            Kind::BGet => of_byte(Group(0x1c), "BGET", 1, 1, GetsBuffer),
+            Kind::BSet => of_byte(Group(0x1d), "BSET", 2, 0, SetsBuffer),
+            Kind::BAdd => of_byte(Group(0x1e), "BADD", 1, 0, SetsBuffer),
+            Kind::BTake => of_byte(Group(0x1f), "BTAKE", 0, 1, SetsBuffer),
+            Kind::BSize => of_byte(Group(0x20), "BSIZE", 0, 1, GetsBuffer),
+            Kind::BClear => of_byte(Group(0x21), "BCLEAR", 0, 0, SetsBuffer),
             Kind::Fun(f) => columns(Function(f, false), "", Absent, Args(f), 1, Next, Calls(f)),
-            Kind::FunBuf(f) => columns(Function(f, true), "", Byte, Values(0), 1, Next, Sends(f)),
+            Kind::FunBuf(f) => of_byte(Function(f, true), "", 0, 1, Sends(f)),
         }
     }
 }
@@ -150,19 +150,11 @@ fn plain(opcode: u8, name: &'static str, pops: u8, pushes: u8) -> Row
     )
 }
 
-// The row of a kind whose operand is a buffer.
-fn of_buffer(opcode: u8, name: &'static str, pops: u8, pushes: u8, access: Access) -> Row
-    ensures { row_in result ≡ columns (Opcode.Group opcode) name.now OperandForm.Byte (Pops.Values pops) pushes Way.Next access }
+// The row of a kind with an operand of a byte, which goes on at the next place.
+fn of_byte(opcode: Opcode, name: &'static str, pops: u8, pushes: u8, access: Access) -> Row
+    ensures { row_in result ≡ columns opcode name.now OperandForm.Byte (Pops.Values pops) pushes Way.Next access }
 {
-    columns(
-        Group(opcode),
-        name,
-        Byte,
-        Values(pops),
-        pushes,
-        Next,
-        access,
-    )
+    columns(opcode, name, Byte, Values(pops), pushes, Next, access)
 }
 
 // The row of these columns.

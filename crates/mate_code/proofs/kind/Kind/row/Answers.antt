@@ -9,19 +9,19 @@ pub returns-in-PushW : goal.returns-in-PushW
 returns-in-PushW c = c.columns-in-PushW.ensures ∙ ap row_of (sym c.in-PushW.is)
 
 pub returns-in-PushB : goal.returns-in-PushB
-returns-in-PushB c = c.columns-in-PushB.ensures ∙ ap row_of (sym c.in-PushB.is)
+returns-in-PushB c = c.of_byte.ensures ∙ ap row_of (sym c.in-PushB.is)
 
 pub returns-in-GetS : goal.returns-in-GetS
-returns-in-GetS c = c.columns-in-GetS.ensures ∙ ap row_of (sym c.in-GetS.is)
+returns-in-GetS c = c.of_byte-in-GetS.ensures ∙ ap row_of (sym c.in-GetS.is)
 
 pub returns-in-SetS : goal.returns-in-SetS
-returns-in-SetS c = c.columns-in-SetS.ensures ∙ ap row_of (sym c.in-SetS.is)
+returns-in-SetS c = c.of_byte-in-SetS.ensures ∙ ap row_of (sym c.in-SetS.is)
 
 pub returns-in-GetP : goal.returns-in-GetP
-returns-in-GetP c = c.columns-in-GetP.ensures ∙ ap row_of (sym c.in-GetP.is)
+returns-in-GetP c = c.of_byte-in-GetP.ensures ∙ ap row_of (sym c.in-GetP.is)
 
 pub returns-in-SetP : goal.returns-in-SetP
-returns-in-SetP c = c.columns-in-SetP.ensures ∙ ap row_of (sym c.in-SetP.is)
+returns-in-SetP c = c.of_byte-in-SetP.ensures ∙ ap row_of (sym c.in-SetP.is)
 
 pub returns-in-Add : goal.returns-in-Add
 returns-in-Add c = c.plain.ensures ∙ ap row_of (sym c.in-Add.is)
@@ -87,25 +87,25 @@ pub returns-in-MsgSize : goal.returns-in-MsgSize
 returns-in-MsgSize c = c.plain-in-MsgSize.ensures ∙ ap row_of (sym c.in-MsgSize.is)
 
 pub returns-in-BGet : goal.returns-in-BGet
-returns-in-BGet c = c.of_buffer.ensures ∙ ap row_of (sym c.in-BGet.is)
+returns-in-BGet c = c.of_byte-in-BGet.ensures ∙ ap row_of (sym c.in-BGet.is)
 
 pub returns-in-BSet : goal.returns-in-BSet
-returns-in-BSet c = c.of_buffer-in-BSet.ensures ∙ ap row_of (sym c.in-BSet.is)
+returns-in-BSet c = c.of_byte-in-BSet.ensures ∙ ap row_of (sym c.in-BSet.is)
 
 pub returns-in-BAdd : goal.returns-in-BAdd
-returns-in-BAdd c = c.of_buffer-in-BAdd.ensures ∙ ap row_of (sym c.in-BAdd.is)
+returns-in-BAdd c = c.of_byte-in-BAdd.ensures ∙ ap row_of (sym c.in-BAdd.is)
 
 pub returns-in-BTake : goal.returns-in-BTake
-returns-in-BTake c = c.of_buffer-in-BTake.ensures ∙ ap row_of (sym c.in-BTake.is)
+returns-in-BTake c = c.of_byte-in-BTake.ensures ∙ ap row_of (sym c.in-BTake.is)
 
 pub returns-in-BSize : goal.returns-in-BSize
-returns-in-BSize c = c.of_buffer-in-BSize.ensures ∙ ap row_of (sym c.in-BSize.is)
+returns-in-BSize c = c.of_byte-in-BSize.ensures ∙ ap row_of (sym c.in-BSize.is)
 
 pub returns-in-BClear : goal.returns-in-BClear
-returns-in-BClear c = c.of_buffer-in-BClear.ensures ∙ ap row_of (sym c.in-BClear.is)
+returns-in-BClear c = c.of_byte-in-BClear.ensures ∙ ap row_of (sym c.in-BClear.is)
 
 pub returns-in-Fun : goal.returns-in-Fun
 returns-in-Fun c = c.columns-in-Fun.ensures ∙ ap row_of (sym c.in-Fun.is)
 
 pub returns-in-FunBuf : goal.returns-in-FunBuf
-returns-in-FunBuf c = c.columns-in-FunBuf.ensures ∙ ap row_of (sym c.in-FunBuf.is)
+returns-in-FunBuf c = c.of_byte-in-FunBuf.ensures ∙ ap row_of (sym c.in-FunBuf.is)
