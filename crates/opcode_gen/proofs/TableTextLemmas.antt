@@ -23,7 +23,8 @@ enumerated kinds n k d within e =
     let at : 0 + n ≡ n = omega arith in
     ap (λ (x : Kind). (n, x)) e ∙ ap (λ (m : ℕ). (m, get_or kinds n d)) (sym at) ∙ sym (get_or-enumerate_from 0 kinds n (0, d) within)
 
-length-names_of : (desc : Description) → length (names_of_functions desc) ≡ length (table_of (shape_of desc)).sends
+-- a function has a name
+pub length-names_of : (desc : Description) → length (names_of_functions desc) ≡ length (table_of (shape_of desc)).sends
 length-names_of desc = length-map desc.functions.items (λ f. f.name) ∙ sym (length-map desc.functions.items fun_shape) ∙ sym (length-map (map fun_shape desc.functions.items) (λ f. f.send))
 
 -- the kind at an opcode has a name
