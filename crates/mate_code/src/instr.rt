@@ -138,42 +138,18 @@ impl Instr {
         ensures whole { instr_of (kind_of self) result ≡ self }
     {
         match self {
-            Instr::Halt => 0,
             Instr::PushW(value) => value.cast_unsigned(),
-            Instr::PushB(value) => value as u16,
-            Instr::GetS(variable) => variable.0 as u16,
-            Instr::SetS(variable) => variable.0 as u16,
-            Instr::GetP(private) => private as u16,
-            Instr::SetP(private) => private as u16,
-            Instr::Add => 0,
-            Instr::Sub => 0,
-            Instr::Mul => 0,
-            Instr::Div => 0,
-            Instr::Mod => 0,
-            Instr::Neg => 0,
-            Instr::Not => 0,
-            Instr::And => 0,
-            Instr::Or => 0,
-            Instr::Eq => 0,
-            Instr::Ne => 0,
-            Instr::Lt => 0,
-            Instr::Gt => 0,
-            Instr::Le => 0,
-            Instr::Ge => 0,
-            Instr::Jz(place) => place,
-            Instr::Jmp(place) => place,
-            Instr::Back(place) => place,
-            Instr::Drop => 0,
-            Instr::MsgGet => 0,
-            Instr::MsgSize => 0,
-            Instr::BGet(buffer) => buffer.0 as u16,
-            Instr::BSet(buffer) => buffer.0 as u16,
-            Instr::BAdd(buffer) => buffer.0 as u16,
-            Instr::BTake(buffer) => buffer.0 as u16,
-            Instr::BSize(buffer) => buffer.0 as u16,
-            Instr::BClear(buffer) => buffer.0 as u16,
-            Instr::Fun(_) => 0,
-            Instr::FunBuf(_, buffer) => buffer.0 as u16,
+            Instr::PushB(byte) | Instr::GetP(byte) | Instr::SetP(byte) => byte as u16,
+            Instr::GetS(variable) | Instr::SetS(variable) => variable.0 as u16,
+            Instr::Jz(place) | Instr::Jmp(place) | Instr::Back(place) => place,
+            Instr::BGet(buffer)
+            | Instr::BSet(buffer)
+            | Instr::BAdd(buffer)
+            | Instr::BTake(buffer)
+            | Instr::BSize(buffer)
+            | Instr::BClear(buffer)
+            | Instr::FunBuf(_, buffer) => buffer.0 as u16,
+            _ => 0,
         }
     }
 

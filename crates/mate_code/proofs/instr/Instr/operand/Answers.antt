@@ -1,6 +1,9 @@
-use Rattle.std.proofs.Common.{◌≡◌, ℕ, refl, sym, subst}
+use Rattle.std.proofs.Common.{◌≡◌, ◌≢◌, ℕ, ℤ, refl}
+use Rattle.mate_num.specs.declared.id.BufId.{BufId}
+use Rattle.mate_num.specs.declared.id.FunId.{FunId}
+use Rattle.mate_num.specs.declared.id.VarId.{VarId}
 use Rattle.mate_code.specs.declared.instr.Instr.{Instr}
-use Rattle.mate_code.specs.declared.instr.Instr.TheVariants.{Halt, Add, Sub, Mul, Div, Mod, Neg, Not, And, Or, Eq, Ne, Lt, Gt, Le, Ge, Drop, MsgGet, MsgSize, Fun}
+use Rattle.mate_code.specs.declared.instr.Instr.TheVariants.{PushW, PushB, GetP, SetP, GetS, SetS, Jz, Jmp, Back, BGet, BSet, BAdd, BTake, BSize, BClear, FunBuf}
 use Rattle.mate_code.specs.Kind.{form_of}
 use Rattle.mate_code.specs.Instr.{kind_of, operand_of, instr_of, FitsForm}
 use Rattle.mate_code.proofs.instr.Instr.operand.Goals as goal
@@ -11,106 +14,62 @@ record IsOperand (i : Instr) (n : ℕ) : Type 0 where
   fits : FitsForm (form_of (kind_of i)) n
   whole : instr_of (kind_of i) n ≡ i
 
--- the operand of an instruction that has none
-absent : (i j : Instr) → i ≡ j → IsOperand j 0 → IsOperand i 0
-absent i j is = subst (λ (k : Instr). IsOperand k 0) (sym is)
+-- an instruction that has no operand
+record HasNone (i : Instr) : Type 0 where
+  no_pushw : (operand : ℤ) → i ≢ PushW operand
+  no_pushb : (operand : ℕ) → i ≢ PushB operand
+  no_getp : (operand : ℕ) → i ≢ GetP operand
+  no_setp : (operand : ℕ) → i ≢ SetP operand
+  no_gets : (operand : VarId) → i ≢ GetS operand
+  no_sets : (operand : VarId) → i ≢ SetS operand
+  no_jz : (operand : ℕ) → i ≢ Jz operand
+  no_jmp : (operand : ℕ) → i ≢ Jmp operand
+  no_back : (operand : ℕ) → i ≢ Back operand
+  no_bget : (operand : BufId) → i ≢ BGet operand
+  no_bset : (operand : BufId) → i ≢ BSet operand
+  no_badd : (operand : BufId) → i ≢ BAdd operand
+  no_btake : (operand : BufId) → i ≢ BTake operand
+  no_bsize : (operand : BufId) → i ≢ BSize operand
+  no_bclear : (operand : BufId) → i ≢ BClear operand
+  no_funbuf : (f : FunId) (buffer : BufId) → i ≢ FunBuf f buffer
 
-pub returns-in-Halt : goal.returns-in-Halt
-returns-in-Halt c =
-    let o = absent c.args.self Halt c.in-Halt.is record { value = refl; fits = refl; whole = refl } in
-    record { value = o.value; fits = o.fits; whole = o.whole }
+absent : (i : Instr) → HasNone i → IsOperand i 0
+absent (PushW operand) none = absurd (none.no_pushw operand refl)
+absent (PushB operand) none = absurd (none.no_pushb operand refl)
+absent (GetP operand) none = absurd (none.no_getp operand refl)
+absent (SetP operand) none = absurd (none.no_setp operand refl)
+absent (GetS operand) none = absurd (none.no_gets operand refl)
+absent (SetS operand) none = absurd (none.no_sets operand refl)
+absent (Jz operand) none = absurd (none.no_jz operand refl)
+absent (Jmp operand) none = absurd (none.no_jmp operand refl)
+absent (Back operand) none = absurd (none.no_back operand refl)
+absent (BGet operand) none = absurd (none.no_bget operand refl)
+absent (BSet operand) none = absurd (none.no_bset operand refl)
+absent (BAdd operand) none = absurd (none.no_badd operand refl)
+absent (BTake operand) none = absurd (none.no_btake operand refl)
+absent (BSize operand) none = absurd (none.no_bsize operand refl)
+absent (BClear operand) none = absurd (none.no_bclear operand refl)
+absent (FunBuf f buffer) none = absurd (none.no_funbuf f buffer refl)
+absent _ none = record { value = refl; fits = refl; whole = refl }
 
-pub returns-in-Add : goal.returns-in-Add
-returns-in-Add c =
-    let o = absent c.args.self Add c.in-Add.is record { value = refl; fits = refl; whole = refl } in
-    record { value = o.value; fits = o.fits; whole = o.whole }
-
-pub returns-in-Sub : goal.returns-in-Sub
-returns-in-Sub c =
-    let o = absent c.args.self Sub c.in-Sub.is record { value = refl; fits = refl; whole = refl } in
-    record { value = o.value; fits = o.fits; whole = o.whole }
-
-pub returns-in-Mul : goal.returns-in-Mul
-returns-in-Mul c =
-    let o = absent c.args.self Mul c.in-Mul.is record { value = refl; fits = refl; whole = refl } in
-    record { value = o.value; fits = o.fits; whole = o.whole }
-
-pub returns-in-Div : goal.returns-in-Div
-returns-in-Div c =
-    let o = absent c.args.self Div c.in-Div.is record { value = refl; fits = refl; whole = refl } in
-    record { value = o.value; fits = o.fits; whole = o.whole }
-
-pub returns-in-Mod : goal.returns-in-Mod
-returns-in-Mod c =
-    let o = absent c.args.self Mod c.in-Mod.is record { value = refl; fits = refl; whole = refl } in
-    record { value = o.value; fits = o.fits; whole = o.whole }
-
-pub returns-in-Neg : goal.returns-in-Neg
-returns-in-Neg c =
-    let o = absent c.args.self Neg c.in-Neg.is record { value = refl; fits = refl; whole = refl } in
-    record { value = o.value; fits = o.fits; whole = o.whole }
-
-pub returns-in-Not : goal.returns-in-Not
-returns-in-Not c =
-    let o = absent c.args.self Not c.in-Not.is record { value = refl; fits = refl; whole = refl } in
-    record { value = o.value; fits = o.fits; whole = o.whole }
-
-pub returns-in-And : goal.returns-in-And
-returns-in-And c =
-    let o = absent c.args.self And c.in-And.is record { value = refl; fits = refl; whole = refl } in
-    record { value = o.value; fits = o.fits; whole = o.whole }
-
-pub returns-in-Or : goal.returns-in-Or
-returns-in-Or c =
-    let o = absent c.args.self Or c.in-Or.is record { value = refl; fits = refl; whole = refl } in
-    record { value = o.value; fits = o.fits; whole = o.whole }
-
-pub returns-in-Eq : goal.returns-in-Eq
-returns-in-Eq c =
-    let o = absent c.args.self Eq c.in-Eq.is record { value = refl; fits = refl; whole = refl } in
-    record { value = o.value; fits = o.fits; whole = o.whole }
-
-pub returns-in-Ne : goal.returns-in-Ne
-returns-in-Ne c =
-    let o = absent c.args.self Ne c.in-Ne.is record { value = refl; fits = refl; whole = refl } in
-    record { value = o.value; fits = o.fits; whole = o.whole }
-
-pub returns-in-Lt : goal.returns-in-Lt
-returns-in-Lt c =
-    let o = absent c.args.self Lt c.in-Lt.is record { value = refl; fits = refl; whole = refl } in
-    record { value = o.value; fits = o.fits; whole = o.whole }
-
-pub returns-in-Gt : goal.returns-in-Gt
-returns-in-Gt c =
-    let o = absent c.args.self Gt c.in-Gt.is record { value = refl; fits = refl; whole = refl } in
-    record { value = o.value; fits = o.fits; whole = o.whole }
-
-pub returns-in-Le : goal.returns-in-Le
-returns-in-Le c =
-    let o = absent c.args.self Le c.in-Le.is record { value = refl; fits = refl; whole = refl } in
-    record { value = o.value; fits = o.fits; whole = o.whole }
-
-pub returns-in-Ge : goal.returns-in-Ge
-returns-in-Ge c =
-    let o = absent c.args.self Ge c.in-Ge.is record { value = refl; fits = refl; whole = refl } in
-    record { value = o.value; fits = o.fits; whole = o.whole }
-
-pub returns-in-Drop : goal.returns-in-Drop
-returns-in-Drop c =
-    let o = absent c.args.self Drop c.in-Drop.is record { value = refl; fits = refl; whole = refl } in
-    record { value = o.value; fits = o.fits; whole = o.whole }
-
-pub returns-in-MsgGet : goal.returns-in-MsgGet
-returns-in-MsgGet c =
-    let o = absent c.args.self MsgGet c.in-MsgGet.is record { value = refl; fits = refl; whole = refl } in
-    record { value = o.value; fits = o.fits; whole = o.whole }
-
-pub returns-in-MsgSize : goal.returns-in-MsgSize
-returns-in-MsgSize c =
-    let o = absent c.args.self MsgSize c.in-MsgSize.is record { value = refl; fits = refl; whole = refl } in
-    record { value = o.value; fits = o.fits; whole = o.whole }
-
-pub returns-in-Fun : goal.returns-in-Fun
-returns-in-Fun c =
-    let o = absent c.args.self (Fun c.in-Fun.field-0) c.in-Fun.is record { value = refl; fits = refl; whole = refl } in
+pub returns-in_default : goal.returns-in_default
+returns-in_default c =
+    let o = absent c.args.self record {
+      no_pushw = c.in_default.not-PushW;
+      no_pushb = c.in_default.not-PushB;
+      no_getp = c.in_default.not-GetP;
+      no_setp = c.in_default.not-SetP;
+      no_gets = c.in_default.not-GetS;
+      no_sets = c.in_default.not-SetS;
+      no_jz = c.in_default.not-Jz;
+      no_jmp = c.in_default.not-Jmp;
+      no_back = c.in_default.not-Back;
+      no_bget = c.in_default.not-BGet;
+      no_bset = c.in_default.not-BSet;
+      no_badd = c.in_default.not-BAdd;
+      no_btake = c.in_default.not-BTake;
+      no_bsize = c.in_default.not-BSize;
+      no_bclear = c.in_default.not-BClear;
+      no_funbuf = c.in_default.not-FunBuf;
+    } in
     record { value = o.value; fits = o.fits; whole = o.whole }
