@@ -82,7 +82,6 @@ fn read_operand(form: OperandForm, bytes: &[u8]) -> u16
     match form {
         OperandForm::Absent => 0,
         OperandForm::Byte => bytes[0] as u16,
-        OperandForm::Word => u16::from_be_bytes([bytes[0], bytes[1]]),
-        OperandForm::SignedWord => u16::from_be_bytes([bytes[0], bytes[1]]),
+        OperandForm::Word | OperandForm::SignedWord => u16::from_be_bytes([bytes[0], bytes[1]]),
     }
 }

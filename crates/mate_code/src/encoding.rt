@@ -69,8 +69,7 @@ fn put_operand(code: &mut Code, form: OperandForm, operand: u16)
     match form {
         OperandForm::Absent => {}
         OperandForm::Byte => code.push(operand as u8),
-        OperandForm::Word => put_word(code, operand),
-        OperandForm::SignedWord => put_word(code, operand),
+        OperandForm::Word | OperandForm::SignedWord => put_word(code, operand),
     }
 }
 

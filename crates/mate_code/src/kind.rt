@@ -70,8 +70,7 @@ impl OperandForm {
         match self {
             OperandForm::Absent => 0,
             OperandForm::Byte => 1,
-            OperandForm::Word => 2,
-            OperandForm::SignedWord => 2,
+            OperandForm::Word | OperandForm::SignedWord => 2,
         }
     }
 }

@@ -58,8 +58,7 @@ fn print_operand<S: Sink>(pen: &mut Pen, out: &mut S, form: OperandForm, operand
 {
     match form {
         OperandForm::Absent => {}
-        OperandForm::Byte => print_number(pen, out, operand),
-        OperandForm::Word => print_number(pen, out, operand),
+        OperandForm::Byte | OperandForm::Word => print_number(pen, out, operand),
         OperandForm::SignedWord => {
             pen.text(out, " ");
             pen.signed(out, operand.cast_signed());

@@ -43,3 +43,18 @@ pub returns : goal.returns
 returns c =
     let t = c.args.table.now in
     is_done_slice t c.instrs.instrs (length c.args.bytes.now - length c.instrs.instrs) c.instrs.place c.instrs.rest.now (decoded t c.args.bytes.now) (omega arith) c.instrs.invariant.so_far
+
+pub push-requires : goal.push-requires
+push-requires c = omega arith
+
+pub overflow_add-place : goal.overflow_add-place
+overflow_add-place c =
+    let all : size_of c.in_ok-instr.instr + length c.in_ok-instr.after.now ≡ length c.instrs.rest.now =
+    size_of-first c.args.table.now c.instrs.place c.instrs.rest.now c.in_ok-instr.instr c.in_ok-instr.after.now c.in-len1-up.len_at_least c.in_ok-instr.ensures in
+    omega arith
+
+pub instrs-smaller : goal.instrs-smaller
+instrs-smaller c =
+    let all : size_of c.in_ok-instr.instr + length c.in_ok-instr.after.now ≡ length c.instrs.rest.now =
+    size_of-first c.args.table.now c.instrs.place c.instrs.rest.now c.in_ok-instr.instr c.in_ok-instr.after.now c.in-len1-up.len_at_least c.in_ok-instr.ensures in
+    omega arith
