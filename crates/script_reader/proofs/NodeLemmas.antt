@@ -1,15 +1,16 @@
 -- A line of a node script, and its end.
-use Rattle.std.proofs.Common.{◌≡◌, ℕ, ◌+◌, ◌<◌, ◌≤◌, false, List, [], ◌∷◌, length, replicate, Result, Ok, Err, OnOk, IfOk, IfErr, lit<, refl, sym, ◌∙◌, ap, subst, arith}
+use Rattle.std.proofs.Common.{◌≡◌, ℕ, ◌+◌, ◌<◌, ◌≤◌, false, List, [], ◌∷◌, length, replicate, None, Result, Ok, Err, OnOk, IfOk, IfErr, lit<, refl, sym, ◌∙◌, ap, subst, arith}
 use Rattle.vm_desc.specs.declared.description.Description.{Description}
 use Rattle.script_reader.specs.declared.fault.Cause.{Cause}
 use Rattle.script_reader.specs.declared.fault.ScriptFault.{ScriptFault}
 use Rattle.script_reader.specs.declared.fault.ScriptFault.TheVariants.{BadLine, NoMemory}
 use Rattle.script_reader.specs.Lines.{lines, words_of, is_skipped}
 use Rattle.script_reader.specs.Script.{Follows}
-use Rattle.script_reader.specs.Steps.{IsRightSteps}
+use Rattle.script_reader.specs.declared.steps.Step.{Step}
+use Rattle.script_reader.specs.Steps.{IsRightStep, IsRightSteps}
 use Rattle.script_reader.specs.NodeScript.{Said, Progress, a_line, with_said, when_said, after_line, nothing_yet, node_script_in}
 use Rattle.script_reader.specs.declared.node.Said.{Said as Line}
-use Rattle.script_reader.specs.NodeReader.{said_of, files_after, IsRightSaid, KeepsProgress}
+use Rattle.script_reader.specs.NodeReader.{said_of, files_after, IsNewer, IsRightSaid, KeepsProgress}
 use Rattle.script_reader.proofs.LineLemmas.{IsAt, goes_on}
 use Rattle.script_reader.proofs.StepLemmas.{keeps_more, keeps_nothing, length-with_file, few_files}
 
@@ -76,3 +77,9 @@ pub right_load : (d : Description) (r : Result Line Cause) (newest : List ℕ) (
     → IfOk r (λ said. IsRightSaid d newest files (said_of said))
 right_load d (Ok said) newest files h = h d newest
 right_load d (Err cause) newest files h = tt
+
+-- a step that names no file and is no install
+pub right_alone : (d : Description) (step : Step) (said : Said) → said ≡ record { step = step; file = None } → ((files : ℕ) → IsRightStep d files step) → ((newest : List ℕ) → IsNewer newest step)
+    → (newest : List ℕ) (files : ℕ) → IsRightSaid d newest files said
+right_alone d step said is right newer newest files =
+    let P : Said → Type 0 = λ s. IsRightSaid d newest files s in subst P (sym is) record { right = right files; newer = newer newest }

@@ -1,7 +1,8 @@
-use Rattle.std.proofs.Common.{ap, sym, ◌∙◌, rules, FitsSigned}
+use Rattle.std.proofs.Common.{List, ℕ, ◌++◌, codes, ap, sym, ◌∙◌, rules, FitsSigned}
+use Rattle.std.specs.Prelude.{ℤ}
 use Rattle.std.specs.Int.{w16}
 use Rattle.mate_files.proofs.PenLemmas.{◌⟫◌, Prints-by}
-use Rattle.report_text.specs.Words.{word, entry_words}
+use Rattle.report_text.specs.Words.{handler_name, function_name, number, word, values, image_word, entry_words}
 use Rattle.report_text.proofs.WordLemmas.{Prints-value}
 use Rattle.report_text.proofs.entry_line.entry_words.Goals as goal
 
@@ -38,3 +39,21 @@ returns-in-Halt g c = Prints-by (sym (ap (entry_words c.args.desc.now c.args.log
 
 pub returns-in-Reset : goal.returns-in-Reset
 returns-in-Reset g c = Prints-by (sym (ap (entry_words c.args.desc.now c.args.log.now) c.in-Reset.is)) c.text-in-Reset.ensures
+
+pub returns-in-Post : goal.returns-in-Post
+returns-in-Post g c =
+    let same = ap (λ (w : List ℕ). codes " post" ++ number c.in-Post.inv ++ word w ++ number c.in-Post.ctx.0 ++ values c.as_slice.result.now) c.handler_name.ensures.value
+    ∙ ap (λ (vs : List ℤ). codes " post" ++ number c.in-Post.inv ++ word (handler_name c.args.desc.now c.in-Post.handler) ++ number c.in-Post.ctx.0 ++ values vs) c.as_slice.ensures.value in
+    Prints-by (same ∙ sym (ap (entry_words c.args.desc.now c.args.log.now) c.in-Post.is)) c.post_words.ensures
+
+pub returns-in-Ask : goal.returns-in-Ask
+returns-in-Ask g c =
+    let same = ap (λ (w : List ℕ). codes " ask" ++ number c.in-Ask.inv ++ word w ++ values c.as_slice-in-Ask.result.now) c.function_name.ensures
+    ∙ ap (λ (vs : List ℤ). codes " ask" ++ number c.in-Ask.inv ++ word (function_name c.args.desc.now c.in-Ask.fun) ++ values vs) c.as_slice-in-Ask.ensures.value in
+    Prints-by (same ∙ sym (ap (entry_words c.args.desc.now c.args.log.now) c.in-Ask.is)) c.ask_words.ensures
+
+pub returns-in-Install : goal.returns-in-Install
+returns-in-Install g c =
+    let same = ap (λ (w : List ℕ). codes " install" ++ word w ++ number c.in-Install.version ++ word (image_word c.image_at.result.now)) c.handler_name-in-Install.ensures.value
+    ∙ ap (λ (bytes : List ℕ). codes " install" ++ word (handler_name c.args.desc.now c.in-Install.handler) ++ number c.in-Install.version ++ word (image_word bytes)) c.image_at.ensures in
+    Prints-by (same ∙ sym (ap (entry_words c.args.desc.now c.args.log.now) c.in-Install.is)) c.install_words.ensures

@@ -1,6 +1,9 @@
 use Rattle.std.proofs.Common.{Ok, refl, sym, ap, ◌∙◌}
 use Rattle.script_reader.specs.Lines.{words_of}
 use Rattle.script_reader.specs.NodeScript.{Said, behind_others}
+use Rattle.script_reader.specs.NodeReader.{said_of}
+use Rattle.script_reader.specs.declared.steps.Step.TheVariants as step
+use Rattle.script_reader.proofs.NodeLemmas.{right_alone}
 use Rattle.script_reader.proofs.node.behind_others.Goals as goal
 
 pub returns-then-spells-clause-value : goal.returns-then-spells-clause-value
@@ -41,3 +44,15 @@ returns-else-spells-4-clause-value c =
     let show = sym c.spells-else-spells-2.ensures ∙ c.if-spells-3.false in
     let reset = sym c.spells-else-spells-3.ensures ∙ c.if-spells-4.false in
     rw (run, answer, show, reset) refl
+
+pub returns-then-spells-2-clause-right : goal.returns-then-spells-2-clause-right
+returns-then-spells-2-clause-right c = c.answer_in.ensures.right
+
+pub returns-then-spells-clause-right : goal.returns-then-spells-clause-right
+returns-then-spells-clause-right c = right_alone c.args.desc.now step.Run (said_of c.alone.result) c.alone.ensures (λ files. tt) (λ newest. tt)
+
+pub returns-then-spells-3-clause-right : goal.returns-then-spells-3-clause-right
+returns-then-spells-3-clause-right c = right_alone c.args.desc.now step.Show (said_of c.alone-then-spells-3.result) c.alone-then-spells-3.ensures (λ files. tt) (λ newest. tt)
+
+pub returns-then-spells-4-clause-right : goal.returns-then-spells-4-clause-right
+returns-then-spells-4-clause-right c = right_alone c.args.desc.now step.Reset (said_of c.alone-then-spells-4.result) c.alone-then-spells-4.ensures (λ files. tt) (λ newest. tt)
