@@ -1,4 +1,4 @@
-use Rattle.std.proofs.Common.{lit<, ap, ◌∙◌, ◌++◌, List, ℕ}
+use Rattle.std.proofs.Common.{lit<, arith, ap, ◌∙◌, ◌++◌, List, ℕ}
 use Rattle.std.specs.Prelude.{ℤ}
 use Rattle.std.specs.Fmt.{signed_decimal}
 use Rattle.std.proofs.lemmas.Int.{to_z-of_z}
@@ -11,6 +11,9 @@ use Rattle.report_text.proofs.store_words.shared_word.Goals as goal
 
 pub byte-requires : goal.byte-requires
 byte-requires g c = room-byte c.value.new.self 21 (at_most-digits c.new-chunk.result c.value.new.self 21 0 c.value.ensures.fits (at_most-new c.new-chunk.ensures)) (lit< tt)
+
+pub value-requires : goal.value-requires
+value-requires g c = omega (arith, at_most-new c.new-chunk.ensures)
 
 pub returns : goal.returns
 returns g c =
