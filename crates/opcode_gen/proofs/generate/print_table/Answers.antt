@@ -1,13 +1,19 @@
-use Rattle.std.proofs.Common.{ℕ, ◌<◌, ◌≤◌, length, sym, ◌∙◌, subst}
+use Rattle.std.proofs.Common.{ℕ, ◌<◌, ◌≤◌, length, sym, ◌∙◌, subst, arith}
 use Rattle.std.specs.List.{enumerate_from}
 use Rattle.std.proofs.lemmas.List.FromFn.{length-enumerate_from}
-use Rattle.mate_files.proofs.PenLemmas.{Prints-by, Prints-all, Prints-next, Puts-finished}
+use Rattle.mate_files.proofs.PenLemmas.{Prints-by, Prints-nil, Prints-all, Prints-next, Puts-finished}
 use Rattle.mate_code.specs.declared.kind.Kind.TheVariants.{Halt}
 use Rattle.mate_code.specs.Table.{table_of, kinds_of}
 use Rattle.vm_desc.specs.Shapes.{shape_of}
 use Rattle.opcode_gen.specs.TableText.{names_of_functions, table_row}
 use Rattle.opcode_gen.proofs.TableTextLemmas.{kind_at-within, row-by, rows-by, IsNamed-kind_at}
 use Rattle.opcode_gen.proofs.generate.print_table.Goals as goal
+
+pub overflow_cast-opcode : goal.overflow_cast-opcode
+overflow_cast-opcode g c = omega (arith, c.loop-index-test.true, c.len-index-end.ensures.fits)
+
+pub loop-index-init : goal.loop-index-init
+loop-index-init g c = Prints-nil
 
 pub unreachable-requires : goal.unreachable-requires
 unreachable-requires g c =
