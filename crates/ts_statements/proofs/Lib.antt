@@ -1,3 +1,4 @@
+pub mod EndedLemmas
 pub mod Halting
 pub mod SimpleLemmas
 pub mod TakingLemmas

@@ -1,5 +1,5 @@
 -- Reading a statement that holds no block, and the head of a `for`: which token is taken in each state, and where none fits.
-use Rattle.std.proofs.Common.{◌≡◌, ℕ, List, ◌∷◌, Some, None, Err, refl, sym, ◌∙◌, ap}
+use Rattle.std.proofs.Common.{◌≡◌, ℕ, List, Some, None, Err, refl, sym, ◌∙◌, ap}
 use Rattle.ts_syntax.specs.declared.word.Word.{Word}
 use Rattle.ts_syntax.specs.declared.token.Token.{Token}
 use Rattle.ts_syntax.specs.declared.token.TokenKind.{TokenKind}
@@ -152,31 +152,31 @@ to_read s e w a f = sign_read kind.To s tt _ _ (λ p. refl)
 pub do_missing : {ts rest : List Token} → (rest ≡ ts) × LacksName ts → (a : Acts) (f : Frame) → reads ts (do_word a f) ≡ Err (kinds rest)
 do_missing l a f = name_stops l (do_word a f) refl (only_name _)
 
-do_names : {v : Word} {ts us : List Token} → StartsName v ts us → (a : Acts) (f : Frame) → reads ts (do_word a f) ≡ reads us (do_named v a f)
+pub do_names : {v : Word} {ts us : List Token} → StartsName v ts us → (a : Acts) (f : Frame) → reads ts (do_word a f) ≡ reads us (do_named v a f)
 do_names {v} {ts} {us} s a f =
     ap (λ xs. reads xs (do_word a f)) s.are
     ∙ name_read s.token us v.name (do_word a f) (do_named v a f) s.name (ap (λ p. Some (do_named (word v.name p) a f)) (sym s.place))
 
-pub do_unopened : {v : Word} {ts us rest : List Token} → StartsName v ts us → (rest ≡ us) × Lacks kind.Open us → (a : Acts) (f : Frame) → reads ts (do_word a f) ≡ Err (kinds rest)
-do_unopened s l a f = do_names s a f ∙ sign_stops kind.Open l _ refl (λ m p o. only_open _ m o)
+pub do_unopened : {us rest : List Token} → (rest ≡ us) × Lacks kind.Open us → (v : Word) (a : Acts) (f : Frame) → reads us (do_named v a f) ≡ Err (kinds rest)
+do_unopened l v a f = sign_stops kind.Open l _ refl (λ m p o. only_open _ m o)
 
-pub do_read : {v : Word} {ts us vs : List Token} → StartsName v ts us → Starts kind.Open us vs → (a : Acts) (f : Frame) → reads ts (do_word a f) ≡ reads vs (do_opened v a f)
-do_read s o a f = do_names s a f ∙ sign_read kind.Open o tt _ _ (λ p. refl)
+pub do_opens : {us vs : List Token} → Starts kind.Open us vs → (v : Word) (a : Acts) (f : Frame) → reads us (do_named v a f) ≡ reads vs (do_opened v a f)
+do_opens o v a f = sign_read kind.Open o tt _ _ (λ p. refl)
 
 -- ---- a `clear`
 
 pub clear_missing : {ts rest : List Token} → (rest ≡ ts) × Lacks kind.Open ts → (a : Acts) (f : Frame) → reads ts (cleared a f) ≡ Err (kinds rest)
 clear_missing l a f = sign_stops kind.Open l _ refl (λ m p o. only_open _ m o)
 
-clear_opens : {ts us : List Token} → Starts kind.Open ts us → (a : Acts) (f : Frame) → reads ts (cleared a f) ≡ reads us (clear_opened a f)
+pub clear_opens : {ts us : List Token} → Starts kind.Open ts us → (a : Acts) (f : Frame) → reads ts (cleared a f) ≡ reads us (clear_opened a f)
 clear_opens o a f = sign_read kind.Open o tt _ _ (λ p. refl)
 
-pub clear_unnamed : {ts us rest : List Token} → Starts kind.Open ts us → (rest ≡ us) × LacksName us → (a : Acts) (f : Frame) → reads ts (cleared a f) ≡ Err (kinds rest)
-clear_unnamed o l a f = clear_opens o a f ∙ name_stops l (clear_opened a f) refl (only_name _)
+pub clear_unnamed : {us rest : List Token} → (rest ≡ us) × LacksName us → (a : Acts) (f : Frame) → reads us (clear_opened a f) ≡ Err (kinds rest)
+clear_unnamed l a f = name_stops l (clear_opened a f) refl (only_name _)
 
-pub clear_read : {v : Word} {ts us vs : List Token} → Starts kind.Open ts us → StartsName v us vs → (a : Acts) (f : Frame) → reads ts (cleared a f) ≡ reads vs (clear_named v a f)
-clear_read {v} {ts} {us} {vs} o s a f =
-    clear_opens o a f ∙ ap (λ xs. reads xs (clear_opened a f)) s.are
+pub clear_names : {v : Word} {us vs : List Token} → StartsName v us vs → (a : Acts) (f : Frame) → reads us (clear_opened a f) ≡ reads vs (clear_named v a f)
+clear_names {v} {us} {vs} s a f =
+    ap (λ xs. reads xs (clear_opened a f)) s.are
     ∙ name_read s.token vs v.name (clear_opened a f) (clear_named v a f) s.name (ap (λ p. Some (clear_named (word v.name p) a f)) (sym s.place))
 
 pub clear_open : {ts rest : List Token} → (rest ≡ ts) × Lacks kind.Close ts → (w : Word) (a : Acts) (f : Frame) → reads ts (clear_named w a f) ≡ Err (kinds rest)

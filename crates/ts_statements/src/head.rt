@@ -8,10 +8,11 @@ ghost use Rattle.ts_syntax.specs.Seen.{tree_of};
 ghost use Rattle.ts_syntax.specs.Tree.{Acts};
 ghost use Rattle.ts_syntax.specs.declared.token.TokenKind.TheVariants as kind;
 
+use crate::ending::ended;
 use std::alloc::Global;
 use ts_expressions::expr;
 use ts_machine::Halt;
-use ts_machine::expect::{after, expect, name};
+use ts_machine::expect::{after, name};
 use ts_syntax::{Expr, ForHead, Step, Token, TokenKind};
 
 /// Reads the head of a `for` behind that keyword.
@@ -20,10 +21,8 @@ pub fn for_head<'a>(alloc: Global, tokens: &'a [Token]) -> Result<(ForHead, &'a 
     ensures reads { Reads {K = Acts × Frame} tokens.now (λ k. for_word k.0 k.1) (λ h k. head_read k h) result }
     ensures shorter { IfOk result (λ x. length x.1.now < length tokens.now) }
 {
-    let (var, rest) = name(tokens)?;
-    let rest = expect(rest, &TokenKind::Eq)?;
-    let (from, rest) = expr(alloc, rest)?;
-    let rest = expect(rest, &TokenKind::To)?;
+    let (var, rest) = ended(name(tokens), &TokenKind::Eq)?;
+    let (from, rest) = ended(expr(alloc, rest), &TokenKind::To)?;
     let ((to, step), rest) = limit(alloc, rest)?;
     let head = ForHead {
         var,

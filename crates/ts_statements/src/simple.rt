@@ -6,6 +6,7 @@ ghost use Rattle.ts_machine.specs.Parsing.{Reads};
 ghost use Rattle.ts_statements.specs.Simple.{ReadsStmt, FindsTaken, Target, value_due, value_set};
 ghost use Rattle.ts_syntax.specs.Seen.{tree_of};
 
+use crate::ending::ended;
 use std::alloc::Global;
 use ts_expressions::{arguments, expr};
 use ts_machine::Halt;
@@ -29,8 +30,7 @@ pub fn behind_name<'a>(
         return item_setting(alloc, word, rest);
     }
     let rest = expect(tokens, &TokenKind::Open)?;
-    let (args, rest) = arguments(alloc, rest)?;
-    let rest = expect(rest, &TokenKind::Semi)?;
+    let (args, rest) = ended(arguments(alloc, rest), &TokenKind::Semi)?;
     Ok((Stmt::Do(word, args), rest))
 }
 
@@ -47,8 +47,7 @@ fn setting<'a>(
         let rest = expect(rest, &TokenKind::Semi)?;
         return Ok((Stmt::Take(word, buffer), rest));
     }
-    let (value, rest) = expr(alloc, tokens)?;
-    let rest = expect(rest, &TokenKind::Semi)?;
+    let (value, rest) = ended(expr(alloc, tokens), &TokenKind::Semi)?;
     Ok((Stmt::Set(word, value), rest))
 }
 
@@ -57,10 +56,8 @@ fn after_taken(tokens: &[Token]) -> Option<(Word, &[Token])>
     ensures finds { FindsTaken tokens.now result }
     ensures shorter { IfSome result (λ x. length x.1.now < length tokens.now) }
 {
-    let (buffer, rest) = name(tokens).ok()?;
-    let rest = after(rest, &TokenKind::OpenBox)?;
-    let rest = after(rest, &TokenKind::CloseBox)?;
-    Some((buffer, rest))
+    let boxed = ended(name(tokens), &TokenKind::OpenBox);
+    ended(boxed, &TokenKind::CloseBox).ok()
 }
 
 /// Reads on behind `p [`: `] = e;`, or `i] = e;`.
@@ -76,8 +73,7 @@ fn item_setting<'a>(
         let (value, rest) = value(alloc, rest)?;
         return Ok((Stmt::Append(buffer, value), rest));
     }
-    let (index, rest) = expr(alloc, tokens)?;
-    let rest = expect(rest, &TokenKind::CloseBox)?;
+    let (index, rest) = ended(expr(alloc, tokens), &TokenKind::CloseBox)?;
     let (value, rest) = value(alloc, rest)?;
     Ok((Stmt::SetItem(buffer, index, value), rest))
 }
@@ -88,9 +84,7 @@ fn value<'a>(alloc: Global, tokens: &'a [Token]) -> Result<(Expr, &'a [Token]), 
     ensures shorter { IfOk result (λ x. length x.1.now < length tokens.now) }
 {
     let rest = expect(tokens, &TokenKind::Eq)?;
-    let (value, rest) = expr(alloc, rest)?;
-    let rest = expect(rest, &TokenKind::Semi)?;
-    Ok((value, rest))
+    ended(expr(alloc, rest), &TokenKind::Semi)
 }
 
 /// Reads on behind `clear`.
@@ -100,9 +94,8 @@ pub fn clearing<'a>(tokens: &'a [Token]) -> Result<(Stmt, &'a [Token]), Halt<'a>
     ensures shorter { IfOk result (λ x. length x.1.now < length tokens.now) }
 {
     let rest = expect(tokens, &TokenKind::Open)?;
-    let (buffer, rest) = name(rest)?;
-    let rest = expect(rest, &TokenKind::Close)?;
-    let rest = expect(rest, &TokenKind::Semi)?;
+    let named = ended(name(rest), &TokenKind::Close);
+    let (buffer, rest) = ended(named, &TokenKind::Semi)?;
     Ok((Stmt::Clear(buffer), rest))
 }
 
@@ -112,9 +105,7 @@ pub fn running<'a>(alloc: Global, tokens: &'a [Token]) -> Result<(Stmt, &'a [Tok
     ensures reads { ReadsStmt tokens.now do_word result }
     ensures shorter { IfOk result (λ x. length x.1.now < length tokens.now) }
 {
-    let (word, rest) = name(tokens)?;
-    let rest = expect(rest, &TokenKind::Open)?;
-    let (args, rest) = arguments(alloc, rest)?;
-    let rest = expect(rest, &TokenKind::Semi)?;
+    let (word, rest) = ended(name(tokens), &TokenKind::Open)?;
+    let (args, rest) = ended(arguments(alloc, rest), &TokenKind::Semi)?;
     Ok((Stmt::Run(word, args), rest))
 }
