@@ -90,16 +90,16 @@ decls_halt {X} {Y} P P' ts us q p b r e i h =
 pub header_missing : {ts rest : List Token} → (rest ≡ ts) × LacksName ts → (ds : List Decl) (ps : List Procedure) → reads ts (proc_word ds ps) ≡ Err (kinds rest)
 header_missing {ts} {rest} l ds ps = stops ts (proc_word ds ps) refl (λ t more e. only_name _ t.kind (lacks_name ts l.1 t more e)) ∙ ap (λ z. Err (kinds z)) (sym l.0)
 
-header_names : {v : Word} {ts us : List Token} → StartsName v ts us → (ds : List Decl) (ps : List Procedure) → reads ts (proc_word ds ps) ≡ reads us (proc_named v ds ps)
+pub header_names : {v : Word} {ts us : List Token} → StartsName v ts us → (ds : List Decl) (ps : List Procedure) → reads ts (proc_word ds ps) ≡ reads us (proc_named v ds ps)
 header_names {v} {ts} {us} s ds ps =
     ap (λ xs. reads xs (proc_word ds ps)) s.are
     ∙ name_read s.token us v.name (proc_word ds ps) (proc_named v ds ps) s.name (ap (λ p. Some (proc_named (word v.name p) ds ps)) (sym s.place))
 
-pub header_open : {v : Word} {ts us rest : List Token} → StartsName v ts us → (rest ≡ us) × Lacks kind.Open us → (ds : List Decl) (ps : List Procedure) → reads ts (proc_word ds ps) ≡ Err (kinds rest)
-header_open s l ds ps = header_names s ds ps ∙ sign_stops kind.Open l _ refl (λ m p o. only_open _ m o)
+pub header_open : {us rest : List Token} → (rest ≡ us) × Lacks kind.Open us → (v : Word) (ds : List Decl) (ps : List Procedure) → reads us (proc_named v ds ps) ≡ Err (kinds rest)
+header_open l v ds ps = sign_stops kind.Open l _ refl (λ m p o. only_open _ m o)
 
-pub header_begins : {v : Word} {ts us vs : List Token} → StartsName v ts us → Starts kind.Open us vs → (ds : List Decl) (ps : List Procedure) → reads ts (proc_word ds ps) ≡ reads vs (proc_opened v ds ps)
-header_begins s o ds ps = header_names s ds ps ∙ sign_read kind.Open o tt _ _ (λ p. refl)
+pub header_begins : {us vs : List Token} → Starts kind.Open us vs → (v : Word) (ds : List Decl) (ps : List Procedure) → reads us (proc_named v ds ps) ≡ reads vs (proc_opened v ds ps)
+header_begins o v ds ps = sign_read kind.Open o tt _ _ (λ p. refl)
 
 pub no_params : {ts us : List Token} → Starts kind.Close ts us → (w : Word) (ds : List Decl) (ps : List Procedure) → reads ts (proc_opened w ds ps) ≡ reads us (block no_acts (proc_part w [] ds ps))
 no_params o w ds ps = sign_read kind.Close o tt _ _ (λ p. refl)

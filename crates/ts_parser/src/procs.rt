@@ -12,6 +12,7 @@ use std::alloc::Global;
 use ts_blocks::block;
 use ts_machine::Halt;
 use ts_machine::expect::{after, expect, name};
+use ts_statements::ended;
 use ts_syntax::{Block, Dialect, Proc, Procs, Token, TokenKind, Words};
 
 /// Reads the procedures of a script in a dialect, behind its declarations: they, and the tokens from the first on that
@@ -49,8 +50,7 @@ fn procedure<'a>(alloc: Global, tokens: &'a [Token]) -> Result<(Proc, &'a [Token
     ensures reads { Reads {K = List Decl × List Procedure} tokens.now (λ k. proc_word k.0 k.1) (λ p k. procedures k.0 (k.1 ++ procedure_of p ∷ [])) result }
     ensures shorter { IfOk result (λ x. length x.1.now < length tokens.now) }
 {
-    let (word, rest) = name(tokens)?;
-    let rest = expect(rest, &TokenKind::Open)?;
+    let (word, rest) = ended(name(tokens), &TokenKind::Open)?;
     let (params, rest) = parameters(alloc, rest)?;
     let (body, rest) = routine(alloc, rest)?;
     let procedure = Proc {
@@ -87,8 +87,6 @@ fn routine<'a>(alloc: Global, tokens: &'a [Token]) -> Result<(Block, &'a [Token]
     ensures reads { Reads {K = Routine} tokens.now (λ k. routine_due k) (λ b k. routine_read k (acts_of b)) result }
     ensures shorter { IfOk result (λ x. length x.1.now ≤ length tokens.now) }
 {
-    let (body, rest) = block(alloc, Dialect::Procedures, tokens)?;
-    let rest = expect(rest, &TokenKind::End)?;
-    let rest = expect(rest, &TokenKind::Proc)?;
-    Ok((body, rest))
+    let body = ended(block(alloc, Dialect::Procedures, tokens), &TokenKind::End);
+    ended(body, &TokenKind::Proc)
 }
