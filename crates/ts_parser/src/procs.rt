@@ -11,7 +11,7 @@ ghost use Rattle.ts_syntax.specs.declared.script.Decl.{Decl};
 use std::alloc::Global;
 use ts_blocks::block;
 use ts_machine::Halt;
-use ts_machine::expect::{after, expect, name};
+use ts_machine::expect::{after, name};
 use ts_statements::ended;
 use ts_syntax::{Block, Dialect, Proc, Procs, Token, TokenKind, Words};
 
@@ -75,8 +75,7 @@ fn parameters<'a>(alloc: Global, tokens: &'a [Token]) -> Result<(Words, &'a [Tok
         let (word, behind) = name(rest)?;
         params.push(word)?;
         let Some(next) = after(behind, &TokenKind::Comma) else {
-            let behind = expect(behind, &TokenKind::Close)?;
-            return Ok((params, behind));
+            return ended(Ok((params, behind)), &TokenKind::Close);
         };
         rest = next;
     }

@@ -1,12 +1,17 @@
-use Rattle.std.proofs.Common.{List, length, sym, ◌∙◌, ap, arith}
+use Rattle.std.proofs.Common.{◌≡◌, List, Result, Ok, Err, Bor, length, sym, ◌∙◌, ap, arith}
+use Rattle.ts_syntax.specs.declared.token.Token.{Token}
 use Rattle.ts_syntax.specs.declared.token.TokenKind.TheVariants as kind
 use Rattle.ts_syntax.specs.declared.word.Word.{Word}
+use Rattle.ts_syntax.specs.Spelling.{kinds}
+use Rattle.ts_machine.specs.declared.halt.Halt.{Halt}
+use Rattle.ts_machine.specs.declared.halt.Halt.TheVariants as halt
 use Rattle.ts_machine.specs.Machine.{param_due}
-use Rattle.ts_machine.specs.Parsing.{reads}
+use Rattle.ts_machine.specs.Parsing.{reads, Reads, Starts, Lacks}
+use Rattle.ts_statements.specs.Simple.{Ended}
 use Rattle.ts_machine.proofs.Parts.{starts_shorter}
 use Rattle.ts_parser.specs.Scripts.{Header, params_due, header_read}
 use Rattle.ts_parser.proofs.ScriptLemmas.{no_params, params_begin, param_missing, param_taken, param_follows, params_close, param_stops}
-use Rattle.ts_statements.proofs.Halting.{token_misses, name_misses}
+use Rattle.ts_statements.proofs.Halting.{name_misses}
 use Rattle.ts_parser.proofs.procs.parameters.Goals as goal
 
 pub returns-in-Some-clause-reads : goal.returns-in-Some-clause-reads
@@ -24,18 +29,24 @@ returns-in_err-word-clause-reads c =
     (λ k more l. c.loop-params.invariant.0 k ∙ param_missing l k.name c.loop-params.params k.decls k.procs)
     c.from_residual.result c.in_err-word.field-0.0 c.from_residual.ensures.1 c.in_err-word.ensures
 
-pub returns-in_err-behind-clause-reads : goal.returns-in_err-behind-clause-reads
-returns-in_err-behind-clause-reads c =
-    token_misses {Y = List Word} {L = Header} kind.Close c.args.tokens.now c.in_ok-word.behind.now (λ k. params_due k) (λ ws k. header_read k ws)
-    (λ k more l. c.loop-params.invariant.0 k ∙ param_taken c.in_ok-word.ensures k.name c.loop-params.params k.decls k.procs
-    ∙ param_stops c.in_default-after.ensures l k.name c.loop-params.params c.in_ok-word.word k.decls k.procs)
-    c.from_residual-in_err-behind.result c.in_err-behind.field-0.0 c.from_residual-in_err-behind.ensures.1 c.in_err-behind.ensures
+-- `)` behind all of them
+close_reads : (ts : List Token) (all : List Word × Bor (List Token)) →
+    ((k : Header) (rest : List Token) → Starts kind.Close all.1.now rest → reads ts (params_due k) ≡ reads rest (header_read k all.0)) →
+    ((k : Header) (rest : List Token) → (rest ≡ all.1.now) × Lacks kind.Close all.1.now → reads ts (params_due k) ≡ Err (kinds rest)) →
+    (result : Result (List Word × Bor (List Token)) Halt) → Ended kind.Close (Ok all) result → Reads {X = List Word} {K = Header} ts (λ k. params_due k) (λ ws k. header_read k ws) result
+close_reads ts all s n (Ok x) i = λ k. s k x.1.now i.1 ∙ ap (λ z. reads x.1.now (header_read k z)) (sym i.0)
+close_reads ts all s n (Err halt.Memory) i = absurd i
+close_reads ts all s n (Err (halt.At rest)) i = λ k. n k rest.now i
 
 pub returns-in_default-after-clause-reads : goal.returns-in_default-after-clause-reads
 returns-in_default-after-clause-reads c =
-    λ k. c.loop-params.invariant.0 k ∙ param_taken c.in_ok-word.ensures k.name c.loop-params.params k.decls k.procs
-    ∙ params_close c.in_ok-behind.ensures k.name c.loop-params.params c.in_ok-word.word k.decls k.procs
-    ∙ ap (λ z. reads c.in_ok-behind.behind.now (header_read k z)) (sym c.in_ok-push.ensures)
+    close_reads c.args.tokens.now (c.push.new.self, c.in_ok-word.behind)
+    (λ k rest s. c.loop-params.invariant.0 k ∙ param_taken c.in_ok-word.ensures k.name c.loop-params.params k.decls k.procs
+    ∙ params_close s k.name c.loop-params.params c.in_ok-word.word k.decls k.procs
+    ∙ ap (λ z. reads rest (header_read k z)) (sym c.in_ok-push.ensures))
+    (λ k rest l. c.loop-params.invariant.0 k ∙ param_taken c.in_ok-word.ensures k.name c.loop-params.params k.decls k.procs
+    ∙ param_stops c.in_default-after.ensures l k.name c.loop-params.params c.in_ok-word.word k.decls k.procs)
+    c.ended.result c.ended.ensures
 
 pub loop-params-preserved : goal.loop-params-preserved
 loop-params-preserved c = (
