@@ -1,3 +1,4 @@
 pub mod BlockLemmas
 pub mod DialectLemmas
+pub mod EndingLemmas
 pub mod OpeningLemmas

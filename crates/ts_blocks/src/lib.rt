@@ -1,6 +1,7 @@
 //! TinyScript's statements and blocks, by recursive descent.
 #![tactic(auto)]
 
+pub mod ending;
 pub mod opening;
 pub mod stmt;
 

@@ -3,15 +3,16 @@
 ghost use Rattle.std.specs.Prelude.{◌≤◌, ◌<◌, length, IfOk};
 ghost use Rattle.ts_machine.specs.Machine.{block, for_word, expr_due, in_if, in_while};
 ghost use Rattle.ts_machine.specs.Parsing.{Reads};
-ghost use Rattle.ts_blocks.specs.Blocks.{ReadsStmtIn, FrameIn, LacksStmt, opened_by, Choice, then_block, choice_made, Branch, branch_due, Repetition, repeated_block, repetition_made, Count, counted_block, count_made};
+ghost use Rattle.ts_blocks.specs.Blocks.{ReadsStmtIn, FrameIn, LacksStmt, opened_by, Choice, then_block, choice_made, Branch, branch_due};
 ghost use Rattle.ts_syntax.specs.Seen.{acts_of};
 ghost use Rattle.ts_syntax.specs.Tree.{no_acts};
 
+use crate::ending::{counted, end_of, ended};
 use crate::opening::{Opening, after_opening};
 use std::alloc::Global;
 use ts_expressions::expr;
 use ts_machine::Halt;
-use ts_machine::expect::{after, expect, name};
+use ts_machine::expect::{after, expect};
 use ts_statements::{behind_name, clearing, for_head, running};
 use ts_syntax::{Block, Dialect, Stmt, Token, TokenKind, Word};
 
@@ -100,17 +101,14 @@ fn other_branch<'a>(
     ensures shorter { IfOk result (λ x. length x.1.now ≤ length tokens.now) }
 {
     if let Some(rest) = after(tokens, &TokenKind::Else) {
-        let (other, rest) = block(alloc, dialect, rest)?;
-        let rest = expect(rest, &TokenKind::End)?;
-        let rest = expect(rest, &TokenKind::If)?;
+        let (other, rest) = ended(block(alloc, dialect, rest), &TokenKind::If)?;
         return Ok((Some(other), rest));
     }
-    let rest = expect(tokens, &TokenKind::End)?;
-    let rest = expect(rest, &TokenKind::If)?;
+    let rest = end_of(tokens, &TokenKind::If)?;
     Ok((None, rest))
 }
 
-/// Reads on behind `while`.
+/// Reads on behind `while`: the test, the statements, and `end while`.
 #[cycle(stmt)]
 fn repetition<'a>(
     alloc: Global,
@@ -121,27 +119,11 @@ fn repetition<'a>(
     ensures shorter { IfOk result (λ x. length x.1.now ≤ length tokens.now) }
 {
     let (test, rest) = expr(alloc, tokens)?;
-    let (body, rest) = repeated(alloc, dialect, rest)?;
+    let (body, rest) = ended(block(alloc, dialect, rest), &TokenKind::While)?;
     Ok((Stmt::While(test, body), rest))
 }
 
-/// Reads the statements of a `while`, and `end while`.
-#[cycle(stmt)]
-fn repeated<'a>(
-    alloc: Global,
-    dialect: Dialect,
-    tokens: &'a [Token],
-) -> Result<(Block, &'a [Token]), Halt<'a>>
-    ensures reads { Reads {K = Repetition dialect} tokens.now (λ k. repeated_block k) (λ b k. repetition_made k (acts_of b)) result }
-    ensures shorter { IfOk result (λ x. length x.1.now ≤ length tokens.now) }
-{
-    let (body, rest) = block(alloc, dialect, tokens)?;
-    let rest = expect(rest, &TokenKind::End)?;
-    let rest = expect(rest, &TokenKind::While)?;
-    Ok((body, rest))
-}
-
-/// Reads on behind `for`.
+/// Reads on behind `for`: the head, the statements, and `next` with its name.
 #[cycle(stmt)]
 fn counting<'a>(
     alloc: Global,
@@ -152,22 +134,6 @@ fn counting<'a>(
     ensures shorter { IfOk result (λ x. length x.1.now ≤ length tokens.now) }
 {
     let (head, rest) = for_head(alloc, tokens)?;
-    let ((body, last), rest) = counted(alloc, dialect, rest)?;
+    let ((body, last), rest) = counted(block(alloc, dialect, rest))?;
     Ok((Stmt::For(head, body, last), rest))
-}
-
-/// Reads the statements of a `for`, and `next` with its name.
-#[cycle(stmt)]
-fn counted<'a>(
-    alloc: Global,
-    dialect: Dialect,
-    tokens: &'a [Token],
-) -> Result<((Block, Word), &'a [Token]), Halt<'a>>
-    ensures reads { Reads {K = Count dialect} tokens.now (λ k. counted_block k) (λ x k. count_made k (acts_of x.0) x.1) result }
-    ensures shorter { IfOk result (λ x. length x.1.now ≤ length tokens.now) }
-{
-    let (body, rest) = block(alloc, dialect, tokens)?;
-    let rest = expect(rest, &TokenKind::Next)?;
-    let (last, rest) = name(rest)?;
-    Ok(((body, last), rest))
 }

@@ -1,23 +1,23 @@
-use Rattle.std.proofs.Common.{◌≡◌, refl, subst, List, Option, Some, None, sym, ◌∙◌, ap, arith, le_refl, le_trans, lt_trans, le_of_lt, lt_of_le_of_lt, lt_of_lt_of_le, lit<}
+use Rattle.std.proofs.Common.{◌≡◌, refl, subst, List, Option, Some, None, Ok, Err, sym, ◌∙◌, ap, arith, le_refl, le_trans, lt_trans, le_of_lt, lt_of_le_of_lt, lt_of_lt_of_le, lit<}
 use Rattle.ts_syntax.specs.declared.expr.Expr.{Expr}
 use Rattle.ts_syntax.specs.declared.stmt.Stmt.{Stmt}
 use Rattle.ts_syntax.specs.declared.stmt.ForHead.{ForHead}
 use Rattle.ts_syntax.specs.declared.stmt.Stmt.TheVariants as does
 use Rattle.ts_syntax.specs.declared.word.Word.{Word}
 use Rattle.ts_syntax.specs.Seen.{tree_of, act_of, acts_of}
-use Rattle.ts_syntax.specs.Tree.{Acts, no_acts, if_then, if_else}
+use Rattle.ts_syntax.specs.Tree.{Acts, no_acts, if_then}
 use Rattle.ts_syntax.proofs.SeenLemmas.{act_if_then, act_if_else, act_for_next, act_while_do}
 use Rattle.ts_machine.specs.Machine.{Frame, Whole, have, stmt_named, cleared, do_word, in_if, in_while, block, for_word, expr_due, with_act}
 use Rattle.ts_machine.specs.Parsing.{reads}
 use Rattle.ts_blocks.specs.Blocks.{opened_by, FrameIn, ReadsStmtIn, Choice, if_made, then_block, choice_made, Branch, branch_due, Repetition, repeated_block, repetition_made, Count, counted_block, count_made}
 use Rattle.ts_statements.specs.Simple.{head_read}
-use Rattle.ts_blocks.proofs.DialectLemmas.{stmt_halts_in, narrowed, untold, no_more, no_more_named, no_longer, forgotten, lower, lowest, inner}
-use Rattle.ts_statements.proofs.Halting.{token_misses, name_misses}
+use Rattle.ts_blocks.proofs.DialectLemmas.{stmt_halts_in, narrowed, untold, no_more, no_longer, forgotten, lower, lowest, inner}
+use Rattle.ts_statements.proofs.Halting.{token_misses}
 use Rattle.ts_machine.proofs.Parts.{halts, starts_shorter}
-use Rattle.ts_blocks.proofs.OpeningLemmas.{stmt_opens, opens_shorter, acts_of_push, then_read, then_left, body_due, branch_stops}
+use Rattle.ts_blocks.proofs.OpeningLemmas.{stmt_opens, opens_shorter, acts_of_push, then_read, then_left, body_due}
 use Rattle.ts_syntax.specs.declared.token.TokenKind.TheVariants as kind
-use Rattle.ts_blocks.specs.declared.opening.Opening.TheVariants as opening
-use Rattle.ts_blocks.proofs.BlockLemmas.{then_in, else_in, while_in, for_in, while_open, while_end, while_named, while_left, for_open, for_left, for_next_read, else_begins, else_open, else_end, then_end, if_named, if_left}
+use Rattle.ts_blocks.proofs.BlockLemmas.{then_in, else_in, else_begins, then_end, if_named}
+use Rattle.ts_blocks.proofs.EndingLemmas.{repeated_reads, else_reads, counted_reads, ended_shorter, counted_shorter, branch_stuck}
 use Rattle.ts_blocks.proofs.stmt.+stmt.Goals as goal
 
 pub block-returns-in_err-stmt-clause-reads : goal.block-returns-in_err-stmt-clause-reads
@@ -75,12 +75,13 @@ counting-returns-in_err-body-clause-reads t c =
     (λ k. counted_block k) (λ x k. count_made k (acts_of x.0) x.1) for_word
     (λ k. record { var = c.in_ok-head.head.var; from = tree_of c.in_ok-head.head.from; to = tree_of c.in_ok-head.head.to; step = c.in_ok-head.head.step; before = k.0; frame = k.1 })
     (λ k. c.in_ok-head.ensures.reads (k.0, k.1.frame))
-    c.from_residual-in_err-body.result c.in_err-body.field-0.0 c.from_residual-in_err-body.ensures.1 c.in_err-body.ensures.reads
+    c.from_residual-in_err-body.result c.in_err-body.field-0.0 c.from_residual-in_err-body.ensures.1
+    (counted_reads c.args.dialect c.in_ok-head.rest.now c.block.result c.block.ensures.reads c.block.ensures.over (Err c.in_err-body.field-0.0) c.in_err-body.ensures)
 
 pub counting-returns-clause-reads : goal.counting-returns-clause-reads
 counting-returns-clause-reads t c =
     λ k. c.in_ok-head.ensures.reads (k.0, k.1.frame)
-    ∙ c.in_ok-body.ensures.reads (record { var = c.in_ok-head.head.var; from = tree_of c.in_ok-head.head.from; to = tree_of c.in_ok-head.head.to; step = c.in_ok-head.head.step; before = k.0; frame = k.1 })
+    ∙ counted_reads c.args.dialect c.in_ok-head.rest.now c.block.result c.block.ensures.reads c.block.ensures.over (Ok ((c.in_ok-body.body, c.in_ok-body.last), c.in_ok-body.rest)) c.in_ok-body.ensures (record { var = c.in_ok-head.head.var; from = tree_of c.in_ok-head.head.from; to = tree_of c.in_ok-head.head.to; step = c.in_ok-head.head.step; before = k.0; frame = k.1 })
     ∙ ap (λ x. reads c.in_ok-body.rest.now (block (with_act k.0 x) k.1.frame)) (sym (act_for_next c.in_ok-head.head c.in_ok-body.body c.in_ok-body.last))
 
 pub repetition-returns-in_err-body-clause-reads : goal.repetition-returns-in_err-body-clause-reads
@@ -89,59 +90,14 @@ repetition-returns-in_err-body-clause-reads t c =
     (λ k. repeated_block k) (λ b k. repetition_made k (acts_of b)) (λ a f. expr_due (in_while a f))
     (λ k. record { test = tree_of c.in_ok-test.test; before = k.0; frame = k.1 })
     (λ k. c.in_ok-test.ensures.reads (in_while k.0 k.1.frame) ∙ body_due c.in_ok-test.rest.now c.in_ok-test.ensures.over (tree_of c.in_ok-test.test) k.0 k.1.frame)
-    c.from_residual-in_err-body.result c.in_err-body.field-0.0 c.from_residual-in_err-body.ensures.1 c.in_err-body.ensures.reads
+    c.from_residual-in_err-body.result c.in_err-body.field-0.0 c.from_residual-in_err-body.ensures.1
+    (repeated_reads c.args.dialect c.in_ok-test.rest.now c.block.result c.block.ensures.reads c.block.ensures.over (Err c.in_err-body.field-0.0) c.in_err-body.ensures)
 
 pub repetition-returns-clause-reads : goal.repetition-returns-clause-reads
 repetition-returns-clause-reads t c =
     λ k. c.in_ok-test.ensures.reads (in_while k.0 k.1.frame) ∙ body_due c.in_ok-test.rest.now c.in_ok-test.ensures.over (tree_of c.in_ok-test.test) k.0 k.1.frame
-    ∙ c.in_ok-body.ensures.reads (record { test = tree_of c.in_ok-test.test; before = k.0; frame = k.1 })
+    ∙ repeated_reads c.args.dialect c.in_ok-test.rest.now c.block.result c.block.ensures.reads c.block.ensures.over (Ok (c.in_ok-body.body, c.in_ok-body.rest)) c.in_ok-body.ensures (record { test = tree_of c.in_ok-test.test; before = k.0; frame = k.1 })
     ∙ ap (λ x. reads c.in_ok-body.rest.now (block (with_act k.0 x) k.1.frame)) (sym (act_while_do c.in_ok-test.test c.in_ok-body.body))
-
-pub repeated-returns-in_err-body-clause-reads : goal.repeated-returns-in_err-body-clause-reads
-repeated-returns-in_err-body-clause-reads t c =
-    halts (List Stmt) (List Stmt) (FrameIn c.args.dialect) (Repetition c.args.dialect) c.args.tokens.now c.args.tokens.now
-    (λ f. block no_acts f.frame) (λ b f. block (acts_of b) f.frame) (λ k. repeated_block k) (λ b k. repetition_made k (acts_of b)) while_in (λ k. refl)
-    c.from_residual.result c.in_err-body.field-0.0 c.from_residual.ensures.1 c.in_err-body.ensures.reads
-
-pub repeated-returns-in_err-rest-clause-reads : goal.repeated-returns-in_err-rest-clause-reads
-repeated-returns-in_err-rest-clause-reads t c =
-    token_misses {Y = List Stmt} {L = Repetition c.args.dialect} kind.End c.args.tokens.now c.in_ok-body.rest.now (λ k. repeated_block k) (λ b k. repetition_made k (acts_of b))
-    (λ k more l. c.in_ok-body.ensures.reads (while_in k) ∙ while_open c.in_ok-body.ensures.over l (acts_of c.in_ok-body.body) k)
-    c.from_residual-in_err-rest.result c.in_err-rest.field-0.0 c.from_residual-in_err-rest.ensures.1 c.in_err-rest.ensures
-
-pub repeated-returns-in_err-rest-2-clause-reads : goal.repeated-returns-in_err-rest-2-clause-reads
-repeated-returns-in_err-rest-2-clause-reads t c =
-    token_misses {Y = List Stmt} {L = Repetition c.args.dialect} kind.While c.args.tokens.now c.in_ok-rest.rest.now (λ k. repeated_block k) (λ b k. repetition_made k (acts_of b))
-    (λ k more l. c.in_ok-body.ensures.reads (while_in k) ∙ while_end c.in_ok-rest.ensures (acts_of c.in_ok-body.body) k.test k.before k.frame.frame
-    ∙ while_left l k.test (acts_of c.in_ok-body.body) k.before k.frame.frame)
-    c.from_residual-in_err-rest-2.result c.in_err-rest-2.field-0.0 c.from_residual-in_err-rest-2.ensures.1 c.in_err-rest-2.ensures
-
-pub repeated-returns-clause-reads : goal.repeated-returns-clause-reads
-repeated-returns-clause-reads t c =
-    λ k. c.in_ok-body.ensures.reads (while_in k) ∙ while_end c.in_ok-rest.ensures (acts_of c.in_ok-body.body) k.test k.before k.frame.frame
-    ∙ while_named c.in_ok-rest-2.ensures k.test (acts_of c.in_ok-body.body) k.before k.frame.frame
-
-pub counted-returns-in_err-body-clause-reads : goal.counted-returns-in_err-body-clause-reads
-counted-returns-in_err-body-clause-reads t c =
-    halts (List Stmt) (List Stmt × Word) (FrameIn c.args.dialect) (Count c.args.dialect) c.args.tokens.now c.args.tokens.now
-    (λ f. block no_acts f.frame) (λ b f. block (acts_of b) f.frame) (λ k. counted_block k) (λ x k. count_made k (acts_of x.0) x.1) for_in (λ k. refl)
-    c.from_residual.result c.in_err-body.field-0.0 c.from_residual.ensures.1 c.in_err-body.ensures.reads
-
-pub counted-returns-in_err-rest-clause-reads : goal.counted-returns-in_err-rest-clause-reads
-counted-returns-in_err-rest-clause-reads t c =
-    token_misses {Y = List Stmt × Word} {L = Count c.args.dialect} kind.Next c.args.tokens.now c.in_ok-body.rest.now (λ k. counted_block k) (λ x k. count_made k (acts_of x.0) x.1)
-    (λ k more l. c.in_ok-body.ensures.reads (for_in k) ∙ for_open c.in_ok-body.ensures.over l (acts_of c.in_ok-body.body) k)
-    c.from_residual-in_err-rest.result c.in_err-rest.field-0.0 c.from_residual-in_err-rest.ensures.1 c.in_err-rest.ensures
-
-pub counted-returns-in_err-last-clause-reads : goal.counted-returns-in_err-last-clause-reads
-counted-returns-in_err-last-clause-reads t c =
-    name_misses {Y = List Stmt × Word} {L = Count c.args.dialect} c.args.tokens.now c.in_ok-rest.rest.now (λ k. counted_block k) (λ x k. count_made k (acts_of x.0) x.1)
-    (λ k more l. c.in_ok-body.ensures.reads (for_in k) ∙ for_left c.in_ok-rest.ensures l (acts_of c.in_ok-body.body) k.var k.from k.to k.step k.before k.frame.frame)
-    c.from_residual-in_err-last.result c.in_err-last.field-0.0 c.from_residual-in_err-last.ensures.1 c.in_err-last.ensures
-
-pub counted-returns-clause-reads : goal.counted-returns-clause-reads
-counted-returns-clause-reads t c =
-    λ k. c.in_ok-body.ensures.reads (for_in k) ∙ for_next_read c.in_ok-rest.ensures c.in_ok-last.ensures (acts_of c.in_ok-body.body) k.var k.from k.to k.step k.before k.frame.frame
 
 pub counting-returns-in_err-head-clause-reads : goal.counting-returns-in_err-head-clause-reads
 counting-returns-in_err-head-clause-reads t c =
@@ -150,31 +106,22 @@ counting-returns-in_err-head-clause-reads t c =
 
 pub other_branch-returns-in_err-other-clause-reads : goal.other_branch-returns-in_err-other-clause-reads
 other_branch-returns-in_err-other-clause-reads t c =
-    halts (List Stmt) (Option (List Stmt)) (FrameIn c.args.dialect) (Branch c.args.dialect) c.args.tokens.now c.in-Some.rest.now
-    (λ f. block no_acts f.frame) (λ b f. block (acts_of b) f.frame) (λ k. branch_due k) (λ b k. choice_made k.choice k.body b) else_in
+    halts (List Stmt) (Option (List Stmt)) (Branch c.args.dialect) (Branch c.args.dialect) c.args.tokens.now c.in-Some.rest.now
+    (λ k. block no_acts (else_in k).frame) (λ b k. choice_made k.choice k.body (Some b)) (λ k. branch_due k) (λ b k. choice_made k.choice k.body b) (λ k. k)
     (λ k. else_begins c.in-Some.ensures k.body k.choice.test k.choice.before k.choice.frame.frame)
-    c.from_residual.result c.in_err-other.field-0.0 c.from_residual.ensures.1 c.in_err-other.ensures.reads
+    c.from_residual.result c.in_err-other.field-0.0 c.from_residual.ensures.1 (else_reads c.args.dialect c.in-Some.rest.now c.block.result c.block.ensures.reads c.block.ensures.over (Err c.in_err-other.field-0.0) c.in_err-other.ensures)
 
 pub other_branch-returns-in_err-rest-clause-reads : goal.other_branch-returns-in_err-rest-clause-reads
 other_branch-returns-in_err-rest-clause-reads t c =
-    token_misses {Y = Option (List Stmt)} {L = Branch c.args.dialect} kind.End c.args.tokens.now c.in_ok-other.rest.now (λ k. branch_due k) (λ b k. choice_made k.choice k.body b)
-    (λ k more l. else_begins c.in-Some.ensures k.body k.choice.test k.choice.before k.choice.frame.frame ∙ c.in_ok-other.ensures.reads (else_in k)
-    ∙ else_open c.in_ok-other.ensures.over l (acts_of c.in_ok-other.other) k)
-    c.from_residual-in_err-rest.result c.in_err-rest.field-0.0 c.from_residual-in_err-rest.ensures.1 c.in_err-rest.ensures
-
-pub other_branch-returns-in_err-rest-2-clause-reads : goal.other_branch-returns-in_err-rest-2-clause-reads
-other_branch-returns-in_err-rest-2-clause-reads t c =
-    token_misses {Y = Option (List Stmt)} {L = Branch c.args.dialect} kind.If c.args.tokens.now c.in_ok-rest.rest.now (λ k. branch_due k) (λ b k. choice_made k.choice k.body b)
-    (λ k more l. else_begins c.in-Some.ensures k.body k.choice.test k.choice.before k.choice.frame.frame ∙ c.in_ok-other.ensures.reads (else_in k)
-    ∙ else_end c.in_ok-rest.ensures (acts_of c.in_ok-other.other) k.choice.test k.body k.choice.before k.choice.frame.frame
-    ∙ if_left l (if_else k.choice.test k.body (acts_of c.in_ok-other.other)) k.choice.before k.choice.frame.frame)
-    c.from_residual-in_err-rest-2.result c.in_err-rest-2.field-0.0 c.from_residual-in_err-rest-2.ensures.1 c.in_err-rest-2.ensures
+    halts (Option (List Stmt)) (Option (List Stmt)) (Branch c.args.dialect) (Branch c.args.dialect) c.args.tokens.now c.args.tokens.now
+    (λ k. branch_due k) (λ b k. choice_made k.choice k.body b) (λ k. branch_due k) (λ b k. choice_made k.choice k.body b) (λ k. k) (λ k. refl)
+    c.from_residual-in_err-rest.result c.in_err-rest.field-0.0 c.from_residual-in_err-rest.ensures.1
+    (branch_stuck c.args.tokens.now c.requires c.in_default.ensures (λ b k. choice_made k.choice k.body b) c.in_err-rest.field-0.0 c.in_err-rest.ensures)
 
 pub other_branch-returns-in-Some-clause-reads : goal.other_branch-returns-in-Some-clause-reads
 other_branch-returns-in-Some-clause-reads t c =
-    λ k. else_begins c.in-Some.ensures k.body k.choice.test k.choice.before k.choice.frame.frame ∙ c.in_ok-other.ensures.reads (else_in k)
-    ∙ else_end c.in_ok-rest.ensures (acts_of c.in_ok-other.other) k.choice.test k.body k.choice.before k.choice.frame.frame
-    ∙ if_named c.in_ok-rest-2.ensures (if_else k.choice.test k.body (acts_of c.in_ok-other.other)) k.choice.before k.choice.frame.frame
+    let read = else_reads c.args.dialect c.in-Some.rest.now c.block.result c.block.ensures.reads c.block.ensures.over (Ok (c.in_ok-other.other, c.in_ok-other.rest)) c.in_ok-other.ensures in
+    λ k. else_begins c.in-Some.ensures k.body k.choice.test k.choice.before k.choice.frame.frame ∙ read k
 
 pub statement-returns-in-Named-clause-reads : goal.statement-returns-in-Named-clause-reads
 statement-returns-in-Named-clause-reads t c =
@@ -226,22 +173,10 @@ choice-returns-in_err-rest-clause-reads t c =
     (λ k more l. c.in_ok-test.ensures.reads (in_if k.0 k.1.frame) ∙ then_left c.in_ok-test.ensures.over l (tree_of c.in_ok-test.test) k.0 k.1.frame)
     c.from_residual-in_err-rest.result c.in_err-rest.field-0.0 c.from_residual-in_err-rest.ensures.1 c.in_err-rest.ensures
 
-pub other_branch-returns-in_err-rest-3-clause-reads : goal.other_branch-returns-in_err-rest-3-clause-reads
-other_branch-returns-in_err-rest-3-clause-reads t c =
-    token_misses {Y = Option (List Stmt)} {L = Branch c.args.dialect} kind.End c.args.tokens.now c.args.tokens.now (λ k. branch_due k) (λ b k. choice_made k.choice k.body b)
-    (λ k more l. branch_stops c.requires c.in_default.ensures l k.body k.choice.test k.choice.before k.choice.frame.frame k.choice.frame.speaks)
-    c.from_residual-in_err-rest-3.result c.in_err-rest-3.field-0.0 c.from_residual-in_err-rest-3.ensures.1 c.in_err-rest-3.ensures
-
-pub other_branch-returns-in_err-rest-4-clause-reads : goal.other_branch-returns-in_err-rest-4-clause-reads
-other_branch-returns-in_err-rest-4-clause-reads t c =
-    token_misses {Y = Option (List Stmt)} {L = Branch c.args.dialect} kind.If c.args.tokens.now c.in_ok-rest-3.rest.now (λ k. branch_due k) (λ b k. choice_made k.choice k.body b)
-    (λ k more l. then_end c.in_ok-rest-3.ensures k.body k.choice.test k.choice.before k.choice.frame.frame ∙ if_left l (if_then k.choice.test k.body) k.choice.before k.choice.frame.frame)
-    c.from_residual-in_err-rest-4.result c.in_err-rest-4.field-0.0 c.from_residual-in_err-rest-4.ensures.1 c.in_err-rest-4.ensures
-
 pub other_branch-returns-clause-reads : goal.other_branch-returns-clause-reads
 other_branch-returns-clause-reads t c =
-    λ k. then_end c.in_ok-rest-3.ensures k.body k.choice.test k.choice.before k.choice.frame.frame
-    ∙ if_named c.in_ok-rest-4.ensures (if_then k.choice.test k.body) k.choice.before k.choice.frame.frame
+    λ k. then_end c.in_ok-rest.ensures.ends k.body k.choice.test k.choice.before k.choice.frame.frame
+    ∙ if_named c.in_ok-rest.ensures.names (if_then k.choice.test k.body) k.choice.before k.choice.frame.frame
 
 -- ---- what is left behind a part
 
@@ -278,32 +213,11 @@ repetition-returns-in_err-test-clause-shorter t c = untold _ c.from_residual.res
 pub repetition-returns-in_err-body-clause-shorter : goal.repetition-returns-in_err-body-clause-shorter
 repetition-returns-in_err-body-clause-shorter t c = untold _ c.from_residual-in_err-body.result c.in_err-body.field-0.0 c.from_residual-in_err-body.ensures.1
 
-pub repeated-returns-in_err-body-clause-shorter : goal.repeated-returns-in_err-body-clause-shorter
-repeated-returns-in_err-body-clause-shorter t c = untold _ c.from_residual.result c.in_err-body.field-0.0 c.from_residual.ensures.1
-
-pub repeated-returns-in_err-rest-clause-shorter : goal.repeated-returns-in_err-rest-clause-shorter
-repeated-returns-in_err-rest-clause-shorter t c = untold _ c.from_residual-in_err-rest.result c.in_err-rest.field-0.0 c.from_residual-in_err-rest.ensures.1
-
-pub repeated-returns-in_err-rest-2-clause-shorter : goal.repeated-returns-in_err-rest-2-clause-shorter
-repeated-returns-in_err-rest-2-clause-shorter t c = untold _ c.from_residual-in_err-rest-2.result c.in_err-rest-2.field-0.0 c.from_residual-in_err-rest-2.ensures.1
-
-pub counted-returns-in_err-body-clause-shorter : goal.counted-returns-in_err-body-clause-shorter
-counted-returns-in_err-body-clause-shorter t c = untold _ c.from_residual.result c.in_err-body.field-0.0 c.from_residual.ensures.1
-
-pub counted-returns-in_err-rest-clause-shorter : goal.counted-returns-in_err-rest-clause-shorter
-counted-returns-in_err-rest-clause-shorter t c = untold _ c.from_residual-in_err-rest.result c.in_err-rest.field-0.0 c.from_residual-in_err-rest.ensures.1
-
-pub counted-returns-in_err-last-clause-shorter : goal.counted-returns-in_err-last-clause-shorter
-counted-returns-in_err-last-clause-shorter t c = untold _ c.from_residual-in_err-last.result c.in_err-last.field-0.0 c.from_residual-in_err-last.ensures.1
-
 pub other_branch-returns-in_err-other-clause-shorter : goal.other_branch-returns-in_err-other-clause-shorter
 other_branch-returns-in_err-other-clause-shorter t c = untold _ c.from_residual.result c.in_err-other.field-0.0 c.from_residual.ensures.1
 
 pub other_branch-returns-in_err-rest-clause-shorter : goal.other_branch-returns-in_err-rest-clause-shorter
 other_branch-returns-in_err-rest-clause-shorter t c = untold _ c.from_residual-in_err-rest.result c.in_err-rest.field-0.0 c.from_residual-in_err-rest.ensures.1
-
-pub other_branch-returns-in_err-rest-2-clause-shorter : goal.other_branch-returns-in_err-rest-2-clause-shorter
-other_branch-returns-in_err-rest-2-clause-shorter t c = untold _ c.from_residual-in_err-rest-2.result c.in_err-rest-2.field-0.0 c.from_residual-in_err-rest-2.ensures.1
 
 pub choice-returns-clause-shorter : goal.choice-returns-clause-shorter
 choice-returns-clause-shorter t c = le_trans c.in_ok-body.ensures.shorter (le_of_lt (lt_trans (starts_shorter kind.Then c.in_ok-rest.ensures) c.in_ok-test.ensures.shorter))
@@ -312,19 +226,13 @@ pub branches-returns-clause-shorter : goal.branches-returns-clause-shorter
 branches-returns-clause-shorter t c = le_trans c.in_ok-other.ensures.shorter c.in_ok-body.ensures.shorter
 
 pub repetition-returns-clause-shorter : goal.repetition-returns-clause-shorter
-repetition-returns-clause-shorter t c = le_trans c.in_ok-body.ensures.shorter (le_of_lt c.in_ok-test.ensures.shorter)
-
-pub repeated-returns-clause-shorter : goal.repeated-returns-clause-shorter
-repeated-returns-clause-shorter t c = le_trans (no_more kind.While c.in_ok-rest-2.ensures) (le_trans (no_more kind.End c.in_ok-rest.ensures) c.in_ok-body.ensures.shorter)
+repetition-returns-clause-shorter t c = le_trans (ended_shorter kind.While c.in_ok-test.rest.now c.block.result c.block.ensures.shorter (Ok (c.in_ok-body.body, c.in_ok-body.rest)) c.in_ok-body.ensures) (le_of_lt c.in_ok-test.ensures.shorter)
 
 pub counting-returns-clause-shorter : goal.counting-returns-clause-shorter
-counting-returns-clause-shorter t c = le_trans c.in_ok-body.ensures.shorter (le_of_lt c.in_ok-head.ensures.shorter)
-
-pub counted-returns-clause-shorter : goal.counted-returns-clause-shorter
-counted-returns-clause-shorter t c = le_trans (no_more_named c.in_ok-last.last c.in_ok-last.ensures) (le_trans (no_more kind.Next c.in_ok-rest.ensures) c.in_ok-body.ensures.shorter)
+counting-returns-clause-shorter t c = le_trans (counted_shorter c.in_ok-head.rest.now c.block.result c.block.ensures.shorter (Ok ((c.in_ok-body.body, c.in_ok-body.last), c.in_ok-body.rest)) c.in_ok-body.ensures) (le_of_lt c.in_ok-head.ensures.shorter)
 
 pub other_branch-returns-in-Some-clause-shorter : goal.other_branch-returns-in-Some-clause-shorter
-other_branch-returns-in-Some-clause-shorter t c = le_trans (no_more kind.If c.in_ok-rest-2.ensures) (le_trans (no_more kind.End c.in_ok-rest.ensures) (le_trans c.in_ok-other.ensures.shorter (no_more kind.Else c.in-Some.ensures)))
+other_branch-returns-in-Some-clause-shorter t c = le_trans (ended_shorter kind.If c.in-Some.rest.now c.block.result c.block.ensures.shorter (Ok (c.in_ok-other.other, c.in_ok-other.rest)) c.in_ok-other.ensures) (no_more kind.Else c.in-Some.ensures)
 
 pub statement-returns-in-Named-clause-shorter : goal.statement-returns-in-Named-clause-shorter
 statement-returns-in-Named-clause-shorter t c = no_longer c.args.tokens.now c.behind_name.result c.behind_name.ensures.shorter
@@ -357,13 +265,7 @@ pub block-returns-clause-shorter : goal.block-returns-clause-shorter
 block-returns-clause-shorter t c = c.loop-opening.invariant.0
 
 pub other_branch-returns-clause-shorter : goal.other_branch-returns-clause-shorter
-other_branch-returns-clause-shorter t c = le_trans (no_more kind.If c.in_ok-rest-4.ensures) (no_more kind.End c.in_ok-rest-3.ensures)
-
-pub other_branch-returns-in_err-rest-3-clause-shorter : goal.other_branch-returns-in_err-rest-3-clause-shorter
-other_branch-returns-in_err-rest-3-clause-shorter t c = untold _ c.from_residual-in_err-rest-3.result c.in_err-rest-3.field-0.0 c.from_residual-in_err-rest-3.ensures.1
-
-pub other_branch-returns-in_err-rest-4-clause-shorter : goal.other_branch-returns-in_err-rest-4-clause-shorter
-other_branch-returns-in_err-rest-4-clause-shorter t c = untold _ c.from_residual-in_err-rest-4.result c.in_err-rest-4.field-0.0 c.from_residual-in_err-rest-4.ensures.1
+other_branch-returns-clause-shorter t c = le_trans (no_more kind.If c.in_ok-rest.ensures.names) (no_more kind.End c.in_ok-rest.ensures.ends)
 
 -- ---- each part begins with less
 
@@ -391,17 +293,11 @@ branches-other_branch-requires t c = (lower 1 2 (lit< tt) c.in_ok-body.ensures.s
 pub other_branch-block-requires : goal.other_branch-block-requires
 other_branch-block-requires t c = (lowest 1 (lit< tt) (no_more kind.Else c.in-Some.ensures) c.decreases, tt)
 
-pub repetition-repeated-requires : goal.repetition-repeated-requires
-repetition-repeated-requires t c = (lower 1 3 (lit< tt) (le_of_lt c.in_ok-test.ensures.shorter) c.decreases, tt)
-
-pub repeated-block-requires : goal.repeated-block-requires
-repeated-block-requires t c = (lowest 1 (lit< tt) (le_refl _) c.decreases, tt)
-
-pub counting-counted-requires : goal.counting-counted-requires
-counting-counted-requires t c = (lower 1 3 (lit< tt) (le_of_lt c.in_ok-head.ensures.shorter) c.decreases, tt)
-
-pub counted-block-requires : goal.counted-block-requires
-counted-block-requires t c = (lowest 1 (lit< tt) (le_refl _) c.decreases, tt)
-
 pub statement-repetition-requires : goal.statement-repetition-requires
 statement-repetition-requires t c = (lower 3 4 (lit< tt) (le_refl _) c.decreases, tt)
+
+pub repetition-block-requires : goal.repetition-block-requires
+repetition-block-requires t c = (lowest 3 (lit< tt) (le_of_lt c.in_ok-test.ensures.shorter) c.decreases, tt)
+
+pub counting-block-requires : goal.counting-block-requires
+counting-block-requires t c = (lowest 3 (lit< tt) (le_of_lt c.in_ok-head.ensures.shorter) c.decreases, tt)

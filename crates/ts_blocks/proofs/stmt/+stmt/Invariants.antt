@@ -10,12 +10,6 @@ use Rattle.ts_blocks.proofs.stmt.+stmt.Given as goal
 abbrev pub decreases-block : goal.decreases-block
 decreases-block l = 8 * length l.tokens.now
 
-abbrev pub decreases-repeated : goal.decreases-repeated
-decreases-repeated l = 8 * length l.tokens.now + 1
-
-abbrev pub decreases-counted : goal.decreases-counted
-decreases-counted l = 8 * length l.tokens.now + 1
-
 abbrev pub decreases-other_branch : goal.decreases-other_branch
 decreases-other_branch l = 8 * length l.tokens.now + 1
 

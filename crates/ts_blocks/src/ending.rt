@@ -1,0 +1,37 @@
+//! How a block ends.
+
+ghost use Rattle.ts_blocks.specs.Ending.{TakesEnd, Ended, Counted};
+
+use ts_machine::Halt;
+use ts_machine::expect::{expect, name};
+use ts_syntax::{Block, Token, TokenKind, Word};
+
+/// A block as it was read, and the tokens behind it.
+pub type ReadBlock<'a> = Result<(Block, &'a [Token]), Halt<'a>>;
+
+/// Takes `end` and a keyword.
+pub fn end_of<'a>(tokens: &'a [Token], kind: &TokenKind) -> Result<&'a [Token], Halt<'a>>
+    ensures { TakesEnd kind.now tokens.now result }
+{
+    let rest = expect(tokens, &TokenKind::End)?;
+    expect(rest, kind)
+}
+
+/// The block, where `end` and this keyword stand behind it, and the tokens behind them.
+pub fn ended<'a>(read: ReadBlock<'a>, kind: &TokenKind) -> ReadBlock<'a>
+    ensures { Ended kind.now read.entry result }
+{
+    let (block, rest) = read?;
+    let rest = end_of(rest, kind)?;
+    Ok((block, rest))
+}
+
+/// The block, where `next` and a name stand behind it, with that name, and the tokens behind it.
+pub fn counted<'a>(read: ReadBlock<'a>) -> Result<((Block, Word), &'a [Token]), Halt<'a>>
+    ensures { Counted read.entry result }
+{
+    let (block, rest) = read?;
+    let rest = expect(rest, &TokenKind::Next)?;
+    let (last, rest) = name(rest)?;
+    Ok(((block, last), rest))
+}
