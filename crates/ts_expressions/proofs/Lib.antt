@@ -1,3 +1,5 @@
 pub mod ExprLemmas
+pub mod FindingLemmas
 pub mod OperatorLemmas
+pub mod ShorterLemmas
 pub mod StoppingLemmas

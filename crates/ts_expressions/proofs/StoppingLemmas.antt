@@ -1,5 +1,5 @@
 -- Where the machine stops, as a part of the parser does: at a token that is missing, or for want of memory.
-use Rattle.std.proofs.Common.{◌≡◌, ℕ, List, ◌∷◌, None, Result, Ok, Err, Bor, refl, sym, subst}
+use Rattle.std.proofs.Common.{◌≡◌, ℕ, List, None, Result, Ok, Err, Bor, refl, sym, subst}
 use Rattle.std.specs.Result.{IsErrAnd}
 use Rattle.ts_syntax.specs.declared.token.Token.{Token}
 use Rattle.ts_syntax.specs.declared.token.TokenKind.{TokenKind}

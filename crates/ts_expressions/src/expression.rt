@@ -7,9 +7,9 @@ ghost use Rattle.ts_expressions.specs.Boxed.{boxed_tree};
 ghost use Rattle.ts_syntax.specs.Seen.{tree_of, trees_of};
 ghost use Rattle.ts_syntax.specs.declared.token.TokenKind.TheVariants as kind;
 
+use crate::found::{Found, ended, joined, made};
 use crate::node::{
-    buffer_size, call, inverse, item, message_item, message_size, negative, number, paren, two,
-    variable,
+    buffer_size, call, inverse, item, message_item, message_size, negative, number, paren, variable,
 };
 use std::alloc::Global;
 use ts_machine::Halt;
@@ -17,9 +17,6 @@ use ts_machine::expect::{
     after, after_comparison_sign, after_product_sign, after_sum_sign, expect, name,
 };
 use ts_syntax::{Args, BinOp, Expr, Token, TokenKind, Word};
-
-/// What a part of the parser found, and the tokens behind it. It is boxed at once, so that what recurs needs little stack.
-type Found<'a> = Result<(Box<Expr>, &'a [Token]), Halt<'a>>;
 
 /// Reads an expression, with all the operators that follow its parts: it, and the tokens behind it, of which the first is
 /// no `or`. It stops at the first token that doesn't fit, or behind all tokens where they end too early.
@@ -41,8 +38,8 @@ fn disjunction<'a>(alloc: Global, tokens: &'a [Token]) -> Found<'a>
 {
     let (mut left, mut rest) = conjunction(alloc, tokens)?;
     while let Some(behind) = after(rest, &TokenKind::Or) {
-        let (right, then) = conjunction(alloc, behind)?;
-        left = two(alloc, BinOp::Or, left, right)?;
+        let (longer, then) = joined(alloc, BinOp::Or, left, conjunction(alloc, behind))?;
+        left = longer;
         rest = then;
     }
     Ok((left, rest))
@@ -80,8 +77,8 @@ fn conjunction<'a>(alloc: Global, tokens: &'a [Token]) -> Found<'a>
 {
     let (mut left, mut rest) = inversion(alloc, tokens)?;
     while let Some(behind) = after(rest, &TokenKind::And) {
-        let (right, then) = inversion(alloc, behind)?;
-        left = two(alloc, BinOp::And, left, right)?;
+        let (longer, then) = joined(alloc, BinOp::And, left, inversion(alloc, behind))?;
+        left = longer;
         rest = then;
     }
     Ok((left, rest))
@@ -97,7 +94,7 @@ fn inversion<'a>(alloc: Global, tokens: &'a [Token]) -> Found<'a>
         return comparison(alloc, tokens);
     };
     let (of, rest) = inversion(alloc, behind)?;
-    Ok((inverse(alloc, of)?, rest))
+    made(inverse(alloc, of), rest)
 }
 
 /// Reads a sum, or two with one sign of comparison between them.
@@ -110,8 +107,7 @@ fn comparison<'a>(alloc: Global, tokens: &'a [Token]) -> Found<'a>
     let Some((op, behind)) = after_comparison_sign(rest) else {
         return Ok((left, rest));
     };
-    let (right, rest) = sum(alloc, behind)?;
-    Ok((two(alloc, op, left, right)?, rest))
+    joined(alloc, op, left, sum(alloc, behind))
 }
 
 /// Reads a chain of `+` and `-`.
@@ -123,8 +119,8 @@ fn sum<'a>(alloc: Global, tokens: &'a [Token]) -> Found<'a>
 {
     let (mut left, mut rest) = product(alloc, tokens)?;
     while let Some((op, behind)) = after_sum_sign(rest) {
-        let (right, then) = product(alloc, behind)?;
-        left = two(alloc, op, left, right)?;
+        let (longer, then) = joined(alloc, op, left, product(alloc, behind))?;
+        left = longer;
         rest = then;
     }
     Ok((left, rest))
@@ -139,8 +135,8 @@ fn product<'a>(alloc: Global, tokens: &'a [Token]) -> Found<'a>
 {
     let (mut left, mut rest) = operand(alloc, tokens)?;
     while let Some((op, behind)) = after_product_sign(rest) {
-        let (right, then) = operand(alloc, behind)?;
-        left = two(alloc, op, left, right)?;
+        let (longer, then) = joined(alloc, op, left, operand(alloc, behind))?;
+        left = longer;
         rest = then;
     }
     Ok((left, rest))
@@ -158,9 +154,9 @@ fn operand<'a>(alloc: Global, tokens: &'a [Token]) -> Found<'a>
     match &first.kind {
         TokenKind::Minus => {
             let (of, rest) = operand(alloc, rest)?;
-            Ok((negative(alloc, of)?, rest))
+            made(negative(alloc, of), rest)
         }
-        TokenKind::Num(value) => Ok((number(alloc, *value)?, rest)),
+        TokenKind::Num(value) => made(number(alloc, *value), rest),
         TokenKind::Name(name) => {
             let word = Word {
                 name: name.copy(),
@@ -183,12 +179,12 @@ fn behind_name<'a>(alloc: Global, word: Word, tokens: &'a [Token]) -> Found<'a>
 {
     if let Some(rest) = after(tokens, &TokenKind::Open) {
         let (args, rest) = arguments(alloc, rest)?;
-        return Ok((call(alloc, word, args)?, rest));
+        return made(call(alloc, word, args), rest);
     }
     if let Some(rest) = after(tokens, &TokenKind::OpenBox) {
         return behind_open_box(alloc, word, rest);
     }
-    Ok((variable(alloc, word)?, tokens))
+    made(variable(alloc, word), tokens)
 }
 
 /// Reads on behind a buffer's name and `[`: the item's index, and `]`.
@@ -197,9 +193,8 @@ fn behind_open_box<'a>(alloc: Global, buffer: Word, tokens: &'a [Token]) -> Foun
     ensures reads { Reads {K = Operand} tokens.now (λ k. expr_due (in_item buffer k)) (λ e k. give k (boxed_tree e)) result }
     ensures shorter { IfOk result (λ x. length x.1.now < length tokens.now) }
 {
-    let (index, rest) = disjunction(alloc, tokens)?;
-    let rest = expect(rest, &TokenKind::CloseBox)?;
-    Ok((item(alloc, buffer, index)?, rest))
+    let (index, rest) = ended(disjunction(alloc, tokens), &TokenKind::CloseBox)?;
+    made(item(alloc, buffer, index), rest)
 }
 
 /// Reads on behind `msg`: an index in `[` and `]`.
@@ -209,9 +204,8 @@ fn behind_message<'a>(alloc: Global, tokens: &'a [Token]) -> Found<'a>
     ensures shorter { IfOk result (λ x. length x.1.now < length tokens.now) }
 {
     let rest = expect(tokens, &TokenKind::OpenBox)?;
-    let (index, rest) = disjunction(alloc, rest)?;
-    let rest = expect(rest, &TokenKind::CloseBox)?;
-    Ok((message_item(alloc, index)?, rest))
+    let (index, rest) = ended(disjunction(alloc, rest), &TokenKind::CloseBox)?;
+    made(message_item(alloc, index), rest)
 }
 
 /// Reads on behind `(`: an expression, and `)`.
@@ -220,9 +214,8 @@ fn behind_open<'a>(alloc: Global, tokens: &'a [Token]) -> Found<'a>
     ensures reads { Reads {K = Operand} tokens.now (λ k. expr_due (in_paren k)) (λ e k. give k (boxed_tree e)) result }
     ensures shorter { IfOk result (λ x. length x.1.now < length tokens.now) }
 {
-    let (of, rest) = disjunction(alloc, tokens)?;
-    let rest = expect(rest, &TokenKind::Close)?;
-    Ok((paren(alloc, of)?, rest))
+    let (of, rest) = ended(disjunction(alloc, tokens), &TokenKind::Close)?;
+    made(paren(alloc, of), rest)
 }
 
 /// Reads on behind `size`: a buffer's name or `msg`, in parentheses.
@@ -231,9 +224,7 @@ fn size<'a>(alloc: Global, tokens: &'a [Token]) -> Found<'a>
     ensures shorter { IfOk result (λ x. length x.1.now < length tokens.now) }
 {
     let rest = expect(tokens, &TokenKind::Open)?;
-    let (of, rest) = size_of(alloc, rest)?;
-    let rest = expect(rest, &TokenKind::Close)?;
-    Ok((of, rest))
+    ended(size_of(alloc, rest), &TokenKind::Close)
 }
 
 /// Reads what `size` is asked of: a buffer's name, or `msg`.
@@ -242,8 +233,8 @@ fn size_of<'a>(alloc: Global, tokens: &'a [Token]) -> Found<'a>
     ensures shorter { IfOk result (λ x. length x.1.now < length tokens.now) }
 {
     if let Some(rest) = after(tokens, &TokenKind::Msg) {
-        return Ok((message_size(alloc)?, rest));
+        return made(message_size(alloc), rest);
     }
     let (word, rest) = name(tokens)?;
-    Ok((buffer_size(alloc, word)?, rest))
+    made(buffer_size(alloc, word), rest)
 }

@@ -2,6 +2,7 @@
 #![tactic(auto)]
 
 pub mod expression;
+pub mod found;
 pub mod node;
 
 pub use expression::{arguments, expr};

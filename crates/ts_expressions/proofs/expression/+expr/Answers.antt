@@ -1,4 +1,4 @@
-use Rattle.std.proofs.Common.{List, length, refl, sym, ◌∙◌, ap, arith}
+use Rattle.std.proofs.Common.{List, length, refl, sym, ◌∙◌, ap, arith, Ok, Err, le_refl, lt_trans, le_of_lt, lit<, ◌<◌}
 use Rattle.std.specs.declared.alloc.Global.{Global}
 use Rattle.std.specs.declared.boxed.Box.{Box}
 use Rattle.ts_expressions.specs.Boxed.{boxed_tree}
@@ -6,13 +6,17 @@ use Rattle.ts_syntax.specs.declared.expr.Expr.{Expr}
 use Rattle.ts_syntax.specs.Seen.{trees_of}
 use Rattle.ts_syntax.specs.Spelling.{kinds}
 use Rattle.ts_syntax.specs.declared.token.TokenKind.TheVariants as kind
-use Rattle.ts_machine.specs.Machine.{Operand, Whole, first_product, in_product, first_sum, in_sum, first_compare, in_compare, first_and, in_and, in_inverse, first_or, in_or, in_paren, in_item, in_message, want, want_inverse, message, sum_due, inverse_due, expr_due, give, have_product, have_sum, have_inverse, have_and, have}
+use Rattle.ts_syntax.specs.Tree.{variable, call, inverse, paren, item, message_item}
+use Rattle.ts_syntax.specs.declared.bin_op.BinOp.TheVariants as op
+use Rattle.ts_machine.specs.Machine.{Operand, named, Whole, first_product, first_sum, first_compare, first_and, in_inverse, first_or, in_paren, in_item, in_message, want, want_inverse, message, sum_due, inverse_due, expr_due, give, have_product, have_sum, have_inverse, have_and, have}
 use Rattle.ts_machine.specs.Parsing.{reads, noted_then, Caller, of_operand, called_open, called, called_with}
-use Rattle.ts_machine.proofs.Turns.{inverse_is_read, inverse_is_first, inverse_is_next}
+use Rattle.ts_machine.proofs.Turns.{inverse_is_read, inverse_is_first}
 use Rattle.ts_machine.proofs.Parts.{halts, starts_shorter}
-use Rattle.ts_expressions.proofs.ExprLemmas.{part_halts, not_read, and_read, call_read, item_read, message_begins, paren_closed, item_closed, message_closed, variable_read, comma_read, no_arguments, arguments_closed, trees_more, call_halts, comparison_read}
-use Rattle.ts_expressions.proofs.OperatorLemmas.{product_read, sum_read, or_read, product_over, and_over, sum_over, sum_alone, comparison_sign_read}
-use Rattle.ts_expressions.proofs.StoppingLemmas.{sign_halts, box_missing, paren_open, item_open, message_open, arguments_open}
+use Rattle.ts_expressions.proofs.ExprLemmas.{part_halts, not_read, and_read, call_read, item_read, message_begins, variable_read, comma_read, no_arguments, arguments_closed, trees_more, call_halts, comparison_read}
+use Rattle.ts_expressions.proofs.FindingLemmas.{paren_ended, item_ended, message_ended, made_reads, made_behind, ended_shorter, joined_behind, sign_shorter, or_joined, and_joined, sum_joined, product_joined, comparison_joined}
+use Rattle.ts_expressions.proofs.OperatorLemmas.{product_read, sum_read, or_read, product_over, and_over, sum_alone, comparison_sign_read}
+use Rattle.ts_expressions.proofs.ShorterLemmas.{untold, shorter_still, lower, lowest, fewer, again}
+use Rattle.ts_expressions.proofs.StoppingLemmas.{sign_halts, box_missing, arguments_open}
 use Rattle.ts_expressions.proofs.expression.+expr.Goals as goal
 
 pub arguments-returns-in_default-after-clause-reads : goal.arguments-returns-in_default-after-clause-reads
@@ -35,13 +39,15 @@ behind_name-returns-in_err-args-clause-reads t c =
 
 pub behind_name-returns-in-Some-clause-reads : goal.behind_name-returns-in-Some-clause-reads
 behind_name-returns-in-Some-clause-reads t c =
-    λ k. call_read c.args.word k c.in-Some.ensures ∙ c.in_ok-args.ensures.reads (of_operand c.args.word k)
-    ∙ ap (λ x. reads c.in_ok-args.rest.now (give k x)) (sym c.in_ok-call.ensures)
+    made_reads (call c.args.word (trees_of c.in_ok-args.args)) c.args.tokens.now c.in_ok-args.rest.now (λ k. named c.args.word k) (λ d k. give k d)
+    (λ k. call_read c.args.word k c.in-Some.ensures ∙ c.in_ok-args.ensures.reads (of_operand c.args.word k))
+    c.call.result c.call.ensures c.made.result c.made.ensures
 
 pub behind_name-returns-clause-reads : goal.behind_name-returns-clause-reads
 behind_name-returns-clause-reads t c =
-    λ k. variable_read c.args.word k c.args.tokens.now c.in_default.ensures c.in_default-after.ensures
-    ∙ ap (λ x. reads c.args.tokens.now (give k x)) (sym c.in_ok-variable.ensures)
+    made_reads (variable c.args.word) c.args.tokens.now c.args.tokens.now (λ k. named c.args.word k) (λ d k. give k d)
+    (λ k. variable_read c.args.word k c.args.tokens.now c.in_default.ensures c.in_default-after.ensures)
+    c.variable.result c.variable.ensures c.made-2.result c.made-2.ensures
 
 pub conjunction-loop-behind-init : goal.conjunction-loop-behind-init
 conjunction-loop-behind-init t c = (
@@ -51,10 +57,12 @@ conjunction-loop-behind-init t c = (
 
 pub conjunction-loop-behind-preserved : goal.conjunction-loop-behind-preserved
 conjunction-loop-behind-preserved t c = (
-  omega (arith, starts_shorter kind.And c.in-Some.ensures, c.in_ok-right.ensures.shorter, c.loop-behind.invariant.0),
-  λ k. c.loop-behind.invariant.1 k ∙ and_read (boxed_tree c.loop-behind.left) k c.in-Some.ensures ∙ c.in_ok-right.ensures.reads (in_and (boxed_tree c.loop-behind.left) k)
-      ∙ inverse_is_next (boxed_tree c.loop-behind.left) (boxed_tree c.in_ok-right.right) k (kinds c.in_ok-right.then.now) (noted_then c.in_ok-right.then.now)
-      ∙ ap (λ x. reads c.in_ok-right.then.now (have_and x k)) (sym c.in_ok-left-2.ensures),
+  lt_trans
+      (joined_behind (λ z. length z < length c.in-Some.behind.now) op.And (boxed_tree c.loop-behind.left) c.inversion-in-Some.result c.inversion-in-Some.ensures.shorter (Ok (c.in_ok-longer.longer, c.in_ok-longer.then)) c.in_ok-longer.ensures)
+      (lt_trans (starts_shorter kind.And c.in-Some.ensures) c.loop-behind.invariant.0),
+  and_joined (boxed_tree c.loop-behind.left) c.args.tokens.now c.in-Some.behind.now
+      (λ k. c.loop-behind.invariant.1 k ∙ and_read (boxed_tree c.loop-behind.left) k c.in-Some.ensures)
+      c.inversion-in-Some.result c.inversion-in-Some.ensures.reads c.inversion-in-Some.ensures.shorter (Ok (c.in_ok-longer.longer, c.in_ok-longer.then)) c.in_ok-longer.ensures,
 )
 
 pub inversion-returns-in_default-clause-reads : goal.inversion-returns-in_default-clause-reads
@@ -62,9 +70,9 @@ inversion-returns-in_default-clause-reads t c = comparison_read c.args.tokens.no
 
 pub inversion-returns-clause-reads : goal.inversion-returns-clause-reads
 inversion-returns-clause-reads t c =
-    λ k. not_read k c.in-Some.ensures ∙ c.in_ok-of.ensures.reads (in_inverse k)
-    ∙ inverse_is_read (boxed_tree c.in_ok-of.of) k (kinds c.in_ok-of.rest.now) (noted_then c.in_ok-of.rest.now)
-    ∙ ap (λ x. reads c.in_ok-of.rest.now (have_inverse x k)) (sym c.in_ok-inverse.ensures)
+    made_reads (inverse (boxed_tree c.in_ok-of.of)) c.args.tokens.now c.in_ok-of.rest.now (λ k. want_inverse k) have_inverse
+    (λ k. not_read k c.in-Some.ensures ∙ c.in_ok-of.ensures.reads (in_inverse k) ∙ inverse_is_read (boxed_tree c.in_ok-of.of) k (kinds c.in_ok-of.rest.now) (noted_then c.in_ok-of.rest.now))
+    c.inverse.result c.inverse.ensures c.made.result c.made.ensures
 
 pub disjunction-loop-behind-init : goal.disjunction-loop-behind-init
 disjunction-loop-behind-init t c = (
@@ -74,10 +82,12 @@ disjunction-loop-behind-init t c = (
 
 pub disjunction-loop-behind-preserved : goal.disjunction-loop-behind-preserved
 disjunction-loop-behind-preserved t c = (
-  omega (arith, starts_shorter kind.Or c.in-Some.ensures, c.in_ok-right.ensures.shorter, c.loop-behind.invariant.0),
-  λ k. c.loop-behind.invariant.1 k ∙ or_read (boxed_tree c.loop-behind.left) k c.in-Some.ensures ∙ c.in_ok-right.ensures.reads (in_or (boxed_tree c.loop-behind.left) k)
-      ∙ and_over (boxed_tree c.in_ok-right.right) (in_or (boxed_tree c.loop-behind.left) k) c.in_ok-right.then.now c.in_ok-right.ensures.over
-      ∙ ap (λ x. reads c.in_ok-right.then.now (have x k)) (sym c.in_ok-left-2.ensures),
+  lt_trans
+      (joined_behind (λ z. length z < length c.in-Some.behind.now) op.Or (boxed_tree c.loop-behind.left) c.conjunction-in-Some.result c.conjunction-in-Some.ensures.shorter (Ok (c.in_ok-longer.longer, c.in_ok-longer.then)) c.in_ok-longer.ensures)
+      (lt_trans (starts_shorter kind.Or c.in-Some.ensures) c.loop-behind.invariant.0),
+  or_joined (boxed_tree c.loop-behind.left) c.args.tokens.now c.in-Some.behind.now
+      (λ k. c.loop-behind.invariant.1 k ∙ or_read (boxed_tree c.loop-behind.left) k c.in-Some.ensures)
+      c.conjunction-in-Some.result c.conjunction-in-Some.ensures.reads c.conjunction-in-Some.ensures.over (Ok (c.in_ok-longer.longer, c.in_ok-longer.then)) c.in_ok-longer.ensures,
 )
 
 pub sum-loop-op-init : goal.sum-loop-op-init
@@ -88,17 +98,22 @@ sum-loop-op-init t c = (
 
 pub sum-loop-op-preserved : goal.sum-loop-op-preserved
 sum-loop-op-preserved t c = (
-  omega (arith, ap length c.in-Some.ensures.are, c.in_ok-right.ensures.shorter, c.loop-op.invariant.0),
-  λ k. c.loop-op.invariant.1 k ∙ sum_read (boxed_tree c.loop-op.left) k c.in-Some.ensures ∙ c.in_ok-right.ensures.reads (in_sum c.in-Some.op (boxed_tree c.loop-op.left) k)
-      ∙ product_over (boxed_tree c.in_ok-right.right) (in_sum c.in-Some.op (boxed_tree c.loop-op.left) k) c.in_ok-right.then.now c.in_ok-right.ensures.over
-      ∙ ap (λ x. reads c.in_ok-right.then.now (have_sum x k)) (sym c.in_ok-left-2.ensures),
+  lt_trans
+      (joined_behind (λ z. length z < length c.in-Some.behind.now) c.in-Some.op (boxed_tree c.loop-op.left) c.product-in-Some.result c.product-in-Some.ensures.shorter (Ok (c.in_ok-longer.longer, c.in_ok-longer.then)) c.in_ok-longer.ensures)
+      (lt_trans (sign_shorter c.in-Some.ensures) c.loop-op.invariant.0),
+  sum_joined c.in-Some.op (boxed_tree c.loop-op.left) c.args.tokens.now c.in-Some.behind.now
+      (λ k. c.loop-op.invariant.1 k ∙ sum_read (boxed_tree c.loop-op.left) k c.in-Some.ensures)
+      c.product-in-Some.result c.product-in-Some.ensures.reads c.product-in-Some.ensures.over (Ok (c.in_ok-longer.longer, c.in_ok-longer.then)) c.in_ok-longer.ensures,
 )
 
 pub product-loop-op-preserved : goal.product-loop-op-preserved
 product-loop-op-preserved t c = (
-  omega (arith, ap length c.in-Some.ensures.are, c.in_ok-right.ensures.shorter, c.loop-op.invariant.0),
-  λ k. c.loop-op.invariant.1 k ∙ product_read (boxed_tree c.loop-op.left) k c.in-Some.ensures ∙ c.in_ok-right.ensures.reads (in_product c.in-Some.op (boxed_tree c.loop-op.left) k)
-      ∙ ap (λ x. reads c.in_ok-right.then.now (have_product x k)) (sym c.in_ok-left-2.ensures),
+  lt_trans
+      (joined_behind (λ z. length z < length c.in-Some.behind.now) c.in-Some.op (boxed_tree c.loop-op.left) c.operand-in-Some.result c.operand-in-Some.ensures.shorter (Ok (c.in_ok-longer.longer, c.in_ok-longer.then)) c.in_ok-longer.ensures)
+      (lt_trans (sign_shorter c.in-Some.ensures) c.loop-op.invariant.0),
+  product_joined c.in-Some.op (boxed_tree c.loop-op.left) c.args.tokens.now c.in-Some.behind.now
+      (λ k. c.loop-op.invariant.1 k ∙ product_read (boxed_tree c.loop-op.left) k c.in-Some.ensures)
+      c.operand-in-Some.result c.operand-in-Some.ensures.reads c.operand-in-Some.ensures.shorter (Ok (c.in_ok-longer.longer, c.in_ok-longer.then)) c.in_ok-longer.ensures,
 )
 
 pub comparison-returns-in_default-clause-reads : goal.comparison-returns-in_default-clause-reads
@@ -107,10 +122,9 @@ comparison-returns-in_default-clause-reads t c =
 
 pub comparison-returns-clause-reads : goal.comparison-returns-clause-reads
 comparison-returns-clause-reads t c =
-    λ k. c.in_ok-left.ensures.reads (first_compare k) ∙ comparison_sign_read (boxed_tree c.in_ok-left.left) k c.in-Some.ensures
-    ∙ c.in_ok-right.ensures.reads (in_compare c.in-Some.op (boxed_tree c.in_ok-left.left) k)
-    ∙ sum_over c.in-Some.op (boxed_tree c.in_ok-left.left) (boxed_tree c.in_ok-right.right) k c.in_ok-right.rest.now c.in_ok-right.ensures.over
-    ∙ ap (λ x. reads c.in_ok-right.rest.now (have_inverse x k)) (sym c.in_ok-two.ensures)
+    comparison_joined c.in-Some.op (boxed_tree c.in_ok-left.left) c.args.tokens.now c.in-Some.behind.now
+    (λ k. c.in_ok-left.ensures.reads (first_compare k) ∙ comparison_sign_read (boxed_tree c.in_ok-left.left) k c.in-Some.ensures)
+    c.sum-2.result c.sum-2.ensures.reads c.sum-2.ensures.over c.joined.result c.joined.ensures
 
 pub disjunction-returns-in_err-left-clause-reads : goal.disjunction-returns-in_err-left-clause-reads
 disjunction-returns-in_err-left-clause-reads t c =
@@ -118,23 +132,11 @@ disjunction-returns-in_err-left-clause-reads t c =
     (λ k. refl)
     c.from_residual.result c.in_err-left.field-0.0 c.from_residual.ensures.1 c.in_err-left.ensures.reads
 
-pub disjunction-returns-in_err-right-clause-reads : goal.disjunction-returns-in_err-right-clause-reads
-disjunction-returns-in_err-right-clause-reads t c =
-    part_halts c.args.tokens.now c.in-Some.behind.now (λ k. want_inverse (first_and k)) have_and expr_due have (in_or (boxed_tree c.loop-behind.left))
-    (λ k. c.loop-behind.invariant.1 k ∙ or_read (boxed_tree c.loop-behind.left) k c.in-Some.ensures)
-    c.from_residual-in_err-right.result c.in_err-right.field-0.0 c.from_residual-in_err-right.ensures.1 c.in_err-right.ensures.reads
-
 pub conjunction-returns-in_err-left-clause-reads : goal.conjunction-returns-in_err-left-clause-reads
 conjunction-returns-in_err-left-clause-reads t c =
     part_halts c.args.tokens.now c.args.tokens.now want_inverse have_inverse (λ k. want_inverse (first_and k)) have_and first_and
     (λ k. refl)
     c.from_residual.result c.in_err-left.field-0.0 c.from_residual.ensures.1 c.in_err-left.ensures.reads
-
-pub conjunction-returns-in_err-right-clause-reads : goal.conjunction-returns-in_err-right-clause-reads
-conjunction-returns-in_err-right-clause-reads t c =
-    part_halts c.args.tokens.now c.in-Some.behind.now want_inverse have_inverse (λ k. want_inverse (first_and k)) have_and (in_and (boxed_tree c.loop-behind.left))
-    (λ k. c.loop-behind.invariant.1 k ∙ and_read (boxed_tree c.loop-behind.left) k c.in-Some.ensures)
-    c.from_residual-in_err-right.result c.in_err-right.field-0.0 c.from_residual-in_err-right.ensures.1 c.in_err-right.ensures.reads
 
 pub inversion-returns-in_err-of-clause-reads : goal.inversion-returns-in_err-of-clause-reads
 inversion-returns-in_err-of-clause-reads t c =
@@ -148,23 +150,11 @@ comparison-returns-in_err-left-clause-reads t c =
     (λ k. refl)
     c.from_residual.result c.in_err-left.field-0.0 c.from_residual.ensures.1 c.in_err-left.ensures.reads
 
-pub comparison-returns-in_err-right-clause-reads : goal.comparison-returns-in_err-right-clause-reads
-comparison-returns-in_err-right-clause-reads t c =
-    part_halts c.args.tokens.now c.in-Some.behind.now (λ k. want (sum_due k)) have_sum (λ k. want (inverse_due k)) have_inverse (in_compare c.in-Some.op (boxed_tree c.in_ok-left.left))
-    (λ k. c.in_ok-left.ensures.reads (first_compare k) ∙ comparison_sign_read (boxed_tree c.in_ok-left.left) k c.in-Some.ensures)
-    c.from_residual-in_err-right.result c.in_err-right.field-0.0 c.from_residual-in_err-right.ensures.1 c.in_err-right.ensures.reads
-
 pub sum-returns-in_err-left-clause-reads : goal.sum-returns-in_err-left-clause-reads
 sum-returns-in_err-left-clause-reads t c =
     part_halts c.args.tokens.now c.args.tokens.now (λ k. want (first_product k)) have_product (λ k. want (sum_due k)) have_sum first_sum
     (λ k. refl)
     c.from_residual.result c.in_err-left.field-0.0 c.from_residual.ensures.1 c.in_err-left.ensures.reads
-
-pub sum-returns-in_err-right-clause-reads : goal.sum-returns-in_err-right-clause-reads
-sum-returns-in_err-right-clause-reads t c =
-    part_halts c.args.tokens.now c.in-Some.behind.now (λ k. want (first_product k)) have_product (λ k. want (sum_due k)) have_sum (in_sum c.in-Some.op (boxed_tree c.loop-op.left))
-    (λ k. c.loop-op.invariant.1 k ∙ sum_read (boxed_tree c.loop-op.left) k c.in-Some.ensures)
-    c.from_residual-in_err-right.result c.in_err-right.field-0.0 c.from_residual-in_err-right.ensures.1 c.in_err-right.ensures.reads
 
 pub product-returns-in_err-left-clause-reads : goal.product-returns-in_err-left-clause-reads
 product-returns-in_err-left-clause-reads t c =
@@ -172,29 +162,23 @@ product-returns-in_err-left-clause-reads t c =
     (λ k. refl)
     c.from_residual.result c.in_err-left.field-0.0 c.from_residual.ensures.1 c.in_err-left.ensures.reads
 
-pub product-returns-in_err-right-clause-reads : goal.product-returns-in_err-right-clause-reads
-product-returns-in_err-right-clause-reads t c =
-    part_halts c.args.tokens.now c.in-Some.behind.now want (λ d k. give k d) (λ k. want (first_product k)) have_product (in_product c.in-Some.op (boxed_tree c.loop-op.left))
-    (λ k. c.loop-op.invariant.1 k ∙ product_read (boxed_tree c.loop-op.left) k c.in-Some.ensures)
-    c.from_residual-in_err-right.result c.in_err-right.field-0.0 c.from_residual-in_err-right.ensures.1 c.in_err-right.ensures.reads
-
 pub behind_open_box-returns-in_err-index-clause-reads : goal.behind_open_box-returns-in_err-index-clause-reads
 behind_open_box-returns-in_err-index-clause-reads t c =
-    part_halts c.args.tokens.now c.args.tokens.now expr_due have (λ k. expr_due (in_item c.args.buffer k)) (λ d k. give k d) (in_item c.args.buffer)
-    (λ k. refl)
-    c.from_residual.result c.in_err-index.field-0.0 c.from_residual.ensures.1 c.in_err-index.ensures.reads
+    part_halts c.args.tokens.now c.args.tokens.now (λ k. expr_due (in_item c.args.buffer k)) (λ d k. give k (item c.args.buffer d)) (λ k. expr_due (in_item c.args.buffer k)) (λ d k. give k d) (λ k. k) (λ k. refl)
+    c.from_residual.result c.in_err-index.field-0.0 c.from_residual.ensures.1
+    (item_ended c.args.buffer c.args.tokens.now c.disjunction.result c.disjunction.ensures.reads c.disjunction.ensures.over (Err c.in_err-index.field-0.0) c.in_err-index.ensures)
 
 pub behind_message-returns-in_err-index-clause-reads : goal.behind_message-returns-in_err-index-clause-reads
 behind_message-returns-in_err-index-clause-reads t c =
-    part_halts c.args.tokens.now c.in_ok-rest.rest.now expr_due have message (λ d k. give k d) in_message
-    (λ k. message_begins k c.in_ok-rest.ensures)
-    c.from_residual-in_err-index.result c.in_err-index.field-0.0 c.from_residual-in_err-index.ensures.1 c.in_err-index.ensures.reads
+    part_halts c.args.tokens.now c.in_ok-rest.rest.now (λ k. expr_due (in_message k)) (λ d k. give k (message_item d)) message (λ d k. give k d) (λ k. k) (λ k. message_begins k c.in_ok-rest.ensures)
+    c.from_residual-in_err-index.result c.in_err-index.field-0.0 c.from_residual-in_err-index.ensures.1
+    (message_ended c.in_ok-rest.rest.now c.disjunction.result c.disjunction.ensures.reads c.disjunction.ensures.over (Err c.in_err-index.field-0.0) c.in_err-index.ensures)
 
 pub behind_open-returns-in_err-of-clause-reads : goal.behind_open-returns-in_err-of-clause-reads
 behind_open-returns-in_err-of-clause-reads t c =
-    part_halts c.args.tokens.now c.args.tokens.now expr_due have (λ k. expr_due (in_paren k)) (λ d k. give k d) in_paren
-    (λ k. refl)
-    c.from_residual.result c.in_err-of.field-0.0 c.from_residual.ensures.1 c.in_err-of.ensures.reads
+    part_halts c.args.tokens.now c.args.tokens.now (λ k. expr_due (in_paren k)) (λ d k. give k (paren d)) (λ k. expr_due (in_paren k)) (λ d k. give k d) (λ k. k) (λ k. refl)
+    c.from_residual.result c.in_err-of.field-0.0 c.from_residual.ensures.1
+    (paren_ended c.args.tokens.now c.disjunction.result c.disjunction.ensures.reads c.disjunction.ensures.over (Err c.in_err-of.field-0.0) c.in_err-of.ensures)
 
 pub arguments-returns-in-Some-clause-reads : goal.arguments-returns-in-Some-clause-reads
 arguments-returns-in-Some-clause-reads t c =
@@ -216,40 +200,271 @@ arguments-returns-in_err-behind-clause-reads t c =
 pub behind_name-returns-in-Some-after-clause-reads : goal.behind_name-returns-in-Some-after-clause-reads
 behind_name-returns-in-Some-after-clause-reads t c = item_read c.args.word c.in-Some-after.ensures c.behind_open_box.result c.behind_open_box.ensures.reads
 
-pub behind_open_box-returns-in_err-rest-clause-reads : goal.behind_open_box-returns-in_err-rest-clause-reads
-behind_open_box-returns-in_err-rest-clause-reads t c =
-    sign_halts {X = Box Expr Global} {K = Operand} kind.CloseBox c.args.tokens.now c.in_ok-index.rest.now (λ k. expr_due (in_item c.args.buffer k)) (λ d k. give k (boxed_tree d))
-    (λ l k. c.in_ok-index.ensures.reads (in_item c.args.buffer k) ∙ item_open c.in_ok-index.rest.now (boxed_tree c.in_ok-index.index) c.args.buffer k c.in_ok-index.ensures.over l)
-    c.from_residual-in_err-rest.result c.in_err-rest.field-0.0 c.from_residual-in_err-rest.ensures.1 c.in_err-rest.ensures
-
 pub behind_open_box-returns-clause-reads : goal.behind_open_box-returns-clause-reads
 behind_open_box-returns-clause-reads t c =
-    λ k. c.in_ok-index.ensures.reads (in_item c.args.buffer k) ∙ item_closed (boxed_tree c.in_ok-index.index) c.args.buffer k c.in_ok-rest.ensures
-    ∙ ap (λ x. reads c.in_ok-rest.rest.now (give k x)) (sym c.in_ok-item.ensures)
+    made_reads (item c.args.buffer (boxed_tree c.in_ok-index.index)) c.args.tokens.now c.in_ok-index.rest.now (λ k. expr_due (in_item c.args.buffer k)) (λ d k. give k d)
+    (item_ended c.args.buffer c.args.tokens.now c.disjunction.result c.disjunction.ensures.reads c.disjunction.ensures.over (Ok (c.in_ok-index.index, c.in_ok-index.rest)) c.in_ok-index.ensures)
+    c.item.result c.item.ensures c.made.result c.made.ensures
 
 pub behind_message-returns-in_err-rest-clause-reads : goal.behind_message-returns-in_err-rest-clause-reads
 behind_message-returns-in_err-rest-clause-reads t c =
     sign_halts {X = Box Expr Global} {K = Operand} kind.OpenBox c.args.tokens.now c.args.tokens.now message (λ d k. give k (boxed_tree d)) (λ l k. box_missing c.args.tokens.now k l)
     c.from_residual.result c.in_err-rest.field-0.0 c.from_residual.ensures.1 c.in_err-rest.ensures
 
-pub behind_message-returns-in_err-rest-2-clause-reads : goal.behind_message-returns-in_err-rest-2-clause-reads
-behind_message-returns-in_err-rest-2-clause-reads t c =
-    sign_halts {X = Box Expr Global} {K = Operand} kind.CloseBox c.args.tokens.now c.in_ok-index.rest.now message (λ d k. give k (boxed_tree d))
-    (λ l k. message_begins k c.in_ok-rest.ensures ∙ c.in_ok-index.ensures.reads (in_message k) ∙ message_open c.in_ok-index.rest.now (boxed_tree c.in_ok-index.index) k c.in_ok-index.ensures.over l)
-    c.from_residual-in_err-rest-2.result c.in_err-rest-2.field-0.0 c.from_residual-in_err-rest-2.ensures.1 c.in_err-rest-2.ensures
-
 pub behind_message-returns-clause-reads : goal.behind_message-returns-clause-reads
 behind_message-returns-clause-reads t c =
-    λ k. message_begins k c.in_ok-rest.ensures ∙ c.in_ok-index.ensures.reads (in_message k) ∙ message_closed (boxed_tree c.in_ok-index.index) k c.in_ok-rest-2.ensures
-    ∙ ap (λ x. reads c.in_ok-rest-2.rest.now (give k x)) (sym c.in_ok-message_item.ensures)
-
-pub behind_open-returns-in_err-rest-clause-reads : goal.behind_open-returns-in_err-rest-clause-reads
-behind_open-returns-in_err-rest-clause-reads t c =
-    sign_halts {X = Box Expr Global} {K = Operand} kind.Close c.args.tokens.now c.in_ok-of.rest.now (λ k. expr_due (in_paren k)) (λ d k. give k (boxed_tree d))
-    (λ l k. c.in_ok-of.ensures.reads (in_paren k) ∙ paren_open c.in_ok-of.rest.now (boxed_tree c.in_ok-of.of) k c.in_ok-of.ensures.over l)
-    c.from_residual-in_err-rest.result c.in_err-rest.field-0.0 c.from_residual-in_err-rest.ensures.1 c.in_err-rest.ensures
+    let found = message_ended c.in_ok-rest.rest.now c.disjunction.result c.disjunction.ensures.reads c.disjunction.ensures.over (Ok (c.in_ok-index.index, c.in_ok-index.rest)) c.in_ok-index.ensures in
+    made_reads (message_item (boxed_tree c.in_ok-index.index)) c.args.tokens.now c.in_ok-index.rest.now (λ k. message k) (λ d k. give k d) (λ k. message_begins k c.in_ok-rest.ensures ∙ found k)
+    c.message_item.result c.message_item.ensures c.made.result c.made.ensures
 
 pub behind_open-returns-clause-reads : goal.behind_open-returns-clause-reads
 behind_open-returns-clause-reads t c =
-    λ k. c.in_ok-of.ensures.reads (in_paren k) ∙ paren_closed (boxed_tree c.in_ok-of.of) k c.in_ok-rest.ensures
-    ∙ ap (λ x. reads c.in_ok-rest.rest.now (give k x)) (sym c.in_ok-paren.ensures)
+    made_reads (paren (boxed_tree c.in_ok-of.of)) c.args.tokens.now c.in_ok-of.rest.now (λ k. expr_due (in_paren k)) (λ d k. give k d)
+    (paren_ended c.args.tokens.now c.disjunction.result c.disjunction.ensures.reads c.disjunction.ensures.over (Ok (c.in_ok-of.of, c.in_ok-of.rest)) c.in_ok-of.ensures)
+    c.paren.result c.paren.ensures c.made.result c.made.ensures
+
+pub disjunction-returns-in_err-longer-clause-reads : goal.disjunction-returns-in_err-longer-clause-reads
+disjunction-returns-in_err-longer-clause-reads t c =
+    part_halts c.args.tokens.now c.args.tokens.now (λ k. expr_due k) have (λ k. expr_due k) have (λ k. k) (λ k. refl) c.from_residual-in_err-longer.result c.in_err-longer.field-0.0 c.from_residual-in_err-longer.ensures.1
+    (or_joined (boxed_tree c.loop-behind.left) c.args.tokens.now c.in-Some.behind.now
+    (λ k. c.loop-behind.invariant.1 k ∙ or_read (boxed_tree c.loop-behind.left) k c.in-Some.ensures)
+    c.conjunction-in-Some.result c.conjunction-in-Some.ensures.reads c.conjunction-in-Some.ensures.over (Err c.in_err-longer.field-0.0) c.in_err-longer.ensures)
+
+pub conjunction-returns-in_err-longer-clause-reads : goal.conjunction-returns-in_err-longer-clause-reads
+conjunction-returns-in_err-longer-clause-reads t c =
+    part_halts c.args.tokens.now c.args.tokens.now (λ k. want_inverse (first_and k)) have_and (λ k. want_inverse (first_and k)) have_and (λ k. k) (λ k. refl) c.from_residual-in_err-longer.result c.in_err-longer.field-0.0 c.from_residual-in_err-longer.ensures.1
+    (and_joined (boxed_tree c.loop-behind.left) c.args.tokens.now c.in-Some.behind.now
+    (λ k. c.loop-behind.invariant.1 k ∙ and_read (boxed_tree c.loop-behind.left) k c.in-Some.ensures)
+    c.inversion-in-Some.result c.inversion-in-Some.ensures.reads c.inversion-in-Some.ensures.shorter (Err c.in_err-longer.field-0.0) c.in_err-longer.ensures)
+
+pub sum-returns-in_err-longer-clause-reads : goal.sum-returns-in_err-longer-clause-reads
+sum-returns-in_err-longer-clause-reads t c =
+    part_halts c.args.tokens.now c.args.tokens.now (λ k. want (sum_due k)) have_sum (λ k. want (sum_due k)) have_sum (λ k. k) (λ k. refl) c.from_residual-in_err-longer.result c.in_err-longer.field-0.0 c.from_residual-in_err-longer.ensures.1
+    (sum_joined c.in-Some.op (boxed_tree c.loop-op.left) c.args.tokens.now c.in-Some.behind.now
+    (λ k. c.loop-op.invariant.1 k ∙ sum_read (boxed_tree c.loop-op.left) k c.in-Some.ensures)
+    c.product-in-Some.result c.product-in-Some.ensures.reads c.product-in-Some.ensures.over (Err c.in_err-longer.field-0.0) c.in_err-longer.ensures)
+
+pub product-returns-in_err-longer-clause-reads : goal.product-returns-in_err-longer-clause-reads
+product-returns-in_err-longer-clause-reads t c =
+    part_halts c.args.tokens.now c.args.tokens.now (λ k. want (first_product k)) have_product (λ k. want (first_product k)) have_product (λ k. k) (λ k. refl) c.from_residual-in_err-longer.result c.in_err-longer.field-0.0 c.from_residual-in_err-longer.ensures.1
+    (product_joined c.in-Some.op (boxed_tree c.loop-op.left) c.args.tokens.now c.in-Some.behind.now
+    (λ k. c.loop-op.invariant.1 k ∙ product_read (boxed_tree c.loop-op.left) k c.in-Some.ensures)
+    c.operand-in-Some.result c.operand-in-Some.ensures.reads c.operand-in-Some.ensures.shorter (Err c.in_err-longer.field-0.0) c.in_err-longer.ensures)
+
+-- ---- what is left behind a part
+
+pub disjunction-returns-in_err-left-clause-over : goal.disjunction-returns-in_err-left-clause-over
+disjunction-returns-in_err-left-clause-over t c = untold _ c.from_residual.result c.in_err-left.field-0.0 c.from_residual.ensures.1
+
+pub disjunction-returns-in_err-left-clause-shorter : goal.disjunction-returns-in_err-left-clause-shorter
+disjunction-returns-in_err-left-clause-shorter t c = untold _ c.from_residual.result c.in_err-left.field-0.0 c.from_residual.ensures.1
+
+pub disjunction-returns-in_err-longer-clause-over : goal.disjunction-returns-in_err-longer-clause-over
+disjunction-returns-in_err-longer-clause-over t c = untold _ c.from_residual-in_err-longer.result c.in_err-longer.field-0.0 c.from_residual-in_err-longer.ensures.1
+
+pub disjunction-returns-in_err-longer-clause-shorter : goal.disjunction-returns-in_err-longer-clause-shorter
+disjunction-returns-in_err-longer-clause-shorter t c = untold _ c.from_residual-in_err-longer.result c.in_err-longer.field-0.0 c.from_residual-in_err-longer.ensures.1
+
+pub disjunction-returns-clause-reads : goal.disjunction-returns-clause-reads
+disjunction-returns-clause-reads t c = c.loop-behind.invariant.1
+
+pub disjunction-returns-clause-over : goal.disjunction-returns-clause-over
+disjunction-returns-clause-over t c = c.in_default.ensures
+
+pub disjunction-returns-clause-shorter : goal.disjunction-returns-clause-shorter
+disjunction-returns-clause-shorter t c = c.loop-behind.invariant.0
+
+pub disjunction-loop-behind-smaller : goal.disjunction-loop-behind-smaller
+disjunction-loop-behind-smaller t c =
+    lt_trans
+    (joined_behind (λ z. length z < length c.in-Some.behind.now) op.Or (boxed_tree c.loop-behind.left) c.conjunction-in-Some.result c.conjunction-in-Some.ensures.shorter (Ok (c.in_ok-longer.longer, c.in_ok-longer.then)) c.in_ok-longer.ensures)
+    (starts_shorter kind.Or c.in-Some.ensures)
+
+pub conjunction-returns-in_err-left-clause-over : goal.conjunction-returns-in_err-left-clause-over
+conjunction-returns-in_err-left-clause-over t c = untold _ c.from_residual.result c.in_err-left.field-0.0 c.from_residual.ensures.1
+
+pub conjunction-returns-in_err-left-clause-shorter : goal.conjunction-returns-in_err-left-clause-shorter
+conjunction-returns-in_err-left-clause-shorter t c = untold _ c.from_residual.result c.in_err-left.field-0.0 c.from_residual.ensures.1
+
+pub conjunction-returns-in_err-longer-clause-over : goal.conjunction-returns-in_err-longer-clause-over
+conjunction-returns-in_err-longer-clause-over t c = untold _ c.from_residual-in_err-longer.result c.in_err-longer.field-0.0 c.from_residual-in_err-longer.ensures.1
+
+pub conjunction-returns-in_err-longer-clause-shorter : goal.conjunction-returns-in_err-longer-clause-shorter
+conjunction-returns-in_err-longer-clause-shorter t c = untold _ c.from_residual-in_err-longer.result c.in_err-longer.field-0.0 c.from_residual-in_err-longer.ensures.1
+
+pub conjunction-returns-clause-reads : goal.conjunction-returns-clause-reads
+conjunction-returns-clause-reads t c = c.loop-behind.invariant.1
+
+pub conjunction-returns-clause-over : goal.conjunction-returns-clause-over
+conjunction-returns-clause-over t c = c.in_default.ensures
+
+pub conjunction-returns-clause-shorter : goal.conjunction-returns-clause-shorter
+conjunction-returns-clause-shorter t c = c.loop-behind.invariant.0
+
+pub conjunction-loop-behind-smaller : goal.conjunction-loop-behind-smaller
+conjunction-loop-behind-smaller t c =
+    lt_trans
+    (joined_behind (λ z. length z < length c.in-Some.behind.now) op.And (boxed_tree c.loop-behind.left) c.inversion-in-Some.result c.inversion-in-Some.ensures.shorter (Ok (c.in_ok-longer.longer, c.in_ok-longer.then)) c.in_ok-longer.ensures)
+    (starts_shorter kind.And c.in-Some.ensures)
+
+pub sum-returns-in_err-left-clause-over : goal.sum-returns-in_err-left-clause-over
+sum-returns-in_err-left-clause-over t c = untold _ c.from_residual.result c.in_err-left.field-0.0 c.from_residual.ensures.1
+
+pub sum-returns-in_err-left-clause-shorter : goal.sum-returns-in_err-left-clause-shorter
+sum-returns-in_err-left-clause-shorter t c = untold _ c.from_residual.result c.in_err-left.field-0.0 c.from_residual.ensures.1
+
+pub sum-returns-in_err-longer-clause-over : goal.sum-returns-in_err-longer-clause-over
+sum-returns-in_err-longer-clause-over t c = untold _ c.from_residual-in_err-longer.result c.in_err-longer.field-0.0 c.from_residual-in_err-longer.ensures.1
+
+pub sum-returns-in_err-longer-clause-shorter : goal.sum-returns-in_err-longer-clause-shorter
+sum-returns-in_err-longer-clause-shorter t c = untold _ c.from_residual-in_err-longer.result c.in_err-longer.field-0.0 c.from_residual-in_err-longer.ensures.1
+
+pub sum-returns-clause-reads : goal.sum-returns-clause-reads
+sum-returns-clause-reads t c = c.loop-op.invariant.1
+
+pub sum-returns-clause-over : goal.sum-returns-clause-over
+sum-returns-clause-over t c = c.in_default.ensures
+
+pub sum-returns-clause-shorter : goal.sum-returns-clause-shorter
+sum-returns-clause-shorter t c = c.loop-op.invariant.0
+
+pub sum-loop-op-smaller : goal.sum-loop-op-smaller
+sum-loop-op-smaller t c =
+    lt_trans
+    (joined_behind (λ z. length z < length c.in-Some.behind.now) c.in-Some.op (boxed_tree c.loop-op.left) c.product-in-Some.result c.product-in-Some.ensures.shorter (Ok (c.in_ok-longer.longer, c.in_ok-longer.then)) c.in_ok-longer.ensures)
+    (sign_shorter c.in-Some.ensures)
+
+pub product-returns-in_err-left-clause-over : goal.product-returns-in_err-left-clause-over
+product-returns-in_err-left-clause-over t c = untold _ c.from_residual.result c.in_err-left.field-0.0 c.from_residual.ensures.1
+
+pub product-returns-in_err-left-clause-shorter : goal.product-returns-in_err-left-clause-shorter
+product-returns-in_err-left-clause-shorter t c = untold _ c.from_residual.result c.in_err-left.field-0.0 c.from_residual.ensures.1
+
+pub product-returns-in_err-longer-clause-over : goal.product-returns-in_err-longer-clause-over
+product-returns-in_err-longer-clause-over t c = untold _ c.from_residual-in_err-longer.result c.in_err-longer.field-0.0 c.from_residual-in_err-longer.ensures.1
+
+pub product-returns-in_err-longer-clause-shorter : goal.product-returns-in_err-longer-clause-shorter
+product-returns-in_err-longer-clause-shorter t c = untold _ c.from_residual-in_err-longer.result c.in_err-longer.field-0.0 c.from_residual-in_err-longer.ensures.1
+
+pub product-returns-clause-reads : goal.product-returns-clause-reads
+product-returns-clause-reads t c = c.loop-op.invariant.1
+
+pub product-returns-clause-over : goal.product-returns-clause-over
+product-returns-clause-over t c = c.in_default.ensures
+
+pub product-returns-clause-shorter : goal.product-returns-clause-shorter
+product-returns-clause-shorter t c = c.loop-op.invariant.0
+
+pub product-loop-op-smaller : goal.product-loop-op-smaller
+product-loop-op-smaller t c =
+    lt_trans
+    (joined_behind (λ z. length z < length c.in-Some.behind.now) c.in-Some.op (boxed_tree c.loop-op.left) c.operand-in-Some.result c.operand-in-Some.ensures.shorter (Ok (c.in_ok-longer.longer, c.in_ok-longer.then)) c.in_ok-longer.ensures)
+    (sign_shorter c.in-Some.ensures)
+
+pub inversion-returns-in_err-of-clause-shorter : goal.inversion-returns-in_err-of-clause-shorter
+inversion-returns-in_err-of-clause-shorter t c = untold _ c.from_residual.result c.in_err-of.field-0.0 c.from_residual.ensures.1
+
+pub inversion-returns-in_default-clause-shorter : goal.inversion-returns-in_default-clause-shorter
+inversion-returns-in_default-clause-shorter t c = c.comparison.ensures.shorter
+
+pub inversion-returns-clause-shorter : goal.inversion-returns-clause-shorter
+inversion-returns-clause-shorter t c =
+    made_behind (λ z. length z < length c.args.tokens.now) c.in_ok-of.rest.now (lt_trans c.in_ok-of.ensures.shorter (starts_shorter kind.Not c.in-Some.ensures)) c.inverse.result c.made.result c.made.ensures
+
+pub comparison-returns-in_err-left-clause-shorter : goal.comparison-returns-in_err-left-clause-shorter
+comparison-returns-in_err-left-clause-shorter t c = untold _ c.from_residual.result c.in_err-left.field-0.0 c.from_residual.ensures.1
+
+pub comparison-returns-in_default-clause-shorter : goal.comparison-returns-in_default-clause-shorter
+comparison-returns-in_default-clause-shorter t c = c.in_ok-left.ensures.shorter
+
+pub comparison-returns-clause-shorter : goal.comparison-returns-clause-shorter
+comparison-returns-clause-shorter t c =
+    joined_behind (λ z. length z < length c.args.tokens.now) c.in-Some.op (boxed_tree c.in_ok-left.left) c.sum-2.result
+    (shorter_still c.args.tokens.now c.in-Some.behind.now (lt_trans (sign_shorter c.in-Some.ensures) c.in_ok-left.ensures.shorter) c.sum-2.result c.sum-2.ensures.shorter)
+    c.joined.result c.joined.ensures
+
+pub behind_open-returns-in_err-of-clause-shorter : goal.behind_open-returns-in_err-of-clause-shorter
+behind_open-returns-in_err-of-clause-shorter t c = untold _ c.from_residual.result c.in_err-of.field-0.0 c.from_residual.ensures.1
+
+pub behind_open-returns-clause-shorter : goal.behind_open-returns-clause-shorter
+behind_open-returns-clause-shorter t c =
+    made_behind (λ z. length z < length c.args.tokens.now) c.in_ok-of.rest.now (ended_shorter kind.Close c.args.tokens.now c.disjunction.result c.disjunction.ensures.shorter (Ok (c.in_ok-of.of, c.in_ok-of.rest)) c.in_ok-of.ensures) c.paren.result c.made.result c.made.ensures
+
+pub behind_open_box-returns-in_err-index-clause-shorter : goal.behind_open_box-returns-in_err-index-clause-shorter
+behind_open_box-returns-in_err-index-clause-shorter t c = untold _ c.from_residual.result c.in_err-index.field-0.0 c.from_residual.ensures.1
+
+pub behind_open_box-returns-clause-shorter : goal.behind_open_box-returns-clause-shorter
+behind_open_box-returns-clause-shorter t c =
+    made_behind (λ z. length z < length c.args.tokens.now) c.in_ok-index.rest.now (ended_shorter kind.CloseBox c.args.tokens.now c.disjunction.result c.disjunction.ensures.shorter (Ok (c.in_ok-index.index, c.in_ok-index.rest)) c.in_ok-index.ensures) c.item.result c.made.result c.made.ensures
+
+pub behind_message-returns-in_err-rest-clause-shorter : goal.behind_message-returns-in_err-rest-clause-shorter
+behind_message-returns-in_err-rest-clause-shorter t c = untold _ c.from_residual.result c.in_err-rest.field-0.0 c.from_residual.ensures.1
+
+pub behind_message-returns-in_err-index-clause-shorter : goal.behind_message-returns-in_err-index-clause-shorter
+behind_message-returns-in_err-index-clause-shorter t c = untold _ c.from_residual-in_err-index.result c.in_err-index.field-0.0 c.from_residual-in_err-index.ensures.1
+
+pub behind_message-returns-clause-shorter : goal.behind_message-returns-clause-shorter
+behind_message-returns-clause-shorter t c =
+    made_behind (λ z. length z < length c.args.tokens.now) c.in_ok-index.rest.now (lt_trans (ended_shorter kind.CloseBox c.in_ok-rest.rest.now c.disjunction.result c.disjunction.ensures.shorter (Ok (c.in_ok-index.index, c.in_ok-index.rest)) c.in_ok-index.ensures) (starts_shorter kind.OpenBox c.in_ok-rest.ensures)) c.message_item.result c.made.result c.made.ensures
+
+pub arguments-returns-in_err-arg-clause-shorter : goal.arguments-returns-in_err-arg-clause-shorter
+arguments-returns-in_err-arg-clause-shorter t c = untold _ c.from_residual.result c.in_err-arg.field-0.0 c.from_residual.ensures.1
+
+pub arguments-returns-in_err-behind-clause-shorter : goal.arguments-returns-in_err-behind-clause-shorter
+arguments-returns-in_err-behind-clause-shorter t c = untold _ c.from_residual-in_err-behind.result c.in_err-behind.field-0.0 c.from_residual-in_err-behind.ensures.1
+
+-- ---- each part begins with less
+
+pub disjunction-conjunction-requires : goal.disjunction-conjunction-requires
+disjunction-conjunction-requires t c = (lower 5 6 (lit< tt) (le_refl _) c.decreases, tt)
+
+pub disjunction-conjunction-requires-in-Some : goal.disjunction-conjunction-requires-in-Some
+disjunction-conjunction-requires-in-Some t c = (lower 5 6 (lit< tt) (le_of_lt (lt_trans (starts_shorter kind.Or c.in-Some.ensures) c.loop-behind.invariant.0)) c.decreases, tt)
+
+pub conjunction-inversion-requires : goal.conjunction-inversion-requires
+conjunction-inversion-requires t c = (lower 4 5 (lit< tt) (le_refl _) c.decreases, tt)
+
+pub conjunction-inversion-requires-in-Some : goal.conjunction-inversion-requires-in-Some
+conjunction-inversion-requires-in-Some t c = (lower 4 5 (lit< tt) (le_of_lt (lt_trans (starts_shorter kind.And c.in-Some.ensures) c.loop-behind.invariant.0)) c.decreases, tt)
+
+pub sum-product-requires : goal.sum-product-requires
+sum-product-requires t c = (lower 1 2 (lit< tt) (le_refl _) c.decreases, tt)
+
+pub sum-product-requires-in-Some : goal.sum-product-requires-in-Some
+sum-product-requires-in-Some t c = (lower 1 2 (lit< tt) (le_of_lt (lt_trans (sign_shorter c.in-Some.ensures) c.loop-op.invariant.0)) c.decreases, tt)
+
+pub product-operand-requires : goal.product-operand-requires
+product-operand-requires t c = (lowest 1 (lit< tt) (le_refl _) c.decreases, tt)
+
+pub product-operand-requires-in-Some : goal.product-operand-requires-in-Some
+product-operand-requires-in-Some t c = (lowest 1 (lit< tt) (le_of_lt (lt_trans (sign_shorter c.in-Some.ensures) c.loop-op.invariant.0)) c.decreases, tt)
+
+pub inversion-comparison-requires : goal.inversion-comparison-requires
+inversion-comparison-requires t c = (lower 3 4 (lit< tt) (le_refl _) c.decreases, tt)
+
+pub inversion-inversion-requires : goal.inversion-inversion-requires
+inversion-inversion-requires t c = (again 4 (starts_shorter kind.Not c.in-Some.ensures) c.decreases, tt)
+
+pub comparison-sum-requires : goal.comparison-sum-requires
+comparison-sum-requires t c = (lower 2 3 (lit< tt) (le_refl _) c.decreases, tt)
+
+pub comparison-sum-requires-2 : goal.comparison-sum-requires-2
+comparison-sum-requires-2 t c = (lower 2 3 (lit< tt) (le_of_lt (lt_trans (sign_shorter c.in-Some.ensures) c.in_ok-left.ensures.shorter)) c.decreases, tt)
+
+pub behind_name-arguments-requires : goal.behind_name-arguments-requires
+behind_name-arguments-requires t c = (fewer 7 (lit< tt) (starts_shorter kind.Open c.in-Some.ensures) c.decreases, tt)
+
+pub behind_name-behind_open_box-requires : goal.behind_name-behind_open_box-requires
+behind_name-behind_open_box-requires t c = (fewer 7 (lit< tt) (starts_shorter kind.OpenBox c.in-Some-after.ensures) c.decreases, tt)
+
+pub behind_open_box-disjunction-requires : goal.behind_open_box-disjunction-requires
+behind_open_box-disjunction-requires t c = (lower 6 7 (lit< tt) (le_refl _) c.decreases, tt)
+
+pub behind_open-disjunction-requires : goal.behind_open-disjunction-requires
+behind_open-disjunction-requires t c = (lower 6 7 (lit< tt) (le_refl _) c.decreases, tt)
+
+pub behind_message-disjunction-requires : goal.behind_message-disjunction-requires
+behind_message-disjunction-requires t c = (fewer 6 (lit< tt) (starts_shorter kind.OpenBox c.in_ok-rest.ensures) c.decreases, tt)
+
+pub arguments-disjunction-requires : goal.arguments-disjunction-requires
+arguments-disjunction-requires t c = (lower 6 7 (lit< tt) (c.loop-args.invariant.0) c.decreases, tt)

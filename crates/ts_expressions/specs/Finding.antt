@@ -1,0 +1,37 @@
+-- What is found of what was found before: the same faults, and want of memory.
+use Rattle.std.specs.Prelude.{◌≡◌, List, Result, Ok, Err}
+use Rattle.std.proofs.Common.{Bor}
+use Rattle.std.specs.Result.{IsErrAnd}
+use Rattle.std.specs.declared.alloc.Global.{Global}
+use Rattle.std.specs.declared.boxed.Box.{Box}
+use Rattle.ts_expressions.specs.Boxed.{boxed_tree}
+use Rattle.ts_machine.specs.declared.halt.Halt.{Halt}
+use Rattle.ts_machine.specs.declared.halt.Halt.TheVariants as halt
+use Rattle.ts_machine.specs.Parsing.{Starts, Lacks}
+use Rattle.ts_syntax.specs.declared.bin_op.BinOp.{BinOp}
+use Rattle.ts_syntax.specs.declared.expr.Expr.{Expr}
+use Rattle.ts_syntax.specs.declared.token.Token.{Token}
+use Rattle.ts_syntax.specs.declared.token.TokenKind.{TokenKind}
+use Rattle.ts_syntax.specs.Tree.{Tree, two}
+
+abbrev pub Found : Type 0
+Found = Result (Box Expr Global × Bor (List Token)) Halt
+
+-- with a token of this kind behind it
+abbrev pub Ended : TokenKind → Found → Found → Type 0
+Ended m (Ok x) (Ok y) = (y.0 ≡ x.0) × Starts m x.1.now y.1.now
+Ended m (Ok x) (Err halt.Memory) = ⊥
+Ended m (Ok x) (Err (halt.At rest)) = (rest.now ≡ x.1.now) × Lacks m x.1.now
+Ended m (Err e) r = IsErrAnd r (λ f. f ≡ e)
+
+-- a node, where there was memory for it
+abbrev pub Made : {E : Type 0} → Result (Box Expr Global) E → List Token → Found → Type 0
+Made (Ok e) ts (Ok y) = (y.0 ≡ e) × (y.1.now ≡ ts)
+Made (Ok e) ts (Err f) = ⊥
+Made (Err e) ts r = IsErrAnd r (λ f. f ≡ halt.Memory)
+
+-- to the right of an operator and of this tree
+abbrev pub Joined : BinOp → Tree → Found → Found → Type 0
+Joined o l (Ok x) (Ok y) = (boxed_tree y.0 ≡ two o l (boxed_tree x.0)) × (y.1.now ≡ x.1.now)
+Joined o l (Ok x) (Err f) = f ≡ halt.Memory
+Joined o l (Err e) r = IsErrAnd r (λ f. f ≡ e)
