@@ -13,7 +13,7 @@ use Rattle.ts_syntax.specs.Seen.{tree_of, trees_of}
 use Rattle.std.specs.Result.{IsErrAnd}
 use Rattle.ts_machine.specs.declared.halt.Halt.{Halt}
 use Rattle.ts_machine.specs.Code.{code_of}
-use Rattle.ts_machine.specs.Machine.{Operand, in_negative, first_product, in_product, Inverse, in_inverse, in_and, Conjunction, in_args, in_call, in_do, in_paren, in_item, in_message, State, want, want_inverse, named, opened, call_opened, do_opened, sized, size_opened, size_named, word, message, have_inverse, have_and, have, closed, with_tree, inverse_due, expr_due, give, step, finish}
+use Rattle.ts_machine.specs.Machine.{Operand, in_negative, first_product, in_product, Inverse, in_inverse, in_and, Conjunction, in_args, in_call, in_do, in_paren, in_item, in_message, State, want, want_inverse, named, opened, call_opened, do_opened, sized, size_opened, size_named, word, message, have_inverse, have_and, have, closed, with_tree, inverse_due, expr_due, give, step, finish, wants_size}
 use Rattle.ts_machine.specs.Parsing.{reads, Reads, Starts, StartsName, Lacks, Caller, of_operand, of_stmt, of_do, called_open, called_with, called}
 use Rattle.ts_machine.proofs.Turns.{given_step, given_size}
 use Rattle.ts_machine.proofs.Parts.{halts, ends_as}
@@ -41,6 +41,15 @@ pub part_halts : {K L : Type 0} (ts rest : List Token) (due : K → State) (got 
     → Reads {X = Box Expr Global} {K = L} ts due' (λ d k. got' (boxed_tree d) k) r
 part_halts {K} {L} ts rest due got due' got' =
     halts (Box Expr Global) (Box Expr Global) K L ts rest due (λ d k. got (boxed_tree d) k) due' (λ d k. got' (boxed_tree d) k)
+
+-- an operand, from its first token on
+pub starts_at : {m : TokenKind} (x : Token) {ts rest : List Token} → ts ≡ x ∷ rest → x.kind ≡ m → Starts m ts rest
+starts_at x e is = record { token = x; are = e; kind = ap code_of is }
+
+pub operand_read : (ts rest : List Token) (due : Operand → State) → ((k : Operand) → reads ts (want k) ≡ reads rest (due k))
+    → (r : Result (Box Expr Global × Bor (List Token)) Halt) → Reads {X = Box Expr Global} {K = Operand} rest due (λ e k. give k (boxed_tree e)) r → Reads {X = Box Expr Global} {K = Operand} ts (λ k. want k) (λ e k. give k (boxed_tree e)) r
+operand_read ts rest due begins =
+    ends_as (Box Expr Global) Operand Operand ts rest due (λ e k. give k (boxed_tree e)) (λ k. want k) (λ e k. give k (boxed_tree e)) (λ k. k) begins (λ x ms k. refl)
 
 -- `and`
 pub and_read : (e : Tree) (k : Conjunction) {ts rest : List Token} → Starts kind.And ts rest → reads ts (have_and e k) ≡ reads rest (want_inverse (in_and e k))
@@ -116,6 +125,26 @@ pub no_arguments : (c : Caller) {ts rest : List Token} → Starts kind.Close ts 
 no_arguments (of_operand w k) s = sign_read kind.Close s tt (opened w k) (give k (call w no_trees)) (λ p. refl)
 no_arguments (of_stmt w a f) s = sign_read kind.Close s tt (call_opened w a f) (closed (call_alone w no_trees) a f) (λ p. refl)
 no_arguments (of_do w a f) s = sign_read kind.Close s tt (do_opened w a f) (closed (run_procedure w no_trees) a f) (λ p. refl)
+
+argument_left : (c : Caller) (m : TokenKind) → (code_of m ≡ code_of kind.Close → ⊥) → (p : ℕ) → step (called_open c) m p ≡ step (expr_due (called_with c no_trees)) m p
+argument_left c kind.Close h p = absurd (h refl)
+argument_left (of_operand w k) m h p = refl
+argument_left (of_stmt w a f) m h p = refl
+argument_left (of_do w a f) m h p = refl
+
+argument_end : (c : Caller) → finish (called_open c) ≡ finish (expr_due (called_with c no_trees))
+argument_end (of_operand w k) = refl
+argument_end (of_stmt w a f) = refl
+argument_end (of_do w a f) = refl
+
+argument_size : (c : Caller) → wants_size (called_open c) ≡ wants_size (expr_due (called_with c no_trees))
+argument_size (of_operand w k) = refl
+argument_size (of_stmt w a f) = refl
+argument_size (of_do w a f) = refl
+
+pub argument_due : (c : Caller) (ts : List Token) → Lacks kind.Close ts → reads ts (called_open c) ≡ reads ts (expr_due (called_with c no_trees))
+argument_due c [] l = alike_end (called_open c) (expr_due (called_with c no_trees)) (argument_end c)
+argument_due c (t ∷ ts) l = alike_at t ts (called_open c) (expr_due (called_with c no_trees)) (argument_left c t.kind l) (argument_size c)
 
 pub arguments_closed : (c : Caller) (es : Trees) (e : Tree) {ts rest : List Token} → Starts kind.Close ts rest → reads ts (have e (called_with c es)) ≡ reads rest (called c (with_tree es e))
 arguments_closed (of_operand w k) es e s = sign_read kind.Close s tt (have e (in_args w es k)) (give k (call w (with_tree es e))) (λ p. refl)

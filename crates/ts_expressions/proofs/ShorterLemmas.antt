@@ -1,5 +1,5 @@
 -- A part begins with no more tokens than the whole, and tells nothing of what is left where it stops.
-use Rattle.std.proofs.Common.{◌≡◌, ℕ, ◌+◌, ◌*◌, ◌<◌, ◌≤◌, Result, Ok, Err, IfOk, List, length, Bor, lt_trans, arith}
+use Rattle.std.proofs.Common.{◌≡◌, ℕ, ◌+◌, ◌*◌, ◌<◌, ◌≤◌, Result, Ok, Err, IfOk, List, length, Bor, ◌∷◌, ap, lt_trans, lt_of_le_of_lt, le_of_lt, arith}
 use Rattle.std.specs.Result.{IsErrAnd}
 use Rattle.ts_syntax.specs.declared.token.Token.{Token}
 use Rattle.ts_machine.specs.declared.halt.Halt.{Halt}
@@ -13,6 +13,17 @@ pub shorter_still : {X : Type 0} (ts rest : List Token) → length rest < length
 shorter_still ts rest less (Ok x) h = lt_trans h less
 shorter_still ts rest less (Err e) h = tt
 
+pub shorter_behind : {X : Type 0} (ts rest : List Token) → length rest < length ts → (r : Result (X × Bor (List Token)) Halt) → IfOk r (λ x. length x.1.now ≤ length rest) → IfOk r (λ x. length x.1.now < length ts)
+shorter_behind ts rest less (Ok x) h = lt_of_le_of_lt h less
+shorter_behind ts rest less (Err e) h = tt
+
+pub no_longer : {X : Type 0} (ts : List Token) (r : Result (X × Bor (List Token)) Halt) → IfOk r (λ x. length x.1.now < length ts) → IfOk r (λ x. length x.1.now ≤ length ts)
+no_longer ts (Ok x) h = le_of_lt h
+no_longer ts (Err e) h = tt
+
+pub behind_one : (x : Token) {ts rest : List Token} → ts ≡ x ∷ rest → length rest < length ts
+behind_one x e = omega (arith, ap length e)
+
 -- a part of a lower rank begins with no more tokens, and any part with fewer
 pub lower : (a b : ℕ) {m n t : ℕ} → a < b → m ≤ n → 8 * n + b ≡ t → 8 * m + a < t
 lower a b less le e = omega arith
@@ -22,6 +33,9 @@ lowest b less le e = omega arith
 
 pub fewer : (a : ℕ) {m n t : ℕ} → a < 8 → m < n → 8 * n ≡ t → 8 * m + a < t
 fewer a small less e = omega arith
+
+pub fewest : {m n t : ℕ} → m < n → 8 * n ≡ t → 8 * m < t
+fewest less e = omega arith
 
 pub again : (a : ℕ) {m n t : ℕ} → m < n → 8 * n + a ≡ t → 8 * m + a < t
 again a less e = omega arith

@@ -1,22 +1,24 @@
-use Rattle.std.proofs.Common.{List, length, refl, sym, ◌∙◌, ap, arith, Ok, Err, le_refl, lt_trans, le_of_lt, lit<, ◌<◌}
+use Rattle.std.proofs.Common.{◌≡◌, ◌≤◌, Bor, List, length, refl, sym, ◌∙◌, ap, arith, Ok, Err, le_refl, lt_of_lt_of_le, lt_trans, le_of_lt, lit<, ◌<◌}
 use Rattle.std.specs.declared.alloc.Global.{Global}
 use Rattle.std.specs.declared.boxed.Box.{Box}
 use Rattle.ts_expressions.specs.Boxed.{boxed_tree}
 use Rattle.ts_syntax.specs.declared.expr.Expr.{Expr}
 use Rattle.ts_syntax.specs.Seen.{trees_of}
+use Rattle.ts_syntax.specs.declared.token.Token.{Token}
 use Rattle.ts_syntax.specs.Spelling.{kinds}
 use Rattle.ts_syntax.specs.declared.token.TokenKind.TheVariants as kind
-use Rattle.ts_syntax.specs.Tree.{variable, call, inverse, paren, item, message_item}
+use Rattle.ts_syntax.specs.Tree.{negative, variable, call, inverse, paren, item, message_item}
 use Rattle.ts_syntax.specs.declared.bin_op.BinOp.TheVariants as op
-use Rattle.ts_machine.specs.Machine.{Operand, named, Whole, first_product, first_sum, first_compare, first_and, in_inverse, first_or, in_paren, in_item, in_message, want, want_inverse, message, sum_due, inverse_due, expr_due, give, have_product, have_sum, have_inverse, have_and, have}
+use Rattle.ts_machine.specs.Machine.{Operand, in_negative, named, sized, Whole, first_product, first_sum, first_compare, first_and, in_inverse, first_or, in_paren, in_item, in_message, want, want_inverse, message, sum_due, inverse_due, expr_due, give, have_product, have_sum, have_inverse, have_and, have}
 use Rattle.ts_machine.specs.Parsing.{reads, noted_then, Caller, of_operand, called_open, called, called_with}
 use Rattle.ts_machine.proofs.Turns.{inverse_is_read, inverse_is_first}
+use Rattle.ts_machine.proofs.Reading.{sign_read}
 use Rattle.ts_machine.proofs.Parts.{halts, starts_shorter}
-use Rattle.ts_expressions.proofs.ExprLemmas.{part_halts, not_read, and_read, call_read, item_read, message_begins, variable_read, comma_read, no_arguments, arguments_closed, trees_more, call_halts, comparison_read}
+use Rattle.ts_expressions.proofs.ExprLemmas.{part_halts, starts_at, operand_read, not_read, and_read, call_read, item_read, message_begins, variable_read, comma_read, no_arguments, argument_due, arguments_closed, trees_more, call_halts, comparison_read}
 use Rattle.ts_expressions.proofs.FindingLemmas.{paren_ended, item_ended, message_ended, made_reads, made_behind, ended_shorter, joined_behind, sign_shorter, or_joined, and_joined, sum_joined, product_joined, comparison_joined}
 use Rattle.ts_expressions.proofs.OperatorLemmas.{product_read, sum_read, or_read, product_over, and_over, sum_alone, comparison_sign_read}
-use Rattle.ts_expressions.proofs.ShorterLemmas.{untold, shorter_still, lower, lowest, fewer, again}
-use Rattle.ts_expressions.proofs.StoppingLemmas.{sign_halts, box_missing, arguments_open}
+use Rattle.ts_expressions.proofs.ShorterLemmas.{untold, no_longer, shorter_still, shorter_behind, behind_one, lower, lowest, fewer, fewest, again}
+use Rattle.ts_expressions.proofs.StoppingLemmas.{out_of_memory, sign_halts, box_missing, arguments_open}
 use Rattle.ts_expressions.proofs.expression.+expr.Goals as goal
 
 pub arguments-returns-in_default-after-clause-reads : goal.arguments-returns-in_default-after-clause-reads
@@ -468,3 +470,95 @@ behind_message-disjunction-requires t c = (fewer 6 (lit< tt) (starts_shorter kin
 
 pub arguments-disjunction-requires : goal.arguments-disjunction-requires
 arguments-disjunction-requires t c = (lower 6 7 (lit< tt) (c.loop-args.invariant.0) c.decreases, tt)
+
+pub behind_name-returns-in_err-args-clause-shorter : goal.behind_name-returns-in_err-args-clause-shorter
+behind_name-returns-in_err-args-clause-shorter t c = untold _ c.from_residual.result c.in_err-args.field-0.0 c.from_residual.ensures.1
+
+pub behind_name-returns-in-Some-clause-shorter : goal.behind_name-returns-in-Some-clause-shorter
+behind_name-returns-in-Some-clause-shorter t c =
+    made_behind (λ z. length z ≤ length c.args.tokens.now) c.in_ok-args.rest.now (le_of_lt (lt_trans c.in_ok-args.ensures.shorter (starts_shorter kind.Open c.in-Some.ensures))) c.call.result c.made.result c.made.ensures
+
+pub behind_name-returns-in-Some-after-clause-shorter : goal.behind_name-returns-in-Some-after-clause-shorter
+behind_name-returns-in-Some-after-clause-shorter t c =
+    no_longer c.args.tokens.now c.behind_open_box.result (shorter_still c.args.tokens.now c.in-Some-after.rest.now (starts_shorter kind.OpenBox c.in-Some-after.ensures) c.behind_open_box.result c.behind_open_box.ensures.shorter)
+
+pub behind_name-returns-clause-shorter : goal.behind_name-returns-clause-shorter
+behind_name-returns-clause-shorter t c = made_behind (λ z. length z ≤ length c.args.tokens.now) c.args.tokens.now (le_refl _) c.variable.result c.made-2.result c.made-2.ensures
+
+pub arguments-returns-in-Some-clause-shorter : goal.arguments-returns-in-Some-clause-shorter
+arguments-returns-in-Some-clause-shorter t c = starts_shorter kind.Close c.in-Some.ensures
+
+pub arguments-returns-in_default-after-clause-shorter : goal.arguments-returns-in_default-after-clause-shorter
+arguments-returns-in_default-after-clause-shorter t c = lt_of_lt_of_le (lt_trans (starts_shorter kind.Close c.in_ok-behind.ensures) c.in_ok-arg.ensures.shorter) c.loop-args.invariant.0
+
+pub arguments-returns-in_err-push-clause-shorter : goal.arguments-returns-in_err-push-clause-shorter
+arguments-returns-in_err-push-clause-shorter t c = untold _ c.from_residual-in_err-push.result _ c.from_residual-in_err-push.ensures.1
+
+pub arguments-returns-in_err-push-clause-reads : goal.arguments-returns-in_err-push-clause-reads
+arguments-returns-in_err-push-clause-reads t c =
+    out_of_memory {X = List Expr × Bor (List Token)} (λ x. (k : Caller) → reads c.args.tokens.now (called_open k) ≡ reads x.1.now (called k (trees_of x.0))) (λ more. (k : Caller) → reads c.args.tokens.now (called_open k) ≡ Err (kinds more))
+    c.from_residual-in_err-push.result c.from_residual-in_err-push.ensures.1
+
+pub arguments-loop-args-smaller : goal.arguments-loop-args-smaller
+arguments-loop-args-smaller t c = lt_trans (starts_shorter kind.Comma c.in-Some-after.ensures) c.in_ok-arg.ensures.shorter
+
+pub product-loop-op-init : goal.product-loop-op-init
+product-loop-op-init t c = (c.in_ok-left.ensures.shorter, λ k. c.in_ok-left.ensures.reads (first_product k))
+
+pub operand-returns-in_ok-of-in-Minus-clause-reads : goal.operand-returns-in_ok-of-in-Minus-clause-reads
+operand-returns-in_ok-of-in-Minus-clause-reads t c =
+    made_reads (negative (boxed_tree c.in_ok-of-in-Minus.of)) c.args.tokens.now c.in_ok-of-in-Minus.rest.now (λ k. want k) (λ d k. give k d)
+    (λ k. sign_read kind.Minus (starts_at c.in-Some.first.now c.in-Some.ensures.cases.0 c.in-Minus.is) tt (want k) (want (in_negative k)) (λ p. refl) ∙ c.in_ok-of-in-Minus.ensures.reads (in_negative k))
+    c.negative.result c.negative.ensures c.made.result c.made.ensures
+
+pub operand-returns-in_ok-of-in-Minus-clause-shorter : goal.operand-returns-in_ok-of-in-Minus-clause-shorter
+operand-returns-in_ok-of-in-Minus-clause-shorter t c =
+    made_behind (λ z. length z < length c.args.tokens.now) c.in_ok-of-in-Minus.rest.now (lt_trans c.in_ok-of-in-Minus.ensures.shorter (behind_one c.in-Some.first.now c.in-Some.ensures.cases.0)) c.negative.result c.made.result c.made.ensures
+
+pub operand-returns-in_err-of-in-Minus-clause-reads : goal.operand-returns-in_err-of-in-Minus-clause-reads
+operand-returns-in_err-of-in-Minus-clause-reads t c =
+    part_halts c.args.tokens.now c.in-Some.rest.now want (λ d k. give k d) want (λ d k. give k d) in_negative
+    (λ k. sign_read kind.Minus (starts_at c.in-Some.first.now c.in-Some.ensures.cases.0 c.in-Minus.is) tt (want k) (want (in_negative k)) (λ p. refl))
+    c.from_residual.result c.in_err-of-in-Minus.field-0.0 c.from_residual.ensures.1 c.in_err-of-in-Minus.ensures.reads
+
+pub operand-returns-in_err-of-in-Minus-clause-shorter : goal.operand-returns-in_err-of-in-Minus-clause-shorter
+operand-returns-in_err-of-in-Minus-clause-shorter t c = untold _ c.from_residual.result c.in_err-of-in-Minus.field-0.0 c.from_residual.ensures.1
+
+pub operand-returns-in-Size-clause-reads : goal.operand-returns-in-Size-clause-reads
+operand-returns-in-Size-clause-reads t c = operand_read c.args.tokens.now c.in-Some.rest.now (λ k. sized k) (λ k. sign_read kind.Size (starts_at c.in-Some.first.now c.in-Some.ensures.cases.0 c.in-Size.is) tt (want k) (sized k) (λ p. refl)) c.size.result c.size.ensures.reads
+
+pub operand-returns-in-Size-clause-shorter : goal.operand-returns-in-Size-clause-shorter
+operand-returns-in-Size-clause-shorter t c = shorter_still c.args.tokens.now c.in-Some.rest.now (behind_one c.in-Some.first.now c.in-Some.ensures.cases.0) c.size.result c.size.ensures.shorter
+
+pub operand-returns-in-Msg-clause-reads : goal.operand-returns-in-Msg-clause-reads
+operand-returns-in-Msg-clause-reads t c = operand_read c.args.tokens.now c.in-Some.rest.now (λ k. message k) (λ k. sign_read kind.Msg (starts_at c.in-Some.first.now c.in-Some.ensures.cases.0 c.in-Msg.is) tt (want k) (message k) (λ p. refl)) c.behind_message.result c.behind_message.ensures.reads
+
+pub operand-returns-in-Msg-clause-shorter : goal.operand-returns-in-Msg-clause-shorter
+operand-returns-in-Msg-clause-shorter t c = shorter_still c.args.tokens.now c.in-Some.rest.now (behind_one c.in-Some.first.now c.in-Some.ensures.cases.0) c.behind_message.result c.behind_message.ensures.shorter
+
+pub operand-returns-in-Open-clause-reads : goal.operand-returns-in-Open-clause-reads
+operand-returns-in-Open-clause-reads t c = operand_read c.args.tokens.now c.in-Some.rest.now (λ k. expr_due (in_paren k)) (λ k. sign_read kind.Open (starts_at c.in-Some.first.now c.in-Some.ensures.cases.0 c.in-Open.is) tt (want k) (expr_due (in_paren k)) (λ p. refl)) c.behind_open.result c.behind_open.ensures.reads
+
+pub operand-returns-in-Open-clause-shorter : goal.operand-returns-in-Open-clause-shorter
+operand-returns-in-Open-clause-shorter t c = shorter_still c.args.tokens.now c.in-Some.rest.now (behind_one c.in-Some.first.now c.in-Some.ensures.cases.0) c.behind_open.result c.behind_open.ensures.shorter
+
+pub operand-returns-in-Name-clause-shorter : goal.operand-returns-in-Name-clause-shorter
+operand-returns-in-Name-clause-shorter t c = shorter_behind c.args.tokens.now c.in-Some.rest.now (behind_one c.in-Some.first.now c.in-Some.ensures.cases.0) c.behind_name.result c.behind_name.ensures.shorter
+
+pub operand-operand-requires : goal.operand-operand-requires
+operand-operand-requires t c = (fewest (behind_one c.in-Some.first.now c.in-Some.ensures.cases.0) c.decreases, tt)
+
+pub operand-behind_name-requires : goal.operand-behind_name-requires
+operand-behind_name-requires t c = (fewest (behind_one c.in-Some.first.now c.in-Some.ensures.cases.0) c.decreases, tt)
+
+pub operand-behind_message-requires : goal.operand-behind_message-requires
+operand-behind_message-requires t c = (fewest (behind_one c.in-Some.first.now c.in-Some.ensures.cases.0) c.decreases, tt)
+
+pub operand-behind_open-requires : goal.operand-behind_open-requires
+operand-behind_open-requires t c = (fewer 7 (lit< tt) (behind_one c.in-Some.first.now c.in-Some.ensures.cases.0) c.decreases, tt)
+
+pub arguments-loop-args-init : goal.arguments-loop-args-init
+arguments-loop-args-init t c = (
+  le_refl _,
+  λ k. argument_due k c.args.tokens.now c.in_default.ensures ∙ ap (λ z. reads c.args.tokens.now (expr_due (called_with k (trees_of z)))) (sym c.new-args.ensures),
+)
