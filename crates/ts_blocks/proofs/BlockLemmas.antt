@@ -1,5 +1,5 @@
 -- The blocks inside others: their frames, and what ends them.
-use Rattle.std.proofs.Common.{◌≡◌, List, ◌∷◌, Option, Some, None, Err, refl, sym, ap, ◌∙◌}
+use Rattle.std.proofs.Common.{◌≡◌, List, Option, Some, None, Err, refl, sym, ap, ◌∙◌}
 use Rattle.ts_syntax.specs.declared.dialect.Dialect.{Dialect}
 use Rattle.ts_syntax.specs.declared.stmt.Step.{Step}
 use Rattle.ts_syntax.specs.declared.token.Token.{Token}

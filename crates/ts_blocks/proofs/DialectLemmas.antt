@@ -1,6 +1,5 @@
--- Statements of a dialect: they stop where one of their parts does, those that each open block may have, and that a part
--- begins with no more tokens than the whole.
-use Rattle.std.proofs.Common.{◌≡◌, ℕ, ◌+◌, ◌*◌, ◌<◌, ◌≤◌, List, length, Result, Ok, Err, Bor, IfOk, ap, sym, subst, le_of_lt, arith}
+-- Statements of a dialect: they stop where one of their parts does, and those that each open block may have.
+use Rattle.std.proofs.Common.{◌≡◌, ◌≤◌, List, length, Result, Ok, Err, Bor, ap, sym, subst, le_of_lt, arith}
 use Rattle.std.specs.Result.{IsErrAnd}
 use Rattle.ts_syntax.specs.declared.stmt.Stmt.{Stmt}
 use Rattle.ts_syntax.specs.declared.dialect.Dialect.{Dialect}
@@ -29,33 +28,14 @@ narrowed d ts due (Ok x) h = λ k. h (k.0, k.1.frame)
 narrowed d ts due (Err halt.Memory) h = tt
 narrowed d ts due (Err (halt.At rest)) h = λ k. h (k.0, k.1.frame)
 
--- nothing is told of what is left where a part stops
-pub untold : {X : Type 0} (P : X → Type 0) (r : Result X Halt) (e : Halt) → IsErrAnd r (λ x. x ≡ e) → IfOk r P
-untold P (Ok x) e i = absurd i
-untold P (Err f) e i = tt
-
--- behind a token there are no more, and a part leaves no more where it leaves fewer
+-- behind a token there are no more
 pub no_more : (k : TokenKind) {ts rest : List Token} → Starts k ts rest → length rest ≤ length ts
 no_more k s = le_of_lt (starts_shorter k s)
 
 pub no_more_named : (w : Word) {ts rest : List Token} → StartsName w ts rest → length rest ≤ length ts
 no_more_named w s = omega (arith, ap length s.are)
 
-pub no_longer : {X : Type 0} (ts : List Token) (r : Result (X × Bor (List Token)) Halt) → IfOk r (λ x. length x.1.now < length ts) → IfOk r (λ x. length x.1.now ≤ length ts)
-no_longer ts (Ok x) h = le_of_lt h
-no_longer ts (Err e) h = tt
-
 -- want of memory tells nothing
 pub forgotten : {X K : Type 0} (ts : List Token) (due : K → State) (got : X → K → State) (r : Result (X × Bor (List Token)) Halt) → IsErrAnd r (λ x. x ≡ halt.Memory) → Reads {X = X} {K = K} ts due got r
 forgotten ts due got (Ok x) i = absurd i
 forgotten {X} {K} ts due got (Err e) i = let Q : Halt → Type 0 = λ z. Reads {X = X} {K = K} ts due got (Err z) in subst Q (sym i) tt
-
--- a part of a lower rank begins with no more tokens, or a statement with fewer
-pub lower : (a b : ℕ) {m n t : ℕ} → a < b → m ≤ n → 8 * n + b ≡ t → 8 * m + a < t
-lower a b less le e = omega arith
-
-pub lowest : (b : ℕ) {m n t : ℕ} → 0 < b → m ≤ n → 8 * n + b ≡ t → 8 * m < t
-lowest b less le e = omega arith
-
-pub inner : {m n t : ℕ} → m < n → 8 * n ≡ t → 8 * m + 4 < t
-inner less e = omega arith

@@ -11,7 +11,8 @@ use Rattle.ts_machine.specs.Machine.{Frame, Whole, have, stmt_named, cleared, do
 use Rattle.ts_machine.specs.Parsing.{reads}
 use Rattle.ts_blocks.specs.Blocks.{opened_by, FrameIn, ReadsStmtIn, Choice, if_made, then_block, choice_made, Branch, branch_due, Repetition, repeated_block, repetition_made, Count, counted_block, count_made}
 use Rattle.ts_statements.specs.Simple.{head_read}
-use Rattle.ts_blocks.proofs.DialectLemmas.{stmt_halts_in, narrowed, untold, no_more, no_longer, forgotten, lower, lowest, inner}
+use Rattle.ts_expressions.proofs.ShorterLemmas.{untold, no_longer, lower, lowest, fewer}
+use Rattle.ts_blocks.proofs.DialectLemmas.{stmt_halts_in, narrowed, no_more, forgotten}
 use Rattle.ts_statements.proofs.Halting.{token_misses}
 use Rattle.ts_machine.proofs.Parts.{halts, starts_shorter}
 use Rattle.ts_blocks.proofs.OpeningLemmas.{stmt_opens, opens_shorter, acts_of_push, then_read, then_left, body_due}
@@ -273,7 +274,7 @@ pub block-loop-opening-smaller : goal.block-loop-opening-smaller
 block-loop-opening-smaller t c = lt_of_le_of_lt c.in_ok-stmt.ensures.shorter (opens_shorter c.in-Some.ensures)
 
 pub block-statement-requires : goal.block-statement-requires
-block-statement-requires t c = (inner (lt_of_lt_of_le (opens_shorter c.in-Some.ensures) c.loop-opening.invariant.0) c.decreases, tt)
+block-statement-requires t c = (fewer 4 (lit< tt) (lt_of_lt_of_le (opens_shorter c.in-Some.ensures) c.loop-opening.invariant.0) c.decreases, tt)
 
 pub statement-choice-requires : goal.statement-choice-requires
 statement-choice-requires t c = (lower 3 4 (lit< tt) (le_refl _) c.decreases, tt)
