@@ -4,7 +4,9 @@ use Rattle.script_programs.specs.Scripts.{script}
 use Rattle.vm_desc.specs.declared.description.Description.{Description}
 use Rattle.mate_steps.specs.Parts.{Folder}
 use Rattle.mate_steps.specs.Steps.{goes_on}
-use Rattle.mate_steps.proofs.Laws.{stops_by, moved}
+use Rattle.mate_steps.proofs.Laws.{stops_by, moved, reads-as, reads-err, reads-then}
+use Rattle.node_programs.specs.ScriptSteps.{AreProgramsOf}
+use Rattle.mate_documents.proofs.ReadsLemmas.{quiet-memory}
 use Rattle.std.proofs.lemmas.Result.{IfOk-from_err}
 use Rattle.mate_cli.proofs.node.run_of_script.Goals as goal
 
@@ -45,3 +47,24 @@ returns-in_err-programs-clause-writable g c = IfOk-from_err c.from_residual-in_e
 
 pub returns-clause-writable : goal.returns-clause-writable
 returns-clause-writable g c = c.run_output.ensures.writable
+
+pub returns-in_err-script-clause-reads : goal.returns-in_err-script-clause-reads
+returns-in_err-script-clause-reads g c = reads-err c.in_err-script.field-0.0 c.from_residual.result c.in_err-script.ensures.reads c.from_residual.ensures.1
+
+pub returns-in_err-programs-clause-reads : goal.returns-in_err-programs-clause-reads
+returns-in_err-programs-clause-reads g c =
+    reads-then c.in_ok-script.ensures.reads
+    (reads-err c.in_err-programs.field-0.0 c.from_residual-in_err-programs.result c.in_err-programs.ensures.reads c.from_residual-in_err-programs.ensures.1)
+
+pub returns-clause-reads : goal.returns-clause-reads
+returns-clause-reads g c =
+    reads-then c.in_ok-script.ensures.reads (reads-as c.in_ok-programs.ensures.reads (quiet-memory c.run_output.result c.run_output.ensures.memory))
+
+pub programs_of-requires-clause-right : goal.programs_of-requires-clause-right
+programs_of-requires-clause-right g c = c.in_ok-script.ensures.right
+
+pub programs_of-requires-clause-in_order : goal.programs_of-requires-clause-in_order
+programs_of-requires-clause-in_order g c = c.in_ok-script.ensures.in_order
+
+pub run_output-requires : goal.run_output-requires
+run_output-requires g c = subst (λ (d : Description). AreProgramsOf d c.in_ok-script.script c.in_ok-programs.programs) c.description-desc.ensures c.in_ok-programs.ensures.programs

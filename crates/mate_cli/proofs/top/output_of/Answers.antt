@@ -1,4 +1,4 @@
-use Rattle.std.proofs.Common.{inl, inr, refl, List, map, subst, string_bytes, String, rules}
+use Rattle.std.proofs.Common.{inl, inr, refl, sym, List, map, subst, string_bytes, String, rules}
 use Rattle.std.specs.Global.{Global}
 use Rattle.command_line.specs.Words.{HasNoLine}
 use Rattle.mate_commands.specs.Words.{Task, task_held, Says, SaysNothing}
@@ -19,7 +19,7 @@ pub returns-in-Some-clause-does : goal.returns-in-Some-clause-does
 returns-in-Some-clause-does g c =
     let task : Task = task_held c.in-Some.task in
     let Q : List (String Global) → Type 0 = λ ws. Says (map string_bytes ws) task in
-    let says : Says (map string_bytes c.as_slice.result.now) task = record { line = _; is = c.in-Ok.ensures; task_is = search rules } in
+    let says : Says (map string_bytes c.as_slice.result.now) task = record { line = _; is = c.in-Ok.ensures; task_is = sym c.in-Some.ensures } in
     goes_on task (subst Q c.as_slice.ensures.value says) c.task_output.ensures.does
 
 pub returns-clause-does : goal.returns-clause-does

@@ -1,7 +1,9 @@
 use Rattle.std.proofs.Common.{sym, subst}
 use Rattle.mate_cli.specs.Ends.{Sinks, IsOutputWritten, IsRunWritten}
 use Rattle.vm_desc.specs.declared.description.Description.{Description}
+use Rattle.mate_documents.specs.Outputs.{CanBeWritten}
 use Rattle.mate_documents.specs.declared.output.Output.{Output}
+use Rattle.node_programs.specs.ScriptSteps.{AreProgramsOf}
 use Rattle.mate_cli.proofs.writing.write_output.Goals as goal
 
 pub returns-in-Run : goal.returns-in-Run
@@ -20,3 +22,26 @@ returns-in-Run g c =
     } in
     subst (λ (o : Output). IsOutputWritten o s t c.write_run.result) (sym c.in-Run.is)
     (subst (λ (d : Description). IsRunWritten d c.in-Run.script c.in-Run.programs s t c.write_run.result) c.description.ensures c.write_run.ensures)
+
+pub returns-in-Document : goal.returns-in-Document
+returns-in-Document g c =
+    let s : Sinks = record {
+      out = g.S.Sink.written c.args.out.now;
+      out_faults = g.S.Sink.faults c.args.out.now;
+      err = g.E.Sink.written c.args.err.now;
+      err_faults = g.E.Sink.faults c.args.err.now;
+    } in
+    let t : Sinks = record {
+      out = g.S.Sink.written c.write_document.new.out;
+      out_faults = g.S.Sink.faults c.write_document.new.out;
+      err = g.E.Sink.written c.write_document.new.err;
+      err_faults = g.E.Sink.faults c.write_document.new.err;
+    } in
+    subst (λ (o : Output). IsOutputWritten o s t c.write_document.result) (sym c.in-Document.is) c.write_document.ensures
+
+pub write_document-requires : goal.write_document-requires
+write_document-requires g c = subst CanBeWritten c.in-Document.is c.requires
+
+pub write_run-requires : goal.write_run-requires
+write_run-requires g c =
+    subst (λ (d : Description). AreProgramsOf d c.in-Run.script c.in-Run.programs) (sym c.description.ensures) (subst CanBeWritten c.in-Run.is c.requires)
