@@ -106,12 +106,12 @@ fn step_program<F: Files>(
             let program = loaded(alloc, files, desc, name)?;
             Ok(Some(program))
         }
-        Step::Post { .. } => Ok(None),
-        Step::Step { .. } => Ok(None),
-        Step::Run => Ok(None),
-        Step::Answer { .. } => Ok(None),
-        Step::Show => Ok(None),
-        Step::Reset => Ok(None),
+        Step::Post { .. }
+        | Step::Step { .. }
+        | Step::Run
+        | Step::Answer { .. }
+        | Step::Show
+        | Step::Reset => Ok(None),
     }
 }
 

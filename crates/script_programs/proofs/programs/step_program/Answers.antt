@@ -1,4 +1,4 @@
-use Rattle.std.proofs.Common.{ℕ, List, [], length, Option, Some, None, Ok, Err, sym, ◌∙◌, subst}
+use Rattle.std.proofs.Common.{ℕ, List, [], length, Option, Some, Ok, Err, sym, ◌∙◌, subst}
 use Rattle.std.proofs.lemmas.List.{get_or_default}
 use Rattle.mate_journal.specs.declared.program.Program.{Program}
 use Rattle.mate_steps.specs.Parts.{Folder}
@@ -100,33 +100,3 @@ bounds-names-program g c =
 
 pub bounds-names-program-in-Load : goal.bounds-names-program-in-Load
 bounds-names-program-in-Load g c = subst (λ (s : Step). IsRightStep c.args.desc.now (length c.args.names.now) s) c.in-Load.is c.requires
-
-pub returns-in-Post-clause-does : goal.returns-in-Post-clause-does
-returns-in-Post-clause-does g c =
-    let f : Folder = record { told = g.F.Files.contents c.args.files.now; steady = g.F.Files.steady c.args.files.now } in
-    subst (λ (s : Step). step_program f c.args.desc.now c.args.fold c.args.names.now s (Ok None)) (sym c.in-Post.is) tt
-
-pub returns-in-Step-clause-does : goal.returns-in-Step-clause-does
-returns-in-Step-clause-does g c =
-    let f : Folder = record { told = g.F.Files.contents c.args.files.now; steady = g.F.Files.steady c.args.files.now } in
-    subst (λ (s : Step). step_program f c.args.desc.now c.args.fold c.args.names.now s (Ok None)) (sym c.in-Step.is) tt
-
-pub returns-in-Run-clause-does : goal.returns-in-Run-clause-does
-returns-in-Run-clause-does g c =
-    let f : Folder = record { told = g.F.Files.contents c.args.files.now; steady = g.F.Files.steady c.args.files.now } in
-    subst (λ (s : Step). step_program f c.args.desc.now c.args.fold c.args.names.now s (Ok None)) (sym c.in-Run.is) tt
-
-pub returns-in-Answer-clause-does : goal.returns-in-Answer-clause-does
-returns-in-Answer-clause-does g c =
-    let f : Folder = record { told = g.F.Files.contents c.args.files.now; steady = g.F.Files.steady c.args.files.now } in
-    subst (λ (s : Step). step_program f c.args.desc.now c.args.fold c.args.names.now s (Ok None)) (sym c.in-Answer.is) tt
-
-pub returns-in-Show-clause-does : goal.returns-in-Show-clause-does
-returns-in-Show-clause-does g c =
-    let f : Folder = record { told = g.F.Files.contents c.args.files.now; steady = g.F.Files.steady c.args.files.now } in
-    subst (λ (s : Step). step_program f c.args.desc.now c.args.fold c.args.names.now s (Ok None)) (sym c.in-Show.is) tt
-
-pub returns-in-Reset-clause-does : goal.returns-in-Reset-clause-does
-returns-in-Reset-clause-does g c =
-    let f : Folder = record { told = g.F.Files.contents c.args.files.now; steady = g.F.Files.steady c.args.files.now } in
-    subst (λ (s : Step). step_program f c.args.desc.now c.args.fold c.args.names.now s (Ok None)) (sym c.in-Reset.is) tt
