@@ -1,5 +1,5 @@
 -- The laws of the loop over a script's steps.
-use Rattle.std.proofs.Common.{◌≡◌, inr, refl, true, false, Ok, Err, None, Some, [], ℕ, suc, ◌+◌, ◌<◌, Bool, List, ◌∷◌, ◌++◌, get_or, drop, length, option_to_list, Option, Result, sym, ◌∙◌, ap, subst, add-one, drop-cons}
+use Rattle.std.proofs.Common.{◌≡◌, inr, refl, true, false, Ok, Err, None, Some, [], ℕ, suc, ◌+◌, ◌<◌, ◌≤◌, Bool, List, ◌∷◌, ◌++◌, get_or, drop, length, option_to_list, Option, Result, sym, ◌∙◌, ap, subst, add-one, drop-cons}
 use Rattle.vm_desc.specs.declared.description.Description.{Description}
 use Rattle.mate_journal.specs.declared.program.Program.{Program}
 use Rattle.mate_refusals.specs.declared.refusal.Refusal.{Refusal}
@@ -11,7 +11,7 @@ use Rattle.script_reader.specs.Steps.{NodeScript}
 use Rattle.script_reader.specs.declared.steps.Step.{Step}
 use Rattle.script_reader.specs.declared.steps.Step.TheVariants as step
 use Rattle.std.specs.Prelude.{All, IfSome, IsErrAnd}
-use Rattle.std.proofs.lemmas.List.{append-nil}
+use Rattle.std.proofs.lemmas.List.{append-nil, drop_all}
 use Rattle.std.proofs.lemmas.List.Elements.{All-nil, All-cons, All-append}
 
 -- at the step of a place, what it gives and what follows is what is left
@@ -24,6 +24,13 @@ at_step f d fold script ps i x y low is owing answer step =
     let h : x ∷ drop (i + 1) script.steps ≡ drop i script.steps =
     ap (λ (s : Step). s ∷ drop (i + 1) script.steps) is ∙ ap (λ (k : ℕ). get_or script.steps i y ∷ drop k script.steps) (add-one i) ∙ sym e in
     owing.owed answer (subst (λ (xs : List Step). programs_after f d fold script.files ps xs answer) h step)
+
+-- past the last step, the programs are all
+pub at_end : (f : Folder) (d : Description) (fold : Bool) (script : NodeScript) (ps : List Program) (i : ℕ) → length script.steps ≤ i → Owing f d fold script ps (drop i script.steps)
+    → script_programs f d fold script (Ok ps)
+at_end f d fold script ps i past owing =
+    let nothing : drop i script.steps ≡ [] = drop_all i script.steps past in
+    owing.owed (Ok ps) (subst (λ (l : List Step). programs_after f d fold script.files ps l (Ok ps)) (sym nothing) refl)
 
 -- memory may be wanting at any step
 pub step_wants : (f : Folder) (d : Description) (fold : Bool) (names : List (List ℕ)) (x : Step) → step_program f d fold names x (Err NoMemory)

@@ -1,6 +1,7 @@
-use Rattle.std.proofs.Common.{◌≡◌, ℕ, ◌+◌, ◌<◌, List, [], ◌++◌, option_to_list, Option, None, length, get_or, drop, Ok, Err, refl, sym, ◌∙◌, ap, subst, arith}
+use Rattle.std.proofs.Common.{◌≡◌, ℕ, ◌+◌, ◌<◌, List, [], ◌++◌, option_to_list, Option, None, length, get_or, drop, Ok, Err, sym, ◌∙◌, ap, subst, arith}
 use Rattle.std.specs.Prelude.{All, IsErrAnd}
-use Rattle.std.proofs.lemmas.List.{append-nil, drop_all}
+use Rattle.std.proofs.lemmas.List.{append-nil}
+use Rattle.std.proofs.lemmas.List.Elements.{All-get_or}
 use Rattle.mate_journal.specs.declared.program.Program.{Program}
 use Rattle.mate_refusals.specs.declared.refusal.Refusal.{Refusal}
 use Rattle.mate_refusals.specs.declared.refusal.Refusal.TheVariants.{NoMemory}
@@ -8,9 +9,10 @@ use Rattle.mate_steps.specs.Parts.{Folder}
 use Rattle.mate_steps.specs.Steps.{goes_on}
 use Rattle.mate_steps.proofs.Laws.{stops_by, moved, reads-then, reads-as, reads-err}
 use Rattle.node_programs.specs.Right.{IsRightProgram}
+use Rattle.script_reader.specs.Steps.{IsRightStep}
 use Rattle.script_reader.specs.declared.steps.Step.{Step}
-use Rattle.script_programs.specs.Programs.{step_program, programs_after, script_programs, Owing}
-use Rattle.script_programs.proofs.StepLaws.{at_step, gives-nothing, step_wants, All-with}
+use Rattle.script_programs.specs.Programs.{step_program, programs_after, Owing}
+use Rattle.script_programs.proofs.StepLaws.{at_end, at_step, gives-nothing, step_wants, All-with}
 use Rattle.node_programs.specs.ScriptSteps.{AreProgramsOf}
 use Rattle.script_programs.proofs.ReadLemmas.{if-err}
 use Rattle.script_programs.proofs.EachLemmas.{are_made}
@@ -45,6 +47,17 @@ returns-in_err-push-clause-does g c =
     let wants = subst (λ (r : Refusal). IsErrAnd answer (λ y. y ≡ r)) c.in_err-push.ensures.memory c.from_residual-in_err-push.ensures.1 in
     at_step f d c.args.fold s c.loop-step.programs i x x low is c.loop-step.invariant.owing answer
     (stops_by NoMemory answer (step_wants f d c.args.fold s.files x) wants)
+
+pub step_program-requires : goal.step_program-requires
+step_program-requires g c =
+    let d = c.args.desc.now in
+    let s = c.args.script.now in
+    let i = c.loop-step.step-index in
+    let x : Step = c.step-item.result in
+    let low : i < length s.steps = subst (λ (l : List Step). i < length l) c.steps-steps.ensures c.loop-step-test.true in
+    let is : x ≡ get_or s.steps i x = c.step-item.is ∙ ap (λ (l : List Step). get_or l i x) c.steps-steps.ensures in
+    let right = All-get_or (IsRightStep d (length s.files)) s.steps i x low c.requires.right.each in
+    subst (λ (names : List (List ℕ)). IsRightStep d (length names) x) (sym c.files-names.ensures) (subst (IsRightStep d (length s.files)) (sym is) right)
 
 pub loop-step-preserved : goal.loop-step-preserved
 loop-step-preserved g c =
@@ -92,6 +105,13 @@ loop-step-preserved g c =
       }
     ]
 
+pub returns-clause-does : goal.returns-clause-does
+returns-clause-does g c =
+    let f : Folder = record { told = g.F.Files.contents c.args.files.now; steady = g.F.Files.steady c.args.files.now } in
+    let past = c.loop-step-test.false in
+    let same = ap (λ (l : List Step). length l) c.steps-steps.ensures in
+    at_end f c.args.desc.now c.args.fold c.args.script.now c.loop-step.programs c.loop-step.step-index (omega (arith, past, same)) c.loop-step.invariant.owing
+
 pub returns-clause-programs : goal.returns-clause-programs
 returns-clause-programs g c =
     let f : Folder = record { told = g.F.Files.contents c.args.files.now; steady = g.F.Files.steady c.args.files.now } in
@@ -100,9 +120,7 @@ returns-clause-programs g c =
     let ps = c.loop-step.programs in
     let past = c.loop-step-test.false in
     let same = ap (λ (l : List Step). length l) c.steps-steps.ensures in
-    let nothing : drop c.loop-step.step-index s.steps ≡ [] = drop_all c.loop-step.step-index s.steps (omega (arith, past, same)) in
-    let does : script_programs f d c.args.fold s (Ok ps) =
-    c.loop-step.invariant.owing.owed (Ok ps) (subst (λ (l : List Step). programs_after f d c.args.fold s.files ps l (Ok ps)) (sym nothing) refl) in
+    let does = at_end f d c.args.fold s ps c.loop-step.step-index (omega (arith, past, same)) c.loop-step.invariant.owing in
     let made = are_made f d c.args.fold s.files [] s.steps (length s.files) ps c.requires.in_order does in
     record { steps = c.requires.right; programs = c.loop-step.invariant.right; count = made.count; each = made.each }
 
@@ -112,6 +130,12 @@ returns-in_err-program-clause-reads g c =
 
 pub returns-in_err-program-clause-programs : goal.returns-in_err-program-clause-programs
 returns-in_err-program-clause-programs g c = if-err (AreProgramsOf c.args.desc.now c.args.script.now) c.in_err-program.field-0.0 c.from_residual.result c.from_residual.ensures.1
+
+pub returns-in_err-push-clause-reads : goal.returns-in_err-push-clause-reads
+returns-in_err-push-clause-reads g c =
+    let answer = c.from_residual-in_err-push.result in
+    let wants = subst (λ (r : Refusal). IsErrAnd answer (λ y. y ≡ r)) c.in_err-push.ensures.memory c.from_residual-in_err-push.ensures.1 in
+    reads-err {A = List Program} NoMemory answer (reads-then c.loop-step.invariant.reads (reads-as {x = Ok c.in_ok-program.program} c.in_ok-program.ensures.reads (λ unread. unread))) wants
 
 pub returns-in_err-push-clause-programs : goal.returns-in_err-push-clause-programs
 returns-in_err-push-clause-programs g c = if-err (AreProgramsOf c.args.desc.now c.args.script.now) c.in_err-push.field-0.0 c.from_residual-in_err-push.result c.from_residual-in_err-push.ensures.1
