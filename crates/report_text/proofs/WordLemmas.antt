@@ -1,5 +1,5 @@
 -- Lemmas on `specs/Words.antt`.
-use Rattle.std.proofs.Common.{◌≡◌, ℕ, ◌+◌, ◌<◌, ◌≤◌, min, List, length, take, get_or, Result, ap, sym, ◌∙◌, arith}
+use Rattle.std.proofs.Common.{◌≡◌, ℕ, ◌+◌, ◌<◌, min, List, length, take, get_or, Result, ap, sym, ◌∙◌, arith}
 use Rattle.std.specs.Prelude.{ℤ, flat_map}
 use Rattle.std.specs.List.{zip}
 use Rattle.std.proofs.lemmas.Int.{to_z-of_z}
@@ -29,16 +29,17 @@ pair_at ks vs n a b in_ks in_vs first second = cc (first, second) ∙ sym (get_o
 
 -- the piece of the next pair of two lists, whose parts stand at n
 pub Prints-next_pair : {w0 w1 w2 : Option (List ℕ)} {f0 f1 f2 : ℕ} {r0 r1 r2 : Result (Unit {0}) SinkFault} {A B : Type 0} (piece : A × B → List ℕ)
-    (ks : List A) (vs : List B) (n : ℕ) (a : A) (b : B) → n < length ks → n < length vs → a ≡ get_or ks n a → b ≡ get_or vs n b
+    (ks : List A) (vs : List B) (n m : ℕ) (a : A) (b : B) → m ≡ n + 1 → n < length ks → n < length vs → a ≡ get_or ks n a → b ≡ get_or vs n b
     → Prints w0 f0 r0 w1 f1 r1 (flat_map piece (take n (zip ks vs))) → Prints w1 f1 r1 w2 f2 r2 (piece (a, b))
-    → Prints w0 f0 r0 w2 f2 r2 (flat_map piece (take (n + 1) (zip ks vs)))
-Prints-next_pair piece ks vs n a b in_ks in_vs first second p q =
+    → Prints w0 f0 r0 w2 f2 r2 (flat_map piece (take m (zip ks vs)))
+Prints-next_pair piece ks vs n m a b e in_ks in_vs first second p q =
     let within : n < length (zip ks vs) = omega (arith, length-zip ks vs, in_ks, in_vs) in
     let at = pair_at ks vs n a b in_ks in_vs first second in
-    Prints-next piece (zip ks vs) n (a, b) within p (Prints-by (ap piece at) q)
+    Prints-by (ap (λ (k : ℕ). flat_map piece (take k (zip ks vs))) (sym e))
+    (Prints-next piece (zip ks vs) n (a, b) within p (Prints-by (ap piece at) q))
 
 -- the loop went past the last pair
 pub Prints-all_pairs : {w0 w1 : Option (List ℕ)} {f0 f1 : ℕ} {r0 r1 : Result (Unit {0}) SinkFault} {A B : Type 0} (piece : A × B → List ℕ)
-    (ks : List A) (vs : List B) (n : ℕ) → min (length ks) (length vs) ≤ n → Prints w0 f0 r0 w1 f1 r1 (flat_map piece (take n (zip ks vs)))
+    (ks : List A) (vs : List B) (n : ℕ) → n ≡ min (length ks) (length vs) → Prints w0 f0 r0 w1 f1 r1 (flat_map piece (take n (zip ks vs)))
     → Prints w0 f0 r0 w1 f1 r1 (flat_map piece (zip ks vs))
 Prints-all_pairs piece ks vs n e p = Prints-all piece (zip ks vs) n (omega (arith, e, length-zip ks vs)) p

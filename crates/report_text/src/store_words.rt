@@ -22,8 +22,8 @@ pub fn store_words<S: Sink>(pen: &mut Pen, out: &mut S, desc: &Description, stor
 fn shared_words<S: Sink>(pen: &mut Pen, out: &mut S, names: &[Name], values: &[i16])
     ensures { Prints (S.written out.old) (S.faults out.old) pen.old.result (S.written out.new) (S.faults out.new) pen.new.result (flat_map shared_word (zip names.now values.now)) }
 {
-    for place in 0..names.len().min(values.len()) {
-        shared_word(pen, out, &names[place], values[place]);
+    for (name, value) in names.iter().zip(values) {
+        shared_word(pen, out, name, *value);
     }
 }
 
@@ -41,8 +41,8 @@ fn shared_word<S: Sink>(pen: &mut Pen, out: &mut S, name: &Name, value: i16)
 fn buffer_words<S: Sink>(pen: &mut Pen, out: &mut S, names: &[Name], buffers: &[Payload])
     ensures { Prints (S.written out.old) (S.faults out.old) pen.old.result (S.written out.new) (S.faults out.new) pen.new.result (flat_map buffer_word (zip names.now buffers.now)) }
 {
-    for place in 0..names.len().min(buffers.len()) {
-        buffer_word(pen, out, &names[place], &buffers[place]);
+    for (name, buffer) in names.iter().zip(buffers) {
+        buffer_word(pen, out, name, buffer);
     }
 }
 

@@ -1,20 +1,20 @@
-use Rattle.std.proofs.Common.{◌<◌, length, get_or, rules, FitsSigned, arith}
+use Rattle.std.proofs.Common.{◌++◌, ◌∷◌, [], length, rules, FitsSigned}
 use Rattle.std.specs.Int.{w16}
-use Rattle.std.specs.Prelude.{pos}
-use Rattle.std.proofs.lemmas.List.{get_or_default}
+use Rattle.std.proofs.lemmas.List.{length_push}
+use Rattle.std.proofs.lemmas.Slice.Zip.{zip_turn, zip_end}
 use Rattle.report_text.specs.Words.{shared_word}
 use Rattle.report_text.proofs.WordLemmas.{Prints-next_pair, Prints-all_pairs, Prints-shared}
 use Rattle.report_text.proofs.store_words.shared_words.Goals as goal
 
-pub loop-place-preserved : goal.loop-place-preserved
-loop-place-preserved g c =
-    let n = c.loop-place.place in
-    let value = get_or c.args.values.now n (pos 0) in
-    let within : n < length c.args.values.now = omega (arith, c.loop-place-test.true, c.min-place-end.ensures) in
-    let fits : FitsSigned w16 value = search rules in
-    Prints-next_pair shared_word c.args.names.now c.args.values.now n c.index-names-place.result value
-    (omega (arith, c.loop-place-test.true, c.min-place-end.ensures)) within c.index-names-place.is (get_or_default c.args.values.now n (pos 0) value within)
-    c.loop-place.invariant (Prints-shared c.index-names-place.result value fits c.shared_word.ensures)
+pub loop-name-preserved : goal.loop-name-preserved
+loop-name-preserved g c =
+    let at = zip_turn c.args.names.now c.args.values.now c.loop-name.yielded c.into_iter-name-iterator.result c.loop-name.name-iterator c.next.new.self c.next.result (cc) (cc) c.loop-name.yielded_by (c.in-Some.name, c.in-Some.value) c.in-Some.is c.next.ensures.steps in
+    let fits : FitsSigned w16 c.in-Some.value.now = search rules in
+    Prints-next_pair shared_word c.args.names.now c.args.values.now (length c.loop-name.yielded) (length (c.loop-name.yielded ++ (c.in-Some.name, c.in-Some.value) ∷ [])) c.in-Some.name.now c.in-Some.value.now
+    (length_push c.loop-name.yielded (c.in-Some.name, c.in-Some.value)) at.0 at.1 (at.2 c.in-Some.name.now) (at.3 c.in-Some.value.now)
+    c.loop-name.invariant (Prints-shared c.in-Some.name.now c.in-Some.value.now fits c.shared_word.ensures)
 
 pub returns : goal.returns
-returns g c = Prints-all_pairs shared_word c.args.names.now c.args.values.now c.loop-place.place (omega (arith, c.loop-place-test.false, c.min-place-end.ensures)) c.loop-place.invariant
+returns g c =
+    let at = zip_end c.args.names.now c.args.values.now c.loop-name.yielded c.into_iter-name-iterator.result c.loop-name.name-iterator c.next.new.self c.next.result (cc) (cc) c.loop-name.yielded_by c.in-None.is c.next.ensures.steps in
+    Prints-all_pairs shared_word c.args.names.now c.args.values.now (length c.loop-name.yielded) at c.loop-name.invariant
