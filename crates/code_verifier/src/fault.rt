@@ -6,7 +6,7 @@ ghost use Rattle.code_verifier.specs.Faults.{decode_fault_of};
 use mate_code::DecodeFault;
 
 /// The first refusal of some code. A `place` is the offset of the instruction's opcode, in bytes.
-#[derive(Clone, Copy, Debug)]
+#[derive(Clone, Copy)]
 pub enum VerifyFault {
     /// No instruction can be read there.
     Decode { place: u32 },

@@ -6,11 +6,11 @@ use Rattle.mate_files.specs.Files.{Names, WhereTold}
 use Rattle.ts_syntax.specs.Checked.{tree_of}
 use Rattle.ts_syntax.specs.declared.script.Script.{Script}
 use Rattle.ts_checker.specs.Accepted.{IsAccepted}
-use Rattle.source_code.specs.declared.code.CompiledScript.{CompiledScript}
+use Rattle.mate_steps.specs.declared.code.CompiledScript.{CompiledScript}
 use Rattle.vm_desc.specs.Limits.{Parts}
 use Rattle.vm_desc.specs.declared.description.Description.{Description}
 use Rattle.vm_reader.specs.Text.{description_of}
-use Rattle.mate_commands.specs.Words.{builtin_word}
+use Rattle.command_line.specs.Commands.{builtin_word}
 use Rattle.mate_refusals.specs.declared.cause.Cause.TheVariants as cause
 use Rattle.mate_refusals.specs.declared.cause.Unread.{Unread}
 use Rattle.mate_refusals.specs.declared.cause.Unread.TheVariants.{Failed, Large}

@@ -5,7 +5,7 @@ ghost use Rattle.vm_desc.specs.Limits.{Parts};
 ghost use Rattle.vm_reader.specs.Text.{description_of};
 ghost use Rattle.ts_syntax.specs.Checked.{tree_of};
 ghost use Rattle.ts_checker.specs.Accepted.{IsAccepted};
-ghost use Rattle.mate_commands.specs.Words.{builtin_word};
+ghost use Rattle.command_line.specs.Commands.{builtin_word};
 ghost use Rattle.mate_refusals.specs.declared.cause.Cause.TheVariants.{Unread as UnreadCause};
 ghost use Rattle.mate_refusals.specs.declared.cause.Unread.{Unread};
 ghost use Rattle.mate_refusals.specs.declared.cause.Unread.TheVariants.{Failed, Large};
@@ -14,8 +14,7 @@ ghost use Rattle.command_callers.specs.Folders.{HoldsFile, RefusesAs};
 
 use mate_files::Files;
 use mate_refusals::Refusal;
-use mate_steps::{expansion_of, machine_of, read_file, source_of};
-use source_code::CompiledScript;
+use mate_steps::{CompiledScript, expansion_of, machine_of, read_file, source_of};
 use std::alloc::Global;
 use ts_syntax::Script;
 use vm_desc::Description;

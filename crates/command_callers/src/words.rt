@@ -1,10 +1,9 @@
 //! The commands that words say.
 
 ghost use Rattle.std.specs.Prelude.{◌≡◌, [], ◌∷◌, codes, Some, None, true, false, option_map};
-ghost use Rattle.mate_commands.specs.Words.{Compile, line_said, task_held};
+ghost use Rattle.command_line.specs.Commands.{Compile, line_said, task_held};
 
-use command_line::CommandLine;
-use mate_commands::{Command, command_of};
+use command_line::{Command, CommandLine, command_of};
 
 pub fn compile_is_never_brief<'a>(line: &CommandLine<'a>) -> Option<Command<'a>>
     requires { line_said line.now ≡ record { brief = true; fold = false; command = codes "compile"; args = codes "builtin" ∷ codes "main" ∷ codes "1" ∷ codes "f" ∷ [] } }

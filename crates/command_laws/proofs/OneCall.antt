@@ -1,6 +1,6 @@
 -- Words have one answer, so what is owed comes.
 use Rattle.std.proofs.Common.{◌≡◌, ℕ, inl, inr, List, Ok, Err, sym, subst}
-use Rattle.mate_commands.specs.Words.{Task, Node, Table, Compile, Check, Expand}
+use Rattle.command_line.specs.Commands.{Task, Node, Table, Compile, Check, Expand}
 use Rattle.mate_files.specs.Counts.{Rose}
 use Rattle.mate_files.specs.Files.{Names}
 use Rattle.mate_refusals.specs.Refusals.{status_of}

@@ -8,7 +8,7 @@ use Rattle.capsule_listing.specs.CapsuleText.{capsule_text}
 use Rattle.code_verifier.specs.Verified.{VerifiedCode}
 use Rattle.command_line.specs.Words.{Line, IsLine}
 use Rattle.mate_code.specs.Run.{Code}
-use Rattle.mate_commands.specs.Words.{Task, Says, SaysNothing, task_of}
+use Rattle.command_line.specs.Commands.{Task, Says, SaysNothing, task_of}
 use Rattle.mate_files.specs.Files.{Names}
 use Rattle.mate_num.specs.declared.id.HandlerId.{HandlerId}
 use Rattle.vm_desc.specs.declared.description.Description.{Description}

@@ -11,7 +11,7 @@ use Rattle.journal_answers.proofs.OneText.{text-once, brief-once}
 use Rattle.node_invariant.specs.Meaning.{clock_of}
 use Rattle.node_programs.specs.ScriptSteps.{steps_of}
 use Rattle.node_programs.specs.Sources.{meaning_by}
-use Rattle.report_summary.specs.Brief.{brief}
+use Rattle.report_text.specs.Brief.{brief}
 use Rattle.report_text.specs.Text.{text}
 use Rattle.run_steps.specs.Running.{IsReportOf}
 use Rattle.script_programs.specs.Programs.{script_programs}

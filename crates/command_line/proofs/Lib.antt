@@ -1,2 +1,3 @@
 mod RowLemmas
 mod LineLemmas
+pub mod VersionLemmas

@@ -1,6 +1,12 @@
-//! The words of the command line, read by `clap` as one simple command: flags, a command, and the words that go to it.
+//! The words of the command line, read by `clap` as one simple command, and the command of the program that they say.
 #![tactic(auto)]
 
+pub mod command;
+pub mod compilation;
+pub mod script_run;
 pub mod words;
 
+pub use command::{Command, command_of};
+pub use compilation::Compilation;
+pub use script_run::ScriptRun;
 pub use words::{CommandLine, WordsFault, read};

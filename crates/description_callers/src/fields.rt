@@ -3,13 +3,13 @@
 ghost use Rattle.std.specs.Prelude.{◌≡◌, pos, Err};
 ghost use Rattle.toml.specs.Data.{array, integer, no_items, item};
 ghost use Rattle.toml.specs.View.{view};
-ghost use Rattle.vm_rules.specs.declared.fault.DescFault.TheVariants.{OverLimit};
-ghost use Rattle.vm_rules.specs.declared.key.Key.TheVariants as key;
+ghost use Rattle.vm_desc.specs.declared.fault.DescFault.TheVariants.{OverLimit};
+ghost use Rattle.vm_desc.specs.declared.key.Key.TheVariants as key;
 
 use toml::Value;
 use toml::value::Array;
-use vm_fields::fields::list_at;
-use vm_rules::{DescFault, Key};
+use vm_desc::{DescFault, Key};
+use vm_reader::fields::list_at;
 
 pub fn a_long_list_is_over_its_limit<'a>(value: &'a Value) -> Result<&'a Array, DescFault>
     requires { view value.now ≡ array (item (integer (pos 1)) (item (integer (pos 2)) no_items)) }

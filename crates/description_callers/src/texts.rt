@@ -1,12 +1,11 @@
 //! Texts that exclude wrong bodies of `read`.
 
 ghost use Rattle.std.specs.Prelude.{◌≡◌, MatchResult};
-ghost use Rattle.vm_rules.specs.declared.fault.DescFault.TheVariants.{NoMemory};
+ghost use Rattle.vm_desc.specs.declared.fault.DescFault.TheVariants.{NoMemory};
 
 use std::alloc::Global;
-use vm_desc::Description;
+use vm_desc::{DescFault, Description};
 use vm_reader::read;
-use vm_rules::DescFault;
 
 pub fn the_greatest_quantum_is_read(alloc: Global) -> Result<Description, DescFault>
     ensures { MatchResult result (λ desc. desc.quantum ≡ 10000) (λ fault. fault ≡ NoMemory) }

@@ -11,7 +11,7 @@ use Rattle.ts_syntax.specs.declared.script.Script.{Script}
 use Rattle.ts_syntax.specs.declared.token.Token.{Token}
 use Rattle.ts_syntax.specs.declared.token.TokenKind.{TokenKind}
 use Rattle.ts_syntax.specs.declared.token.TokenKind.TheVariants as kind
-use Rattle.ts_machine.specs.Answers.{Refused}
+use Rattle.ts_syntax.specs.Answers.{Refused}
 use Rattle.ts_parser.specs.Verdict.{Answers, Verdict, spelled, unexpected, too_deep, IsSo}
 use Rattle.ts_parser.specs.declared.fault.SourceFault.{SourceFault}
 use Rattle.ts_parser.specs.declared.fault.SourceFault.TheVariants as fault

@@ -8,8 +8,8 @@ ghost use Rattle.ts_parser.specs.declared.fault.SourceFault.TheVariants.{Unexpec
 ghost use Rattle.grammar_callers.specs.Sources.{stepping, loop_by_three};
 
 use std::alloc::Global;
-use ts_machine::machine::machine_law;
 use ts_parser::{SourceFault, parse, verdict_law};
+use ts_syntax::machine::machine_law;
 use ts_syntax::{Script, Tokens};
 
 pub fn a_minus_before_a_step_is_kept(alloc: Global, tokens: &Tokens) -> Result<Script, SourceFault>

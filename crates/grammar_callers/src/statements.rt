@@ -1,13 +1,12 @@
 //! Tokens that exclude wrong bodies of `behind_name`.
 
 ghost use Rattle.std.specs.Prelude.{◌≡◌, IfErr};
-ghost use Rattle.ts_machine.specs.declared.halt.Halt.TheVariants.{Memory};
+ghost use Rattle.ts_syntax.specs.declared.halt.Halt.TheVariants.{Memory};
 ghost use Rattle.grammar_callers.specs.Sources.{taking};
 
 use std::alloc::Global;
-use ts_machine::Halt;
 use ts_statements::behind_name;
-use ts_syntax::{Stmt, Token, Word};
+use ts_syntax::{Halt, Stmt, Token, Word};
 
 pub fn a_buffers_last_value_may_be_taken<'a>(
     alloc: Global,

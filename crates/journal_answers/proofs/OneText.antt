@@ -15,7 +15,7 @@ use Rattle.mate_journal.specs.NodeReport.{is_whole, IsNodeReport}
 use Rattle.mate_journal.specs.Tidy.{NumbersInOrder}
 use Rattle.mate_journal.specs.declared.entry.Stamped.{Stamped}
 use Rattle.mate_journal.specs.declared.report.Report.{Report}
-use Rattle.report_summary.specs.Brief.{brief}
+use Rattle.report_text.specs.Brief.{brief}
 use Rattle.report_text.specs.Text.{text}
 use Rattle.journal_laws.proofs.GoesOnLemmas.{GoesOn-journal}
 use Rattle.journal_answers.specs.Ending.{EndsByItself}

@@ -10,7 +10,7 @@ ghost use Rattle.mate_journal.specs.NodeRun.{IsNodeRun};
 ghost use Rattle.mate_journal.specs.NodeScript.{RunEnd, Step};
 ghost use Rattle.mate_journal.specs.Turns.{Clock};
 ghost use Rattle.mate_journal.specs.declared.report.Report.{Report};
-ghost use Rattle.report_summary.specs.Brief.{brief};
+ghost use Rattle.report_text.specs.Brief.{brief};
 ghost use Rattle.report_text.specs.Text.{text};
 ghost use Rattle.journal_answers.specs.Ending.{EndsByItself};
 

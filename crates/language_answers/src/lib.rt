@@ -9,7 +9,6 @@ mod scripts;
 mod shapes;
 mod sources;
 mod tokens;
-mod tree_text;
 
 use std::alloc::{AllocError, Global};
 use vm_desc::Description;

@@ -1,11 +1,11 @@
 //! Sources and what they are for a machine.
 
-use crate::tree_text::block_text;
 use case_files::marked_bytes;
+use mate_steps::{SourceRefusal, accept};
 use std::alloc::{AllocError, Global};
+use tree_text::block_text;
 use ts_parser::SourceFault;
 use ts_scope::CheckFault;
-use ts_source::{SourceRefusal, accept};
 use ts_syntax::Checked;
 use vm_desc::Description;
 

@@ -4,7 +4,7 @@ ghost use Rattle.std.specs.Prelude.{◌≡◌, ◌<◌, ◌≤◌, [], ◌∷◌
 ghost use Rattle.mate_code.specs.Table.{table_of};
 ghost use Rattle.ts_syntax.specs.Checked.{shape_of, tree_of};
 ghost use Rattle.ts_syntax.specs.Statement.{no_statements};
-ghost use Rattle.ts_translation.specs.Translation.{script_need, script_size};
+ghost use Rattle.ts_meaning.specs.Translation.{script_need, script_size};
 ghost use Rattle.language_callers.specs.Scripts.{first_set};
 
 use mate_code::Table;

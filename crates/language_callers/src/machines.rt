@@ -1,13 +1,12 @@
-//! Calls that exclude wrong bodies of the crates `vm_desc` and `vm_rules`.
+//! Calls that exclude wrong bodies of the crate `vm_desc`.
 
 ghost use Rattle.std.specs.Prelude.{◌≡◌, ◌≤◌, [], ◌∷◌, codes, length, Ok, false};
 ghost use Rattle.vm_desc.specs.declared.function.Function.{Function as Called};
 ghost use Rattle.vm_desc.specs.declared.function.FunKind.TheVariants.{Act};
 
 use mate_num::{HandlerId, Shape};
-use vm_desc::{Description, RadioSet, TrickleSet, builtin, shape};
-use vm_rules::rules::in_time;
-use vm_rules::{DescFault, Key};
+use vm_desc::rules::in_time;
+use vm_desc::{DescFault, Description, Key, RadioSet, TrickleSet, builtin, shape};
 
 pub fn the_builtin_machine_has_one_context() -> u8
     ensures { result ≡ 1 }

@@ -3,9 +3,10 @@
 use case_files::{device_words, marked_bytes, shape_words};
 use mate_num::ContextId;
 use std::alloc::{AllocError, Global};
-use vm_desc::{Description, FunKind, Function, Handler, HandlerKind, RadioSet, TrickleSet, shape};
+use vm_desc::{
+    DescFault, Description, FunKind, Function, Handler, HandlerKind, RadioSet, TrickleSet, shape,
+};
 use vm_reader::read;
-use vm_rules::DescFault;
 
 /// The number of instructions that the machine of a case has, or why its text describes none: there are 28,
 /// six more with a buffer, and one a function. Behind the text stands the end of its line.

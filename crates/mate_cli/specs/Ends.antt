@@ -2,7 +2,7 @@
 use Rattle.std.specs.Prelude.{◌≡◌, ℕ, true, false, List, Option, Result, Ok, Err, ⊤, ◌⊎◌}
 use Rattle.mate_files.specs.Counts.{Rose}
 use Rattle.mate_files.specs.Sink.{Sent, SentPart}
-use Rattle.mate_commands.specs.Words.{Task, Node, Table, Compile, Check, Expand, Says, SaysNothing}
+use Rattle.command_line.specs.Commands.{Task, Node, Table, Compile, Check, Expand, Says, SaysNothing}
 use Rattle.mate_refusals.specs.Refusals.{TellsRefusal}
 use Rattle.mate_refusals.specs.declared.status.Status.{Status}
 use Rattle.mate_refusals.specs.declared.status.Status.TheVariants.{Ok as AllDone}

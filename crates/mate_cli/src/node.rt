@@ -8,7 +8,7 @@ ghost use Rattle.mate_documents.specs.Outputs.{CanBeWritten};
 ghost use Rattle.mate_steps.specs.Parts.{ReadsFiles};
 ghost use Rattle.node_programs.specs.ScriptSteps.{AreProgramsOf};
 
-use mate_commands::ScriptRun;
+use command_line::ScriptRun;
 use mate_documents::{BoxedMachine, Document, Output};
 use mate_files::Files;
 use mate_journal::{Programs, Report, RunFault};

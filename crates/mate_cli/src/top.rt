@@ -1,15 +1,14 @@
 //! The top call: from words and files to what is written.
 
 ghost use Rattle.std.specs.Prelude.{◌≡◌, map, string_bytes, IfOk};
-ghost use Rattle.mate_commands.specs.Words.{task_held};
+ghost use Rattle.command_line.specs.Commands.{task_held};
 ghost use Rattle.mate_cli.specs.Ends.{CallEnds, Owes, command};
 ghost use Rattle.mate_documents.specs.Outputs.{CanBeWritten};
 ghost use Rattle.mate_steps.specs.Parts.{ReadsFiles};
 
 use crate::node;
 use crate::writing::write_output;
-use command_line::WordsFault;
-use mate_commands::{Command, command_of};
+use command_line::{Command, WordsFault, command_of};
 use mate_documents::{Output, check, compile, expand, table};
 use mate_files::{Files, Sink};
 use mate_refusals::{Refusal, Status};

@@ -1,6 +1,6 @@
 -- The texts that commands write when they were made whole.
 use Rattle.std.specs.Prelude.{ℕ, Bool, false, not, List, ◌++◌, codes, ⊤}
-use Rattle.report_summary.specs.Brief.{brief}
+use Rattle.report_text.specs.Brief.{brief}
 use Rattle.report_text.specs.Tidy.{IsTidy}
 use Rattle.opcode_gen.specs.TableText.{table_text}
 use Rattle.hex.specs.Hex.{encode_lower}

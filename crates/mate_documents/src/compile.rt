@@ -11,7 +11,7 @@ use crate::boxed_machine::BoxedMachine;
 use crate::document::Document;
 use crate::output::Output;
 use capsule_codec::{Capsule, encode};
-use mate_commands::Compilation;
+use command_line::Compilation;
 use mate_files::Files;
 use mate_num::{HandlerId, Image};
 use mate_refusals::Refusal;

@@ -41,7 +41,7 @@ impl Document {
     {
         match self {
             Document::Summary(machine, report) => {
-                report_summary::brief(machine.description(), report, out)
+                report_text::brief(machine.description(), report, out)
             }
             Document::OpcodeTable(machine) => opcode_gen::print_table(machine.description(), out),
             Document::Capsule(image) => write_image(image, out),

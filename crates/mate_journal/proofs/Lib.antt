@@ -1,2 +1,3 @@
 pub mod OneRun
 pub mod JournalLemmas
+pub mod OpenLemmas

@@ -14,3 +14,4 @@ pub mod Described
 pub mod NodeRun
 pub mod Tidy
 pub mod NodeReport
+pub mod OpenLog

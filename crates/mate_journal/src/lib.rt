@@ -4,11 +4,15 @@
 pub mod air;
 pub mod entry;
 pub mod node_log;
+pub mod open_log;
+pub mod past;
 pub mod program;
 pub mod report;
 
 pub use air::{Air, Aired, Airs};
 pub use entry::{DropCause, Entry, Stamped, VoidCause};
 pub use node_log::NodeLog;
+pub use open_log::OpenLog;
+pub use past::Past;
 pub use program::{Program, Programs};
 pub use report::{IntoFault, NodeLogs, RECORDS_MAX, Report, RunFault};

@@ -1,7 +1,7 @@
 -- A refusal is told by one cause.
 use Rattle.std.proofs.Common.{◌≡◌, Option, Some, None, refl, sym, ap, ◌∙◌}
-use Rattle.vm_rules.specs.declared.fault.DescFault.{DescFault}
-use Rattle.vm_rules.specs.declared.fault.DescFault.TheVariants as desc
+use Rattle.vm_desc.specs.declared.fault.DescFault.{DescFault}
+use Rattle.vm_desc.specs.declared.fault.DescFault.TheVariants as desc
 use Rattle.ts_syntax.specs.Cut.{bad_byte, big_literal}
 use Rattle.ts_checker.specs.Accepted.{TextRefusal, by_bytes, unexpected, too_deep, by_check}
 use Rattle.ts_scope.specs.declared.fault.CheckFault.TheVariants as check

@@ -1,8 +1,8 @@
 -- Why a description is refused, as the program tells it: without want of memory.
 use Rattle.std.specs.Prelude.{ℕ, List, ◌++◌, codes, decimal}
-use Rattle.vm_rules.specs.Keys.{word_of}
-use Rattle.vm_rules.specs.declared.fault.DescFault.{DescFault}
-use Rattle.vm_rules.specs.declared.fault.DescFault.TheVariants as desc
+use Rattle.vm_desc.specs.Keys.{word_of}
+use Rattle.vm_desc.specs.declared.fault.DescFault.{DescFault}
+use Rattle.vm_desc.specs.declared.fault.DescFault.TheVariants as desc
 use Rattle.mate_refusals.specs.LineEnds.{name_line}
 use Rattle.mate_refusals.specs.declared.description_cause.DescriptionCause.{DescriptionCause}
 use Rattle.mate_refusals.specs.declared.description_cause.DescriptionCause.TheVariants as cause

@@ -7,7 +7,7 @@ ghost use Rattle.mate_refusals.specs.DescriptionCauses.{description_words, fault
 use crate::line_ends::print_about;
 use mate_files::{Pen, Sink};
 use mate_num::Name;
-use vm_rules::{DescFault, Key};
+use vm_desc::{DescFault, Key};
 
 /// The first thing that is wrong with a description's text: what `DescFault` tells, but for want of memory.
 #[derive(Drop)]

@@ -4,3 +4,6 @@ pub mod OneAnswer
 pub mod OneSource
 pub mod OneCapsule
 pub mod OneExpansion
+pub mod AcceptanceLemmas
+pub mod JointLemmas
+pub mod CodeLemmas

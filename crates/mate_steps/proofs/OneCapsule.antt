@@ -16,7 +16,7 @@ use Rattle.mate_code.specs.BytesVerification.{bytes_verification}
 use Rattle.mate_code.specs.Verification as refusal
 use Rattle.mate_num.specs.declared.shape.Shape.{Shape}
 use Rattle.mate_files.specs.Files.{Names}
-use Rattle.source_code.proofs.JointLemmas.{first_same}
+use Rattle.mate_steps.proofs.JointLemmas.{first_same}
 use Rattle.vm_desc.specs.Shapes.{shape_of}
 use Rattle.vm_desc.specs.declared.description.Description.{Description}
 use Rattle.mate_refusals.specs.declared.capsule_cause.CapsuleCause.{CapsuleCause}

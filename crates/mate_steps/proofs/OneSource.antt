@@ -8,9 +8,9 @@ use Rattle.ts_compiler.specs.Compiled.{IsCompiled, Compiles}
 use Rattle.ts_compiler.specs.declared.fault.CompileFault.{CompileFault}
 use Rattle.ts_compiler.specs.declared.fault.CompileFault.TheVariants.{StackDepth, TooLong}
 use Rattle.ts_checker.specs.Accepted.{IsAccepted}
-use Rattle.ts_source.proofs.AcceptanceLemmas.{one_tree, one_refusal, apart}
-use Rattle.source_code.specs.SourceCode.{IsCompiledOf, HasNoCode, compiled_tree}
-use Rattle.source_code.specs.declared.code.CompiledScript.{CompiledScript}
+use Rattle.mate_steps.proofs.AcceptanceLemmas.{one_tree, one_refusal, apart}
+use Rattle.mate_steps.specs.SourceCode.{IsCompiledOf, HasNoCode, compiled_tree}
+use Rattle.mate_steps.specs.declared.code.CompiledScript.{CompiledScript}
 use Rattle.ts_syntax.specs.Checked.{tree_of}
 use Rattle.vm_desc.specs.Shapes.{shape_of}
 use Rattle.vm_desc.specs.declared.description.Description.{Description}

@@ -4,3 +4,5 @@ pub mod Sources
 pub mod CapsuleFiles
 pub mod Expansions
 pub mod OneAnswer
+pub mod Answers
+pub mod SourceCode

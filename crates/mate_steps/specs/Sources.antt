@@ -4,8 +4,8 @@ use Rattle.ts_syntax.specs.Statement.{Block}
 use Rattle.ts_syntax.specs.Checked.{tree_of}
 use Rattle.ts_syntax.specs.declared.checked.Checked.{Checked}
 use Rattle.ts_checker.specs.Accepted.{IsAccepted}
-use Rattle.source_code.specs.SourceCode.{IsCompiledOf, HasNoCode}
-use Rattle.source_code.specs.declared.code.CompiledScript.{CompiledScript}
+use Rattle.mate_steps.specs.SourceCode.{IsCompiledOf, HasNoCode}
+use Rattle.mate_steps.specs.declared.code.CompiledScript.{CompiledScript}
 use Rattle.vm_desc.specs.Shapes.{shape_of}
 use Rattle.vm_desc.specs.declared.description.Description.{Description}
 use Rattle.mate_refusals.specs.SourceCauses.{IsBadSource}

@@ -2,13 +2,13 @@
 
 ghost use Rattle.std.specs.Prelude.{ℕ, List, ⊤, MatchOption};
 ghost use Rattle.vm_desc.specs.declared.description.Description.{Description as DescriptionValue};
-ghost use Rattle.ts_source.specs.Answers.{IsRefused, IsMisspelt, IsUnmeant};
+ghost use Rattle.mate_steps.specs.Answers.{IsRefused, IsMisspelt, IsUnmeant};
 ghost use Rattle.mate_refusals.specs.SourceCauses.{IsBadSource};
 
+use crate::SourceRefusal;
 use mate_refusals::{SourceCause, SpellingCause};
 use ts_checker::CheckFault;
 use ts_parser::SourceFault;
-use ts_source::SourceRefusal;
 
 /// What is wrong with a source that is refused so; None where memory was wanting.
 pub(crate) fn source_cause(refusal: SourceRefusal) -> Option<SourceCause>

@@ -1,13 +1,23 @@
-//! The steps of the commands of `mate`: a file, a machine, a source's code, a capsule, an expansion.
+//! The steps of the commands of `mate`: a file, a machine, a source's checked tree and its code, a capsule, an expansion.
 #![tactic(auto)]
 
+pub mod acceptance;
+pub mod accepting;
 pub mod capsule_file;
 mod causes;
+pub mod code;
+pub mod code_laws;
 pub mod expansion;
 pub mod parts;
+pub mod refusal;
 pub mod source;
 
+pub use acceptance::acceptance_law;
+pub use accepting::accept;
 pub use capsule_file::{VerifiedCapsule, capsule_of};
+pub use code::{CodeFault, CompiledScript, compiled_script};
+pub use code_laws::{compiled_code_is_verified, locks_of_compiled_code};
 pub use expansion::expansion_of;
 pub use parts::{machine_of, read_file};
+pub use refusal::SourceRefusal;
 pub use source::{accepted, source_of};

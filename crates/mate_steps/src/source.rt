@@ -8,11 +8,10 @@ ghost use Rattle.mate_steps.specs.Sources.{source, compiled_bytes, accepted, com
 
 use crate::causes::source_cause;
 use crate::parts::read_file;
+use crate::{CodeFault, CompiledScript, accept, compiled_script};
 use mate_files::Files;
 use mate_refusals::{Cause, Refusal, in_file};
-use source_code::{CodeFault, CompiledScript, compiled_script};
 use std::alloc::Global;
-use ts_source::accept;
 use ts_syntax::Checked;
 use vm_desc::Description;
 

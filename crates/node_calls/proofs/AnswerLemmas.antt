@@ -41,15 +41,15 @@ use Rattle.node_invariant.proofs.FitLemmas.{HasSeat, IsAlone}
 use Rattle.node_invariant.proofs.KeepLemmas.{IsPrepared-same, AddsTidily-plain}
 use Rattle.node_invariant.proofs.MoveLemmas.{alone-seat, answering, was_waiting, stood_waiting, waits-in, none_waits, Fits-answered}
 use Rattle.node_invariant.proofs.AgreeLemmas.{Agrees-moves}
-use Rattle.node_grants.specs.Queue.{number_at, invocation_in}
+use Rattle.node_invariant.specs.Queue.{number_at, invocation_in}
 use Rattle.mate_journal.specs.Pace.{Pace, paced}
-use Rattle.node_grants.specs.Pace.{IsPace}
-use Rattle.node_grants.specs.Starting.{KeepsOrder, Rests}
-use Rattle.node_grants.proofs.WaiterLemmas.{all-held-moves}
-use Rattle.node_grants.proofs.OrderLemmas.{IsQueue-becomes, KeepsOrder-push, heard-by, grows-by}
-use Rattle.node_grants.proofs.StartLemmas.{map-same}
+use Rattle.node_invariant.specs.Pace.{IsPace}
+use Rattle.node_invariant.specs.Starting.{KeepsOrder, Rests}
+use Rattle.node_invariant.proofs.WaiterLemmas.{all-held-moves}
+use Rattle.node_invariant.proofs.OrderLemmas.{IsQueue-becomes, KeepsOrder-push, heard-by, grows-by}
+use Rattle.node_invariant.proofs.StartingLemmas.{map-same}
 use Rattle.node_calls.specs.Calls.{RestsAgain, NobodyWaits}
-use Rattle.open_log.specs.OpenLog.{OpenView}
+use Rattle.mate_journal.specs.OpenLog.{OpenView}
 
 -- ---- the run goes on
 

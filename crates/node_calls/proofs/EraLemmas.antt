@@ -30,14 +30,14 @@ use Rattle.node_invariant.proofs.SerialLemmas.{started-live}
 use Rattle.node_invariant.proofs.KeepLemmas.{IsPrepared-same, AddsTidily-plain}
 use Rattle.node_invariant.proofs.MoveLemmas.{Fits-idle, cut-dead}
 use Rattle.node_invariant.proofs.StartLemmas.{Agrees-idle}
-use Rattle.node_grants.specs.Queue.{invocation_in}
+use Rattle.node_invariant.specs.Queue.{invocation_in}
 use Rattle.mate_journal.specs.Pace.{Pace, paced}
-use Rattle.node_grants.specs.Pace.{IsPace}
-use Rattle.node_grants.specs.Starting.{last_started, Rests}
-use Rattle.node_grants.proofs.OrderLemmas.{KeepsOrder-push, heard-by, grows-by, IsQueue-idle}
+use Rattle.node_invariant.specs.Pace.{IsPace}
+use Rattle.node_invariant.specs.Starting.{last_started, Rests}
+use Rattle.node_invariant.proofs.OrderLemmas.{KeepsOrder-push, heard-by, grows-by, IsQueue-idle}
 use Rattle.node_calls.specs.Calls.{RestsAgain, AtPace, TellsStore, IsCleared}
 use Rattle.node_calls.proofs.QuietLemmas.{RestsAgain-then}
-use Rattle.open_log.specs.OpenLog.{OpenView}
+use Rattle.mate_journal.specs.OpenLog.{OpenView}
 
 -- the last entry shows a store
 pub seen-last : (old new : Log) (at_ : Stamp) (told : List Told) (store : Store) → Grows old new at_ told → told ≡ Seen store ∷ [] → last_is_seen false (journal_of new) ≡ true

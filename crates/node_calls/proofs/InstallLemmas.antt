@@ -47,7 +47,7 @@ use Rattle.node_invariant.specs.Meaning.{machine_in, clock_of, code_in, code_of}
 use Rattle.node_invariant.specs.Fits.{program_of, IsHeld, AreInstalled}
 use Rattle.node_invariant.specs.Keeps.{reading, Keeps, IsTimely, event_at, Grows}
 use Rattle.node_invariant.specs.Continues.{IsPrepared, AddsTidily}
-use Rattle.node_grants.specs.Starting.{Rests}
+use Rattle.node_invariant.specs.Starting.{Rests}
 use Rattle.node_calls.specs.declared.installing.Installable.{Installable}
 use Rattle.node_calls.specs.declared.posting.PostAnswer.{PostAnswer}
 use Rattle.node_calls.specs.declared.posting.PostAnswer.TheVariants.{Posted as PostedAnswer, NoCode, AllBusy}
@@ -56,7 +56,7 @@ use Rattle.node_calls.specs.Installing.{IsUnverified, IsNoNewer, IsInstallable, 
 use Rattle.node_calls.specs.Posting.{PostGives}
 use Rattle.node_calls.proofs.QuietLemmas.{RestsAgain-then, RestsAgain-as}
 use Rattle.node_calls.proofs.EraLemmas.{BeginsEra, RestsAgain-era}
-use Rattle.open_log.specs.OpenLog.{OpenView}
+use Rattle.mate_journal.specs.OpenLog.{OpenView}
 
 -- ---- from bytes to code
 

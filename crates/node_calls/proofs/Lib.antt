@@ -5,3 +5,10 @@ pub mod ReadyLemmas
 pub mod EraLemmas
 pub mod PostingLemmas
 pub mod InstallLemmas
+pub mod MarkLemmas
+pub mod RunningLemmas
+pub mod TurnLemmas
+pub mod ActLemmas
+pub mod ActedLemmas
+pub mod QuantaLemmas
+pub mod SettleLemmas

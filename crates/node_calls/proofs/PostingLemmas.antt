@@ -45,17 +45,17 @@ use Rattle.node_invariant.specs.Continues.{Continues}
 use Rattle.node_invariant.proofs.FitLemmas.{no_seat, by_seat}
 use Rattle.node_invariant.proofs.MoveLemmas.{some-map}
 use Rattle.node_invariant.proofs.KeepLemmas.{Grows-then}
-use Rattle.node_grants.specs.Queue.{number_at, invocation_in}
+use Rattle.node_invariant.specs.Queue.{number_at, invocation_in}
 use Rattle.mate_journal.specs.Pace.{Pace}
-use Rattle.node_grants.specs.Pace.{IsPace}
-use Rattle.node_grants.specs.Starting.{Rests, IsStarting, IsRoomForAll, StartsAll}
-use Rattle.node_grants.proofs.OrderLemmas.{heard-by, grows-by}
-use Rattle.node_grants.proofs.PostLemmas.{Continues-posted, IsStarting-posted, AllBut-new}
+use Rattle.node_invariant.specs.Pace.{IsPace}
+use Rattle.node_invariant.specs.Starting.{Rests, IsStarting, IsRoomForAll, StartsAll}
+use Rattle.node_invariant.proofs.OrderLemmas.{heard-by, grows-by}
+use Rattle.node_invariant.proofs.PostLemmas.{Continues-posted, IsStarting-posted, AllBut-new}
 use Rattle.node_calls.specs.Calls.{RestsAgain}
 use Rattle.node_calls.specs.Posting.{IsFirstFree, HasNoneFree, CanQueue, IsQueued}
 use Rattle.node_calls.proofs.QuietLemmas.{RestsAgain-as}
 use Rattle.node_calls.proofs.SeenLemmas.{RestsAgain-dropped}
-use Rattle.open_log.specs.OpenLog.{OpenView}
+use Rattle.mate_journal.specs.OpenLog.{OpenView}
 
 -- ---- whom the event finds
 

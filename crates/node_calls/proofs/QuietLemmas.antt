@@ -12,12 +12,12 @@ use Rattle.node_invariant.specs.Keeps.{reading}
 use Rattle.node_invariant.specs.Continues.{Continues}
 use Rattle.node_invariant.proofs.KeepLemmas.{Grows-then}
 use Rattle.mate_journal.specs.Pace.{Pace, paced, paced_all}
-use Rattle.node_grants.specs.Pace.{IsPace}
-use Rattle.node_grants.specs.Starting.{last_started, Rests}
-use Rattle.node_grants.proofs.OrderLemmas.{KeepsOrder-push, heard-by, grows-by}
-use Rattle.node_grants.proofs.StartLemmas.{paced_all-append}
+use Rattle.node_invariant.specs.Pace.{IsPace}
+use Rattle.node_invariant.specs.Starting.{last_started, Rests}
+use Rattle.node_invariant.proofs.OrderLemmas.{KeepsOrder-push, heard-by, grows-by}
+use Rattle.node_invariant.proofs.StartingLemmas.{paced_all-append}
 use Rattle.node_calls.specs.Calls.{RestsAgain}
-use Rattle.open_log.specs.OpenLog.{OpenView}
+use Rattle.mate_journal.specs.OpenLog.{OpenView}
 
 -- one call after another
 pub RestsAgain-then : (d : Description) (a b c : Parts) (at_ : Stamp) (First Then Both : List Told → Type 0) → RestsAgain d a b at_ First → RestsAgain d b c at_ Then

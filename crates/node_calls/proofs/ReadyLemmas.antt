@@ -16,11 +16,11 @@ use Rattle.node_invariant.specs.Agrees.{uses_for, own_run, IsOwnRun, RunsOwn}
 use Rattle.node_invariant.specs.Keeps.{reading, Keeps, IsTimely}
 use Rattle.node_invariant.proofs.AgreeLemmas.{or-right}
 use Rattle.node_invariant.proofs.SerialLemmas.{values-read}
-use Rattle.node_grants.specs.Pace.{IsPace}
-use Rattle.node_grants.specs.Starting.{Rests}
+use Rattle.node_invariant.specs.Pace.{IsPace}
+use Rattle.node_invariant.specs.Starting.{Rests}
 use Rattle.node_calls.specs.Calls.{TellsStore}
 use Rattle.node_calls.proofs.SeenLemmas.{IsShownIn, RestsAgain-seen}
-use Rattle.open_log.specs.OpenLog.{OpenView}
+use Rattle.mate_journal.specs.OpenLog.{OpenView}
 
 pub ShowsReady-keeps : (d : Description) (s : Parts) (p : Pace) → Keeps d s → IsPace (reading d s.log.all) s.contexts p → ShowsReady (clock_of d) (machine_in d) (reading d s.log.all) p s.heap
 ShowsReady-keeps d s p keeps pace = record { ready = shows } where

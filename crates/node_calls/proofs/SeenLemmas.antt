@@ -22,10 +22,10 @@ use Rattle.node_invariant.specs.Keeps.{reading, Keeps, IsTimely}
 use Rattle.node_invariant.specs.Continues.{IsPrepared, AddsTidily, Continues}
 use Rattle.node_invariant.proofs.KeepLemmas.{Continues-same}
 use Rattle.node_invariant.proofs.SerialLemmas.{shown}
-use Rattle.node_grants.specs.Starting.{Rests}
+use Rattle.node_invariant.specs.Starting.{Rests}
 use Rattle.node_calls.specs.Calls.{RestsAgain}
 use Rattle.node_calls.proofs.QuietLemmas.{RestsAgain-quiet}
-use Rattle.open_log.specs.OpenLog.{OpenView}
+use Rattle.mate_journal.specs.OpenLog.{OpenView}
 
 -- the log with one more store, and an entry that shows it
 pub record IsShownIn (l : Log) (store : Store) (at : Stamp) (after : Log) : Type 0 where

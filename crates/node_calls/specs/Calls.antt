@@ -12,8 +12,8 @@ use Rattle.node_invariant.specs.Keeps.{reading, TellsMore}
 use Rattle.mate_journal.specs.Pace.{Pace, paced_all}
 use Rattle.mate_journal.specs.Turns.{ShowsReady}
 use Rattle.node_invariant.specs.Meaning.{machine_in, clock_of}
-use Rattle.node_grants.specs.Pace.{IsPace}
-use Rattle.node_grants.specs.Starting.{Rests}
+use Rattle.node_invariant.specs.Pace.{IsPace}
+use Rattle.node_invariant.specs.Starting.{Rests}
 
 -- The entries meet the rule, the node rests again, and its pace is the one that they make.
 pub record RestsAgain (d : Description) (old new : Parts) (at : Stamp) (Rule : List Told → Type 0) : Type 0 where

@@ -1,3 +1,4 @@
 pub mod Calls
 pub mod Posting
 pub mod Installing
+pub mod Pacing

@@ -15,8 +15,8 @@ use Rattle.node_invariant.specs.declared.parts.Parts.{Parts}
 use Rattle.node_invariant.specs.Meaning.{machine_in}
 use Rattle.node_invariant.specs.Keeps.{reading, Grows}
 use Rattle.mate_journal.specs.Pace.{Pace}
-use Rattle.node_grants.specs.Pace.{IsPace}
-use Rattle.node_grants.specs.Starting.{Rests, IsStarting, AllButHeld}
+use Rattle.node_invariant.specs.Pace.{IsPace}
+use Rattle.node_invariant.specs.Starting.{Rests, IsStarting, AllButHeld}
 use Rattle.node_contexts.specs.declared.contexts.Contexts.{Contexts}
 use Rattle.node_contexts.specs.At.{at}
 use Rattle.node_calls.specs.declared.posting.PostAnswer.{PostAnswer}

@@ -4,7 +4,7 @@ ghost use Rattle.std.specs.Prelude.{◌≡◌, ◌<◌, ◌≤◌, MatchResult};
 ghost use Rattle.mate_num.specs.declared.bounds.TheConstants.{CONTEXTS_MAX};
 ghost use Rattle.mate_journal.specs.NodeScript.{Answers};
 ghost use Rattle.node_invariant.specs.Keeps.{reading, IsTimely};
-ghost use Rattle.node_grants.specs.Starting.{Rests};
+ghost use Rattle.node_invariant.specs.Starting.{Rests};
 ghost use Rattle.node_calls.specs.Calls.{RestsAgain, NobodyWaits};
 
 use mate_journal::Entry;

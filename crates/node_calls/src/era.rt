@@ -4,7 +4,7 @@ ghost use Rattle.std.specs.Prelude.{◌≡◌, ◌<◌, ◌≤◌, length};
 ghost use Rattle.mate_journal.specs.NodeScript.{Resets};
 ghost use Rattle.node_invariant.specs.Meaning.{machine_in, clock_of};
 ghost use Rattle.node_invariant.specs.Keeps.{reading, IsTimely};
-ghost use Rattle.node_grants.specs.Starting.{Rests};
+ghost use Rattle.node_invariant.specs.Starting.{Rests};
 ghost use Rattle.node_calls.specs.Calls.{RestsAgain, AtPace, IsCleared};
 
 use crate::showing::seen_in;

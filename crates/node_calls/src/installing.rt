@@ -9,7 +9,7 @@ ghost use Rattle.lock_inference.specs.Locks.{AreLocksOf};
 ghost use Rattle.node_invariant.specs.Fits.{IsHeld, program_of};
 ghost use Rattle.node_invariant.specs.Keeps.{IsTimely};
 ghost use Rattle.node_invariant.specs.Meaning.{machine_in};
-ghost use Rattle.node_grants.specs.Starting.{Rests};
+ghost use Rattle.node_invariant.specs.Starting.{Rests};
 ghost use Rattle.node_calls.specs.Calls.{RestsAgain};
 ghost use Rattle.node_calls.specs.Installing.{IsInstallable, IsReadAs, InstallGives};
 

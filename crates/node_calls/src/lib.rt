@@ -1,17 +1,21 @@
-//! The calls of a node that its outside makes, from rest to rest: posts, answers, installs, resets, stores that are told.
+//! The calls of a node, from rest to rest: turns, posts, answers, installs, resets, stores that are told.
 //!
-//! Each takes a node that rests, a stamp that may follow that of the last entry, room for the entries that it tells (their
-//! greatest number), and a log whose positions are far from a u32's end. After it the node rests again.
+//! Each but `run_some` takes a node that rests, a stamp that may follow that of the last entry, room for the entries that it
+//! tells (their greatest number), and a log whose positions are far from a u32's end. After it the node rests again.
 #![tactic(auto)]
 
 pub mod answering;
 pub mod era;
 pub mod installing;
 pub mod posting;
+pub mod running;
 pub mod showing;
+pub mod turns;
 
 pub use answering::answer_in;
 pub use era::reset_in;
 pub use installing::{InstallFault, install_in};
 pub use posting::{PostAnswer, post_in};
+pub use running::run_some;
 pub use showing::{seen_in, void_in};
+pub use turns::{settle, take_turn};

@@ -3,7 +3,7 @@
 ghost use Rattle.std.specs.Prelude.{◌≡◌, ◌<◌, ◌≤◌, ◌∷◌, [], length};
 ghost use Rattle.mate_journal.specs.Journal.{Void};
 ghost use Rattle.node_invariant.specs.Keeps.{IsTimely};
-ghost use Rattle.node_grants.specs.Starting.{Rests};
+ghost use Rattle.node_invariant.specs.Starting.{Rests};
 ghost use Rattle.node_calls.specs.Calls.{RestsAgain, TellsStore};
 
 use mate_journal::{Entry, VoidCause};

@@ -1,7 +1,7 @@
 -- What a node with its whole log keeps.
 use Rattle.std.specs.Prelude.{◌≡◌}
 use Rattle.node_core.specs.declared.node.Node.TheInside.{Inside}
-use Rattle.open_log.specs.OpenLog.{nothing_gone}
+use Rattle.mate_journal.specs.OpenLog.{nothing_gone}
 
 -- nothing of its log is gone
 pub record HasWholeLog (n : Inside) : Type 0 where

@@ -8,7 +8,7 @@ ghost use Rattle.mate_journal.specs.Pace.{Pace, no_pace};
 ghost use Rattle.mate_journal.specs.NodeScript.{IsReadyIn, Answers, ShowsOnce, Resets};
 ghost use Rattle.node_invariant.specs.Meaning.{machine_in, clock_of};
 ghost use Rattle.node_invariant.specs.Keeps.{IsTimely};
-ghost use Rattle.node_turns.specs.Pacing.{SettlesWithin};
+ghost use Rattle.node_calls.specs.Pacing.{SettlesWithin};
 ghost use Rattle.node_calls.specs.Calls.{NobodyWaits};
 ghost use Rattle.node_calls.specs.Posting.{PostGives};
 ghost use Rattle.node_calls.specs.Installing.{InstallsBytes, Refuses};

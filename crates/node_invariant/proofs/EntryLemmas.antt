@@ -54,7 +54,7 @@ use Rattle.node_invariant.proofs.MoveLemmas.{alone-seat, changed-same, starting,
 use Rattle.node_invariant.proofs.AgreeLemmas.{Alters, going_in, step-Alters, step-own, Sits, Agrees-moves}
 use Rattle.node_invariant.proofs.StartLemmas.{Agrees-started, Agrees-ended}
 use Rattle.node_invariant.proofs.SerialLemmas.{HasVerified, started-live, verified-seat, whole, whole-over}
-use Rattle.open_log.specs.OpenLog.{OpenView}
+use Rattle.mate_journal.specs.OpenLog.{OpenView}
 
 -- ---- locks and uses
 

@@ -24,7 +24,7 @@ use Rattle.node_invariant.specs.declared.parts.Parts.{Parts}
 use Rattle.node_invariant.specs.Meaning.{machine_in}
 use Rattle.node_invariant.specs.Keeps.{reading, Keeps, IsTimely, event_at, Grows}
 use Rattle.node_invariant.specs.Continues.{IsPrepared, AddsTidily, AgreesAfter, Continues}
-use Rattle.open_log.specs.OpenLog.{OpenView}
+use Rattle.mate_journal.specs.OpenLog.{OpenView}
 
 pub NotBefore-same : (at : Stamp) → NotBefore at at
 NotBefore-same at = record { event = omega arith; time = omega arith; same = λ _. refl }

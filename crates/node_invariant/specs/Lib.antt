@@ -4,3 +4,7 @@ pub mod Fits
 pub mod Keeps
 pub mod Continues
 pub mod Agrees
+pub mod Queue
+pub mod Totals
+pub mod Pace
+pub mod Starting

@@ -2,13 +2,12 @@
 
 ghost use Rattle.std.specs.Prelude.{◌≡◌, ◌≤◌, ◌+◌};
 ghost use Rattle.journal_laws.specs.Growth.{IsPushed};
-ghost use Rattle.open_log.specs.OpenLog.{NamesNothing};
+ghost use Rattle.mate_journal.specs.OpenLog.{NamesNothing};
 
-use mate_journal::{Entry, Stamped};
+use mate_journal::{Entry, OpenLog, Stamped};
 use mate_num::Stamp;
 use node_contexts::{Contexts, Handlers};
 use node_heap::Heap;
-use open_log::OpenLog;
 
 /// What a node has beside its description.
 #[derive(Drop)]

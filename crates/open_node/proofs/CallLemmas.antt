@@ -12,7 +12,7 @@ use Rattle.mate_journal.specs.NodeScript.{ShowsOnce, Occasion}
 use Rattle.node_invariant.specs.declared.parts.Parts.{Parts}
 use Rattle.node_invariant.specs.Meaning.{machine_in, clock_of}
 use Rattle.node_invariant.specs.Keeps.{reading}
-use Rattle.node_grants.specs.Starting.{Rests}
+use Rattle.node_invariant.specs.Starting.{Rests}
 use Rattle.node_calls.specs.Calls.{RestsAgain, AtPace, TellsStore}
 use Rattle.node_calls.specs.Posting.{PostGives}
 use Rattle.node_calls.specs.declared.posting.PostAnswer.{PostAnswer}

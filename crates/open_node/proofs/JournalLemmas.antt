@@ -9,7 +9,7 @@ use Rattle.mate_journal.specs.Stores.{ShowsStores}
 use Rattle.mate_journal.specs.Grants.{AllHeldBack, GrantsInOrder}
 use Rattle.mate_journal.specs.Machine.{Machine}
 use Rattle.mate_journal.specs.Devices.{DeviceOf, WritesWhatItAsks, AsksDevicesInOrder}
-use Rattle.open_log.specs.OpenLog.{OpenView}
+use Rattle.mate_journal.specs.OpenLog.{OpenView}
 use Rattle.journal_laws.specs.Progress.{GoesForward}
 use Rattle.journal_laws.specs.Growth.{GrantsBefore}
 use Rattle.journal_laws.proofs.Append.{journal_of-same, GrantsInOrder-join}
@@ -29,8 +29,8 @@ use Rattle.node_invariant.specs.Fits.{AreInstalled, Fits}
 use Rattle.node_invariant.specs.Agrees.{Agrees}
 use Rattle.node_invariant.specs.Keeps.{reading}
 use Rattle.mate_journal.specs.Pace.{Pace}
-use Rattle.node_grants.specs.Pace.{IsPace}
-use Rattle.node_grants.specs.Starting.{Rests}
+use Rattle.node_invariant.specs.Pace.{IsPace}
+use Rattle.node_invariant.specs.Starting.{Rests}
 use Rattle.open_node.specs.Journal.{KeepsJournal}
 
 grants-of : (d : Description) (s : Parts) → Rests d s → GrantsInOrder (machine_in d) (nothing_heard (machine_in d)) 0 (journal_of s.log.all)

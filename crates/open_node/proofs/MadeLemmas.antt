@@ -12,11 +12,11 @@ use Rattle.node_contexts.specs.At.{At, at, AreIdle}
 use Rattle.node_invariant.specs.declared.parts.Parts.{Parts}
 use Rattle.node_invariant.specs.Meaning.{machine_in, clock_of}
 use Rattle.node_invariant.specs.Keeps.{reading}
-use Rattle.node_grants.specs.Queue.{number_at, invocation_in}
-use Rattle.node_grants.specs.Pace.{IsPace}
-use Rattle.node_grants.specs.Starting.{Rests}
-use Rattle.node_turns.specs.Pacing.{TakesTurn, SettlesWithin, SettlesAll}
-use Rattle.node_turns.proofs.RunningLemmas.{one}
+use Rattle.node_invariant.specs.Queue.{number_at, invocation_in}
+use Rattle.node_invariant.specs.Pace.{IsPace}
+use Rattle.node_invariant.specs.Starting.{Rests}
+use Rattle.node_calls.specs.Pacing.{TakesTurn, SettlesWithin, SettlesAll}
+use Rattle.node_calls.proofs.RunningLemmas.{one}
 use Rattle.open_node.specs.View.{Tells}
 use Rattle.open_node.specs.Calls.{HasStepped}
 use Rattle.open_node.proofs.PaceLemmas.{seen_as, Tells-from}

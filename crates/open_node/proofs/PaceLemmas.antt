@@ -11,8 +11,8 @@ use Rattle.node_contexts.specs.declared.seat.Seat.{Seat}
 use Rattle.node_contexts.specs.At.{at}
 use Rattle.node_invariant.specs.declared.parts.Parts.{Parts}
 use Rattle.node_invariant.specs.Keeps.{reading, Keeps, Grows}
-use Rattle.node_grants.specs.Pace.{IsPace}
-use Rattle.node_grants.proofs.OrderLemmas.{live-above}
+use Rattle.node_invariant.specs.Pace.{IsPace}
+use Rattle.node_invariant.proofs.OrderLemmas.{live-above}
 use Rattle.open_node.specs.View.{NodeView, count_at, HasPace, Tells}
 use Rattle.open_node.specs.Inside.{entry_of, view_of}
 

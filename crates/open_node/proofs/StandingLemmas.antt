@@ -19,8 +19,8 @@ use Rattle.node_invariant.specs.Meaning.{machine_in}
 use Rattle.node_invariant.specs.Fits.{program_of}
 use Rattle.node_invariant.specs.Keeps.{reading, Keeps}
 use Rattle.node_invariant.proofs.MoveLemmas.{none_ready, none_waits, answering, was_waiting}
-use Rattle.node_grants.specs.Starting.{Rests}
-use Rattle.node_turns.proofs.RunningLemmas.{one, one-ready}
+use Rattle.node_invariant.specs.Starting.{Rests}
+use Rattle.node_calls.proofs.RunningLemmas.{one, one-ready}
 use Rattle.node_calls.specs.Calls.{NobodyWaits}
 use Rattle.open_node.specs.Calls.{IsNoneReady, IsWaitingIn, IsAsked, IsImageOf}
 use Rattle.open_node.proofs.JournalLemmas.{Forward}

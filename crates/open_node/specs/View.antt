@@ -7,7 +7,7 @@ use Rattle.vm_desc.specs.declared.description.Description.{Description}
 use Rattle.mate_journal.specs.Log.{Log, IsSameLog}
 use Rattle.mate_journal.specs.Journal.{Told, is_started, Reading}
 use Rattle.mate_journal.specs.Pace.{Pace}
-use Rattle.open_log.specs.OpenLog.{Gone}
+use Rattle.mate_journal.specs.OpenLog.{Gone}
 use Rattle.node_invariant.specs.Keeps.{reading, Grows}
 
 -- `line` has the ready invocations, the one that has the next turn first. `counts` has for each context the number of its

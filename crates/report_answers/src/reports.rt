@@ -11,8 +11,7 @@ use mate_journal::{Air, Aired, Airs, Entry, NodeLog, NodeLogs, Report, Stamped};
 use mate_num::{NoMemory, Stamp};
 use memory_files::MemSink;
 use report_merge::write;
-use report_summary::brief;
-use report_text::write_end;
+use report_text::{brief, write_end};
 use std::alloc::{AllocError, Global};
 use vm_desc::Description;
 

@@ -8,7 +8,7 @@ use Rattle.mate_journal.specs.declared.air.Aired.{Aired}
 use Rattle.mate_journal.specs.declared.entry.Stamped.{Stamped}
 use Rattle.mate_journal.specs.declared.report.Report.{Report}
 use Rattle.report_text.specs.Text.{event_piece, end_line, entry_line}
-use Rattle.report_summary.specs.Brief.{brief}
+use Rattle.report_text.specs.Brief.{brief}
 use Rattle.report_callers.specs.Reports.{main_alone, a_halt, a_first_post, a_reset, a_drop, IsOfADrop}
 
 pub last_line : end_line 7 5 1 true ≡ codes "end 7 5 1\n"

@@ -7,3 +7,4 @@ pub mod MergeLemmas
 pub mod QuietReport
 pub mod PieceLemmas
 pub mod NodeLemmas
+pub mod BriefLemmas

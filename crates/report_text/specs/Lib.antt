@@ -3,3 +3,4 @@ pub mod Text
 pub mod Tidy
 pub mod Progress
 pub mod Pieces
+pub mod Brief

@@ -9,7 +9,7 @@ use Rattle.mate_journal.specs.Log.{Log}
 use Rattle.mate_journal.specs.declared.entry.Entry.{Entry}
 use Rattle.mate_journal.specs.declared.entry.Entry.TheVariants as entry
 use Rattle.mate_journal.specs.declared.entry.Stamped.{Stamped}
-use Rattle.open_log.specs.OpenLog.{Gone, OpenView, entry_behind, stamped_behind, IsKept}
+use Rattle.mate_journal.specs.OpenLog.{Gone, OpenView, entry_behind, stamped_behind, IsKept}
 use Rattle.open_node.specs.View.{NodeView, IsSameNode}
 use Rattle.report_text.specs.Words.{stamp_words, handler_name, number, word, image_word, image_of, seen_words, entry_words}
 use Rattle.report_text.specs.Text.{entry_line, event_piece}

@@ -3,7 +3,7 @@ use Rattle.std.specs.Prelude.{◌≡◌, ⊤}
 use Rattle.vm_desc.specs.declared.description.Description.{Description}
 use Rattle.mate_journal.specs.Log.{IsEmpty}
 use Rattle.mate_journal.specs.Pace.{no_pace}
-use Rattle.open_log.specs.OpenLog.{Gone, nothing_gone}
+use Rattle.mate_journal.specs.OpenLog.{Gone, nothing_gone}
 use Rattle.open_node.specs.View.{OpenNodeView, HasPace}
 use Rattle.run_steps.specs.declared.heap_node.Written.{Written}
 use Rattle.run_steps.specs.declared.heap_node.Written.TheVariants.{Kept, Forgotten}

@@ -13,7 +13,7 @@ ghost use Rattle.open_node.specs.View.{heard_of, HasPace, IsSameNode, Tells};
 ghost use Rattle.node_programs.specs.Right.{AreRightPrograms};
 ghost use Rattle.node_programs.specs.ScriptSteps.{step_of};
 ghost use Rattle.run_steps.specs.Running.{IsReadyFor, MakesOn};
-ghost use Rattle.open_log.specs.OpenLog.{nothing_gone, IsKept};
+ghost use Rattle.mate_journal.specs.OpenLog.{nothing_gone, IsKept};
 ghost use Rattle.run_steps.specs.Keeping.{IsNewNode, StaysAsToldTo};
 
 use crate::events::make_step;

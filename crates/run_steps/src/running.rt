@@ -5,7 +5,7 @@ ghost use Rattle.mate_journal.specs.declared.report.TheConstants.{RECORDS_MAX as
 ghost use Rattle.node_invariant.specs.Meaning.{machine_in};
 ghost use Rattle.open_node.specs.Journal.{KeepsJournal};
 ghost use Rattle.node_programs.specs.ScriptSteps.{AreProgramsOf};
-ghost use Rattle.open_log.specs.OpenLog.{nothing_gone};
+ghost use Rattle.mate_journal.specs.OpenLog.{nothing_gone};
 ghost use Rattle.run_steps.specs.Running.{RunGives, report_with};
 
 use crate::heap_node::HeapNode;

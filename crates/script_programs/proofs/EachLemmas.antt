@@ -7,8 +7,8 @@ use Rattle.ts_syntax.specs.Statement.{Block}
 use Rattle.capsule_codec.specs.Image.{capsule_parts}
 use Rattle.capsule_codec.specs.declared.capsule.Capsule.{Capsule}
 use Rattle.code_verifier.specs.Verified.{VerifiedCode}
-use Rattle.source_code.specs.SourceCode.{IsCompiledOf}
-use Rattle.source_code.specs.declared.code.CompiledScript.{CompiledScript}
+use Rattle.mate_steps.specs.SourceCode.{IsCompiledOf}
+use Rattle.mate_steps.specs.declared.code.CompiledScript.{CompiledScript}
 use Rattle.vm_desc.specs.Shapes.{shape_of}
 use Rattle.vm_desc.specs.declared.description.Description.{Description}
 use Rattle.mate_journal.specs.declared.program.Program.{Program}

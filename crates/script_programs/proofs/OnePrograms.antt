@@ -17,7 +17,7 @@ use Rattle.script_reader.specs.Steps.{NodeScript}
 use Rattle.script_reader.specs.declared.fault.Cause.{Cause}
 use Rattle.script_reader.specs.declared.steps.Step.{Step}
 use Rattle.script_reader.specs.declared.steps.Step.TheVariants as step
-use Rattle.source_code.specs.declared.code.CompiledScript.{CompiledScript}
+use Rattle.mate_steps.specs.declared.code.CompiledScript.{CompiledScript}
 use Rattle.vm_desc.specs.declared.description.Description.{Description}
 use Rattle.mate_refusals.specs.declared.refusal.Refusal.{Refusal}
 use Rattle.mate_steps.specs.OneAnswer.{AnswersAgree, steady}

@@ -15,11 +15,11 @@ use Rattle.mate_code.specs.Verification.{Marks, Refusal, TooLong, verification}
 use Rattle.ts_syntax.specs.Statement.{Block}
 use Rattle.ts_meaning.specs.Meaning.{run_of}
 use Rattle.ts_meaning.specs.Uses.{uses_of}
-use Rattle.ts_translation.specs.Translation as translation
+use Rattle.ts_meaning.specs.Translation as translation
 use Rattle.capsule_codec.specs.Image.{CapsuleParts, image_of, IsCapsule, IsOfMachine}
 use Rattle.code_verifier.specs.Verified.{VerifiedCode, IsVerifiedCode, marks_of}
-use Rattle.source_code.specs.SourceCode.{IsCompiledOf, compiled_tree}
-use Rattle.source_code.specs.declared.code.CompiledScript.{CompiledScript}
+use Rattle.mate_steps.specs.SourceCode.{IsCompiledOf, compiled_tree}
+use Rattle.mate_steps.specs.declared.code.CompiledScript.{CompiledScript}
 use Rattle.vm_desc.specs.Shapes.{shape_of}
 use Rattle.vm_desc.specs.declared.description.Description.{Description}
 use Rattle.mate_journal.specs.declared.program.Program.{Program}

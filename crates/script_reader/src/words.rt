@@ -104,10 +104,8 @@ impl<'a> Words<'a> {
         ensures low { IfOk result (λ n. low ≤ n) }
         ensures high { IfOk result (λ n. n ≤ high) }
     {
-        match self.word() {
-            Ok(word) => number_in(word, low, high, outside),
-            Err(cause) => Err(cause),
-        }
+        let word = self.word()?;
+        number_in(word, low, high, outside)
     }
 
     /// A value of a script.
@@ -115,10 +113,8 @@ impl<'a> Words<'a> {
     pub fn value(&mut self) -> Result<i16, Cause>
         ensures { Reads (λ v. v) a_value (words_of self.old) result (words_of self.new) }
     {
-        match self.word() {
-            Ok(word) => value_in(word),
-            Err(cause) => Err(cause),
-        }
+        let word = self.word()?;
+        value_in(word)
     }
 
     /// The values of the words that are left, but of no more than ten.
@@ -140,10 +136,8 @@ impl<'a> Words<'a> {
         ensures value { Reads (λ h. h) (a_handler desc.now) (words_of self.old) result (words_of self.new) }
         ensures below { IfOk result (λ h. h.0 < length desc.now.handlers.items) }
     {
-        match self.plain() {
-            Ok(word) => handler_of(desc, word),
-            Err(cause) => Err(cause),
-        }
+        let word = self.plain()?;
+        handler_of(desc, word)
     }
 
     /// A version that is newer than `newest`.
@@ -154,10 +148,8 @@ impl<'a> Words<'a> {
         ensures high { IfOk result (λ v. v ≤ 4294967295) }
         ensures newer { IfOk result (λ v. newest < v) }
     {
-        match self.number(1, 4_294_967_295, Cause::Range) {
-            Ok(version) => newer(newest, version as u32),
-            Err(cause) => Err(cause),
-        }
+        let version = self.number(1, 4_294_967_295, Cause::Range)?;
+        newer(newest, version as u32)
     }
 
     /// The number of a context of the machine.

@@ -4,7 +4,7 @@ use Rattle.mate_num.specs.declared.bounds.TheConstants.{CODE_MAX, STACK_MAX}
 use Rattle.vm_desc.specs.declared.description.Description.{Description}
 use Rattle.ts_syntax.specs.Statement.{Block}
 use Rattle.ts_checker.specs.Accepted.{IsAccepted}
-use Rattle.ts_translation.specs.Translation.{script_need, script_size}
+use Rattle.ts_meaning.specs.Translation.{script_need, script_size}
 
 pub record IsSoundSource (d : Description) (bytes : List ℕ) : Type 0 where
   pub tree : Block

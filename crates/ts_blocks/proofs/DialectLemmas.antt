@@ -8,13 +8,13 @@ use Rattle.ts_syntax.specs.declared.token.TokenKind.{TokenKind}
 use Rattle.ts_syntax.specs.declared.word.Word.{Word}
 use Rattle.ts_syntax.specs.Seen.{act_of}
 use Rattle.ts_syntax.specs.Tree.{Acts}
-use Rattle.ts_machine.specs.declared.halt.Halt.{Halt}
-use Rattle.ts_machine.specs.declared.halt.Halt.TheVariants as halt
-use Rattle.ts_machine.specs.Machine.{Frame, State, block, with_act}
-use Rattle.ts_machine.specs.Parsing.{reads, Reads, Starts, StartsName}
+use Rattle.ts_syntax.specs.declared.halt.Halt.{Halt}
+use Rattle.ts_syntax.specs.declared.halt.Halt.TheVariants as halt
+use Rattle.ts_syntax.specs.Machine.{Frame, State, block, with_act}
+use Rattle.ts_syntax.specs.Parsing.{reads, Reads, Starts, StartsName}
 use Rattle.ts_statements.specs.Simple.{ReadsStmt}
 use Rattle.ts_blocks.specs.Blocks.{ReadsStmtIn, FrameIn}
-use Rattle.ts_machine.proofs.Parts.{halts, starts_shorter}
+use Rattle.ts_syntax.proofs.Parts.{halts, starts_shorter}
 
 -- a part of a statement stops
 pub stmt_halts_in : {X K : Type 0} (d : Dialect) (ts rest : List Token) (due : K → State) (got : X → K → State) (due' : Acts → Frame → State) (to : Acts × FrameIn d → K) → ((k : Acts × FrameIn d) → reads ts (due' k.0 k.1.frame) ≡ reads rest (due (to k))) →

@@ -2,12 +2,12 @@
 use Rattle.std.proofs.Common.{◌≡◌, ◌≤◌, length, List, Some, Result, Ok, Err, Bor, IfOk, refl, sym, ◌∙◌, ap, subst, le_trans}
 use Rattle.std.specs.Result.{IsErrAnd}
 use Rattle.ts_blocks.specs.Blocks.{FrameIn, LacksStmt, Branch, branch_due, choice_made, Repetition, repeated_block, repetition_made, Count, counted_block, count_made}
-use Rattle.ts_blocks.specs.Ending.{ReadBlock, StartsEnd, LacksEnd, no_end, no_name, TakesEnd, Ended, LacksNext, no_next, no_last, Counted}
-use Rattle.ts_machine.specs.declared.halt.Halt.{Halt}
-use Rattle.ts_machine.specs.declared.halt.Halt.TheVariants as halt
-use Rattle.ts_machine.specs.Machine.{else_part, State, block, with_act}
-use Rattle.ts_machine.specs.Parsing.{reads, Reads, Lacks, Starts, Takes, TakesName}
-use Rattle.ts_machine.proofs.Parts.{halts}
+use Rattle.ts_blocks.specs.Ending.{ReadBlock, StartsEnd, LacksEnd, no_end, no_name, TakesEnd, ClosedBlock, LacksNext, no_next, no_last, Counted}
+use Rattle.ts_syntax.specs.declared.halt.Halt.{Halt}
+use Rattle.ts_syntax.specs.declared.halt.Halt.TheVariants as halt
+use Rattle.ts_syntax.specs.Machine.{else_part, State, block, with_act}
+use Rattle.ts_syntax.specs.Parsing.{reads, Reads, Lacks, Starts, Takes, TakesName}
+use Rattle.ts_syntax.proofs.Parts.{halts}
 use Rattle.ts_syntax.specs.declared.dialect.Dialect.{Dialect}
 use Rattle.ts_syntax.specs.declared.stmt.Stmt.{Stmt}
 use Rattle.ts_syntax.specs.declared.token.Token.{Token}
@@ -33,7 +33,7 @@ name_taken k ts us s (Ok x) h = record { named = us; ends = s; names = h }
 name_taken k ts us s (Err halt.Memory) h = absurd h
 name_taken k ts us s (Err (halt.At rest)) h = no_name us s h.0 h.1
 
-pub ended_missing : (k : TokenKind) (x : List Stmt × Bor (List Token)) (r : ReadBlock) (e : Halt) → IsErrAnd r (λ f. f ≡ e) → TakesEnd k x.1.now (Err e) → Ended k (Ok x) r
+pub ended_missing : (k : TokenKind) (x : List Stmt × Bor (List Token)) (r : ReadBlock) (e : Halt) → IsErrAnd r (λ f. f ≡ e) → TakesEnd k x.1.now (Err e) → ClosedBlock k (Ok x) r
 ended_missing k x (Ok y) e i h = absurd i
 ended_missing k x (Err f) e i h = let R : Halt → Type 0 = λ z. TakesEnd k x.1.now (Err z) in subst R (sym i) h
 
@@ -53,14 +53,14 @@ ended_reads : {L : Type 0} {d : Dialect} (m : TokenKind) (ts : List Token) (to :
     → ((us vs : List Token) → StartsEnd m us vs → (a : Acts) (k : L) → reads us (block a (to k).frame) ≡ reads vs (got a k))
     → ((us vs : List Token) → LacksStmt d us → LacksEnd m us vs → (a : Acts) (k : L) → reads us (block a (to k).frame) ≡ Err (kinds vs))
     → (r : ReadBlock) → Reads {X = List Stmt} {K = FrameIn d} ts (λ f. block no_acts f.frame) (λ b f. block (acts_of b) f.frame) r → IfOk r (λ x. LacksStmt d x.1.now)
-    → (s : ReadBlock) → Ended m r s → Reads {X = List Stmt} {K = L} ts (λ k. block no_acts (to k).frame) (λ b k. got (acts_of b) k) s
+    → (s : ReadBlock) → ClosedBlock m r s → Reads {X = List Stmt} {K = L} ts (λ k. block no_acts (to k).frame) (λ b k. got (acts_of b) k) s
 ended_reads m ts to got closes stuck (Ok x) h o (Ok y) e = λ k. h (to k) ∙ closes x.1.now y.1.now e.1 (acts_of x.0) k ∙ ap (λ (z : List Stmt). reads y.1.now (got (acts_of z) k)) (sym e.0)
 ended_reads m ts to got closes stuck (Ok x) h o (Err halt.Memory) e = tt
 ended_reads m ts to got closes stuck (Ok x) h o (Err (halt.At rest)) e = λ k. h (to k) ∙ stuck x.1.now rest.now o e (acts_of x.0) k
 ended_reads {L} {d} m ts to got closes stuck (Err f) h o s e =
     halts (List Stmt) (List Stmt) (FrameIn d) L ts ts (λ f. block no_acts f.frame) (λ b f. block (acts_of b) f.frame) (λ k. block no_acts (to k).frame) (λ b k. got (acts_of b) k) to (λ k. refl) s f e h
 
-pub ended_shorter : (m : TokenKind) (ts : List Token) (r : ReadBlock) → IfOk r (λ x. length x.1.now ≤ length ts) → (s : ReadBlock) → Ended m r s → IfOk s (λ x. length x.1.now ≤ length ts)
+pub ended_shorter : (m : TokenKind) (ts : List Token) (r : ReadBlock) → IfOk r (λ x. length x.1.now ≤ length ts) → (s : ReadBlock) → ClosedBlock m r s → IfOk s (λ x. length x.1.now ≤ length ts)
 ended_shorter m ts (Ok x) h (Ok y) e = le_trans (no_more m e.1.names) (le_trans (no_more kind.End e.1.ends) h)
 ended_shorter m ts (Err f) h (Ok y) e = absurd e
 ended_shorter m ts r h (Err f) e = tt
@@ -71,7 +71,7 @@ while_stuck us vs o (no_end e l) a k = while_open o (e, l) a k
 while_stuck us vs o (no_name ws s e l) a k = while_end s a k.test k.before k.frame.frame ∙ while_left (e, l) k.test a k.before k.frame.frame
 
 pub repeated_reads : (d : Dialect) (ts : List Token) (r : ReadBlock) → Reads {X = List Stmt} {K = FrameIn d} ts (λ f. block no_acts f.frame) (λ b f. block (acts_of b) f.frame) r → IfOk r (λ x. LacksStmt d x.1.now)
-    → (s : ReadBlock) → Ended kind.While r s → Reads {X = List Stmt} {K = Repetition d} ts (λ k. repeated_block k) (λ b k. repetition_made k (acts_of b)) s
+    → (s : ReadBlock) → ClosedBlock kind.While r s → Reads {X = List Stmt} {K = Repetition d} ts (λ k. repeated_block k) (λ b k. repetition_made k (acts_of b)) s
 repeated_reads d ts =
     ended_reads kind.While ts while_in (λ a k. repetition_made k a)
     (λ us vs s a k. while_end s.ends a k.test k.before k.frame.frame ∙ while_named s.names k.test a k.before k.frame.frame) while_stuck
@@ -82,7 +82,7 @@ else_stuck us vs o (no_end e l) a k = else_open o (e, l) a k
 else_stuck us vs o (no_name ws s e l) a k = else_end s a k.choice.test k.body k.choice.before k.choice.frame.frame ∙ if_left (e, l) (if_else k.choice.test k.body a) k.choice.before k.choice.frame.frame
 
 pub else_reads : (d : Dialect) (ts : List Token) (r : ReadBlock) → Reads {X = List Stmt} {K = FrameIn d} ts (λ f. block no_acts f.frame) (λ b f. block (acts_of b) f.frame) r → IfOk r (λ x. LacksStmt d x.1.now)
-    → (s : ReadBlock) → Ended kind.If r s → Reads {X = List Stmt} {K = Branch d} ts (λ k. block no_acts (else_part k.choice.test k.body k.choice.before k.choice.frame.frame)) (λ b k. choice_made k.choice k.body (Some b)) s
+    → (s : ReadBlock) → ClosedBlock kind.If r s → Reads {X = List Stmt} {K = Branch d} ts (λ k. block no_acts (else_part k.choice.test k.body k.choice.before k.choice.frame.frame)) (λ b k. choice_made k.choice k.body (Some b)) s
 else_reads d ts =
     ended_reads kind.If ts else_in (λ a k. block (with_act k.choice.before (if_else k.choice.test k.body a)) k.choice.frame.frame)
     (λ us vs s a k. else_end s.ends a k.choice.test k.body k.choice.before k.choice.frame.frame ∙ if_named s.names (if_else k.choice.test k.body a) k.choice.before k.choice.frame.frame) else_stuck

@@ -2,9 +2,9 @@
 use Rattle.std.specs.Prelude.{◌≡◌, List, Result, Ok, Err}
 use Rattle.std.proofs.Common.{Bor}
 use Rattle.std.specs.Result.{IsErrAnd}
-use Rattle.ts_machine.specs.declared.halt.Halt.{Halt}
-use Rattle.ts_machine.specs.declared.halt.Halt.TheVariants as halt
-use Rattle.ts_machine.specs.Parsing.{Starts, Lacks, StartsName, LacksName}
+use Rattle.ts_syntax.specs.declared.halt.Halt.{Halt}
+use Rattle.ts_syntax.specs.declared.halt.Halt.TheVariants as halt
+use Rattle.ts_syntax.specs.Parsing.{Starts, Lacks, StartsName, LacksName}
 use Rattle.ts_syntax.specs.declared.stmt.Stmt.{Stmt}
 use Rattle.ts_syntax.specs.declared.token.Token.{Token}
 use Rattle.ts_syntax.specs.declared.token.TokenKind.{TokenKind}
@@ -31,13 +31,13 @@ TakesEnd k tokens (Err halt.Memory) = ⊥
 TakesEnd k tokens (Err (halt.At rest)) = LacksEnd k tokens rest.now
 
 -- a block with them behind it
-abbrev pub Ended : TokenKind → ReadBlock → ReadBlock → Type 0
-Ended k (Ok x) (Ok y) = (y.0 ≡ x.0) × StartsEnd k x.1.now y.1.now
-Ended k (Ok x) (Err e) = TakesEnd k x.1.now (Err e)
-Ended k (Err e) r = IsErrAnd r (λ f. f ≡ e)
+abbrev pub ClosedBlock : TokenKind → ReadBlock → ReadBlock → Type 0
+ClosedBlock k (Ok x) (Ok y) = (y.0 ≡ x.0) × StartsEnd k x.1.now y.1.now
+ClosedBlock k (Ok x) (Err e) = TakesEnd k x.1.now (Err e)
+ClosedBlock k (Err e) r = IsErrAnd r (λ f. f ≡ e)
 
 -- the tokens begin with `next` and this name
-pub record StartsNext (w : Word) (tokens rest : List Token) : Type 0 where
+pub record ClosesCount (w : Word) (tokens rest : List Token) : Type 0 where
   pub named : List Token
   pub ends : Starts kind.Next tokens named
   pub names : StartsName w named rest
@@ -47,7 +47,7 @@ pub data LacksNext (tokens rest : List Token) : Type 0 where
   no_last : (named : List Token) → Starts kind.Next tokens named → rest ≡ named → LacksName named → LacksNext tokens rest
 
 abbrev pub Counted : ReadBlock → Result ((List Stmt × Word) × Bor (List Token)) Halt → Type 0
-Counted (Ok x) (Ok y) = (y.0.0 ≡ x.0) × StartsNext y.0.1 x.1.now y.1.now
+Counted (Ok x) (Ok y) = (y.0.0 ≡ x.0) × ClosesCount y.0.1 x.1.now y.1.now
 Counted (Ok x) (Err halt.Memory) = ⊥
 Counted (Ok x) (Err (halt.At rest)) = LacksNext x.1.now rest.now
 Counted (Err e) r = IsErrAnd r (λ f. f ≡ e)

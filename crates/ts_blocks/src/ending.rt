@@ -1,10 +1,9 @@
 //! How a block ends.
 
-ghost use Rattle.ts_blocks.specs.Ending.{TakesEnd, Ended, Counted};
+ghost use Rattle.ts_blocks.specs.Ending.{TakesEnd, ClosedBlock, Counted};
 
-use ts_machine::Halt;
-use ts_machine::expect::{expect, name};
-use ts_syntax::{Block, Token, TokenKind, Word};
+use ts_syntax::expect::{expect, name};
+use ts_syntax::{Block, Halt, Token, TokenKind, Word};
 
 /// A block as it was read, and the tokens behind it.
 pub type ReadBlock<'a> = Result<(Block, &'a [Token]), Halt<'a>>;
@@ -18,8 +17,8 @@ pub fn end_of<'a>(tokens: &'a [Token], kind: &TokenKind) -> Result<&'a [Token], 
 }
 
 /// The block, where `end` and this keyword stand behind it, and the tokens behind them.
-pub fn ended<'a>(read: ReadBlock<'a>, kind: &TokenKind) -> ReadBlock<'a>
-    ensures { Ended kind.now read.entry result }
+pub fn closed_block<'a>(read: ReadBlock<'a>, kind: &TokenKind) -> ReadBlock<'a>
+    ensures { ClosedBlock kind.now read.entry result }
 {
     let (block, rest) = read?;
     let rest = end_of(rest, kind)?;

@@ -1,20 +1,19 @@
 //! Statements and blocks, by recursive descent: loops for lists, recursion for nested blocks.
 
 ghost use Rattle.std.specs.Prelude.{◌≤◌, ◌<◌, length, IfOk};
-ghost use Rattle.ts_machine.specs.Machine.{block, for_word, expr_due, in_if, in_while};
-ghost use Rattle.ts_machine.specs.Parsing.{Reads};
+ghost use Rattle.ts_syntax.specs.Machine.{block, for_word, expr_due, in_if, in_while};
+ghost use Rattle.ts_syntax.specs.Parsing.{Reads};
 ghost use Rattle.ts_blocks.specs.Blocks.{ReadsStmtIn, FrameIn, LacksStmt, opened_by, Choice, then_block, choice_made, Branch, branch_due};
 ghost use Rattle.ts_syntax.specs.Seen.{acts_of};
 ghost use Rattle.ts_syntax.specs.Tree.{no_acts};
 
-use crate::ending::{counted, end_of, ended};
+use crate::ending::{closed_block, counted, end_of};
 use crate::opening::{Opening, after_opening};
 use std::alloc::Global;
 use ts_expressions::expr;
-use ts_machine::Halt;
-use ts_machine::expect::{after, expect};
 use ts_statements::{behind_name, clearing, for_head, running};
-use ts_syntax::{Block, Dialect, Stmt, Token, TokenKind, Word};
+use ts_syntax::expect::{after, expect};
+use ts_syntax::{Block, Dialect, Halt, Stmt, Token, TokenKind, Word};
 
 /// Reads statements up to the first token that begins none: they, and the tokens from that one on.
 #[cycle(stmt)]
@@ -101,7 +100,7 @@ fn other_branch<'a>(
     ensures shorter { IfOk result (λ x. length x.1.now ≤ length tokens.now) }
 {
     if let Some(rest) = after(tokens, &TokenKind::Else) {
-        let (other, rest) = ended(block(alloc, dialect, rest), &TokenKind::If)?;
+        let (other, rest) = closed_block(block(alloc, dialect, rest), &TokenKind::If)?;
         return Ok((Some(other), rest));
     }
     let rest = end_of(tokens, &TokenKind::If)?;
@@ -119,7 +118,7 @@ fn repetition<'a>(
     ensures shorter { IfOk result (λ x. length x.1.now ≤ length tokens.now) }
 {
     let (test, rest) = expr(alloc, tokens)?;
-    let (body, rest) = ended(block(alloc, dialect, rest), &TokenKind::While)?;
+    let (body, rest) = closed_block(block(alloc, dialect, rest), &TokenKind::While)?;
     Ok((Stmt::While(test, body), rest))
 }
 

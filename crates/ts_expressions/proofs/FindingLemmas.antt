@@ -4,13 +4,13 @@ use Rattle.std.specs.Result.{IsErrAnd}
 use Rattle.std.specs.declared.alloc.Global.{Global}
 use Rattle.std.specs.declared.boxed.Box.{Box}
 use Rattle.ts_expressions.specs.Boxed.{boxed_tree}
-use Rattle.ts_expressions.specs.Finding.{Found, Ended, Made, Joined}
-use Rattle.ts_machine.specs.declared.halt.Halt.{Halt}
-use Rattle.ts_machine.specs.declared.halt.Halt.TheVariants as halt
-use Rattle.ts_machine.specs.Machine.{Operand, in_product, Product, first_product, in_sum, Sum, sum_due, Inverse, inverse_due, in_compare, in_and, Conjunction, first_and, in_or, in_paren, in_item, in_message, Whole, State, sized, size_opened, size_named, want, want_inverse, expr_due, give, have_product, have_sum, have_inverse, have_and, have}
-use Rattle.ts_machine.specs.Parsing.{reads, noted_then, Reads, Starts, Lacks, LacksOperator, Takes, StartsOperator, product_sign, sum_sign}
-use Rattle.ts_machine.proofs.Parts.{starts_shorter}
-use Rattle.ts_machine.proofs.Turns.{inverse_is_next}
+use Rattle.ts_expressions.specs.Finding.{Found, Made, Joined}
+use Rattle.ts_syntax.specs.Parsing.{Ended, reads, noted_then, Reads, Starts, Lacks, LacksOperator, Takes, StartsOperator, product_sign, sum_sign}
+use Rattle.ts_syntax.specs.declared.halt.Halt.{Halt}
+use Rattle.ts_syntax.specs.declared.halt.Halt.TheVariants as halt
+use Rattle.ts_syntax.specs.Machine.{Operand, in_product, Product, first_product, in_sum, Sum, sum_due, Inverse, inverse_due, in_compare, in_and, Conjunction, first_and, in_or, in_paren, in_item, in_message, Whole, State, sized, size_opened, size_named, want, want_inverse, expr_due, give, have_product, have_sum, have_inverse, have_and, have}
+use Rattle.ts_syntax.proofs.Parts.{starts_shorter}
+use Rattle.ts_syntax.proofs.Turns.{inverse_is_next}
 use Rattle.ts_syntax.specs.declared.bin_op.BinOp.{BinOp}
 use Rattle.ts_syntax.specs.declared.bin_op.BinOp.TheVariants as op
 use Rattle.ts_syntax.specs.declared.expr.Expr.{Expr}
@@ -25,11 +25,6 @@ use Rattle.ts_expressions.proofs.OperatorLemmas.{product_over, and_over, sum_ove
 use Rattle.ts_expressions.proofs.StoppingLemmas.{paren_open, item_open, message_open, size_open}
 
 -- ---- a sign behind what was found
-
-pub sign_missing : (m : TokenKind) (x : Box Expr Global × Bor (List Token)) (r : Found) (e : Halt) → IsErrAnd r (λ f. f ≡ e) → Takes m x.1.now (Err e) → Ended m (Ok x) r
-sign_missing m x (Ok y) e i h = absurd i
-sign_missing m x (Err f) halt.Memory i h = absurd h
-sign_missing m x (Err f) (halt.At rest) i h = let R : Halt → Type 0 = λ z. Ended m (Ok x) (Err z) in subst R (sym i) h
 
 ended_reads : {K L : Type 0} (m : TokenKind) (ts rest : List Token) (due : K → State) (got : Tree → K → State) (due' : L → State) (got' : Tree → L → State) (to : L → K)
     → ((k : L) → reads ts (due' k) ≡ reads rest (due (to k)))

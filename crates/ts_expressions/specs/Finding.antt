@@ -5,9 +5,9 @@ use Rattle.std.specs.Result.{IsErrAnd}
 use Rattle.std.specs.declared.alloc.Global.{Global}
 use Rattle.std.specs.declared.boxed.Box.{Box}
 use Rattle.ts_expressions.specs.Boxed.{boxed_tree}
-use Rattle.ts_machine.specs.declared.halt.Halt.{Halt}
-use Rattle.ts_machine.specs.declared.halt.Halt.TheVariants as halt
-use Rattle.ts_machine.specs.Parsing.{Starts, Lacks}
+use Rattle.ts_syntax.specs.declared.halt.Halt.{Halt}
+use Rattle.ts_syntax.specs.declared.halt.Halt.TheVariants as halt
+use Rattle.ts_syntax.specs.Parsing.{Starts, Lacks}
 use Rattle.ts_syntax.specs.declared.bin_op.BinOp.{BinOp}
 use Rattle.ts_syntax.specs.declared.expr.Expr.{Expr}
 use Rattle.ts_syntax.specs.declared.token.Token.{Token}
@@ -16,13 +16,6 @@ use Rattle.ts_syntax.specs.Tree.{Tree, two}
 
 abbrev pub Found : Type 0
 Found = Result (Box Expr Global × Bor (List Token)) Halt
-
--- with a token of this kind behind it
-abbrev pub Ended : TokenKind → Found → Found → Type 0
-Ended m (Ok x) (Ok y) = (y.0 ≡ x.0) × Starts m x.1.now y.1.now
-Ended m (Ok x) (Err halt.Memory) = ⊥
-Ended m (Ok x) (Err (halt.At rest)) = (rest.now ≡ x.1.now) × Lacks m x.1.now
-Ended m (Err e) r = IsErrAnd r (λ f. f ≡ e)
 
 -- a node, where there was memory for it
 abbrev pub Made : {E : Type 0} → Result (Box Expr Global) E → List Token → Found → Type 0

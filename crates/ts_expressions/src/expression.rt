@@ -1,22 +1,21 @@
 //! Expressions, by recursive descent: loops for chains and arguments, recursion for nesting.
 
 ghost use Rattle.std.specs.Prelude.{◌<◌, ◌≤◌, length, IfOk};
-ghost use Rattle.ts_machine.specs.Machine.{Operand, Product, Sum, Inverse, Conjunction, Whole, want, want_inverse, in_paren, in_item, named, message, sized, size_opened, size_named, first_product, first_and, sum_due, inverse_due, expr_due, give, have_product, have_sum, have_inverse, have_and, have};
-ghost use Rattle.ts_machine.specs.Parsing.{Reads, Lacks, LacksOperator, product_sign, sum_sign, Caller, called_open, called};
+ghost use Rattle.ts_syntax.specs.Machine.{Operand, Product, Sum, Inverse, Conjunction, Whole, want, want_inverse, in_paren, in_item, named, message, sized, size_opened, size_named, first_product, first_and, sum_due, inverse_due, expr_due, give, have_product, have_sum, have_inverse, have_and, have};
+ghost use Rattle.ts_syntax.specs.Parsing.{Reads, Lacks, LacksOperator, product_sign, sum_sign, Caller, called_open, called};
 ghost use Rattle.ts_expressions.specs.Boxed.{boxed_tree};
 ghost use Rattle.ts_syntax.specs.Seen.{tree_of, trees_of};
 ghost use Rattle.ts_syntax.specs.declared.token.TokenKind.TheVariants as kind;
 
-use crate::found::{Found, ended, joined, made};
+use crate::found::{Found, joined, made};
 use crate::node::{
     buffer_size, call, inverse, item, message_item, message_size, negative, number, paren, variable,
 };
 use std::alloc::Global;
-use ts_machine::Halt;
-use ts_machine::expect::{
-    after, after_comparison_sign, after_product_sign, after_sum_sign, expect, name,
+use ts_syntax::expect::{
+    after, after_comparison_sign, after_product_sign, after_sum_sign, ended, expect, name,
 };
-use ts_syntax::{Args, BinOp, Expr, Token, TokenKind, Word};
+use ts_syntax::{Args, BinOp, Expr, Halt, Token, TokenKind, Word};
 
 /// Reads an expression, with all the operators that follow its parts: it, and the tokens behind it, of which the first is
 /// no `or`. It stops at the first token that doesn't fit, or behind all tokens where they end too early.

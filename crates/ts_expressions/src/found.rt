@@ -1,25 +1,14 @@
-//! What a part of the parser found: with a sign behind it, as a new node, and beside another part.
+//! What a part of the parser found: as a new node, and beside another part.
 
 ghost use Rattle.ts_expressions.specs.Boxed.{boxed_tree};
-ghost use Rattle.ts_expressions.specs.Finding.{Ended, Made, Joined};
+ghost use Rattle.ts_expressions.specs.Finding.{Made, Joined};
 
 use crate::node::two;
 use std::alloc::{AllocError, Global};
-use ts_machine::Halt;
-use ts_machine::expect::expect;
-use ts_syntax::{BinOp, Expr, Token, TokenKind};
+use ts_syntax::{BinOp, Expr, Halt, Token};
 
 /// What a part of the parser found, and the tokens behind it. It is boxed at once, so that what recurs needs little stack.
 pub type Found<'a> = Result<(Box<Expr>, &'a [Token]), Halt<'a>>;
-
-/// What was found, where this sign stands behind it, and the tokens behind the sign.
-pub fn ended<'a>(found: Found<'a>, kind: &TokenKind) -> Found<'a>
-    ensures { Ended kind.now found.entry result }
-{
-    let (of, rest) = found?;
-    let rest = expect(rest, kind)?;
-    Ok((of, rest))
-}
 
 /// A node that was made, and the tokens behind it.
 pub fn made<'a>(node: Result<Box<Expr>, AllocError>, rest: &'a [Token]) -> Found<'a>

@@ -22,8 +22,8 @@ use Rattle.ts_meaning.specs.State.{ScriptState, Evaluation, Done, Over, then_do,
 use Rattle.ts_meaning.specs.Meaning.{applied, value_of, values_of}
 use Rattle.mate_num.specs.Operators.{truth_value}
 use Rattle.ts_meaning.specs.Uses.{is_this_buffer as is_buffer_used, calls_device, expr_reads, args_read, expr_writes, args_write}
-use Rattle.ts_translation.specs.Translation.{size_of_instrs, number_code, operator_code, expr_code, args_code, expr_need, args_need, expr_size}
-use Rattle.ts_translation.proofs.PlaceLemmas.{bytes_of-append, bytes_of-then, size_of-operator_code}
+use Rattle.ts_meaning.specs.Translation.{size_of_instrs, number_code, operator_code, expr_code, args_code, expr_need, args_need, expr_size}
+use Rattle.ts_meaning.proofs.PlaceLemmas.{bytes_of-append, bytes_of-then, size_of-operator_code}
 use Rattle.ts_fold.specs.Folded.{literal_of, negated, inverted, operated, value_or, negation, inverse, operation, folded_expr, folded_args}
 
 -- ---- tests

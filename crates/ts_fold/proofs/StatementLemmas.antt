@@ -19,7 +19,7 @@ use Rattle.ts_meaning.specs.State.{ScriptState, Evaluation, Done, Over, then_do,
 use Rattle.ts_meaning.specs.Meaning.{value_of, while_round, for_round, run_stmt, run_block, played}
 use Rattle.ts_meaning.specs.Uses.{is_this_variable as is_variable_used, is_this_buffer as is_buffer_used, calls_device, expr_reads, args_read, expr_writes, args_write, stmt_reads, block_reads, stmt_writes, block_writes}
 use Rattle.ts_meaning.proofs.LoopLemmas.{loop_ends, while_wins_none}
-use Rattle.ts_translation.specs.Translation.{number_code, expr_need, expr_size, stmt_need, block_need, stmt_size, block_size, script_need, script_size}
+use Rattle.ts_meaning.specs.Translation.{number_code, expr_need, expr_size, stmt_need, block_need, stmt_size, block_size, script_need, script_size}
 use Rattle.ts_fold.specs.Folded.{decision, branch_left, if_left, if_else_left, while_left, folded_expr, folded_args, folded_stmt, folded_stmts, folded}
 use Rattle.ts_fold.specs.Laws.{RunsAs, UsesNoMore, TakesNoMore}
 use Rattle.ts_fold.proofs.ExpressionLemmas.{or_within, and_within, then_same, Keeps, KeepsArgs, keeps_call, keeps_expr, keeps_args}

@@ -7,7 +7,7 @@ use Rattle.mate_num.specs.declared.store.Store.{Store}
 use Rattle.ts_syntax.specs.Statement.{Block}
 use Rattle.ts_meaning.specs.Meaning.{run_of}
 use Rattle.ts_meaning.specs.Uses.{block_reads, block_writes}
-use Rattle.ts_translation.specs.Translation.{script_need, script_size}
+use Rattle.ts_meaning.specs.Translation.{script_need, script_size}
 
 -- the new tree runs as the old one: the end, the store and the calls are the same, whatever the store, the message,
 -- the answers and the turns are

@@ -12,12 +12,12 @@ use Rattle.ts_syntax.specs.Spelling.{note, kinds, noted}
 use Rattle.ts_syntax.specs.Script.{IsScriptIn, BeginsScriptIn}
 use Rattle.ts_syntax.specs.Depth.{first_deep}
 use Rattle.ts_syntax.specs.Faults.{SpellsIn, StopsIn, place_of, IsUnexpectedIn, IsTooDeepIn}
-use Rattle.ts_machine.specs.Machine.{run, start}
-use Rattle.ts_machine.specs.Answers.{Refused}
-use Rattle.ts_machine.specs.Parsing.{noted_then, reads}
+use Rattle.ts_syntax.specs.Machine.{run, start}
+use Rattle.ts_syntax.specs.Answers.{Refused}
+use Rattle.ts_syntax.specs.Parsing.{noted_then, reads}
 use Rattle.ts_parser.proofs.DeepLemmas.{none_in_front, none_before, deep_within}
-use Rattle.ts_machine.proofs.Exact.{refused, script_in}
-use Rattle.ts_machine.proofs.MachineLemmas.{read_derived, read_places}
+use Rattle.ts_syntax.proofs.Exact.{refused, script_in}
+use Rattle.ts_syntax.proofs.MachineLemmas.{read_derived, read_places}
 
 pub kinds_append : (xs ys : List Token) → kinds (xs ++ ys) ≡ kinds xs ++ kinds ys
 kinds_append [] ys = refl

@@ -10,16 +10,16 @@ use Rattle.ts_syntax.specs.Spelling.{kinds}
 use Rattle.ts_syntax.specs.Script.{IsScriptIn, BeginsScriptIn}
 use Rattle.ts_syntax.specs.Depth.{first_deep}
 use Rattle.ts_syntax.specs.Faults.{SpellsIn, StopsIn, place_of, IsUnexpectedIn, IsTooDeepIn}
-use Rattle.ts_machine.specs.Machine.{Outcome, start, run}
-use Rattle.ts_machine.specs.Parsing.{noted_then, reads}
+use Rattle.ts_syntax.specs.Machine.{Outcome, start, run}
+use Rattle.ts_syntax.specs.Parsing.{noted_then, reads}
 use Rattle.ts_parser.specs.Verdict.{Verdict, VerdictOf, spelled, unexpected, too_deep, IsSo, IsSoIn}
 use Rattle.ts_parser.proofs.AllPlaces.{all_taken}
-use Rattle.ts_machine.proofs.CompleteStmt.{source_read}
+use Rattle.ts_syntax.proofs.CompleteStmt.{source_read}
 use Rattle.ts_parser.proofs.DeepLemmas.{same_in_front, deep_within}
-use Rattle.ts_machine.proofs.Exact.{whole, left_same, script_in}
-use Rattle.ts_machine.proofs.MachineLemmas.{read_derived}
+use Rattle.ts_syntax.proofs.Exact.{whole, left_same, script_in}
+use Rattle.ts_syntax.proofs.MachineLemmas.{read_derived}
 use Rattle.ts_parser.proofs.OwnPlaces.{one_tree_in, spells_without, spells_plain, plain_part}
-use Rattle.ts_machine.proofs.Placed.{source_placed, source_left}
+use Rattle.ts_syntax.proofs.Placed.{source_placed, source_left}
 use Rattle.ts_parser.proofs.ParseLemmas as parse
 use Rattle.ts_parser.proofs.ParseLemmas.{At, at, cut_length}
 

@@ -14,9 +14,9 @@ use Rattle.ts_syntax.specs.declared.token.TokenKind.TheVariants as kind
 use Rattle.ts_syntax.specs.Seen.{procedure_source_of}
 use Rattle.ts_syntax.specs.Spelling.{kinds}
 use Rattle.ts_syntax.specs.Tree.{Acts, no_acts, Procedure}
-use Rattle.ts_machine.specs.declared.halt.Halt.{Halt}
-use Rattle.ts_machine.specs.Machine.{Frame, top, main, proc_part, procedure, State, block, proc_opened, procedures, start}
-use Rattle.ts_machine.specs.Parsing.{Gives, reads}
+use Rattle.ts_syntax.specs.declared.halt.Halt.{Halt}
+use Rattle.ts_syntax.specs.Machine.{Frame, top, main, proc_part, procedure, State, block, proc_opened, procedures, start}
+use Rattle.ts_syntax.specs.Parsing.{Gives, reads}
 
 -- the keyword of a declaration
 abbrev pub decl_kind : TokenKind → Option DeclKind

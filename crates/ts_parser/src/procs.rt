@@ -1,8 +1,8 @@
 //! Procedures.
 
 ghost use Rattle.std.specs.Prelude.{◌≤◌, ◌<◌, ◌++◌, ◌∷◌, [], List, length, map, IfOk};
-ghost use Rattle.ts_machine.specs.Machine.{main, block, decls, proc_word, procedures};
-ghost use Rattle.ts_machine.specs.Parsing.{Reads};
+ghost use Rattle.ts_syntax.specs.Machine.{main, block, decls, proc_word, procedures};
+ghost use Rattle.ts_syntax.specs.Parsing.{Reads};
 ghost use Rattle.ts_parser.specs.Scripts.{LacksDecl, Header, params_due, header_read, Routine, routine_due, routine_read, script_frame, FewIn};
 ghost use Rattle.ts_syntax.specs.Seen.{acts_of, procedure_of};
 ghost use Rattle.ts_syntax.specs.Tree.{Procedure, no_acts};
@@ -10,10 +10,8 @@ ghost use Rattle.ts_syntax.specs.declared.script.Decl.{Decl};
 
 use std::alloc::Global;
 use ts_blocks::block;
-use ts_machine::Halt;
-use ts_machine::expect::{after, name};
-use ts_statements::ended;
-use ts_syntax::{Block, Dialect, Proc, Procs, Token, TokenKind, Words};
+use ts_syntax::expect::{after, ended, name};
+use ts_syntax::{Block, Dialect, Halt, Proc, Procs, Token, TokenKind, Words};
 
 /// Reads the procedures of a script in a dialect, behind its declarations: they, and the tokens from the first on that
 /// begins none.

@@ -9,12 +9,12 @@ use Rattle.ts_syntax.specs.declared.token.TokenKind.TheVariants as kind
 use Rattle.ts_syntax.specs.declared.word.Word.{Word}
 use Rattle.ts_syntax.specs.Spelling.{kinds}
 use Rattle.ts_syntax.specs.Tree.{Act, Acts}
-use Rattle.ts_machine.specs.declared.halt.Halt.{Halt}
-use Rattle.ts_machine.specs.declared.halt.Halt.TheVariants as halt
-use Rattle.ts_machine.specs.Machine.{Frame, State, block, closed, with_act}
-use Rattle.ts_machine.specs.Parsing.{reads, Reads, Starts, Lacks, StartsName, LacksName, TakesName}
-use Rattle.ts_machine.proofs.Parts.{halts, starts_shorter}
-use Rattle.ts_statements.specs.Simple.{ReadsStmt, Ended}
+use Rattle.ts_syntax.specs.declared.halt.Halt.{Halt}
+use Rattle.ts_syntax.specs.declared.halt.Halt.TheVariants as halt
+use Rattle.ts_syntax.specs.Machine.{Frame, State, block, closed, with_act}
+use Rattle.ts_syntax.specs.Parsing.{reads, Reads, Starts, Lacks, StartsName, LacksName, TakesName, Ended}
+use Rattle.ts_syntax.proofs.Parts.{halts, starts_shorter}
+use Rattle.ts_statements.specs.Simple.{ReadsStmt}
 use Rattle.ts_statements.proofs.Halting.{stmt_halts}
 use Rattle.ts_statements.proofs.SimpleLemmas.{closed_read, closed_stops}
 

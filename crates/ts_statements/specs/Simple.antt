@@ -11,21 +11,14 @@ use Rattle.ts_syntax.specs.declared.token.TokenKind.{TokenKind}
 use Rattle.ts_syntax.specs.declared.token.TokenKind.TheVariants as kind
 use Rattle.ts_syntax.specs.Seen.{tree_of, act_of}
 use Rattle.ts_syntax.specs.Tree.{Tree, append, set_item, Acts, no_acts}
-use Rattle.ts_machine.specs.declared.halt.Halt.{Halt}
-use Rattle.ts_machine.specs.declared.halt.Halt.TheVariants as halt
-use Rattle.ts_machine.specs.Machine.{Frame, for_part, Whole, in_set, in_set_item, in_append, in_to, State, have, block, set_to, set_taken, append_to, item_indexed, expr_due, with_act}
-use Rattle.ts_machine.specs.Parsing.{Reads, reads, Starts, Lacks}
+use Rattle.ts_syntax.specs.declared.halt.Halt.{Halt}
+use Rattle.ts_syntax.specs.declared.halt.Halt.TheVariants as halt
+use Rattle.ts_syntax.specs.Machine.{Frame, for_part, Whole, in_set, in_set_item, in_append, in_to, State, have, block, set_to, set_taken, append_to, item_indexed, expr_due, with_act}
+use Rattle.ts_syntax.specs.Parsing.{Reads, reads, Starts, Lacks}
 
 -- a statement is read from where it is due, behind others of an open block
 abbrev pub ReadsStmt : List Token → (Acts → Frame → State) → Result (Stmt × Bor (List Token)) Halt → Type 0
 ReadsStmt tokens due result = Reads {K = Acts × Frame} tokens (λ k. due k.0 k.1) (λ s k. block (with_act k.0 (act_of s)) k.1) result
-
--- a part that was read, and a token of this kind taken behind it
-abbrev pub Ended : {X : Type 0} → TokenKind → Result (X × Bor (List Token)) Halt → Result (X × Bor (List Token)) Halt → Type 0
-Ended k (Err e) result = IsErrAnd result (λ x. x ≡ e)
-Ended k (Ok x) (Ok y) = (y.0 ≡ x.0) × Starts k x.1.now y.1.now
-Ended k (Ok x) (Err halt.Memory) = ⊥
-Ended k (Ok x) (Err (halt.At rest)) = (rest.now ≡ x.1.now) × Lacks k x.1.now
 
 -- behind `x =`: a buffer whose last value is taken, or none
 abbrev pub FindsTaken : List Token → Option (Word × Bor (List Token)) → Type 0

@@ -1,10 +1,8 @@
 //! TinyScript's statements that hold no block, and the head of a `for`.
 #![tactic(auto)]
 
-pub mod ending;
 pub mod head;
 pub mod simple;
 
-pub use ending::ended;
 pub use head::for_head;
 pub use simple::{behind_name, clearing, running};

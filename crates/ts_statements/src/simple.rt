@@ -1,17 +1,15 @@
 //! Statements that hold no block. They stay calls of their own: what calls them recurs, and they need more stack than it.
 
 ghost use Rattle.std.specs.Prelude.{◌<◌, length, IfOk, IfSome};
-ghost use Rattle.ts_machine.specs.Machine.{stmt_named, set_to, boxed, cleared, do_word};
-ghost use Rattle.ts_machine.specs.Parsing.{Reads};
+ghost use Rattle.ts_syntax.specs.Machine.{stmt_named, set_to, boxed, cleared, do_word};
+ghost use Rattle.ts_syntax.specs.Parsing.{Reads};
 ghost use Rattle.ts_statements.specs.Simple.{ReadsStmt, FindsTaken, Target, value_due, value_set};
 ghost use Rattle.ts_syntax.specs.Seen.{tree_of};
 
-use crate::ending::ended;
 use std::alloc::Global;
 use ts_expressions::{arguments, expr};
-use ts_machine::Halt;
-use ts_machine::expect::{after, expect, name};
-use ts_syntax::{Expr, Stmt, Token, TokenKind, Word};
+use ts_syntax::expect::{after, ended, expect, name};
+use ts_syntax::{Expr, Halt, Stmt, Token, TokenKind, Word};
 
 /// Reads on behind the first name of a statement.
 #[inline(never)]

@@ -8,3 +8,17 @@ pub mod GrammarLemmas
 pub mod ListLemmas
 pub mod SeenLemmas
 pub mod ToTree
+pub mod CodeLemmas
+pub mod CompleteExpr
+pub mod CompleteStmt
+pub mod Exact
+pub mod Finish
+pub mod MachineLemmas
+pub mod Missing
+pub mod Parts
+pub mod Past
+pub mod Placed
+pub mod Places
+pub mod Reading
+pub mod Sound
+pub mod Turns

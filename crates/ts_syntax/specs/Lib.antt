@@ -13,3 +13,7 @@ pub mod Statement
 pub mod Text
 pub mod Tree
 pub mod TreeOf
+pub mod Answers
+pub mod Code
+pub mod Machine
+pub mod Parsing

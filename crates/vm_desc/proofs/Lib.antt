@@ -1,2 +1,3 @@
 pub mod DescriptionLemmas
 pub mod ListLemmas
+pub mod NameLemmas

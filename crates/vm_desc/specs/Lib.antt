@@ -4,3 +4,5 @@ pub mod Contexts
 pub mod Shapes
 pub mod Whole
 pub mod Bounds
+pub mod Keys
+pub mod Rules

@@ -8,8 +8,8 @@ use Rattle.toml.specs.Data.{Members, as_table}
 use Rattle.toml.specs.View.{view, items_view}
 use Rattle.toml.specs.declared.value.Value.{Value}
 use Rattle.toml.proofs.Views.{items_view-drop}
-use Rattle.vm_fields.specs.Fields.{◌>>=◌, each, tables_in, are_tables}
-use Rattle.vm_rules.specs.declared.fault.DescFault.{DescFault}
+use Rattle.vm_reader.specs.Fields.{◌>>=◌, each, tables_in, are_tables}
+use Rattle.vm_desc.specs.declared.fault.DescFault.{DescFault}
 
 -- the items in front of those that a reading gives
 abbrev pub with_front : {A : Type 0} → List A → Result (List A) DescFault → Result (List A) DescFault

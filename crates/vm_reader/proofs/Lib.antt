@@ -1,2 +1,4 @@
 pub mod Fronts
 pub mod ReadingLemmas
+pub mod FieldLemmas
+pub mod KnownLemmas

@@ -9,15 +9,15 @@ use Rattle.toml.specs.Parse.{parse_document}
 use Rattle.vm_desc.specs.Names.{is_name}
 use Rattle.vm_desc.specs.Limits.{Parts, is_valid, is_handler, is_kind, is_function, args_of, is_trickle, is_radio, context_sum, duplicate_of, round_time, longest}
 use Rattle.vm_reader.specs.Text.{description_of, of_document, ReadsDescription}
-use Rattle.vm_rules.specs.declared.fault.DescFault.TheVariants.{NotToml, BadField, OverLimit, Duplicate, SlowImax, NoMemory}
-use Rattle.vm_rules.specs.declared.fault.DescFault.{DescFault}
+use Rattle.vm_desc.specs.declared.fault.DescFault.TheVariants.{NotToml, BadField, OverLimit, Duplicate, SlowImax, NoMemory}
+use Rattle.vm_desc.specs.declared.fault.DescFault.{DescFault}
 use Rattle.vm_desc.specs.declared.description.Description.{Description}
 use Rattle.vm_desc.specs.declared.function.Function.{Function}
 use Rattle.vm_desc.specs.declared.handler.Handler.{Handler}
 use Rattle.vm_desc.specs.declared.settings.RadioSet.{RadioSet}
 use Rattle.vm_desc.specs.declared.settings.TrickleSet.{TrickleSet}
 use Rattle.vm_desc.specs.Whole.{parts_of}
-use Rattle.vm_fields.specs.Fields.{GivesField}
+use Rattle.vm_reader.specs.Fields.{GivesField}
 use Rattle.mate_num.specs.Shapes.{is_device}
 
 -- the rules of a description, each by its name

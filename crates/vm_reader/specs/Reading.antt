@@ -6,10 +6,10 @@ use Rattle.std.specs.Str.{bytes_eq}
 use Rattle.toml.specs.Data.{Data, Members, as_str, get_member}
 use Rattle.mate_num.specs.declared.id.DeviceId.{DeviceId}
 use Rattle.vm_desc.specs.Limits.{Parts, duplicate_of, round_time, longest}
-use Rattle.vm_rules.specs.Rules.{few_contexts, no_repeat, in_time}
-use Rattle.vm_fields.specs.Fields.{◌>>=◌, taken, field, number, name, names, tables, each, section, member_of, allowed, absent, word_as}
-use Rattle.vm_rules.specs.declared.key.Key.TheVariants as key
-use Rattle.vm_rules.specs.declared.fault.DescFault.{DescFault}
+use Rattle.vm_desc.specs.Rules.{few_contexts, no_repeat, in_time}
+use Rattle.vm_reader.specs.Fields.{◌>>=◌, taken, field, number, name, names, tables, each, section, member_of, allowed, absent, word_as}
+use Rattle.vm_desc.specs.declared.key.Key.TheVariants as key
+use Rattle.vm_desc.specs.declared.fault.DescFault.{DescFault}
 use Rattle.vm_desc.specs.declared.handler.Handler.{Handler}
 use Rattle.vm_desc.specs.declared.handler.HandlerKind.{HandlerKind}
 use Rattle.vm_desc.specs.declared.handler.HandlerKind.TheVariants.{Plain, Timer, Receive, Once}

@@ -5,13 +5,13 @@ use Rattle.toml.specs.Data.{Members}
 use Rattle.toml.specs.Parse.{parse_document}
 use Rattle.vm_desc.specs.Limits.{Parts}
 use Rattle.vm_desc.specs.Whole.{parts_of}
-use Rattle.vm_fields.specs.Places.{members_have_known}
+use Rattle.vm_reader.specs.Places.{members_have_known}
 use Rattle.vm_reader.specs.Reading.{description_at}
 use Rattle.vm_desc.specs.declared.description.Description.{Description}
-use Rattle.vm_fields.specs.declared.known.Place.TheVariants as place
-use Rattle.vm_rules.specs.declared.key.Key.TheVariants as key
-use Rattle.vm_rules.specs.declared.fault.DescFault.{DescFault}
-use Rattle.vm_rules.specs.declared.fault.DescFault.TheVariants.{NotToml, BadField, OverLimit, Duplicate, SlowImax, NoMemory}
+use Rattle.vm_reader.specs.declared.known.Place.TheVariants as place
+use Rattle.vm_desc.specs.declared.key.Key.TheVariants as key
+use Rattle.vm_desc.specs.declared.fault.DescFault.{DescFault}
+use Rattle.vm_desc.specs.declared.fault.DescFault.TheVariants.{NotToml, BadField, OverLimit, Duplicate, SlowImax, NoMemory}
 
 -- a document, all of whose keys are known, by its keys
 abbrev pub of_document : Option Members → Result Parts DescFault

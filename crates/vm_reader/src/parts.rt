@@ -6,17 +6,16 @@ ghost use Rattle.std.specs.Str.{bytes_eq};
 ghost use Rattle.toml.specs.View.{array_view, table_view};
 ghost use Rattle.mate_num.specs.Shapes.{is_device};
 ghost use Rattle.vm_desc.specs.Limits.{is_kind, is_handler, args_of, is_function, is_trickle, is_radio};
-ghost use Rattle.vm_fields.specs.Fields.{GivesField, field, word_as, each, seen, seen_table, tables_in, are_tables};
+ghost use Rattle.vm_reader.specs.Fields.{GivesField, field, word_as, each, seen, seen_table, tables_in, are_tables};
 ghost use Rattle.vm_reader.specs.Reading.{handler_kind, with_period, handler_at, handlers_at, fun_kind, with_args, device, function_at, functions_at, trickle_at, radio_at};
 
+use crate::fields::{allowed, at, name, number, tables, taken, within};
 use arrayvec::ArrayVec;
 use mate_num::{DeviceId, Name};
 use toml::value::Array;
 use toml::{Table, Value};
 use vm_desc::settings::doubled;
-use vm_desc::{FunKind, Function, Handler, HandlerKind, RadioSet, TrickleSet};
-use vm_fields::fields::{allowed, at, name, number, tables, taken, within};
-use vm_rules::{DescFault, Key};
+use vm_desc::{DescFault, FunKind, Function, Handler, HandlerKind, Key, RadioSet, TrickleSet};
 
 /// The handlers in `value`: one to eight.
 #[tactic(auto, unfolding(crate::specs::Reading::handlers_at))]

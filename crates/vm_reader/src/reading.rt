@@ -2,22 +2,21 @@
 
 ghost use Rattle.std.specs.Prelude.{◌≡◌, IfOk, IsTrue};
 ghost use Rattle.toml.specs.View.{table_view};
-ghost use Rattle.vm_fields.specs.Fields.{GivesField};
+ghost use Rattle.vm_reader.specs.Fields.{GivesField};
 ghost use Rattle.vm_desc.specs.Limits.{is_trickle, is_radio};
 ghost use Rattle.vm_desc.specs.Whole.{parts_of};
 ghost use Rattle.vm_reader.specs.Reading.{opening_at, trickle_of, radio_of, from_handlers_at, description_at};
 ghost use Rattle.vm_reader.specs.Openings.{seen_opening, IsOpening};
 ghost use Rattle.vm_reader.specs.Text.{ReadsDescription, description_of};
 
+use crate::fields::{at, names, number, section};
+use crate::known::{Place, members_are_known};
 use crate::opening::Opening;
 use crate::parts::{functions_in, handlers_in, radio_in, trickle_in};
 use std::alloc::Global;
 use toml::Table;
-use vm_desc::{Description, RadioSet, TrickleSet};
-use vm_fields::fields::{at, names, number, section};
-use vm_fields::known::{Place, members_are_known};
-use vm_rules::rules::{few_contexts, in_time, no_repeat};
-use vm_rules::{DescFault, Key};
+use vm_desc::rules::{few_contexts, in_time, no_repeat};
+use vm_desc::{DescFault, Description, Key, RadioSet, TrickleSet};
 
 /// The description in `bytes`, a TOML document. `DescFault` says when each refusal comes; of
 /// several the first in its order is given, and `NoMemory` may come in place of any answer.

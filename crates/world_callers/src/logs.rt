@@ -3,10 +3,9 @@
 ghost use Rattle.std.specs.Prelude.{◌≡◌, ◌≤◌, ◌∷◌, []};
 ghost use Rattle.mate_journal.specs.declared.entry.Entry.TheVariants.{Reset};
 
-use mate_journal::Entry;
+use mate_journal::{Entry, OpenLog};
 use mate_num::Stamp;
 use node_invariant::tell;
-use open_log::OpenLog;
 
 pub fn a_told_entry_stands_in_the_log(log: &mut OpenLog, at: Stamp)
     requires room { 1 ≤ log.old.all.spare }

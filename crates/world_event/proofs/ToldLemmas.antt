@@ -10,7 +10,7 @@ use Rattle.mate_journal.specs.declared.entry.Stamped.{Stamped}
 use Rattle.node_invariant.specs.Meaning.{machine_in}
 use Rattle.node_invariant.specs.Keeps.{reading, event_at, Grows}
 use Rattle.open_node.specs.View.{NodeView, heard_of, Tells}
-use Rattle.node_turns.proofs.SettleLemmas.{heard_told-append, reading-grows}
+use Rattle.node_calls.proofs.SettleLemmas.{heard_told-append, reading-grows}
 use Rattle.vm_desc.specs.declared.description.Description.{Description}
 use Rattle.world_event.specs.Finishing.{told_from}
 

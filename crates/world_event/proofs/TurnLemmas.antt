@@ -11,8 +11,8 @@ use Rattle.journal_laws.proofs.Append.{AtEachEntry-back, journal_of-same}
 use Rattle.journal_laws.specs.Growth.{last_stamp}
 use Rattle.node_invariant.specs.Meaning.{machine_in, clock_of}
 use Rattle.node_invariant.specs.Keeps.{reading, event_at, Grows, IsTimely}
-use Rattle.node_grants.proofs.PostLemmas.{in-machine}
-use Rattle.node_turns.specs.Pacing.{SettlesWithin}
+use Rattle.node_invariant.proofs.PostLemmas.{in-machine}
+use Rattle.node_calls.specs.Pacing.{SettlesWithin}
 use Rattle.open_node.specs.View.{NodeView, heard_of, HasPace, Tells, IsSameNode}
 use Rattle.vm_desc.specs.declared.description.Description.{Description}
 use Rattle.vm_desc.proofs.DescriptionLemmas.{bounds_of}

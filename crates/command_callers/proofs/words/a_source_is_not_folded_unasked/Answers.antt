@@ -1,5 +1,5 @@
 use Rattle.std.proofs.Common.{◌∙◌, ap}
-use Rattle.mate_commands.specs.Words.{task_of}
+use Rattle.command_line.specs.Commands.{task_of}
 use Rattle.command_callers.proofs.words.a_source_is_not_folded_unasked.Goals as goal
 
 pub returns : goal.returns

@@ -1,5 +1,5 @@
 use Rattle.std.proofs.Common.{◌∙◌, ap}
-use Rattle.mate_commands.specs.Words.{task_of}
+use Rattle.command_line.specs.Commands.{task_of}
 use Rattle.command_callers.proofs.words.no_version_begins_with_0.Goals as goal
 
 pub returns : goal.returns

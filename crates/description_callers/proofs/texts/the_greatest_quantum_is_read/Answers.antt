@@ -7,8 +7,8 @@ use Rattle.vm_desc.specs.Limits.{Parts}
 use Rattle.vm_desc.specs.declared.description.Description.{Description}
 use Rattle.vm_reader.specs.Reading.{opening_at, from_handlers_at, handlers_at, handler_at, functions_at, trickle_of, trickle_at, radio_of, radio_at, ruled}
 use Rattle.vm_reader.specs.Text.{description_of, ReadsDescription}
-use Rattle.vm_rules.specs.declared.fault.DescFault.{DescFault}
-use Rattle.vm_rules.specs.declared.fault.DescFault.TheVariants.{NotToml, BadField, OverLimit, Duplicate, SlowImax, NoMemory}
+use Rattle.vm_desc.specs.declared.fault.DescFault.{DescFault}
+use Rattle.vm_desc.specs.declared.fault.DescFault.TheVariants.{NotToml, BadField, OverLimit, Duplicate, SlowImax, NoMemory}
 use Rattle.description_callers.proofs.texts.the_greatest_quantum_is_read.Goals as goal
 
 quantum_of : Result Parts DescFault → Option ℕ

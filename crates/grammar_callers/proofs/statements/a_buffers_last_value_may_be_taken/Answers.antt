@@ -5,10 +5,10 @@ use Rattle.ts_syntax.specs.declared.token.Token.{Token}
 use Rattle.ts_syntax.specs.declared.word.Word.{Word}
 use Rattle.ts_syntax.specs.Spelling.{kinds}
 use Rattle.ts_syntax.specs.Tree.{no_acts}
-use Rattle.ts_machine.specs.Machine.{top, stmt_named}
-use Rattle.ts_machine.specs.Parsing.{reads}
-use Rattle.ts_machine.specs.declared.halt.Halt.{Halt}
-use Rattle.ts_machine.specs.declared.halt.Halt.TheVariants as halt
+use Rattle.ts_syntax.specs.Machine.{top, stmt_named}
+use Rattle.ts_syntax.specs.Parsing.{reads}
+use Rattle.ts_syntax.specs.declared.halt.Halt.{Halt}
+use Rattle.ts_syntax.specs.declared.halt.Halt.TheVariants as halt
 use Rattle.ts_statements.specs.Simple.{ReadsStmt}
 use Rattle.grammar_callers.specs.Sources.{taking}
 use Rattle.grammar_callers.proofs.statements.a_buffers_last_value_may_be_taken.Goals as goal

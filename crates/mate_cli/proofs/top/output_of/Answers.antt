@@ -1,7 +1,7 @@
 use Rattle.std.proofs.Common.{inl, inr, refl, sym, List, map, subst, string_bytes, String, rules}
 use Rattle.std.specs.Global.{Global}
 use Rattle.command_line.specs.Words.{HasNoLine}
-use Rattle.mate_commands.specs.Words.{Task, task_held, Says, SaysNothing}
+use Rattle.command_line.specs.Commands.{Task, task_held, Says, SaysNothing}
 use Rattle.mate_steps.specs.Steps.{goes_on, stops}
 use Rattle.mate_refusals.specs.declared.refusal.Refusal.TheVariants.{Usage, NoMemory}
 use Rattle.mate_cli.proofs.top.output_of.Goals as goal

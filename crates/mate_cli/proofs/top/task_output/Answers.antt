@@ -1,8 +1,8 @@
 use Rattle.std.proofs.Common.{sym, subst}
 use Rattle.mate_cli.specs.Ends.{command}
 use Rattle.mate_steps.specs.Parts.{Folder}
-use Rattle.mate_commands.specs.Words.{task_held}
-use Rattle.mate_commands.specs.declared.command.Command.{Command}
+use Rattle.command_line.specs.Commands.{task_held}
+use Rattle.command_line.specs.declared.command.Command.{Command}
 use Rattle.mate_cli.proofs.top.task_output.Goals as goal
 
 pub returns-in-Node-clause-does : goal.returns-in-Node-clause-does

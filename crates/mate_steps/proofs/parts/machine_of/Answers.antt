@@ -1,5 +1,5 @@
 use Rattle.std.proofs.Common.{inr, rules, ◌≢◌}
-use Rattle.mate_commands.specs.Words.{builtin_word}
+use Rattle.command_line.specs.Commands.{builtin_word}
 use Rattle.mate_steps.proofs.parts.machine_of.Goals as goal
 
 pub returns-else-eq-clause-does : goal.returns-else-eq-clause-does

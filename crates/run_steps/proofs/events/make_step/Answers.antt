@@ -5,7 +5,7 @@ use Rattle.std.specs.Prelude.{◌+◌, ◌*◌}
 use Rattle.script_reader.specs.declared.steps.Step.{Step}
 use Rattle.mate_journal.specs.NodeScript.{Post, Run, Show, ResetNode, ShowsOnce, Resets}
 use Rattle.node_invariant.specs.Meaning.{machine_in, clock_of}
-use Rattle.node_turns.specs.Pacing.{SettlesWithin}
+use Rattle.node_calls.specs.Pacing.{SettlesWithin}
 use Rattle.node_calls.specs.Posting.{PostGives}
 use Rattle.open_node.specs.View.{heard_of, Tells}
 use Rattle.open_node.specs.Calls.{Pacing}

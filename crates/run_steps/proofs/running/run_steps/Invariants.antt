@@ -1,5 +1,5 @@
 use Rattle.std.proofs.Common.{◌≡◌, take, length}
-use Rattle.open_log.specs.OpenLog.{nothing_gone}
+use Rattle.mate_journal.specs.OpenLog.{nothing_gone}
 use Rattle.run_steps.specs.Running.{HasRun}
 use Rattle.run_steps.proofs.running.run_steps.Given as goal
 

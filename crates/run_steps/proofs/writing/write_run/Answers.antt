@@ -7,7 +7,7 @@ use Rattle.mate_journal.specs.NodeScript.{Whole, Full, Cut}
 use Rattle.mate_journal.specs.declared.entry.Stamped.{Stamped}
 use Rattle.mate_journal.specs.declared.report.TheConstants.{RECORDS_MAX}
 use Rattle.node_programs.specs.Right.{AreRightPrograms}
-use Rattle.open_log.specs.OpenLog.{Gone}
+use Rattle.mate_journal.specs.OpenLog.{Gone}
 use Rattle.run_steps.specs.Passing.{with_report, PassWrites}
 use Rattle.run_steps.specs.Running.{report_with}
 use Rattle.run_steps.specs.declared.writing.Pass.{Pass}

@@ -2,8 +2,8 @@ use Rattle.std.proofs.Common.{◌≡◌, ◌≤◌, ◌+◌, ◌*◌, length}
 use Rattle.ts_syntax.specs.Seen.{acts_of}
 use Rattle.ts_syntax.specs.Tree.{no_acts}
 use Rattle.ts_blocks.specs.Blocks.{FrameIn}
-use Rattle.ts_machine.specs.Machine.{block}
-use Rattle.ts_machine.specs.Parsing.{reads}
+use Rattle.ts_syntax.specs.Machine.{block}
+use Rattle.ts_syntax.specs.Parsing.{reads}
 use Rattle.ts_blocks.proofs.stmt.+stmt.Given as goal
 
 -- each part of a statement begins with a part of less, or behind a token

@@ -9,11 +9,11 @@ use Rattle.ts_syntax.specs.Spelling.{kinds}
 use Rattle.ts_syntax.specs.declared.token.TokenKind.TheVariants as kind
 use Rattle.ts_syntax.specs.Tree.{negative, variable, call, inverse, paren, item, message_item}
 use Rattle.ts_syntax.specs.declared.bin_op.BinOp.TheVariants as op
-use Rattle.ts_machine.specs.Machine.{Operand, in_negative, named, sized, Whole, first_product, first_sum, first_compare, first_and, in_inverse, first_or, in_paren, in_item, in_message, want, want_inverse, message, sum_due, inverse_due, expr_due, give, have_product, have_sum, have_inverse, have_and, have}
-use Rattle.ts_machine.specs.Parsing.{reads, noted_then, Caller, of_operand, called_open, called, called_with}
-use Rattle.ts_machine.proofs.Turns.{inverse_is_read, inverse_is_first}
-use Rattle.ts_machine.proofs.Reading.{sign_read}
-use Rattle.ts_machine.proofs.Parts.{halts, starts_shorter}
+use Rattle.ts_syntax.specs.Machine.{Operand, in_negative, named, sized, Whole, first_product, first_sum, first_compare, first_and, in_inverse, first_or, in_paren, in_item, in_message, want, want_inverse, message, sum_due, inverse_due, expr_due, give, have_product, have_sum, have_inverse, have_and, have}
+use Rattle.ts_syntax.specs.Parsing.{reads, noted_then, Caller, of_operand, called_open, called, called_with}
+use Rattle.ts_syntax.proofs.Turns.{inverse_is_read, inverse_is_first}
+use Rattle.ts_syntax.proofs.Reading.{sign_read}
+use Rattle.ts_syntax.proofs.Parts.{halts, starts_shorter}
 use Rattle.ts_expressions.proofs.ExprLemmas.{part_halts, starts_at, operand_read, not_read, and_read, call_read, item_read, message_begins, variable_read, comma_read, no_arguments, argument_due, arguments_closed, trees_more, call_halts, comparison_read}
 use Rattle.ts_expressions.proofs.FindingLemmas.{paren_ended, item_ended, message_ended, made_reads, made_behind, ended_shorter, joined_behind, sign_shorter, or_joined, and_joined, sum_joined, product_joined, comparison_joined}
 use Rattle.ts_expressions.proofs.OperatorLemmas.{product_read, sum_read, or_read, product_over, and_over, sum_alone, comparison_sign_read}

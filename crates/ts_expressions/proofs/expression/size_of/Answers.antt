@@ -2,7 +2,7 @@ use Rattle.std.specs.declared.alloc.Global.{Global}
 use Rattle.std.specs.declared.boxed.Box.{Box}
 use Rattle.ts_expressions.specs.Boxed.{boxed_tree}
 use Rattle.ts_syntax.specs.declared.expr.Expr.{Expr}
-use Rattle.ts_machine.specs.Machine.{Operand, size_opened, size_named}
+use Rattle.ts_syntax.specs.Machine.{Operand, size_opened, size_named}
 use Rattle.ts_expressions.proofs.ExprLemmas.{message_sized, buffer_sized}
 use Rattle.ts_syntax.specs.Tree.{size, message_size}
 use Rattle.ts_expressions.proofs.FindingLemmas.{made_reads}

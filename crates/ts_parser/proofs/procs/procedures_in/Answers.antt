@@ -6,10 +6,10 @@ use Rattle.ts_syntax.specs.declared.script.Decl.{Decl}
 use Rattle.ts_syntax.specs.declared.token.Token.{Token}
 use Rattle.ts_syntax.specs.Seen.{procedure_of}
 use Rattle.ts_syntax.specs.Tree.{no_acts}
-use Rattle.ts_machine.specs.declared.halt.Halt.{Halt}
-use Rattle.ts_machine.specs.Machine.{main, block, decls, procedures}
-use Rattle.ts_machine.specs.Parsing.{reads, Reads}
-use Rattle.ts_machine.proofs.Parts.{ends_as}
+use Rattle.ts_syntax.specs.declared.halt.Halt.{Halt}
+use Rattle.ts_syntax.specs.Machine.{main, block, decls, procedures}
+use Rattle.ts_syntax.specs.Parsing.{reads, Reads}
+use Rattle.ts_syntax.proofs.Parts.{ends_as}
 use Rattle.ts_parser.specs.Scripts.{script_frame, FewIn}
 use Rattle.ts_parser.proofs.ScriptLemmas.{body_begins, procedures_begin}
 use Rattle.ts_parser.proofs.procs.procedures_in.Goals as goal

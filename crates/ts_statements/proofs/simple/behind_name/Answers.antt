@@ -6,10 +6,9 @@ use Rattle.ts_syntax.specs.declared.word.Word.{Word}
 use Rattle.ts_syntax.specs.Seen.{trees_of}
 use Rattle.ts_syntax.specs.Tree.{Acts, call_alone}
 use Rattle.ts_syntax.proofs.SeenLemmas.{act_call_alone}
-use Rattle.ts_machine.specs.declared.halt.Halt.{Halt}
-use Rattle.ts_machine.specs.Machine.{Frame, block, stmt_named, set_to, boxed, with_act}
-use Rattle.ts_machine.specs.Parsing.{reads, Reads, Starts, Caller, of_stmt, called_open, called}
-use Rattle.ts_statements.specs.Simple.{Ended}
+use Rattle.ts_syntax.specs.declared.halt.Halt.{Halt}
+use Rattle.ts_syntax.specs.Machine.{Frame, block, stmt_named, set_to, boxed, with_act}
+use Rattle.ts_syntax.specs.Parsing.{reads, Reads, Starts, Caller, of_stmt, called_open, called, Ended}
 use Rattle.ts_statements.proofs.EndedLemmas.{closed_reads, stmt_stops}
 use Rattle.ts_statements.proofs.Halting.{stmt_misses, stmt_ends}
 use Rattle.ts_statements.proofs.SimpleLemmas.{set_begins, item_begins, call_open, call_read}

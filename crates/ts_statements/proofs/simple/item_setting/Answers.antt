@@ -7,10 +7,10 @@ use Rattle.ts_syntax.specs.declared.word.Word.{Word}
 use Rattle.ts_syntax.specs.Seen.{tree_of}
 use Rattle.ts_syntax.specs.Tree.{Acts}
 use Rattle.ts_syntax.proofs.SeenLemmas.{act_append, act_set_item}
-use Rattle.ts_machine.specs.declared.halt.Halt.{Halt}
-use Rattle.ts_machine.specs.Machine.{Frame, Whole, in_index, have, block, boxed, item_indexed, expr_due, with_act}
-use Rattle.ts_machine.specs.Parsing.{reads, Reads, Lacks}
-use Rattle.ts_statements.specs.Simple.{Target, of_append, of_item, value_due, value_set, Ended}
+use Rattle.ts_syntax.specs.declared.halt.Halt.{Halt}
+use Rattle.ts_syntax.specs.Machine.{Frame, Whole, in_index, have, block, boxed, item_indexed, expr_due, with_act}
+use Rattle.ts_syntax.specs.Parsing.{reads, Reads, Lacks, Ended}
+use Rattle.ts_statements.specs.Simple.{Target, of_append, of_item, value_due, value_set}
 use Rattle.ts_statements.proofs.EndedLemmas.{ended_over, stmt_stops}
 use Rattle.ts_statements.proofs.Halting.{stmt_halts}
 use Rattle.ts_statements.proofs.SimpleLemmas.{append_read, index_due, index_read, index_stops}

@@ -1,6 +1,6 @@
 use Rattle.std.proofs.Common.{refl, IsTrue}
 use Rattle.vm_desc.specs.Limits.{is_radio}
-use Rattle.vm_fields.specs.Fields.{seen_table}
+use Rattle.vm_reader.specs.Fields.{seen_table}
 use Rattle.vm_reader.specs.Reading.{radio_at}
 use Rattle.vm_reader.proofs.ReadingLemmas.{refused_same, refused_rules, is_radio-from}
 use Rattle.vm_reader.proofs.parts.radio_in.Goals as goal

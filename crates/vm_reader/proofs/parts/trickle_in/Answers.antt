@@ -1,8 +1,8 @@
 use Rattle.std.proofs.Common.{refl, IsTrue}
 use Rattle.vm_desc.specs.Limits.{is_trickle}
-use Rattle.vm_fields.specs.Fields.{seen_table}
+use Rattle.vm_reader.specs.Fields.{seen_table}
 use Rattle.vm_reader.specs.Reading.{trickle_at}
-use Rattle.vm_fields.proofs.FieldLemmas.{allowed-holds}
+use Rattle.vm_reader.proofs.FieldLemmas.{allowed-holds}
 use Rattle.vm_reader.proofs.ReadingLemmas.{refused_same, refused_rules, is_trickle-from}
 use Rattle.vm_reader.proofs.parts.trickle_in.Goals as goal
 

@@ -7,7 +7,7 @@ use Rattle.vm_desc.specs.declared.description.Description.{Description}
 use Rattle.node_invariant.specs.declared.parts.Parts.{Parts}
 use Rattle.node_invariant.specs.Keeps.{reading}
 use Rattle.mate_journal.specs.Pace.{no_pace}
-use Rattle.node_grants.proofs.NewLemmas.{Rests-new}
+use Rattle.node_invariant.proofs.NewLemmas.{Rests-new}
 use Rattle.open_node.proofs.PaceLemmas.{HasPace-from}
 use Rattle.open_node.proofs.MadeLemmas.{IsPace-idle}
 use Rattle.open_node.proofs.open_node.OpenNode.new.Goals as goal

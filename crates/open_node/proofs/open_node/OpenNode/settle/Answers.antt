@@ -5,8 +5,8 @@ use Rattle.vm_desc.proofs.DescriptionLemmas.{bounds_of}
 use Rattle.node_contexts.specs.Programs.{held_at}
 use Rattle.node_invariant.specs.Meaning.{machine_in, clock_of}
 use Rattle.node_invariant.specs.Keeps.{reading}
-use Rattle.node_grants.proofs.RoomLemmas.{owes-most}
-use Rattle.node_turns.specs.Pacing.{SettlesWithin}
+use Rattle.node_invariant.proofs.RoomLemmas.{owes-most}
+use Rattle.node_calls.specs.Pacing.{SettlesWithin}
 use Rattle.open_node.specs.View.{OpenNodeView, NodeView, heard_of, Tells}
 use Rattle.open_node.proofs.PaceLemmas.{seen_as}
 use Rattle.open_node.proofs.MadeLemmas.{Tells-settled}

@@ -2,7 +2,7 @@
 use Rattle.std.proofs.Common.{ap, subst}
 use Rattle.mate_journal.specs.NodeScript.{IsReadyIn}
 use Rattle.journal_laws.specs.Progress.{IsNoneLive}
-use Rattle.node_turns.proofs.SettleLemmas.{first-ready, none-first}
+use Rattle.node_calls.proofs.SettleLemmas.{first-ready, none-first}
 use Rattle.open_node.specs.View.{OpenNodeView, NodeView, heard_of}
 use Rattle.open_node.specs.Calls.{IsNoneReady, IsWaitingIn}
 use Rattle.open_node.proofs.StandingLemmas.{ready-in, nobody-ready, waiting-in, none-live}

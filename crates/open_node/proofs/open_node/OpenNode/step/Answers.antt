@@ -6,7 +6,7 @@ use Rattle.node_contexts.specs.Programs.{held_at}
 use Rattle.node_invariant.specs.Meaning.{machine_in, clock_of}
 use Rattle.node_invariant.specs.Keeps.{reading}
 use Rattle.node_invariant.proofs.MoveLemmas.{none_ready}
-use Rattle.node_grants.proofs.RoomLemmas.{starts-most}
+use Rattle.node_invariant.proofs.RoomLemmas.{starts-most}
 use Rattle.open_node.specs.View.{OpenNodeView, NodeView, heard_of, Tells}
 use Rattle.open_node.specs.Calls.{HasStepped}
 use Rattle.open_node.proofs.PaceLemmas.{seen_as}

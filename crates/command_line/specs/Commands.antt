@@ -1,0 +1,89 @@
+-- The commands of the program, as the words of the command line say them.
+use Rattle.std.specs.Prelude.{◌≡◌, ℕ, ◌^◌, nat_lt, Bool, false, not, ◌&&◌, ◌||◌, List, [], ◌∷◌, codes, map, Option, Some, None, option_map, if◌then◌else◌}
+use Rattle.std.specs.Char.{is_ascii_digit}
+use Rattle.std.specs.Int.{is_in_range}
+use Rattle.std.specs.List.{list_all}
+use Rattle.std.specs.Str.{bytes_eq}
+use Rattle.std.specs.Str.Parse.{digits_value}
+use Rattle.command_line.specs.Words.{Line, IsLine}
+use Rattle.command_line.specs.declared.words.CommandLine.{CommandLine}
+use Rattle.command_line.specs.declared.command.Command.{Command}
+use Rattle.command_line.specs.declared.command.Command.TheVariants as command
+
+-- a command with the words that go to it
+pub data Task : Type 0 where
+  -- run a node script on a machine, with sources folded or not, and write its report or the summary of it
+  Node : (fold brief : Bool) (machine script : List ℕ) → Task
+  -- write the opcode table of a machine
+  Table : (machine : List ℕ) → Task
+  -- write the image of a source's capsule, for the handler of a machine that has this name; the source is folded or not
+  Compile : (fold : Bool) (machine handler : List ℕ) → (version : ℕ) → (source : List ℕ) → Task
+  -- write the text of the capsule of a machine that a file has in hexadecimal digits
+  Check : (machine file : List ℕ) → Task
+  -- write the plain script that a source with procedures stands for
+  Expand : (source : List ℕ) → Task
+
+-- the word for the built-in machine, in place of a description's file
+abbrev pub builtin_word : List ℕ
+builtin_word = codes "builtin"
+
+abbrev pub node_task : Bool → Bool → List (List ℕ) → Option Task
+node_task fold brief (machine ∷ script ∷ []) = Some (Node fold brief machine script)
+node_task fold brief words = None
+
+abbrev pub table_task : List (List ℕ) → Option Task
+table_task (machine ∷ []) = Some (Table machine)
+table_task words = None
+
+-- a digit from 1 to 9, and digits
+abbrev pub is_counting : List ℕ → Bool
+is_counting [] = false
+is_counting (digit ∷ digits) = is_in_range 49 57 digit && list_all is_ascii_digit digits
+
+-- the version that the word says: from 1 to 4294967295, with no sign and no 0 before it
+abbrev pub version_said : List ℕ → Option ℕ
+version_said word = if is_counting word && nat_lt (digits_value 10 word) (2 ^ 32) then Some (digits_value 10 word) else None
+
+abbrev pub compile_task : Bool → List (List ℕ) → Option Task
+compile_task fold (machine ∷ handler ∷ version ∷ source ∷ []) = option_map (λ v. Compile fold machine handler v source) (version_said version)
+compile_task fold words = None
+
+abbrev pub check_task : List (List ℕ) → Option Task
+check_task (machine ∷ file ∷ []) = Some (Check machine file)
+check_task words = None
+
+abbrev pub expand_task : List (List ℕ) → Option Task
+expand_task (source ∷ []) = Some (Expand source)
+expand_task words = None
+
+-- the task of a line; `node` takes both flags, `compile` takes `--fold`, and no other command takes a flag
+abbrev pub task_of : Line → Option Task
+task_of l =
+    if bytes_eq l.command (codes "node") then node_task l.fold l.brief l.args else
+    if bytes_eq l.command (codes "compile") && not l.brief then compile_task l.fold l.args else
+    if l.brief || l.fold then None else
+    if bytes_eq l.command (codes "table") then table_task l.args else
+    if bytes_eq l.command (codes "check") then check_task l.args else
+    if bytes_eq l.command (codes "expand") then expand_task l.args else None
+
+-- the words say the task
+pub record Says (words : List (List ℕ)) (task : Task) : Type 0 where
+  pub line : Line
+  pub is : IsLine words line
+  pub task_is : task_of line ≡ Some task
+
+-- the words say no task
+abbrev pub SaysNothing : List (List ℕ) → Type 0
+SaysNothing words = (task : Task) → Says words task → ⊥
+
+-- ---- what the program holds of them
+
+abbrev pub line_said : CommandLine → Line
+line_said l = record { brief = l.brief; fold = l.fold; command = l.command.now; args = map (λ w. w.now) l.args.items }
+
+abbrev pub task_held : Command → Task
+task_held (command.Node r) = Node r.fold r.brief r.machine.now r.script.now
+task_held (command.Table machine) = Table machine.now
+task_held (command.Compile c) = Compile c.fold c.machine.now c.handler.now c.version c.source.now
+task_held (command.Check machine file) = Check machine.now file.now
+task_held (command.Expand source) = Expand source.now

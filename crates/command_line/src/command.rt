@@ -1,0 +1,137 @@
+//! The commands of the program.
+
+ghost use Rattle.std.specs.Prelude.{◌≡◌, ◌≤◌, map, option_map, IfSome};
+ghost use Rattle.std.specs.Char.{is_ascii_digit};
+ghost use Rattle.std.specs.List.{list_all};
+ghost use Rattle.command_line.specs.Commands.{task_held, line_said, task_of, node_task, table_task, compile_task, check_task, expand_task, version_said, is_counting};
+
+use crate::CommandLine;
+use crate::compilation::Compilation;
+use crate::script_run::ScriptRun;
+
+/// A command, with the words that go to it.
+#[derive(Clone, Copy)]
+pub enum Command<'a> {
+    /// Runs a node script.
+    Node(ScriptRun<'a>),
+    /// Writes the opcode table of a machine: of the description in this file, or `builtin`.
+    Table { machine: &'a str },
+    /// Writes the image of a source's capsule.
+    Compile(Compilation<'a>),
+    /// Writes the text of the capsule of a machine that the file `capsule` has in hexadecimal digits.
+    Check { machine: &'a str, capsule: &'a str },
+    /// Writes the plain script that the source with procedures in a file stands for.
+    Expand { source: &'a str },
+}
+
+/// The command of a line; None where its word is unknown, or has other words or flags than the command takes.
+pub fn command_of<'a>(line: &CommandLine<'a>) -> Option<Command<'a>>
+    ensures { option_map task_held result ≡ task_of (line_said line.now) }
+{
+    if line.command == "node" {
+        return node(line.args.as_slice(), line.fold, line.brief);
+    }
+    if line.command == "compile" && !line.brief {
+        return compile(line.args.as_slice(), line.fold);
+    }
+    if line.brief || line.fold {
+        return None;
+    }
+    if line.command == "table" {
+        return table(line.args.as_slice());
+    }
+    if line.command == "check" {
+        return check(line.args.as_slice());
+    }
+    if line.command == "expand" {
+        return expand(line.args.as_slice());
+    }
+    None
+}
+
+fn node<'a>(args: &[&'a str], fold: bool, brief: bool) -> Option<Command<'a>>
+    ensures { option_map task_held result ≡ node_task fold brief (map (λ w. w.now) args.now) }
+{
+    let [machine, script] = args else {
+        return None;
+    };
+    Some(Command::Node(ScriptRun {
+        machine,
+        script,
+        fold,
+        brief,
+    }))
+}
+
+fn table<'a>(args: &[&'a str]) -> Option<Command<'a>>
+    ensures { option_map task_held result ≡ table_task (map (λ w. w.now) args.now) }
+{
+    let [machine] = args else {
+        return None;
+    };
+    Some(Command::Table { machine })
+}
+
+fn compile<'a>(args: &[&'a str], fold: bool) -> Option<Command<'a>>
+    ensures { option_map task_held result ≡ compile_task fold (map (λ w. w.now) args.now) }
+{
+    let [machine, handler, version, source] = args else {
+        return None;
+    };
+    let version = version_of(version)?;
+    Some(Command::Compile(Compilation {
+        machine,
+        handler,
+        version,
+        source,
+        fold,
+    }))
+}
+
+fn check<'a>(args: &[&'a str]) -> Option<Command<'a>>
+    ensures { option_map task_held result ≡ check_task (map (λ w. w.now) args.now) }
+{
+    let [machine, capsule] = args else {
+        return None;
+    };
+    Some(Command::Check { machine, capsule })
+}
+
+fn expand<'a>(args: &[&'a str]) -> Option<Command<'a>>
+    ensures { option_map task_held result ≡ expand_task (map (λ w. w.now) args.now) }
+{
+    let [source] = args else {
+        return None;
+    };
+    Some(Command::Expand { source })
+}
+
+/// A version in decimal digits, from 1 to 4294967295, with no sign and no 0 before it.
+fn version_of(word: &str) -> Option<u32>
+    ensures value { result ≡ version_said word.now }
+    ensures low { IfSome result (λ version. 1 ≤ version) }
+{
+    if !is_counting(word.as_bytes()) {
+        return None;
+    }
+    match word.parse::<u32>() {
+        Ok(version) => Some(version),
+        Err(_) => None,
+    }
+}
+
+/// Whether these are a digit from 1 to 9, and digits.
+fn is_counting(digits: &[u8]) -> bool
+    ensures { result ≡ is_counting digits.now }
+{
+    match digits {
+        [] => false,
+        [first, rest @ ..] => b'1' <= *first && *first <= b'9' && are_digits(rest),
+    }
+}
+
+fn are_digits(bytes: &[u8]) -> bool
+    ensures { result ≡ list_all is_ascii_digit bytes.now }
+{
+    bytes.iter().all(|byte| byte.is_ascii_digit())
+}

@@ -1,0 +1,30 @@
+use Rattle.std.proofs.Common.{ap, sym, ◌∙◌}
+use Rattle.mate_code.specs.Table.{table_of}
+use Rattle.ts_syntax.specs.Checked.{tree_of, shape_of as shape_of_script}
+use Rattle.vm_desc.specs.Shapes.{shape_of}
+use Rattle.mate_steps.proofs.CodeLemmas.{filled, folded_code, folded_no_code}
+use Rattle.mate_steps.proofs.code.folded_code.Goals as goal
+
+pub compile-requires : goal.compile-requires
+compile-requires c = c.table.ensures ∙ ap table_of (sym (c.in-Ok.ensures.shape ∙ c.requires))
+
+pub returns-in-Ok-compile-clause-gives : goal.returns-in-Ok-compile-clause-gives
+returns-in-Ok-compile-clause-gives c =
+    let s = c.in-Ok.script in
+    let code = c.in-Ok-compile.ensures in
+    record {
+      shape_is = c.in-Ok.ensures.shape ∙ c.requires;
+      tree_is = c.in-Ok.ensures.tree;
+      code_is = folded_code (shape_of_script s) (shape_of_script c.args.script.now) (shape_of c.args.desc.now) (tree_of c.args.script.now) (tree_of s) c.in-Ok-compile.code
+          c.in-Ok.ensures.shape c.requires c.in-Ok.ensures.tree record { compiled = code.gives; verified = code.verified; plays = code.runs; uses = code.uses }
+          c.in-Ok.ensures.runs c.in-Ok.ensures.uses;
+    }
+
+pub returns-in-Ok-compile-clause-filled : goal.returns-in-Ok-compile-clause-filled
+returns-in-Ok-compile-clause-filled c = filled (shape_of_script c.in-Ok.script) (tree_of c.in-Ok.script) c.in-Ok-compile.code c.in-Ok-compile.ensures.gives
+
+pub returns-in-Err-clause-gives : goal.returns-in-Err-clause-gives
+returns-in-Err-clause-gives c =
+    let s = c.in-Ok.script in
+    folded_no_code (shape_of_script s) (shape_of c.args.desc.now) (tree_of c.args.script.now) (tree_of s) c.in-Err.fault
+    (c.in-Ok.ensures.shape ∙ c.requires) c.in-Ok.ensures.tree c.in-Err.ensures.gives

@@ -1,0 +1,55 @@
+-- The code of an accepted tree, which is folded before it is compiled or isn't.
+use Rattle.std.specs.Prelude.{◌≡◌, ℕ, ℤ, Bool, true, false, List, Result, Ok, Err}
+use Rattle.arrayvec.specs.ArrayVec.{ArrayVec}
+use Rattle.mate_num.specs.declared.shape.Shape.{Shape}
+use Rattle.mate_num.specs.declared.store.Store.{Store}
+use Rattle.mate_code.specs.Run.{code_run}
+use Rattle.ts_syntax.specs.Statement.{Block}
+use Rattle.ts_syntax.specs.Checked.{shape_of, tree_of}
+use Rattle.ts_meaning.specs.Meaning.{run_of}
+use Rattle.ts_meaning.specs.Laws.{RunsAsItsScript, UsesAsItsScript}
+use Rattle.ts_meaning.specs.Translation.{code_of}
+use Rattle.ts_compiler.specs.Compiled.{IsCompiled, Compiles, AreAccepted}
+use Rattle.ts_compiler.specs.declared.fault.CompileFault.{CompileFault}
+use Rattle.ts_fold.specs.Folded.{folded}
+use Rattle.ts_fold.specs.Laws.{UsesNoMore}
+use Rattle.mate_steps.specs.declared.code.CompiledScript.{CompiledScript}
+use Rattle.mate_steps.specs.declared.code.CodeFault.{CodeFault}
+use Rattle.mate_steps.specs.declared.code.CodeFault.TheVariants.{NoMemory, Uncompiled}
+
+-- the tree that is compiled: the folded one where that is asked
+abbrev pub compiled_tree : Bool → Block → Block
+compiled_tree true tree = folded tree
+compiled_tree false tree = tree
+
+-- the code of the compiled tree runs as the accepted one, whatever the store, the message, the answers and the turns are
+abbrev pub RunsAsAccepted : Shape → Bool → Block → Type 0
+RunsAsAccepted shape fold tree =
+    (store : Store) (msg : ArrayVec ℤ) (answers : List ℤ) (turns : ℕ) →
+    code_run shape (code_of (compiled_tree fold tree)) store msg answers turns ≡ run_of tree store msg answers turns
+
+-- Code of an accepted tree: the bytes of the compiled tree's code. The verifier takes them, and they run as the compiled tree
+-- and as the accepted one; they use what the compiled tree uses, which is nothing more than the accepted one does.
+pub record IsCodeOf (shape : Shape) (fold : Bool) (tree : Block) (code : ArrayVec ℕ) : Type 0 where
+  pub compiled : IsCompiled shape (compiled_tree fold tree) code
+  pub verified : AreAccepted shape (compiled_tree fold tree) code
+  pub plays : RunsAsItsScript shape (compiled_tree fold tree)
+  pub runs : RunsAsAccepted shape fold tree
+  pub uses : UsesAsItsScript shape (compiled_tree fold tree)
+  pub no_more : UsesNoMore shape tree (compiled_tree fold tree)
+
+-- the compiled tree has no code, for this reason
+abbrev pub HasNoCode : Shape → Bool → Block → CompileFault → Type 0
+HasNoCode shape fold tree fault = Compiles shape (compiled_tree fold tree) (Err fault)
+
+-- the compiled script of an accepted tree, with its code
+pub record IsCompiledOf (shape : Shape) (fold : Bool) (tree : Block) (c : CompiledScript) : Type 0 where
+  pub shape_is : shape_of c.script ≡ shape
+  pub tree_is : tree_of c.script ≡ compiled_tree fold tree
+  pub code_is : IsCodeOf shape fold tree c.code
+
+-- the compiled script of an accepted tree, or why there is none
+abbrev pub GivesCode : Shape → Bool → Block → Result CompiledScript CodeFault → Type 0
+GivesCode shape fold tree (Ok c) = IsCompiledOf shape fold tree c
+GivesCode shape fold tree (Err (Uncompiled fault)) = HasNoCode shape fold tree fault
+GivesCode shape fold tree (Err NoMemory) = Unit {0}

@@ -1,0 +1,32 @@
+//! The whole way from bytes to a checked script.
+
+ghost use Rattle.std.specs.Prelude.{◌≡◌, ◌≤◌, length, IfOk};
+ghost use Rattle.vm_desc.specs.Shapes.{shape_of as shape_of_machine};
+ghost use Rattle.ts_syntax.specs.Checked.{shape_of};
+ghost use Rattle.mate_steps.specs.Answers.{TellsAcceptance};
+
+use crate::refusal::SourceRefusal;
+use std::alloc::Global;
+use ts_checker::check;
+use ts_parser::{parse, tokens};
+use ts_syntax::Checked;
+use vm_desc::Description;
+
+/// The checked script of a source of at most 1,048,576 bytes for the machine of `desc`, or the first refusal of it: of
+/// its tokens over the whole text, then of its grammar and depth, then of its checks. Want of memory may come in place of
+/// any answer.
+pub fn accept(alloc: Global, desc: &Description, bytes: &[u8]) -> Result<Checked, SourceRefusal>
+    requires { length bytes.now ≤ 1048576 }
+    ensures tells { TellsAcceptance desc.now bytes.now result }
+    ensures shape { IfOk result (λ script. shape_of script ≡ shape_of_machine desc.now) }
+{
+    // the tokens go before the checked tree is made
+    let script = {
+        let tokens = tokens(alloc, bytes)?;
+        parse(alloc, &tokens, bytes.len() as u32)?
+    };
+    match check(alloc, desc, &script) {
+        Ok(checked) => Ok(checked),
+        Err(fault) => Err(SourceRefusal::Meaning(fault)),
+    }
+}

@@ -1,0 +1,80 @@
+//! From an accepted script to its code.
+
+ghost use Rattle.std.specs.Prelude.{◌≡◌, ◌≤◌, true, false, length, IfOk};
+ghost use Rattle.ts_syntax.specs.Checked.{tree_of, shape_of as shape_of_script};
+ghost use Rattle.vm_desc.specs.Shapes.{shape_of};
+ghost use Rattle.mate_steps.specs.SourceCode.{GivesCode};
+
+use mate_num::Code;
+use opcode_gen::table;
+use std::alloc::Global;
+use ts_compiler::{CompileFault, compile};
+use ts_fold::fold;
+use ts_syntax::Checked;
+use vm_desc::Description;
+
+/// A script as it is compiled, and its code.
+#[derive(Drop)]
+pub struct CompiledScript {
+    /// The accepted script, or the folded one.
+    pub script: Checked,
+    /// 1 to `CODE_MAX` bytes.
+    pub code: Code,
+}
+
+/// Why an accepted script has no code.
+#[derive(Clone, Copy)]
+pub enum CodeFault {
+    /// The tree that is compiled needs too deep a stack, or its code is too long.
+    Uncompiled(CompileFault),
+    /// No memory was left for the folded tree. It comes only where folding is asked.
+    NoMemory,
+}
+
+/// The code of a script that the machine accepts, folded before it is compiled where `folded` says so. `Uncompiled` comes
+/// exactly where the tree that is compiled needs a stack of more than 16 values, or its code takes more than `CODE_MAX` bytes.
+pub fn compiled_script(
+    alloc: Global,
+    desc: &Description,
+    folded: bool,
+    script: Checked,
+) -> Result<CompiledScript, CodeFault>
+    requires { shape_of_script script ≡ shape_of desc.now }
+    ensures gives { GivesCode (shape_of desc.now) folded (tree_of script) result }
+    ensures filled { IfOk result (λ c. 1 ≤ length c.code.items) }
+{
+    if folded {
+        folded_code(alloc, desc, &script)
+    } else {
+        plain_code(desc, script)
+    }
+}
+
+fn plain_code(desc: &Description, script: Checked) -> Result<CompiledScript, CodeFault>
+    requires { shape_of_script script ≡ shape_of desc.now }
+    ensures gives { GivesCode (shape_of desc.now) false (tree_of script) result }
+    ensures filled { IfOk result (λ c. 1 ≤ length c.code.items) }
+{
+    match compile(&table(desc), &script) {
+        Ok(code) => Ok(CompiledScript { script, code }),
+        Err(fault) => Err(CodeFault::Uncompiled(fault)),
+    }
+}
+
+fn folded_code(
+    alloc: Global,
+    desc: &Description,
+    script: &Checked,
+) -> Result<CompiledScript, CodeFault>
+    requires { shape_of_script script.now ≡ shape_of desc.now }
+    ensures gives { GivesCode (shape_of desc.now) true (tree_of script.now) result }
+    ensures filled { IfOk result (λ c. 1 ≤ length c.code.items) }
+{
+    let Ok(script) = fold(alloc, script) else {
+        return Err(CodeFault::NoMemory);
+    };
+    match compile(&table(desc), &script) {
+        Ok(code) => Ok(CompiledScript { script, code }),
+        Err(fault) => Err(CodeFault::Uncompiled(fault)),
+    }
+}

@@ -1,0 +1,25 @@
+//! Laws where compiler, verifier and lock inference meet. Each is what a function promises that does nothing.
+
+ghost use Rattle.std.specs.Prelude.{◌≡◌, ℕ, Ok, Err};
+ghost use Rattle.arrayvec.specs.ArrayVec.{ArrayVec};
+ghost use Rattle.mate_num.specs.Uses.{IsSameUses};
+ghost use Rattle.mate_num.specs.declared.lock_set.LockSet.{LockSet as LockSetValue};
+ghost use Rattle.mate_num.specs.declared.shape.Shape.{Shape};
+ghost use Rattle.ts_syntax.specs.Statement.{Block};
+ghost use Rattle.ts_meaning.specs.Uses.{uses_of};
+ghost use Rattle.ts_meaning.specs.Translation.{code_of};
+ghost use Rattle.ts_compiler.specs.Compiled.{AreAccepted};
+ghost use Rattle.code_verifier.specs.Verified.{VerifiedCode, Verifies};
+ghost use Rattle.code_verifier.specs.declared.fault.VerifyFault.{VerifyFault as VerifyFaultValue};
+ghost use Rattle.lock_inference.specs.Locks.{AreLocksOf, held_uses};
+
+/// The verifier takes whatever the compiler gives for a tree, and finds the tree's code in it.
+pub fn compiled_code_is_verified()
+    ensures taken { (shape : Shape) (tree : Block) (bytes : ArrayVec ℕ) (fault : VerifyFaultValue) → AreAccepted shape tree bytes → Verifies shape bytes.items (Err fault) → ⊥ }
+    ensures code { (shape : Shape) (tree : Block) (bytes : ArrayVec ℕ) (v : VerifiedCode) → AreAccepted shape tree bytes → Verifies shape bytes.items (Ok v) → v.code ≡ code_of tree }
+{}
+
+/// The locks of a tree's code hold as read exactly what the tree reads, and as written exactly what it writes.
+pub fn locks_of_compiled_code()
+    ensures { (shape : Shape) (tree : Block) (set : LockSetValue) → AreLocksOf shape (code_of tree) set → IsSameUses (held_uses set) (uses_of shape tree) }
+{}

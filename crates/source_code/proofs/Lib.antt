@@ -1,2 +1,0 @@
-pub mod JointLemmas
-pub mod CodeLemmas

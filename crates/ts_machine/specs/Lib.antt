@@ -1,4 +1,0 @@
-pub mod Answers
-pub mod Code
-pub mod Machine
-pub mod Parsing

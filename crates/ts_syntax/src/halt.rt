@@ -1,0 +1,35 @@
+//! Why a part of the parser stopped.
+
+ghost use Rattle.std.specs.Prelude.{◌≡◌};
+
+use crate::Token;
+use mate_num::NoMemory;
+use std::alloc::AllocError;
+
+/// Why parsing stopped: for want of memory, or at the first of these tokens, which doesn't fit. Where there
+/// is none, the text ends too early.
+#[derive(Drop)]
+pub enum Halt<'a> {
+    Memory,
+    At(&'a [Token]),
+}
+
+impl<'a> From<AllocError> for Halt<'a> {
+    ghost use Rattle.ts_syntax.specs.declared.halt.Halt.TheVariants.{Memory};
+
+    ghost from_gives = { λ _ e. e ≡ Memory };
+
+    fn from(_error: AllocError) -> Halt<'a> {
+        Halt::Memory
+    }
+}
+
+impl<'a> From<NoMemory> for Halt<'a> {
+    ghost use Rattle.ts_syntax.specs.declared.halt.Halt.TheVariants.{Memory};
+
+    ghost from_gives = { λ _ e. e ≡ Memory };
+
+    fn from(_error: NoMemory) -> Halt<'a> {
+        Halt::Memory
+    }
+}

@@ -1,0 +1,20 @@
+-- The rules on the parts of a description together, each with its refusal.
+use Rattle.std.specs.Prelude.{ℕ, List, nat_lt, if◌then◌else◌, Option, Some, None, Result, Ok, Err}
+use Rattle.vm_desc.specs.Limits.{context_sum}
+use Rattle.vm_desc.specs.declared.key.Key.TheVariants as key
+use Rattle.vm_desc.specs.declared.fault.DescFault.{DescFault}
+use Rattle.vm_desc.specs.declared.fault.DescFault.TheVariants.{OverLimit, Duplicate, SlowImax}
+use Rattle.vm_desc.specs.declared.handler.Handler.{Handler}
+
+-- at most 16 contexts in all
+abbrev pub few_contexts : List Handler → Result (Unit {0}) DescFault
+few_contexts handlers = if nat_lt 16 (context_sum handlers) then Err (OverLimit key.HandlerContexts) else Ok tt
+
+-- no name stands twice in its list
+abbrev pub no_repeat : Option (List ℕ) → Result (Unit {0}) DescFault
+no_repeat None = Ok tt
+no_repeat (Some twice) = Err (Duplicate twice)
+
+-- the longest interval has what a round needs
+abbrev pub in_time : ℕ → ℕ → Result (Unit {0}) DescFault
+in_time need have = if nat_lt have need then Err (SlowImax need have) else Ok tt

@@ -1,0 +1,104 @@
+//! The rules on the parts of a description together.
+
+ghost use Rattle.std.specs.Prelude.{◌≡◌, ◌≤◌, ◌++◌, length, map, None, OnOk, IsTrue};
+ghost use Rattle.vm_desc.specs.Names.{first_repeat};
+ghost use Rattle.vm_desc.specs.Limits.{context_sum, is_trickle, is_radio, duplicate_among, round_time, longest};
+ghost use Rattle.vm_desc.specs.Rules.{few_contexts, no_repeat, in_time};
+
+use crate::fault::DescFault;
+use crate::key::Key;
+use crate::names::first_repeat;
+use crate::{Function, Handler, RadioSet, TrickleSet};
+use arrayvec::ArrayVec;
+use mate_num::Name;
+
+/// Whether the handlers have at most 16 contexts in all.
+pub fn few_contexts(handlers: &ArrayVec<Handler, 8>) -> Result<(), DescFault>
+    ensures value { result ≡ few_contexts handlers.now.items }
+    ensures few { OnOk result (context_sum handlers.now.items ≤ 16) }
+{
+    let contexts: u32 = handlers.iter().map(|h| u32::from(h.contexts)).sum();
+    if contexts > 16 {
+        return Err(DescFault::OverLimit {
+            key: Key::HandlerContexts,
+        });
+    }
+    Ok(())
+}
+
+/// Whether no name stands twice in its list.
+pub fn no_repeat(
+    shared: &ArrayVec<Name, 16>,
+    buffers: &ArrayVec<Name, 8>,
+    devices: &ArrayVec<Name, 8>,
+    handlers: &ArrayVec<Handler, 8>,
+    functions: &ArrayVec<Function, 32>,
+) -> Result<(), DescFault>
+    ensures value { result ≡ no_repeat (duplicate_among shared.now.items buffers.now.items devices.now.items handlers.now.items functions.now.items) }
+    ensures none { OnOk result (duplicate_among shared.now.items buffers.now.items devices.now.items handlers.now.items functions.now.items ≡ None) }
+{
+    only_once(variable_names(shared.as_slice(), buffers.as_slice()).as_slice())?;
+    only_once(devices.as_slice())?;
+    only_once(handler_names(handlers).as_slice())?;
+    only_once(function_names(functions).as_slice())
+}
+
+fn only_once(names: &[Name]) -> Result<(), DescFault>
+    ensures { result ≡ no_repeat (first_repeat names.now) }
+{
+    match first_repeat(names) {
+        Some(name) => Err(DescFault::Duplicate { name }),
+        None => Ok(()),
+    }
+}
+
+fn variable_names(shared: &[Name], buffers: &[Name]) -> ArrayVec<Name, 24>
+    requires shared { length shared.now ≤ 16 }
+    requires buffers { length buffers.now ≤ 8 }
+    ensures { result.items ≡ shared.now ++ buffers.now }
+{
+    let mut names: ArrayVec<Name, 24> = ArrayVec::new();
+    for name in shared {
+        names.push(name.copy());
+    }
+    for name in buffers {
+        names.push(name.copy());
+    }
+    names
+}
+
+fn handler_names(handlers: &ArrayVec<Handler, 8>) -> ArrayVec<Name, 8>
+    ensures { result.items ≡ map (λ h. h.name) handlers.now.items }
+{
+    let mut names: ArrayVec<Name, 8> = ArrayVec::new();
+    for handler in handlers.as_slice() {
+        names.push(handler.name.copy());
+    }
+    names
+}
+
+fn function_names(functions: &ArrayVec<Function, 32>) -> ArrayVec<Name, 32>
+    ensures { result.items ≡ map (λ f. f.name) functions.now.items }
+{
+    let mut names: ArrayVec<Name, 32> = ArrayVec::new();
+    for function in functions.as_slice() {
+        names.push(function.name.copy());
+    }
+    names
+}
+
+/// Whether the longest interval has the time that a round of all handlers' packets needs.
+pub fn in_time(handlers: usize, trickle: TrickleSet, radio: RadioSet) -> Result<(), DescFault>
+    requires handlers { handlers ≤ 8 }
+    requires trickle { IsTrue (is_trickle trickle) }
+    requires radio { IsTrue (is_radio radio) }
+    ensures value { result ≡ in_time (round_time handlers radio) (longest trickle) }
+    ensures timely { OnOk result (round_time handlers radio ≤ longest trickle) }
+{
+    let need = handlers as u64 * 22 * u64::from(radio.gap) + 3 * u64::from(radio.delay);
+    let have = u64::from(trickle.longest());
+    if need > have {
+        return Err(DescFault::SlowImax { need, have });
+    }
+    Ok(())
+}

@@ -1,0 +1,59 @@
+-- Which keys stand where in a description.
+use Rattle.std.specs.Prelude.{ℕ, List, [], ◌∷◌, codes, Bool, true, ◌&&◌, if◌then◌else◌, Option, Some, None, is_some, unwrap_or}
+use Rattle.std.specs.Option.{option_or}
+use Rattle.std.specs.Str.{bytes_eq}
+use Rattle.toml.specs.Data.{Data, string, integer, float, boolean, datetime, array, table, Items, no_items, item, Members, no_members, member}
+use Rattle.vm_desc.specs.Names.{stands_in}
+use Rattle.vm_reader.specs.declared.known.Place.{Place}
+use Rattle.vm_reader.specs.declared.known.Place.TheVariants as place
+
+-- the keys that stand in one table
+abbrev pub known_words : Place → List (List ℕ)
+known_words place.Document =
+    codes "vm" ∷ codes "shared" ∷ codes "buffers" ∷ codes "devices" ∷ codes "turns" ∷ codes "quantum" ∷ []
+known_words place.Handler = codes "name" ∷ codes "kind" ∷ codes "contexts" ∷ codes "period" ∷ []
+known_words place.Function = codes "name" ∷ codes "kind" ∷ codes "args" ∷ codes "device" ∷ codes "latency" ∷ []
+known_words place.Trickle = codes "imin" ∷ codes "doublings" ∷ codes "k" ∷ []
+known_words place.Radio = codes "delay" ∷ codes "gap" ∷ []
+known_words place.Value = []
+
+-- a value that holds no keys stands under such a key
+abbrev pub value_place : Place → List ℕ → Option Place
+value_place p word = if stands_in (known_words p) word then Some place.Value else None
+
+-- a table, or tables, of a document stand under such a key
+abbrev pub table_below : Place → List ℕ → Option Place
+table_below place.Document word =
+    if bytes_eq word (codes "handler") then Some place.Handler
+    else if bytes_eq word (codes "function") then Some place.Function
+    else if bytes_eq word (codes "trickle") then Some place.Trickle
+    else if bytes_eq word (codes "radio") then Some place.Radio
+    else None
+table_below place.Handler word = None
+table_below place.Function word = None
+table_below place.Trickle word = None
+table_below place.Radio word = None
+table_below place.Value word = None
+
+-- the place of what stands under a key, and nothing for a key that isn't known there
+abbrev pub known_below : Place → List ℕ → Option Place
+known_below p word = option_or (table_below p word) (value_place p word)
+
+-- each key inside, at any depth and through lists, is known where it stands
+abbrev mutual
+  pub has_known : Place → Data → Bool
+  has_known p (string s) = true
+  has_known p (integer z) = true
+  has_known p (float x) = true
+  has_known p (boolean b) = true
+  has_known p (datetime dt) = true
+  has_known p (array ds) = items_have_known p ds
+  has_known p (table ms) = members_have_known p ms
+
+  pub items_have_known : Place → Items → Bool
+  items_have_known p no_items = true
+  items_have_known p (item d ds) = has_known p d && items_have_known p ds
+
+  pub members_have_known : Place → Members → Bool
+  members_have_known p no_members = true
+  members_have_known p (member k d ms) = (is_some (known_below p k) && has_known (unwrap_or (known_below p k) place.Value) d) && members_have_known p ms
