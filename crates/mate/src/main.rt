@@ -44,7 +44,9 @@ fn flushed<W: Write + Drop, E: Sink>(status: Status, mut writer: W, err: &mut E)
     }
 }
 
-/// The words of the command line, without the program's own name. Words that aren't UTF-8 are no command's.
+/// The words of the command line, without the program's own name. Words that aren't UTF-8 are no command's. A call of its own, so that
+/// the stack that it takes is given back before the command runs.
+#[inline(never)]
 fn words(rt: &(impl Env + AllocGlobal)) -> Result<Vec<String>, Refusal> {
     let args = match env::args(rt) {
         Ok(args) => args,
