@@ -1,3 +1,4 @@
+pub mod AcceptingLemmas
 pub mod Laws
 pub mod ExpansionLemmas
 pub mod OneAnswer

@@ -1,0 +1,55 @@
+-- Each answer to a source is what the cut of its bytes, the reading of its tokens and the checks of its script tell.
+use Rattle.std.proofs.Common.{◌≡◌, ℕ, List, length, Result, Ok, Err, sym, subst}
+use Rattle.std.specs.Result.{IsErrAnd}
+use Rattle.vm_desc.specs.declared.description.Description.{Description}
+use Rattle.ts_syntax.specs.Cut.{cut}
+use Rattle.ts_syntax.specs.Faults.{Spells}
+use Rattle.ts_syntax.specs.Tree.{Source}
+use Rattle.ts_syntax.specs.declared.checked.Checked.{Checked}
+use Rattle.ts_syntax.specs.declared.token.Token.{Token}
+use Rattle.ts_parser.specs.Cutting.{Cuts}
+use Rattle.ts_parser.specs.Verdict.{Answers}
+use Rattle.ts_parser.specs.declared.fault.SourceFault.{SourceFault}
+use Rattle.ts_parser.specs.declared.fault.SourceFault.TheVariants as fault
+use Rattle.ts_scope.specs.Refusal.{RefusesScript}
+use Rattle.ts_scope.specs.declared.fault.CheckFault.{CheckFault}
+use Rattle.ts_scope.specs.declared.fault.CheckFault.TheVariants as check
+use Rattle.ts_checker.specs.Checks.{checked_source}
+use Rattle.mate_steps.specs.Answers.{IsMisspelt, IsUnmeant, IsRefused, TellsAcceptance}
+use Rattle.mate_steps.specs.declared.refusal.SourceRefusal.{SourceRefusal}
+use Rattle.mate_steps.specs.declared.refusal.SourceRefusal.TheVariants.{Spelling}
+
+-- a fault of the spelling is handed on
+handed_on : (d : Description) (bytes : List ℕ) (f : SourceFault) → IsMisspelt d bytes f → (r : Result Checked SourceRefusal) → IsErrAnd r (λ x. x ≡ Spelling f) → TellsAcceptance d bytes r
+handed_on d bytes f h (Ok c) i = absurd i
+handed_on d bytes f h (Err r) i = subst (IsRefused d bytes) (sym i) h
+
+pub bytes_refused : (d : Description) (bytes : List ℕ) (f : SourceFault) → Cuts bytes (Err f) → (r : Result Checked SourceRefusal) → IsErrAnd r (λ x. x ≡ Spelling f) → TellsAcceptance d bytes r
+bytes_refused d bytes f h = handed_on d bytes f (told f h)
+  where
+    told : (f : SourceFault) → Cuts bytes (Err f) → IsMisspelt d bytes f
+    told (fault.BadByte place) h = h
+    told (fault.BigLiteral place) h = h
+    told (fault.Unexpected place) h = absurd h
+    told (fault.TooDeep place) h = absurd h
+    told fault.NoMemory h = tt
+
+pub tokens_refused : (d : Description) (bytes : List ℕ) (tokens : List Token) (f : SourceFault) → cut bytes ≡ Ok tokens → Answers tokens (length bytes) (Err f)
+    → (r : Result Checked SourceRefusal) → IsErrAnd r (λ x. x ≡ Spelling f) → TellsAcceptance d bytes r
+tokens_refused d bytes tokens f cuts h = handed_on d bytes f (told f h)
+  where
+    told : (f : SourceFault) → Answers tokens (length bytes) (Err f) → IsMisspelt d bytes f
+    told (fault.BadByte place) h = absurd h
+    told (fault.BigLiteral place) h = absurd h
+    told (fault.Unexpected place) h = record { tokens = tokens; cuts = cuts; stops = h }
+    told (fault.TooDeep place) h = record { tokens = tokens; cuts = cuts; deep = h }
+    told fault.NoMemory h = tt
+
+pub script_refused : (d : Description) (bytes : List ℕ) (tokens : List Token) (s : Source) (f : CheckFault) → cut bytes ≡ Ok tokens → Spells tokens s → RefusesScript f (checked_source d s) → IsUnmeant d bytes f
+script_refused d bytes tokens s (check.Undeclared name place) cuts spells h = record { tokens = tokens; source = s; cuts = cuts; spells = spells; checks = h }
+script_refused d bytes tokens s (check.NotInVm name) cuts spells h = record { tokens = tokens; source = s; cuts = cuts; spells = spells; checks = h }
+script_refused d bytes tokens s (check.Twice name) cuts spells h = record { tokens = tokens; source = s; cuts = cuts; spells = spells; checks = h }
+script_refused d bytes tokens s (check.Kind place) cuts spells h = record { tokens = tokens; source = s; cuts = cuts; spells = spells; checks = h }
+script_refused d bytes tokens s (check.Arity place) cuts spells h = record { tokens = tokens; source = s; cuts = cuts; spells = spells; checks = h }
+script_refused d bytes tokens s check.TooManyPrivates cuts spells h = record { tokens = tokens; source = s; cuts = cuts; spells = spells; checks = h }
+script_refused d bytes tokens s check.NoMemory cuts spells h = tt
