@@ -1,15 +1,15 @@
--- The versions that words say.
-use Rattle.std.proofs.Common.{◌≡◌, ℕ, zero, suc, nat_lt, nat_le, ◌<◌, ◌≤◌, ◌^◌, List, [], ◌∷◌, length, get_or, true, false, ◌&&◌, None, Some, Result, Ok, Err, refl, sym, ◌∙◌, ap, subst, inl, inr, decimal, arith}
+-- The versions and the numbers that words say.
+use Rattle.std.proofs.Common.{◌≡◌, ℕ, zero, suc, nat_lt, nat_le, ◌<◌, ◌≤◌, ◌^◌, List, [], ◌∷◌, length, get_or, true, false, ◌&&◌, None, Some, Result, Ok, Err, refl, sym, ◌∙◌, ap, subst, inl, inr, decimal, codes, arith}
 use Rattle.std.specs.Char.{is_ascii_digit}
 use Rattle.std.specs.Int.{is_in_range}
 use Rattle.std.specs.List.{list_all}
-use Rattle.std.specs.Str.{all_ascii_digits}
+use Rattle.std.specs.Str.{all_ascii_digits, bytes_eq}
 use Rattle.std.specs.Str.Parse.{ParsesUnsigned, digits_value}
 use Rattle.std.proofs.lemmas.Bool.{and_parts, and_from, cases_lt, false≢true, leb-true, le-leb, lt-ltb, le-ltb}
 use Rattle.std.proofs.lemmas.Fmt.{decimal-digits_value, decimal_digit}
 use Rattle.std.proofs.lemmas.Result.{OkIff-at_ok, OkIff-at_err}
 use Rattle.std.proofs.lemmas.Str.Parse.{IsNumeralModel, numerals_by_value, tells_all_ascii_digits, parse_digits}
-use Rattle.command_line.specs.Commands.{is_counting, version_said}
+use Rattle.command_line.specs.Commands.{is_counting, version_said, number_said}
 
 digits_agree : (ds : List ℕ) → list_all is_ascii_digit ds ≡ all_ascii_digits ds
 digits_agree [] = refl
@@ -74,3 +74,23 @@ unparsed_version ds r fault h parses e =
     let large = OkIff-at_err r P (digits_value 10 ds) fault (parse_digits model 32 ds r parses c.digits) e in
     let test : nat_lt (digits_value 10 ds) (2 ^ 32) ≡ false = not_small (digits_value 10 ds) (2 ^ 32) (λ small. large (c.some, small)) in
     rw (h, test) refl
+
+-- ---- numbers
+
+pub parsed_number : {E : Type 0} (ds : List ℕ) (r : Result ℕ E) (v : ℕ) → bytes_eq ds (codes "0") ≡ false → is_counting ds ≡ true → ParsesUnsigned 64 10 ds r → r ≡ Ok v → number_said ds ≡ Some v
+parsed_number ds r v other h parses e =
+    let c = counting ds h in
+    let P : Type 0 = (0 < length ds) × (digits_value 10 ds < 2 ^ 64) in
+    let at = OkIff-at_ok r P (digits_value 10 ds) v (parse_digits model 64 ds r parses c.digits) e in
+    let small : nat_lt (digits_value 10 ds) (2 ^ 64) ≡ true = lt-ltb (digits_value 10 ds) (2 ^ 64) at.0.1 in
+    let value : number_said ds ≡ Some (digits_value 10 ds) = rw (other, h, small) refl in
+    subst (λ n. number_said ds ≡ Some n) (sym at.1) value
+
+pub unparsed_number : {E : Type 0} (ds : List ℕ) (r : Result ℕ E) (fault : E) → bytes_eq ds (codes "0") ≡ false → is_counting ds ≡ true → ParsesUnsigned 64 10 ds r → r ≡ Err fault
+    → number_said ds ≡ None
+unparsed_number ds r fault other h parses e =
+    let c = counting ds h in
+    let P : Type 0 = (0 < length ds) × (digits_value 10 ds < 2 ^ 64) in
+    let large = OkIff-at_err r P (digits_value 10 ds) fault (parse_digits model 64 ds r parses c.digits) e in
+    let test : nat_lt (digits_value 10 ds) (2 ^ 64) ≡ false = not_small (digits_value 10 ds) (2 ^ 64) (λ small. large (c.some, small)) in
+    rw (other, h, test) refl

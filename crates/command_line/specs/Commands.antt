@@ -14,6 +14,10 @@ use Rattle.command_line.specs.declared.command.Command.TheVariants as command
 pub data Task : Type 0 where
   -- run a node script on a machine, with sources folded or not, and write its report or the summary of it
   Node : (fold brief : Bool) (machine script : List ℕ) → Task
+  -- run the world of a script, likewise
+  Sim : (fold brief : Bool) (machine script : List ℕ) → Task
+  -- run the world of a number, likewise
+  Gen : (fold brief : Bool) (number : ℕ) (machine : List ℕ) → Task
   -- write the opcode table of a machine
   Table : (machine : List ℕ) → Task
   -- write the image of a source's capsule, for the handler of a machine that has this name; the source is folded or not
@@ -31,6 +35,10 @@ abbrev pub node_task : Bool → Bool → List (List ℕ) → Option Task
 node_task fold brief (machine ∷ script ∷ []) = Some (Node fold brief machine script)
 node_task fold brief words = None
 
+abbrev pub sim_task : Bool → Bool → List (List ℕ) → Option Task
+sim_task fold brief (machine ∷ script ∷ []) = Some (Sim fold brief machine script)
+sim_task fold brief words = None
+
 abbrev pub table_task : List (List ℕ) → Option Task
 table_task (machine ∷ []) = Some (Table machine)
 table_task words = None
@@ -44,6 +52,16 @@ is_counting (digit ∷ digits) = is_in_range 49 57 digit && list_all is_ascii_di
 abbrev pub version_said : List ℕ → Option ℕ
 version_said word = if is_counting word && nat_lt (digits_value 10 word) (2 ^ 32) then Some (digits_value 10 word) else None
 
+-- the number that the word says: below 2^64, with no sign and no 0 before it
+abbrev pub number_said : List ℕ → Option ℕ
+number_said word =
+    if bytes_eq word (codes "0") then Some 0
+    else if is_counting word && nat_lt (digits_value 10 word) (2 ^ 64) then Some (digits_value 10 word) else None
+
+abbrev pub gen_task : Bool → Bool → List (List ℕ) → Option Task
+gen_task fold brief (number ∷ machine ∷ []) = option_map (λ n. Gen fold brief n machine) (number_said number)
+gen_task fold brief words = None
+
 abbrev pub compile_task : Bool → List (List ℕ) → Option Task
 compile_task fold (machine ∷ handler ∷ version ∷ source ∷ []) = option_map (λ v. Compile fold machine handler v source) (version_said version)
 compile_task fold words = None
@@ -56,10 +74,12 @@ abbrev pub expand_task : List (List ℕ) → Option Task
 expand_task (source ∷ []) = Some (Expand source)
 expand_task words = None
 
--- the task of a line; `node` takes both flags, `compile` takes `--fold`, and no other command takes a flag
+-- the task of a line; `node`, `sim` and `gen` take both flags, `compile` takes `--fold`, and no other command takes a flag
 abbrev pub task_of : Line → Option Task
 task_of l =
     if bytes_eq l.command (codes "node") then node_task l.fold l.brief l.args else
+    if bytes_eq l.command (codes "sim") then sim_task l.fold l.brief l.args else
+    if bytes_eq l.command (codes "gen") then gen_task l.fold l.brief l.args else
     if bytes_eq l.command (codes "compile") && not l.brief then compile_task l.fold l.args else
     if l.brief || l.fold then None else
     if bytes_eq l.command (codes "table") then table_task l.args else
@@ -83,6 +103,8 @@ line_said l = record { brief = l.brief; fold = l.fold; command = l.command.now; 
 
 abbrev pub task_held : Command → Task
 task_held (command.Node r) = Node r.fold r.brief r.machine.now r.script.now
+task_held (command.Sim r) = Sim r.fold r.brief r.machine.now r.script.now
+task_held (command.Gen r) = Gen r.fold r.brief r.number r.machine.now
 task_held (command.Table machine) = Table machine.now
 task_held (command.Compile c) = Compile c.fold c.machine.now c.handler.now c.version c.source.now
 task_held (command.Check machine file) = Check machine.now file.now

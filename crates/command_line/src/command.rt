@@ -3,10 +3,11 @@
 ghost use Rattle.std.specs.Prelude.{◌≡◌, ◌≤◌, map, option_map, IfSome};
 ghost use Rattle.std.specs.Char.{is_ascii_digit};
 ghost use Rattle.std.specs.List.{list_all};
-ghost use Rattle.command_line.specs.Commands.{task_held, line_said, task_of, node_task, table_task, compile_task, check_task, expand_task, version_said, is_counting};
+ghost use Rattle.command_line.specs.Commands.{task_held, line_said, task_of, node_task, sim_task, gen_task, table_task, compile_task, check_task, expand_task, version_said, number_said, is_counting};
 
 use crate::CommandLine;
 use crate::compilation::Compilation;
+use crate::made_run::MadeRun;
 use crate::script_run::ScriptRun;
 
 /// A command, with the words that go to it.
@@ -14,6 +15,10 @@ use crate::script_run::ScriptRun;
 pub enum Command<'a> {
     /// Runs a node script.
     Node(ScriptRun<'a>),
+    /// Runs the world of a script.
+    Sim(ScriptRun<'a>),
+    /// Runs the world of a number.
+    Gen(MadeRun<'a>),
     /// Writes the opcode table of a machine: of the description in this file, or `builtin`.
     Table { machine: &'a str },
     /// Writes the image of a source's capsule.
@@ -30,6 +35,12 @@ pub fn command_of<'a>(line: &CommandLine<'a>) -> Option<Command<'a>>
 {
     if line.command == "node" {
         return node(line.args.as_slice(), line.fold, line.brief);
+    }
+    if line.command == "sim" {
+        return sim(line.args.as_slice(), line.fold, line.brief);
+    }
+    if line.command == "gen" {
+        return made(line.args.as_slice(), line.fold, line.brief);
     }
     if line.command == "compile" && !line.brief {
         return compile(line.args.as_slice(), line.fold);
@@ -58,6 +69,35 @@ fn node<'a>(args: &[&'a str], fold: bool, brief: bool) -> Option<Command<'a>>
     Some(Command::Node(ScriptRun {
         machine,
         script,
+        fold,
+        brief,
+    }))
+}
+
+fn sim<'a>(args: &[&'a str], fold: bool, brief: bool) -> Option<Command<'a>>
+    ensures { option_map task_held result ≡ sim_task fold brief (map (λ w. w.now) args.now) }
+{
+    let [machine, script] = args else {
+        return None;
+    };
+    Some(Command::Sim(ScriptRun {
+        machine,
+        script,
+        fold,
+        brief,
+    }))
+}
+
+fn made<'a>(args: &[&'a str], fold: bool, brief: bool) -> Option<Command<'a>>
+    ensures { option_map task_held result ≡ gen_task fold brief (map (λ w. w.now) args.now) }
+{
+    let [number, machine] = args else {
+        return None;
+    };
+    let number = number_of(number)?;
+    Some(Command::Gen(MadeRun {
+        number,
+        machine,
         fold,
         brief,
     }))
@@ -116,6 +156,22 @@ fn version_of(word: &str) -> Option<u32>
     }
     match word.parse::<u32>() {
         Ok(version) => Some(version),
+        Err(_) => None,
+    }
+}
+
+/// A number in decimal digits, below 2^64, with no sign, and with no 0 before it.
+fn number_of(word: &str) -> Option<u64>
+    ensures { result ≡ number_said word.now }
+{
+    if word == "0" {
+        return Some(0);
+    }
+    if !is_counting(word.as_bytes()) {
+        return None;
+    }
+    match word.parse::<u64>() {
+        Ok(number) => Some(number),
         Err(_) => None,
     }
 }

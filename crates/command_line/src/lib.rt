@@ -3,10 +3,12 @@
 
 pub mod command;
 pub mod compilation;
+pub mod made_run;
 pub mod script_run;
 pub mod words;
 
 pub use command::{Command, command_of};
 pub use compilation::Compilation;
+pub use made_run::MadeRun;
 pub use script_run::ScriptRun;
 pub use words::{CommandLine, WordsFault, read};

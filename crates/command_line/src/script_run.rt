@@ -1,6 +1,6 @@
-//! What the command `node` is asked for.
+//! What the commands `node` and `sim` are asked for.
 
-/// Which node script to run: the one in a file, on a machine.
+/// Which script to run: the one in a file, on a machine.
 #[derive(Clone, Copy)]
 pub struct ScriptRun<'a> {
     /// A description's file, or `builtin`.

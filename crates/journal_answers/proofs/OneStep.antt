@@ -70,7 +70,7 @@ module _ (m : Machine) (r : Reading) (last : ℕ) (h : HandlerId) (payload : Arr
   occasion-once xs rest ys rest' (inr (inr a)) (inr (inl b)) keeps keeps' other other' = absurd (busy-idle ys xs b a)
   occasion-once xs rest ys rest' (inr (inr a)) (inr (inr b)) keeps keeps' other other' = posts-once xs rest ys rest' a b keeps keeps' other other'
 
-occasion-other : (m : Machine) (r : Reading) (h : HandlerId) (payload : ArrayVec ℤ) (xs rest : List Told) → Occasion m r h payload xs → BeginsOtherwise rest → BeginsOtherwise (xs ++ rest)
+pub occasion-other : (m : Machine) (r : Reading) (h : HandlerId) (payload : ArrayVec ℤ) (xs rest : List Told) → Occasion m r h payload xs → BeginsOtherwise rest → BeginsOtherwise (xs ++ rest)
 occasion-other m r h payload xs rest (inl a) other = subst (λ (ts : List Told). BeginsOtherwise (ts ++ rest)) (sym a.made) (λ start. start)
 occasion-other m r h payload xs rest (inr (inl a)) other = subst (λ (ts : List Told). BeginsOtherwise (ts ++ rest)) (sym a.made) (λ start. start)
 occasion-other m r h payload xs rest (inr (inr a)) other = subst (λ (ts : List Told). BeginsOtherwise (ts ++ rest)) (sym a.made) (λ start. start)
@@ -82,7 +82,7 @@ module _ (k : Clock) (m : Machine) (r : Reading) (p : Pace) (last : ℕ) where
   first-seen : (a b : Store) (xs ys : List Told) → KeepsRules m r last (Seen a ∷ xs) → KeepsRules m r last (Seen b ∷ ys) → ShowsReady k m r p a → ShowsReady k m r p b → a ≡ b
   first-seen a b xs ys keeps keeps' shown shown' = seen-once k m r p a b keeps.1 keeps'.1 shown shown'
 
-  installs-once : (x : HeldProgram) (xs rest ys rest' : List Told) → Installs k m r p x xs → Installs k m r p x ys → KeepsRules m r last (xs ++ rest) → KeepsRules m r last (ys ++ rest') → BeginsOtherwise rest → BeginsOtherwise rest' → xs ≡ ys
+  pub installs-once : (x : HeldProgram) (xs rest ys rest' : List Told) → Installs k m r p x xs → Installs k m r p x ys → KeepsRules m r last (xs ++ rest) → KeepsRules m r last (ys ++ rest') → BeginsOtherwise rest → BeginsOtherwise rest' → xs ≡ ys
   installs-once x xs rest ys rest' a b keeps keeps' other other' =
       a.made ∙ ap (λ (s : Store). Seen s ∷ Installed x ∷ a.rest) (first-seen a.seen b.seen (Installed x ∷ (a.rest ++ rest)) (Installed x ∷ (b.rest ++ rest')) keeps-a keeps-b a.shown b.shown)
       ∙ ap (λ (ts : List Told). Seen b.seen ∷ Installed x ∷ ts) (by (m.runs_once x.handler) refl) ∙ sym b.made where

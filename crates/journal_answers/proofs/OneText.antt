@@ -48,7 +48,7 @@ both-ways xs ys more more' is back =
     nothing-more xs ys more is (omega (arith, h, j))
 
 -- a tidy log is told by its journal
-log-once : (l l' : Log) → NumbersInOrder l → NumbersInOrder l' → journal_of l ≡ journal_of l' → IsSameLog l' l
+pub log-once : (l l' : Log) → NumbersInOrder l → NumbersInOrder l' → journal_of l ≡ journal_of l' → IsSameLog l' l
 log-once l l' tidy tidy' same =
     let on : GoesOn l l' = GoesOn-journal l l' [] tidy tidy' (sym same ∙ sym (append-nil (journal_of l))) in
     let back : GoesOn l' l = GoesOn-journal l' l [] tidy' tidy (same ∙ sym (append-nil (journal_of l'))) in

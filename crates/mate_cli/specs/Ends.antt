@@ -2,7 +2,7 @@
 use Rattle.std.specs.Prelude.{◌≡◌, ℕ, true, false, List, Option, Result, Ok, Err, ⊤, ◌⊎◌}
 use Rattle.mate_files.specs.Counts.{Rose}
 use Rattle.mate_files.specs.Sink.{Sent, SentPart}
-use Rattle.command_line.specs.Commands.{Task, Node, Table, Compile, Check, Expand, Says, SaysNothing}
+use Rattle.command_line.specs.Commands.{Task, Node, Sim, Gen, Table, Compile, Check, Expand, Says, SaysNothing}
 use Rattle.mate_refusals.specs.Refusals.{TellsRefusal}
 use Rattle.mate_refusals.specs.declared.status.Status.{Status}
 use Rattle.mate_refusals.specs.declared.status.Status.TheVariants.{Ok as AllDone}
@@ -12,6 +12,7 @@ use Rattle.mate_documents.specs.Check.{check}
 use Rattle.mate_documents.specs.Compile.{compile}
 use Rattle.mate_documents.specs.Expand.{expand}
 use Rattle.mate_cli.specs.Node.{node}
+use Rattle.mate_cli.specs.Worlds.{IsReportOfWorld, sim, made_run}
 use Rattle.mate_documents.specs.Documents.{document_text, is_full}
 use Rattle.mate_steps.specs.Parts.{Folder, IsUnreadAnswer}
 use Rattle.mate_steps.specs.Steps.{judged, ◌▸◌}
@@ -20,16 +21,16 @@ use Rattle.mate_documents.specs.declared.document.Document.{Document}
 use Rattle.mate_documents.specs.declared.output.Output.{Output}
 use Rattle.mate_documents.specs.declared.output.Output.TheVariants as output
 use Rattle.mate_journal.specs.NodeScript.{Whole, Full}
-use Rattle.mate_journal.specs.declared.program.Program.{Program}
 use Rattle.mate_journal.specs.declared.report.Report.{Report}
 use Rattle.report_text.specs.Text.{text}
 use Rattle.run_steps.specs.Running.{IsReportOf}
-use Rattle.run_steps.specs.Writing.{IsWrittenPart, IsNothingRun}
-use Rattle.script_reader.specs.Steps.{NodeScript}
+use Rattle.run_writing.specs.Writing.{OfRun, IsWrittenPart, IsNothingRun}
 use Rattle.vm_desc.specs.declared.description.Description.{Description}
 
 abbrev pub command : Folder → Task → Result Output Refusal → Type 0
 command f (Node fold brief vm script) = node f fold brief vm script
+command f (Sim fold brief vm script) = sim f fold brief vm script
+command f (Gen fold brief number vm) = made_run f fold brief number vm
 command f (Table vm) = opcode_table f vm
 command f (Compile fold vm h version name) = compile f fold vm h version name
 command f (Check vm name) = check f vm name
@@ -65,24 +66,26 @@ pub data IsDocumentWritten (x : Document) (s t : Sinks) (status : Status) : Type
   -- memory was wanting, and a prefix of the text was written
   wanting : SentPart s.out t.out (document_text x) → RefusesTo s t NoMemory status → IsDocumentWritten x s t status
 
--- How the writing of a run ends. Its report is that of the events that ended, and tidy.
-pub data IsRunWritten (d : Description) (script : NodeScript) (ps : List Program) (s t : Sinks) (status : Status) : Type 0 where
+-- How the writing of a run ends, on nodes of this machine, where these reports are of the run. Its report is that of the events that
+-- ended, and tidy.
+pub data IsRunWritten (d : Description) (Is : OfRun) (s t : Sinks) (status : Status) : Type 0 where
   -- the whole text of the report of the whole run was written, and nothing told
-  whole : (r : Report) → IsReportOf d script ps Whole r → Sent s.out t.out (text d r) → t.err ≡ s.err → status ≡ AllDone
-      → IsRunWritten d script ps s t status
+  whole : (r : Report) → Is Whole r → Sent s.out t.out (text d r) → t.err ≡ s.err → status ≡ AllDone
+      → IsRunWritten d Is s t status
   -- the log was full before a step, and the whole text of the report up to there was written
-  stopped : (r : Report) → IsReportOf d script ps Full r → Sent s.out t.out (text d r) → RefusesTo s t LogFull status
-      → IsRunWritten d script ps s t status
+  stopped : (r : Report) → Is Full r → Sent s.out t.out (text d r) → RefusesTo s t LogFull status
+      → IsRunWritten d Is s t status
   -- `out` failed, and a prefix of the report's text was written, with all lines of its events but those of the last one
-  unwritten : (r : Report) → IsWrittenPart d script ps s.out t.out r → Rose s.out_faults t.out_faults → RefusesTo s t SinkFault status
-      → IsRunWritten d script ps s t status
+  unwritten : (r : Report) → IsWrittenPart d Is s.out t.out r → Rose s.out_faults t.out_faults → RefusesTo s t SinkFault status
+      → IsRunWritten d Is s t status
   -- memory was wanting; such a prefix was written, or nothing was run
-  cut : (r : Report) → IsNothingRun s.out t.out r ⊎ IsWrittenPart d script ps s.out t.out r → RefusesTo s t NoMemory status
-      → IsRunWritten d script ps s t status
+  cut : (r : Report) → IsNothingRun s.out t.out r ⊎ IsWrittenPart d Is s.out t.out r → RefusesTo s t NoMemory status
+      → IsRunWritten d Is s t status
 
 abbrev pub IsOutputWritten : Output → Sinks → Sinks → Status → Type 0
 IsOutputWritten (output.Document x) s t status = IsDocumentWritten x s t status
-IsOutputWritten (output.Run d script ps) s t status = IsRunWritten d script ps s t status
+IsOutputWritten (output.Run d script ps) s t status = IsRunWritten d (IsReportOf d script ps) s t status
+IsOutputWritten (output.World d w ps) s t status = IsRunWritten d (IsReportOfWorld d w ps) s t status
 
 -- How a call ends, with the counts of the files' faults before it and after it.
 pub data CallEnds (f : Folder) (words : List (List ℕ)) (before now : ℕ) (s t : Sinks) (status : Status) : Type 0 where

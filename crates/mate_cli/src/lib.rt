@@ -1,8 +1,11 @@
 //! The top call of the program `mate`: from words and files to what is written.
 #![tactic(auto)]
 
+mod made;
 mod node;
+mod sim;
 pub mod top;
+mod worlds;
 mod writing;
 
 pub use mate_refusals::Status;

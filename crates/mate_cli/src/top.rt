@@ -6,7 +6,9 @@ ghost use Rattle.mate_cli.specs.Ends.{CallEnds, Owes, command};
 ghost use Rattle.mate_documents.specs.Outputs.{CanBeWritten};
 ghost use Rattle.mate_steps.specs.Parts.{ReadsFiles};
 
+use crate::made;
 use crate::node;
+use crate::sim;
 use crate::writing::write_output;
 use command_line::{Command, WordsFault, command_of};
 use mate_documents::{Output, check, compile, expand, table};
@@ -21,6 +23,8 @@ use std::alloc::Global;
 ///   text, the lines of each event when it ends, or with `--brief` its summary when the run has ended; with `--fold` sources
 ///   are folded before they are compiled. `LogFull` comes where the run met the limit of records before its end; what was
 ///   written then is of the run so far. After a fault of `out` no further event is run.
+/// - `sim VM WORLD` runs the world of the script in the file `WORLD` on nodes of such a machine, and writes its report likewise.
+/// - `gen NUMBER VM` does the same with the world of a number. No file is read but `VM`.
 /// - `table VM` writes the opcode table of such a machine.
 /// - `compile VM HANDLER VERSION SOURCE` writes the image of the source's capsule, in hexadecimal digits; with `--fold`
 ///   the source is folded before it is compiled.
@@ -74,6 +78,8 @@ fn task_output<F: Files>(alloc: Global, files: &mut F, task: Command<'_>) -> Res
 {
     match task {
         Command::Node(words) => node::output(alloc, files, words),
+        Command::Sim(words) => sim::output(alloc, files, words),
+        Command::Gen(words) => made::output(alloc, files, words),
         Command::Table { machine } => table::output(alloc, files, machine),
         Command::Compile(words) => compile::output(alloc, files, words),
         Command::Check { machine, capsule } => check::output(alloc, files, machine, capsule),

@@ -1,10 +1,14 @@
 //! The writing of an output, and its status.
 
+ghost use Rattle.mate_cli.specs.Worlds.{IsReportOfWorld};
+ghost use Rattle.run_steps.specs.Running.{IsReportOf};
+ghost use Rattle.node_programs.specs.WorldPrograms.{AreProgramsOfWorld};
 ghost use Rattle.mate_cli.specs.Ends.{IsDocumentWritten, IsOutputWritten, IsRunWritten};
 ghost use Rattle.mate_documents.specs.Outputs.{CanBeWritten};
 ghost use Rattle.mate_documents.specs.Documents.{HasText};
 ghost use Rattle.node_programs.specs.ScriptSteps.{AreProgramsOf};
 
+use hop_bound::scripts_keep_the_bound;
 use mate_documents::{Document, Output};
 use mate_files::{Sink, SinkFault};
 use mate_journal::Programs;
@@ -13,6 +17,10 @@ use run_steps::{WriteFault, write_steps};
 use script_reader::Steps;
 use std::alloc::Global;
 use vm_desc::Description;
+use world_reports::world_report_is_tidy;
+use world_script::World;
+use world_sim::write_world;
+use world_sources::worlds_hold_by_their_sources;
 
 /// Writes an output.
 #[inline(never)]
@@ -31,6 +39,9 @@ pub(crate) fn write_output<S: Sink, E: Sink>(
         Output::Document(document) => write_document(document, out, err),
         Output::Run(machine, script, programs) => {
             write_run(alloc, machine.description(), script, programs, out, err)
+        }
+        Output::World(machine, world, programs) => {
+            run_world(alloc, machine.description(), world, programs, out, err)
         }
     }
 }
@@ -62,7 +73,7 @@ fn write_run<S: Sink, E: Sink>(
     err: &mut E,
 ) -> Status
     requires { AreProgramsOf desc.now script.now programs.now }
-    ensures { IsRunWritten desc.now script.now programs.now
+    ensures { IsRunWritten desc.now (IsReportOf desc.now script.now programs.now)
         (record { out = S.written out.old; out_faults = S.faults out.old; err = E.written err.old; err_faults = E.faults err.old })
         (record { out = S.written out.new; out_faults = S.faults out.new; err = E.written err.new; err_faults = E.faults err.new }) result }
 {
@@ -71,5 +82,31 @@ fn write_run<S: Sink, E: Sink>(
         Err(WriteFault::LogFull) => Refusal::LogFull.refuse(err),
         Err(WriteFault::Sink) => Refusal::SinkFault.refuse(err),
         Err(WriteFault::NoMemory) => Refusal::NoMemory.refuse(err),
+    }
+}
+
+/// Runs a world, and writes the lines of each event when it ends. After a fault of `out` no further event is run.
+#[inline(never)]
+fn run_world<S: Sink, E: Sink>(
+    alloc: Global,
+    desc: &Description,
+    world: &World,
+    programs: &Programs,
+    out: &mut S,
+    err: &mut E,
+) -> Status
+    requires { AreProgramsOfWorld desc.now world.now programs.now }
+    ensures { IsRunWritten desc.now (IsReportOfWorld desc.now world.now programs.now)
+        (record { out = S.written out.old; out_faults = S.faults out.old; err = E.written err.old; err_faults = E.faults err.old })
+        (record { out = S.written out.new; out_faults = S.faults out.new; err = E.written err.new; err_faults = E.faults err.new }) result }
+{
+    scripts_keep_the_bound();
+    world_report_is_tidy();
+    worlds_hold_by_their_sources();
+    match write_world(alloc, desc, world, programs, out) {
+        Ok(()) => Status::Ok,
+        Err(run_writing::WriteFault::LogFull) => Refusal::LogFull.refuse(err),
+        Err(run_writing::WriteFault::Sink) => Refusal::SinkFault.refuse(err),
+        Err(run_writing::WriteFault::NoMemory) => Refusal::NoMemory.refuse(err),
     }
 }

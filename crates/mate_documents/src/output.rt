@@ -4,6 +4,7 @@ use crate::boxed_machine::BoxedMachine;
 use crate::document::Document;
 use mate_journal::Programs;
 use script_reader::Steps;
+use world_script::World;
 
 /// What a command is to write to standard output, when all that it needs was read and found right.
 pub enum Output {
@@ -12,6 +13,8 @@ pub enum Output {
     /// The report of the run of a script on this machine, with the programs of its files: it is run and written, event by
     /// event.
     Run(BoxedMachine, Steps, Programs),
+    /// The report of the run of a world on nodes of this machine, with the programs of its files: likewise.
+    World(BoxedMachine, World, Programs),
 }
 
 /// What is to be dropped of it is dropped in one function, and so by one call wherever an output ends.
@@ -20,6 +23,7 @@ impl Drop for Output {
         match self {
             Output::Document(_document) => {}
             Output::Run(_machine, _script, _programs) => {}
+            Output::World(_machine, _world, _programs) => {}
         }
     }
 }

@@ -2,17 +2,22 @@
 ghost use Rattle.std.specs.Prelude.{◌≡◌, ℕ, ◌≤◌, Bool, Option, IsTrue, IsSome};
 ghost use Rattle.mate_files.specs.Files.{Names, ReadGives};
 
+use thiserror::Error;
+
 /// The greatest number of bytes that a file may have to be read.
 pub const FILE_MAX: usize = 1_048_576;
 
 /// Why a file wasn't read.
-#[derive(Clone, Copy)]
+#[derive(Clone, Copy, Debug, Error)]
 pub enum FilesFault {
     /// The file could not be read, or there is none of that name.
+    #[error("the file can't be read")]
     Failed,
     /// The file has more than `FILE_MAX` bytes. `len` is how many it has, as far as that is known.
+    #[error("the file has {len} bytes, which are too many")]
     TooLarge { len: u64 },
     /// No memory was left for the bytes.
+    #[error("no memory is left")]
     NoMemory,
 }
 

@@ -2,12 +2,16 @@
 ghost use Rattle.std.specs.Prelude.{◌≡◌, ℕ, ◌≤◌, List, Option};
 ghost use Rattle.mate_files.specs.Sink.{Writes, HasCause};
 
+use thiserror::Error;
+
 /// Why a sink didn't take all of a piece. A prefix of the piece was appended.
-#[derive(Clone, Copy, Debug)]
+#[derive(Clone, Copy, Debug, Error)]
 pub enum SinkFault {
     /// The sink could not be written.
+    #[error("the sink can't be written")]
     Failed,
     /// No memory was left for the bytes.
+    #[error("no memory is left")]
     NoMemory,
 }
 

@@ -20,4 +20,4 @@ pub use code_laws::{compiled_code_is_verified, locks_of_compiled_code};
 pub use expansion::expansion_of;
 pub use parts::{machine_of, read_file};
 pub use refusal::SourceRefusal;
-pub use source::{accepted, source_of};
+pub use source::{accepted, compiled_bytes, source_of};

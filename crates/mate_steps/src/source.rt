@@ -33,7 +33,7 @@ pub fn source_of<F: Files>(
 
 /// That of the bytes of the source `name`.
 #[inline(never)]
-fn compiled_bytes(
+pub fn compiled_bytes(
     alloc: Global,
     desc: &Description,
     fold: bool,

@@ -1,3 +1,4 @@
 pub mod Right
 pub mod Sources
 pub mod ScriptSteps
+pub mod WorldPrograms

@@ -3,7 +3,7 @@
 ghost use Rattle.std.specs.Prelude.{◌≡◌, ◌↔◌, length, slice_get, All, IfOk, IfSome, IsSomeAnd, IsTrue};
 ghost use Rattle.node_programs.specs.Right.{AreRightPrograms};
 ghost use Rattle.world_script.specs.declared.world.Planned.{Planned as PlannedEvent};
-ghost use Rattle.world_states.specs.Sound.{IsProgramOfWhat};
+ghost use Rattle.node_programs.specs.WorldPrograms.{IsProgramOfWhat};
 
 use mate_journal::Programs;
 use mate_num::HandlerId;

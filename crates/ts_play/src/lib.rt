@@ -7,4 +7,4 @@ pub mod run;
 mod statements;
 mod values;
 
-pub use run::play;
+pub use run::{Played, play};

@@ -10,6 +10,9 @@ use mate_num::{End, NoMemory, Outcome, Payload, Store};
 use std::alloc::Global;
 use ts_syntax::Checked;
 
+/// What a run leaves: its end, its store and its calls in their order.
+pub type Played = Outcome;
+
 /// Runs `script` on `store`, with the message `msg`, with `answers` to its calls in their order, and with
 /// `turns` goings back of its loops. `NoMemory` comes only where memory for the list of calls is refused.
 pub fn play(
@@ -19,7 +22,7 @@ pub fn play(
     msg: &Payload,
     answers: &[i16],
     turns: u32,
-) -> Result<Outcome, NoMemory>
+) -> Result<Played, NoMemory>
     ensures gives { let run = run_of (tree_of script.now) store.now msg.now answers.now turns in
         IfOk result (λ outcome. outcome ≡ run) }
 

@@ -1,6 +1,6 @@
 //! Checked expressions: each name is resolved to its number.
 
-ghost use Rattle.std.specs.Prelude.{◌≡◌, ◌∷◌, ◌++◌, [], length, OnErr, OnOk};
+ghost use Rattle.std.specs.Prelude.{◌≡◌, ◌∷◌, ◌++◌, [], length, map, OnErr, OnOk, slice_get, option_map};
 
 use crate::bin_op::BinOp;
 use mate_num::{BufId, FunId, NoMemory, VarId};
@@ -78,6 +78,19 @@ impl CArgs {
         ensures { result ≡ length (args_trees self.now) }
     {
         self.items.len()
+    }
+
+    /// The argument at `index`, from 0; None exactly from the length on.
+    pub fn get(&self, index: usize) -> Option<&CExpr>
+        ensures { option_map (λ e. expr_tree e.now) result ≡ slice_get (args_trees self.now) index }
+    {
+        self.items.get(index)
+    }
+
+    pub fn as_slice(&self) -> &[CExpr]
+        ensures { map expr_tree result.now ≡ args_trees self.now }
+    {
+        self.items.as_slice()
     }
 
     /// Appends an argument. `NoMemory` leaves the arguments as they were.

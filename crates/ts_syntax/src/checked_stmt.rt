@@ -1,6 +1,6 @@
 //! Checked statements: each name is resolved to its number.
 
-ghost use Rattle.std.specs.Prelude.{◌≡◌, ◌∷◌, ◌++◌, [], OnErr, OnOk};
+ghost use Rattle.std.specs.Prelude.{◌≡◌, ◌∷◌, ◌++◌, [], length, map, OnErr, OnOk, slice_get, option_map};
 
 use crate::checked_expr::{CArgs, CExpr};
 use mate_num::{BufId, FunId, NoMemory, VarId};
@@ -99,6 +99,25 @@ impl CBlock {
         CBlock {
             items: Vec::new(alloc),
         }
+    }
+
+    pub fn len(&self) -> usize
+        ensures { result ≡ length (block_trees self.now) }
+    {
+        self.items.len()
+    }
+
+    /// The statement at `index`, from 0; None exactly from the length on.
+    pub fn get(&self, index: usize) -> Option<&CStmt>
+        ensures { option_map (λ s. stmt_tree s.now) result ≡ slice_get (block_trees self.now) index }
+    {
+        self.items.get(index)
+    }
+
+    pub fn as_slice(&self) -> &[CStmt]
+        ensures { map stmt_tree result.now ≡ block_trees self.now }
+    {
+        self.items.as_slice()
     }
 
     /// Appends a statement. `NoMemory` leaves the block as it was.

@@ -4,7 +4,7 @@ ghost use Rattle.std.specs.Prelude.{List, OnOk};
 ghost use Rattle.world_rules.specs.Cause.{Cause};
 ghost use Rattle.world_rules.specs.State.{Moment};
 ghost use Rattle.world_states.specs.Coming.{code_world};
-ghost use Rattle.world_states.specs.Sound.{AreProgramsOfWorld};
+ghost use Rattle.node_programs.specs.WorldPrograms.{AreProgramsOfWorld};
 ghost use Rattle.world_event.specs.Performing.{MayPerform, Performed};
 
 use crate::finish::finish;

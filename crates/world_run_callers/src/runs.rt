@@ -4,7 +4,7 @@ ghost use Rattle.std.specs.Prelude.{◌≡◌, ◌≤◌, suc, slice_get, IsSome
 ghost use Rattle.mate_journal.specs.declared.report.Report.{Report as Reported};
 ghost use Rattle.mate_journal.specs.declared.report.RunFault.TheVariants.{LogFull};
 ghost use Rattle.world_states.specs.Coming.{code_world};
-ghost use Rattle.world_states.specs.Sound.{AreProgramsOfWorld};
+ghost use Rattle.node_programs.specs.WorldPrograms.{AreProgramsOfWorld};
 ghost use Rattle.world_run_callers.specs.Runs.{CameWithRoom, EndsSeen, IsFullBehind};
 
 use mate_journal::{Programs, Report, RunFault};

@@ -3,3 +3,5 @@ pub mod ReportLemmas
 pub mod StepLemmas
 pub mod RunLemmas
 pub mod WorldLemmas
+pub mod WritingLemmas
+pub mod EndingLemmas

@@ -45,7 +45,7 @@ full-log : (w : World) (ms : List Moment) (k : ℕ) (m : Mote) → IsMoteAfter w
 full-log w ms k m is = record { last = []; ends = refl; journal_is = is.journal ∙ sym (append-nil (journal w k ms)) }
 
 -- with its store seen at the end
-whole-log : (d : Description) (script : Script) (ps : List Program) (ms : List Moment) (at : Stamp) (k : ℕ) (old new : Mote) → at ≡ record { event = suc (length ms); time = script.until } → IsMoteAfter (code_world d script ps) ms k old → ShowsOneStore at old new
+pub whole-log : (d : Description) (script : Script) (ps : List Program) (ms : List Moment) (at : Stamp) (k : ℕ) (old new : Mote) → at ≡ record { event = suc (length ms); time = script.until } → IsMoteAfter (code_world d script ps) ms k old → ShowsOneStore at old new
     → IsJournalOf (code_world d script ps) Whole ms k (journal_of new.node.log)
 whole-log d script ps ms at k old new stamp is shows =
     let turns = shows.tells.paces ((state (code_world d script ps) ms).nodes k).pace is.is.pace in
@@ -63,7 +63,7 @@ whole-log d script ps ms at k old new stamp is shows =
 
 -- ---- all of them
 
-some-at : {X : Type 0} (P : X → Type 0) (xs : List X) (k : ℕ) (x : X) → k < length xs → IsSomeAnd (slice_get xs k) P → P (get_or xs k x)
+pub some-at : {X : Type 0} (P : X → Type 0) (xs : List X) (k : ℕ) (x : X) → k < length xs → IsSomeAnd (slice_get xs k) P → P (get_or xs k x)
 some-at P xs k x below is = subst (λ o. IsSomeAnd o P) (slice_get-get_or xs k x below) is
 
 -- each node is of the machine

@@ -4,5 +4,7 @@
 mod report;
 pub mod running;
 mod simulation;
+pub mod writing;
 
 pub use running::run;
+pub use writing::write_world;

@@ -1,6 +1,6 @@
 //! The run of a world.
 
-ghost use Rattle.world_states.specs.Sound.{AreProgramsOfWorld};
+ghost use Rattle.node_programs.specs.WorldPrograms.{AreProgramsOfWorld};
 ghost use Rattle.world_sim.specs.Running.{WorldRunGives};
 
 use crate::report::{report_of, see_stores};

@@ -9,9 +9,10 @@ ghost use Rattle.world_air.specs.Changes.{AddsToAir};
 ghost use Rattle.world_air.specs.Starting.{beginning, first_items};
 ghost use Rattle.world_step.specs.Motes.{BeginsMote};
 ghost use Rattle.world_states.specs.Coming.{code_world};
-ghost use Rattle.world_states.specs.Sound.{AreProgramsOfWorld};
+ghost use Rattle.node_programs.specs.WorldPrograms.{AreProgramsOfWorld};
 ghost use Rattle.world_sim.specs.Starting.{HaveBegun};
 ghost use Rattle.world_sim.specs.Running.{StandsAfter, StandsAtNext, NamesPart, named_node};
+ghost use Rattle.world_sim.specs.Writing.{AddsEvent, AreKept};
 
 use mate_journal::Programs;
 use mate_num::{NoMemory, Stamp};
@@ -23,6 +24,15 @@ use world_event::perform;
 use world_script::World;
 use world_states::states_are_sound;
 use world_step::Mote;
+use world_text::text_grows_by_events;
+
+/// Where an event's lines begin: at a position of what happened on the air, and at one of its node's entries.
+#[derive(Clone, Copy)]
+pub(crate) struct Piece {
+    pub(crate) node: u8,
+    pub(crate) air: usize,
+    pub(crate) entries: usize,
+}
 
 /// A world between two of its events.
 #[derive(Drop)]
@@ -54,7 +64,7 @@ impl Simulation {
         })
     }
 
-    /// The event comes, with this stamp.
+    /// The event comes, with this stamp. It answers where its lines begin.
     pub(crate) fn step(
         &mut self,
         desc: &Description,
@@ -62,12 +72,15 @@ impl Simulation {
         programs: &Programs,
         event: &Event,
         at: Stamp,
-    ) -> Result<(), NoMemory>
+    ) -> Result<Piece, NoMemory>
         requires right { AreProgramsOfWorld desc.now world.now programs.now }
         requires stands { StandsAtNext (code_world desc.now world.now programs.now) event.now at self.old }
-        ensures { OnOk result (StandsAfter (code_world desc.now world.now programs.now) at.event self.new) }
+        ensures stands { OnOk result (StandsAfter (code_world desc.now world.now programs.now) at.event self.new) }
+        ensures adds { IfOk result (AddsEvent at.event self.old self.new) }
+        ensures kept { OnOk result (AreKept self.old.motes.items → AreKept self.new.motes.items) }
     {
         states_are_sound();
+        text_grows_by_events();
         let number = node_of(world, event);
         let mote = &mut self.motes[usize::from(number)];
         let entries = mote.node.log().entries().len();
@@ -85,7 +98,11 @@ impl Simulation {
         let told = mote.node.log().entries().len() - entries;
         let aired = self.radio.air().len() - air;
         self.records += told + aired;
-        Ok(())
+        Ok(Piece {
+            node: number,
+            air,
+            entries,
+        })
     }
 }
 

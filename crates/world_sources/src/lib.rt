@@ -9,7 +9,7 @@ ghost use Rattle.mate_journal.specs.declared.report.Report.{Report};
 ghost use Rattle.world_script.specs.declared.world.World.{World as Script};
 ghost use Rattle.world_rules.specs.Report.{IsWorldReport};
 ghost use Rattle.world_states.specs.Coming.{code_world};
-ghost use Rattle.world_states.specs.Sound.{AreProgramsOfWorld};
+ghost use Rattle.node_programs.specs.WorldPrograms.{AreProgramsOfWorld};
 ghost use Rattle.world_sources.specs.SourceWorld.{source_world};
 
 /// Where a script's programs are right, a report of the world whose nodes run their code is one of the world in which they mean

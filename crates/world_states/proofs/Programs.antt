@@ -30,7 +30,7 @@ use Rattle.world_images.specs.Versions.{InjectsAt}
 use Rattle.hop_bound.specs.Premises.{IsInjectedProgram, IsRightScript}
 use Rattle.hop_bound.proofs.Premises.{injected_are_versions}
 use Rattle.world_states.specs.Coming.{code_world}
-use Rattle.world_states.specs.Sound.{IsProgramOfWhat, AreProgramsOfWorld}
+use Rattle.node_programs.specs.WorldPrograms.{IsProgramOfWhat, AreProgramsOfWorld}
 use Rattle.world_states.proofs.Heard.{AreProgramsFit}
 
 -- ---- the programs of lines

@@ -28,7 +28,8 @@ use Rattle.world_images.proofs.Versions.{run-injected}
 use Rattle.hop_bound.specs.HopBound.{IsRightPlan}
 use Rattle.hop_bound.proofs.Premises.{right_set, plans_rightly, scripts_installs_are_newer}
 use Rattle.world_states.specs.Coming.{code_world, IsTaken, AwaitsAlone, IsExpected}
-use Rattle.world_states.specs.Sound.{AreProgramsOfWorld, AreOfNodes, HaveFitMessages, HasWellFormed, NextMayCome, NodesAreSound, DuesAreOfNodes}
+use Rattle.node_programs.specs.WorldPrograms.{AreProgramsOfWorld}
+use Rattle.world_states.specs.Sound.{AreOfNodes, HaveFitMessages, HasWellFormed, NextMayCome, NodesAreSound, DuesAreOfNodes}
 use Rattle.world_states.proofs.Placed.{IsPlaced, HasEnds, placed-node, run-placed, script-ends}
 use Rattle.world_states.proofs.Follows.{few-contexts, run-apart, run-small}
 use Rattle.world_states.proofs.Awaited.{run-awaited}

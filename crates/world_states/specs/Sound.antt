@@ -4,7 +4,7 @@ use Rattle.vm_desc.specs.declared.description.Description.{Description}
 use Rattle.mate_journal.specs.Journal.{nothing_heard}
 use Rattle.mate_journal.specs.WellFormed.{IsWellFormed}
 use Rattle.mate_journal.specs.declared.program.Program.{Program}
-use Rattle.node_programs.specs.Right.{AreRightPrograms}
+use Rattle.node_programs.specs.WorldPrograms.{AreProgramsOfWorld}
 use Rattle.world_script.specs.declared.world.World.{World as Script}
 use Rattle.world_script.specs.declared.world.Planned.{Planned}
 use Rattle.world_script.specs.declared.world.What.{What}
@@ -20,18 +20,6 @@ use Rattle.world_rules.specs.Run.{IsNext, HaveCome, journal}
 use Rattle.world_air.specs.Air.{AreFitPackets}
 use Rattle.world_laws.specs.Times.{last_time}
 use Rattle.world_states.specs.Coming.{MayComeTo}
-
--- the program of an injection has the handler and the version of its line
-abbrev pub IsProgramOfWhat : List Program → What → Type 0
-IsProgramOfWhat ps (what.Inject program handler version) = IsSomeAnd (slice_get ps program) (λ p. (p.handler ≡ handler) × (p.version ≡ version))
-IsProgramOfWhat ps _ = ⊤
-
--- a world can be run with the programs: both are right for the description, there is a program for each file, and each is of its line
-pub record AreProgramsOfWorld (d : Description) (script : Script) (ps : List Program) : Type 0 where
-  pub world : IsRightWorld d script
-  pub programs : AreRightPrograms d ps
-  pub count : length ps ≡ length script.files
-  pub each : All (λ (p : Planned). IsProgramOfWhat ps p.what) script.events
 
 -- a node between events: those that wait do so apart, in contexts of a machine; its interval began before; and nothing that is complete
 -- waits to be installed

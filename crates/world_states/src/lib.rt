@@ -6,7 +6,8 @@ ghost use Rattle.vm_desc.specs.declared.description.Description.{Description};
 ghost use Rattle.mate_journal.specs.declared.program.Program.{Program};
 ghost use Rattle.world_script.specs.declared.world.World.{World as Script};
 ghost use Rattle.world_states.specs.Coming.{code_world};
-ghost use Rattle.world_states.specs.Sound.{AreProgramsOfWorld, NextMayCome, NodesAreSound, DuesAreOfNodes};
+ghost use Rattle.node_programs.specs.WorldPrograms.{AreProgramsOfWorld};
+ghost use Rattle.world_states.specs.Sound.{NextMayCome, NodesAreSound, DuesAreOfNodes};
 
 /// In a right world with right programs, whatever event is due next finds what it needs: its line, handler, context or link is
 /// there, an answer comes to the one invocation that waits in its context, a packet is right for the machine, an interval ends at

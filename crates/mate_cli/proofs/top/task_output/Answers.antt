@@ -10,6 +10,16 @@ returns-in-Node-clause-does g c =
     let f : Folder = record { told = g.F.Files.contents c.args.files.now; steady = g.F.Files.steady c.args.files.now } in
     subst (λ (t : Command). command f (task_held t) c.output.result) (sym c.in-Node.is) c.output.ensures.does
 
+pub returns-in-Sim-clause-does : goal.returns-in-Sim-clause-does
+returns-in-Sim-clause-does g c =
+    let f : Folder = record { told = g.F.Files.contents c.args.files.now; steady = g.F.Files.steady c.args.files.now } in
+    subst (λ (t : Command). command f (task_held t) c.output-in-Sim.result) (sym c.in-Sim.is) c.output-in-Sim.ensures.does
+
+pub returns-in-Gen-clause-does : goal.returns-in-Gen-clause-does
+returns-in-Gen-clause-does g c =
+    let f : Folder = record { told = g.F.Files.contents c.args.files.now; steady = g.F.Files.steady c.args.files.now } in
+    subst (λ (t : Command). command f (task_held t) c.output-in-Gen.result) (sym c.in-Gen.is) c.output-in-Gen.ensures.does
+
 pub returns-in-Table-clause-does : goal.returns-in-Table-clause-does
 returns-in-Table-clause-does g c =
     let f : Folder = record { told = g.F.Files.contents c.args.files.now; steady = g.F.Files.steady c.args.files.now } in
@@ -35,6 +45,18 @@ returns-in-Node-clause-reads g c = c.output.ensures.reads
 
 pub returns-in-Node-clause-writable : goal.returns-in-Node-clause-writable
 returns-in-Node-clause-writable g c = c.output.ensures.writable
+
+pub returns-in-Sim-clause-reads : goal.returns-in-Sim-clause-reads
+returns-in-Sim-clause-reads g c = c.output-in-Sim.ensures.reads
+
+pub returns-in-Sim-clause-writable : goal.returns-in-Sim-clause-writable
+returns-in-Sim-clause-writable g c = c.output-in-Sim.ensures.writable
+
+pub returns-in-Gen-clause-reads : goal.returns-in-Gen-clause-reads
+returns-in-Gen-clause-reads g c = c.output-in-Gen.ensures.reads
+
+pub returns-in-Gen-clause-writable : goal.returns-in-Gen-clause-writable
+returns-in-Gen-clause-writable g c = c.output-in-Gen.ensures.writable
 
 pub returns-in-Table-clause-reads : goal.returns-in-Table-clause-reads
 returns-in-Table-clause-reads g c = c.output-in-Table.ensures.reads

@@ -4,6 +4,9 @@ use Rattle.vm_desc.specs.declared.description.Description.{Description}
 use Rattle.mate_documents.specs.Outputs.{CanBeWritten}
 use Rattle.mate_documents.specs.declared.output.Output.{Output}
 use Rattle.node_programs.specs.ScriptSteps.{AreProgramsOf}
+use Rattle.run_steps.specs.Running.{IsReportOf}
+use Rattle.node_programs.specs.WorldPrograms.{AreProgramsOfWorld}
+use Rattle.mate_cli.specs.Worlds.{IsReportOfWorld}
 use Rattle.mate_cli.proofs.writing.write_output.Goals as goal
 
 pub returns-in-Run : goal.returns-in-Run
@@ -21,7 +24,24 @@ returns-in-Run g c =
       err_faults = g.E.Sink.faults c.write_run.new.err;
     } in
     subst (λ (o : Output). IsOutputWritten o s t c.write_run.result) (sym c.in-Run.is)
-    (subst (λ (d : Description). IsRunWritten d c.in-Run.script c.in-Run.programs s t c.write_run.result) c.description.ensures c.write_run.ensures)
+    (subst (λ (d : Description). IsRunWritten d (IsReportOf d c.in-Run.script c.in-Run.programs) s t c.write_run.result) c.description.ensures c.write_run.ensures)
+
+pub returns-in-World : goal.returns-in-World
+returns-in-World g c =
+    let s : Sinks = record {
+      out = g.S.Sink.written c.args.out.now;
+      out_faults = g.S.Sink.faults c.args.out.now;
+      err = g.E.Sink.written c.args.err.now;
+      err_faults = g.E.Sink.faults c.args.err.now;
+    } in
+    let t : Sinks = record {
+      out = g.S.Sink.written c.run_world.new.out;
+      out_faults = g.S.Sink.faults c.run_world.new.out;
+      err = g.E.Sink.written c.run_world.new.err;
+      err_faults = g.E.Sink.faults c.run_world.new.err;
+    } in
+    subst (λ (o : Output). IsOutputWritten o s t c.run_world.result) (sym c.in-World.is)
+    (subst (λ (d : Description). IsRunWritten d (IsReportOfWorld d c.in-World.world c.in-World.programs) s t c.run_world.result) c.description-in-World.ensures c.run_world.ensures)
 
 pub returns-in-Document : goal.returns-in-Document
 returns-in-Document g c =
@@ -45,3 +65,7 @@ write_document-requires g c = subst CanBeWritten c.in-Document.is c.requires
 pub write_run-requires : goal.write_run-requires
 write_run-requires g c =
     subst (λ (d : Description). AreProgramsOf d c.in-Run.script c.in-Run.programs) (sym c.description.ensures) (subst CanBeWritten c.in-Run.is c.requires)
+
+pub run_world-requires : goal.run_world-requires
+run_world-requires g c =
+    subst (λ (d : Description). AreProgramsOfWorld d c.in-World.world c.in-World.programs) (sym c.description-in-World.ensures) (subst CanBeWritten c.in-World.is c.requires)

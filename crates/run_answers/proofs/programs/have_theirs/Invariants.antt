@@ -1,6 +1,6 @@
 use Rattle.std.proofs.Common.{take, All}
 use Rattle.world_script.specs.declared.world.Planned.{Planned}
-use Rattle.world_states.specs.Sound.{IsProgramOfWhat}
+use Rattle.node_programs.specs.WorldPrograms.{IsProgramOfWhat}
 use Rattle.run_answers.proofs.programs.have_theirs.Given as goal
 
 abbrev pub invariant-loop-planned : goal.invariant-loop-planned

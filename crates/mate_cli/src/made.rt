@@ -1,0 +1,45 @@
+//! The command `gen`.
+
+ghost use Rattle.std.specs.Prelude.{◌≡◌, IfOk, IfErr};
+ghost use Rattle.mate_cli.specs.Worlds.{made_run, run_of_number};
+ghost use Rattle.mate_documents.specs.Outputs.{CanBeWritten};
+ghost use Rattle.mate_refusals.specs.declared.refusal.Refusal.TheVariants.{NoMemory};
+ghost use Rattle.mate_steps.specs.Parts.{ReadsFiles};
+
+use crate::worlds::world_output;
+use command_line::MadeRun;
+use mate_documents::{BoxedMachine, Output};
+use mate_files::Files;
+use mate_refusals::Refusal;
+use std::alloc::Global;
+use world_programs::made_world;
+
+/// The report of the run of a number's world, or its summary.
+#[inline(never)]
+pub fn output<F: Files>(
+    alloc: Global,
+    files: &mut F,
+    words: MadeRun<'_>,
+) -> Result<Output, Refusal>
+    ensures does { made_run (record { told = F.contents files.old; steady = F.steady files.old }) words.entry.fold words.entry.brief words.entry.number words.entry.machine.now result }
+    ensures reads { ReadsFiles (F.contents files.old) (F.steady files.old) (F.faults files.old) (F.contents files.new) (F.steady files.new) (F.faults files.new) result }
+    ensures writable { IfOk result CanBeWritten }
+{
+    let machine = BoxedMachine::named(alloc, files, words.machine)?;
+    run_of_number(alloc, machine, words)
+}
+
+/// That of the world of a number on this machine.
+#[inline(never)]
+fn run_of_number(
+    alloc: Global,
+    machine: BoxedMachine,
+    words: MadeRun<'_>,
+) -> Result<Output, Refusal>
+    ensures does { run_of_number words.entry.fold words.entry.brief machine words.entry.number result }
+    ensures memory { IfErr result (λ r. r ≡ NoMemory) }
+    ensures writable { IfOk result CanBeWritten }
+{
+    let made = made_world(alloc, machine.description(), words.fold, words.number)?;
+    world_output(alloc, words.brief, machine, made.world, made.programs)
+}

@@ -1,0 +1,47 @@
+//! The command `sim`.
+
+ghost use Rattle.std.specs.Prelude.{IfOk};
+ghost use Rattle.mate_cli.specs.Worlds.{sim, run_of_world};
+ghost use Rattle.mate_documents.specs.Outputs.{CanBeWritten};
+ghost use Rattle.mate_steps.specs.Parts.{ReadsFiles};
+
+use crate::worlds::world_output;
+use command_line::ScriptRun;
+use mate_documents::{BoxedMachine, Output};
+use mate_files::Files;
+use mate_refusals::Refusal;
+use std::alloc::Global;
+use world_programs::{programs_of_world, world_of};
+
+/// The report of the run of a script's world, or its summary.
+#[inline(never)]
+pub fn output<F: Files>(
+    alloc: Global,
+    files: &mut F,
+    words: ScriptRun<'_>,
+) -> Result<Output, Refusal>
+    ensures does { sim (record { told = F.contents files.old; steady = F.steady files.old }) words.entry.fold words.entry.brief words.entry.machine.now words.entry.script.now result }
+    ensures reads { ReadsFiles (F.contents files.old) (F.steady files.old) (F.faults files.old) (F.contents files.new) (F.steady files.new) (F.faults files.new) result }
+    ensures writable { IfOk result CanBeWritten }
+{
+    let machine = BoxedMachine::named(alloc, files, words.machine)?;
+    run_of_world(alloc, files, machine, words)
+}
+
+/// That of the world of the script in a file on this machine.
+#[inline(never)]
+fn run_of_world<F: Files>(
+    alloc: Global,
+    files: &mut F,
+    machine: BoxedMachine,
+    words: ScriptRun<'_>,
+) -> Result<Output, Refusal>
+    ensures does { run_of_world (record { told = F.contents files.old; steady = F.steady files.old }) words.entry.fold words.entry.brief machine words.entry.script.now result }
+    ensures reads { ReadsFiles (F.contents files.old) (F.steady files.old) (F.faults files.old) (F.contents files.new) (F.steady files.new) (F.faults files.new) result }
+    ensures writable { IfOk result CanBeWritten }
+{
+    let desc = machine.description();
+    let world = world_of(alloc, files, desc, words.script)?;
+    let programs = programs_of_world(alloc, files, desc, words.fold, &world)?;
+    world_output(alloc, words.brief, machine, world, programs)
+}

@@ -1,0 +1,35 @@
+use Rattle.std.proofs.Common.{◌<◌, length, subst, arith}
+use Rattle.world_states.specs.Coming.{code_world}
+use Rattle.world_sim.specs.Writing.{AreKept}
+use Rattle.world_sim.proofs.WritingLemmas.{first-mote, at-mote}
+use Rattle.world_sim.proofs.EndingLemmas.{start-goes, start-fails}
+use Rattle.world_sim.proofs.writing.write_start.Goals as goal
+
+pub write_piece-requires : goal.write_piece-requires
+write_piece-requires g c =
+    let count = c.requires.stands.nodes in
+    let some = c.requires.right.world.nodes_low in
+    let low : 0 < length c.args.sim.now.motes.items = omega (arith, count, some) in
+    record { mote = first-mote c.args.sim.now.motes.items 0 low; found = at-mote c.args.sim.now.motes.items 0 low; air = omega arith; entries = omega arith }
+
+pub returns-in-Ok : goal.returns-in-Ok
+returns-in-Ok g c =
+    let count = c.requires.stands.nodes in
+    let some = c.requires.right.world.nodes_low in
+    let low : 0 < length c.args.sim.now.motes.items = omega (arith, count, some) in
+    let m = first-mote c.args.sim.now.motes.items 0 low in
+    let found = at-mote c.args.sim.now.motes.items 0 low in (
+      subst AreKept c.as_slice.ensures.value c.logs_are_kept.ensures,
+      start-goes c.args.desc.now c.args.world.now c.args.programs.now (c.text_grows_by_events.ensures.starts (code_world c.args.desc.now c.args.world.now c.args.programs.now)) c.args.sim.now c.requires.stands m found _ _ _ _
+      (c.in-Ok.ensures m found),
+    )
+
+pub returns-in-Err : goal.returns-in-Err
+returns-in-Err g c =
+    let count = c.requires.stands.nodes in
+    let some = c.requires.right.world.nodes_low in
+    let low : 0 < length c.args.sim.now.motes.items = omega (arith, count, some) in
+    let m = first-mote c.args.sim.now.motes.items 0 low in
+    let found = at-mote c.args.sim.now.motes.items 0 low in
+    start-fails c.args.desc.now c.args.world.now c.args.programs.now (c.text_grows_by_events.ensures.starts (code_world c.args.desc.now c.args.world.now c.args.programs.now)) c.args.sim.now c.requires.stands m found
+    (subst AreKept c.as_slice.ensures.value c.logs_are_kept.ensures) c.in-Err.fault c.stopped.result _ _ _ _ (c.in-Err.ensures m found) c.stopped.ensures

@@ -1,0 +1,245 @@
+//! The run of a world whose lines are written as its events end.
+
+ghost use Rattle.std.specs.Prelude.{◌≡◌, ◌≤◌, ◌<◌, ◌*◌, ◌^◌, length, drop, sum_by, slice_get, All, Some};
+ghost use Rattle.mate_files.specs.Sink.{Puts};
+ghost use Rattle.mate_journal.specs.NodeScript.{Whole, Full};
+ghost use Rattle.report_text.specs.Text.{event_piece};
+ghost use Rattle.run_writing.specs.Writing.{WritesRun, last_line};
+ghost use Rattle.world_rules.specs.Report.{IsWorldReport};
+ghost use Rattle.world_states.specs.Coming.{code_world};
+ghost use Rattle.node_programs.specs.WorldPrograms.{AreProgramsOfWorld};
+ghost use Rattle.world_step.specs.declared.mote.Mote.{Mote as MoteState};
+ghost use Rattle.world_sim.specs.Reporting.{mote_logs, told_report};
+ghost use Rattle.world_sim.specs.Running.{StandsAfter, StandsAtNext};
+ghost use Rattle.world_sim.specs.Writing.{AreKept, EndsSo, IsStartWritten, IsStepWritten, IsPieceOf, StandsAtEnd};
+ghost use Rattle.world_text.specs.EventText.{store_lines};
+
+use crate::report::see_stores;
+use crate::simulation::{Piece, Simulation};
+use mate_files::{Sink, SinkFault};
+use mate_journal::{Programs, RECORDS_MAX};
+use mate_num::Stamp;
+use radio_sim::Event;
+use report_text::{write_end, write_event};
+use run_writing::{WriteFault, stopped};
+use std::alloc::Global;
+use vm_desc::Description;
+use world_script::World;
+use world_states::states_are_sound;
+use world_step::Mote;
+use world_text::text_grows_by_events;
+
+/// Runs a world as `run` does, and writes each event's lines when it ends, and then the last line. After a fault of the sink no
+/// further event is begun.
+pub fn write_world<S: Sink>(
+    alloc: Global,
+    desc: &Description,
+    world: &World,
+    programs: &Programs,
+    out: &mut S,
+) -> Result<(), WriteFault>
+    requires { AreProgramsOfWorld desc.now world.now programs.now }
+    ensures gives { WritesRun desc.now (IsWorldReport (code_world desc.now world.now programs.now)) (S.written out.old) (S.written out.new) (S.faults out.old) (S.faults out.new) result }
+{
+    states_are_sound();
+    let Ok(mut sim) = Simulation::start(alloc, desc, world) else {
+        return Err(WriteFault::NoMemory);
+    };
+    if let Err(fault) = write_start(desc, world, programs, &sim, out) {
+        return Err(fault);
+    }
+    for events in 0..u64::MAX {
+        let Some((time, event)) = sim.radio.next() else {
+            return write_ending(desc, world, programs, &mut sim, events, out);
+        };
+        if sim.records >= RECORDS_MAX {
+            return write_full(desc, world, programs, &sim, events, out);
+        }
+        let at = Stamp {
+            event: events + 1,
+            time,
+        };
+        if let Err(fault) = write_step(desc, world, programs, &mut sim, &event, at, out) {
+            return Err(fault);
+        }
+    }
+    // (more events than 64 bits count)
+    Err(WriteFault::NoMemory)
+}
+
+/// Writes the lines of the start: the first interval of each node.
+#[inline(never)]
+fn write_start<S: Sink>(
+    desc: &Description,
+    world: &World,
+    programs: &Programs,
+    sim: &Simulation,
+    out: &mut S,
+) -> Result<(), WriteFault>
+    requires right { AreProgramsOfWorld desc.now world.now programs.now }
+    requires stands { StandsAfter (code_world desc.now world.now programs.now) 0 sim.now }
+    ensures { IsStartWritten desc.now (code_world desc.now world.now programs.now) sim.now (S.written out.old) (S.faults out.old) (S.written out.new) (S.faults out.new) result }
+{
+    text_grows_by_events();
+    logs_are_kept(sim.motes.as_slice());
+    let start = Piece {
+        node: 0,
+        air: 0,
+        entries: 0,
+    };
+    match write_piece(desc, sim, start, out) {
+        Ok(()) => Ok(()),
+        Err(fault) => Err(stopped(fault)),
+    }
+}
+
+/// The event comes, with this stamp, and its lines are written.
+#[inline(never)]
+fn write_step<S: Sink>(
+    desc: &Description,
+    world: &World,
+    programs: &Programs,
+    sim: &mut Simulation,
+    event: &Event,
+    at: Stamp,
+    out: &mut S,
+) -> Result<(), WriteFault>
+    requires right { AreProgramsOfWorld desc.now world.now programs.now }
+    requires stands { StandsAtNext (code_world desc.now world.now programs.now) event.now at sim.old }
+    requires kept { AreKept sim.old.motes.items }
+    ensures { IsStepWritten desc.now (code_world desc.now world.now programs.now) at.event sim.old sim.new (S.written out.old) (S.faults out.old) (S.written out.new) (S.faults out.new) result }
+{
+    let Ok(piece) = sim.step(desc, world, programs, event, at) else {
+        return Err(WriteFault::NoMemory);
+    };
+    match write_piece(desc, sim, piece, out) {
+        Ok(()) => Ok(()),
+        Err(fault) => Err(stopped(fault)),
+    }
+}
+
+/// Writes the last line of a run that a full log ended.
+#[inline(never)]
+fn write_full<S: Sink>(
+    desc: &Description,
+    world: &World,
+    programs: &Programs,
+    sim: &Simulation,
+    events: u64,
+    out: &mut S,
+) -> Result<(), WriteFault>
+    requires right { AreProgramsOfWorld desc.now world.now programs.now }
+    requires ends { StandsAtEnd (code_world desc.now world.now programs.now) Full events sim.now }
+    ensures { EndsSo desc.now (code_world desc.now world.now programs.now) sim.now (S.written out.old) (S.faults out.old) (S.written out.new) (S.faults out.new) result }
+{
+    match write_last(sim, events, false, out) {
+        Ok(()) => Err(WriteFault::LogFull),
+        Err(fault) => Err(stopped(fault)),
+    }
+}
+
+/// Each node's store is seen; their lines are written, and the last line.
+#[inline(never)]
+fn write_ending<S: Sink>(
+    desc: &Description,
+    world: &World,
+    programs: &Programs,
+    sim: &mut Simulation,
+    events: u64,
+    out: &mut S,
+) -> Result<(), WriteFault>
+    requires right { AreProgramsOfWorld desc.now world.now programs.now }
+    requires ends { StandsAtEnd (code_world desc.now world.now programs.now) Whole events sim.old }
+    requires few { events < 18446744073709551615 }
+    ensures { EndsSo desc.now (code_world desc.now world.now programs.now) sim.old (S.written out.old) (S.faults out.old) (S.written out.new) (S.faults out.new) result }
+{
+    text_grows_by_events();
+    let at = Stamp {
+        event: events + 1,
+        time: world.until,
+    };
+    let Ok(()) = see_stores(&mut sim.motes, at) else {
+        return Err(WriteFault::NoMemory);
+    };
+    logs_are_kept(sim.motes.as_slice());
+    if let Err(fault) = write_stores(desc, sim.motes.as_slice(), out) {
+        return Err(stopped(fault));
+    }
+    match write_last(sim, events, true, out) {
+        Ok(()) => Ok(()),
+        Err(fault) => Err(stopped(fault)),
+    }
+}
+
+/// Writes an event's lines.
+#[inline(never)]
+fn write_piece<S: Sink>(
+    desc: &Description,
+    sim: &Simulation,
+    piece: Piece,
+    out: &mut S,
+) -> Result<(), SinkFault>
+    requires { IsPieceOf sim.now piece }
+    ensures { (mote : MoteState) → slice_get sim.now.motes.items piece.node ≡ Some mote → Puts (S.written out.old) (S.faults out.old) (S.written out.new) (S.faults out.new) result
+        (event_piece desc.now (drop piece.air sim.now.radio.air) mote.node.log piece.entries piece.node) }
+{
+    let mote = &sim.motes[usize::from(piece.node)];
+    let aired = &sim.radio.air()[piece.air..];
+    write_event(desc, aired, mote.node.log(), piece.entries, piece.node, out)
+}
+
+/// Writes the line of the last entry of each node.
+#[inline(never)]
+fn write_stores<S: Sink>(desc: &Description, motes: &[Mote], out: &mut S) -> Result<(), SinkFault>
+    requires some { All (λ (m : MoteState). 1 ≤ length m.node.log.entries) motes.now }
+    requires few { length motes.now ≤ 64 }
+    ensures { Puts (S.written out.old) (S.faults out.old) (S.written out.new) (S.faults out.new) result (store_lines desc.now 0 (mote_logs motes.now)) }
+{
+    let mut node: u8 = 0;
+    for mote in motes {
+        let log = mote.node.log();
+        let last = log.entries().len() - 1;
+        if let Err(fault) = write_event(desc, &[], log, last, node, out) {
+            return Err(fault);
+        }
+        node += 1;
+    }
+    Ok(())
+}
+
+/// Writes the last line of the report of what stands.
+fn write_last<S: Sink>(
+    sim: &Simulation,
+    events: u64,
+    whole: bool,
+    out: &mut S,
+) -> Result<(), SinkFault>
+    requires { length sim.now.motes.items ≤ 64 }
+    ensures { Puts (S.written out.old) (S.faults out.old) (S.written out.new) (S.faults out.new) result (last_line (told_report sim.now events whole)) }
+{
+    let aired = sim.radio.air().len() as u64;
+    let told = entries_in(sim.motes.as_slice());
+    write_end(aired + told, events, sim.motes.len() as u8, whole, out)
+}
+
+/// How many entries the nodes told.
+fn entries_in(motes: &[Mote]) -> u64
+    requires { length motes.now ≤ 64 }
+    ensures value { result ≡ sum_by (λ l. length l.entries) (mote_logs motes.now) }
+    ensures fits { result ≤ length motes.now * 2 ^ 57 }
+{
+    let mut count = 0;
+    for mote in motes {
+        count += mote.node.log().entries().len() as u64;
+    }
+    count
+}
+
+/// What each node keeps of its log.
+fn logs_are_kept(motes: &[Mote])
+    ensures { AreKept motes.now }
+{
+    for mote in motes {
+        let _log = mote.node.log();
+    }
+}
