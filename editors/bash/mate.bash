@@ -14,7 +14,7 @@ _mate_handlers() {
 }
 
 _mate() {
-    local LC_ALL=C word=${COMP_WORDS[COMP_CWORD]} words=() i name machine= flags='--brief --fold'
+    local LC_ALL=C word=${COMP_WORDS[COMP_CWORD]} words=() i name machine='' flags='--brief --fold'
     COMPREPLY=()
     for ((i = 1; i < COMP_CWORD; i++)); do
         case ${COMP_WORDS[i]} in --brief | --fold | --) ;; *) words+=("${COMP_WORDS[i]}") ;; esac
