@@ -1,30 +1,41 @@
-# Completion of mate's commands, flags and file names, for bash: `source editors/bash/mate.bash`.
+# Completion of mate's commands, flags, machines, handlers and file names, for bash: `source editors/bash/mate.bash`.
+# Nothing that a file holds is ever expanded: a line of a description is offered only where it gives a whole name, and
+# names are compared here and not by `compgen -W`, which expands its words.
+
+# The names of the handlers of a description's file (or of the built-in machine), a line each.
+_mate_handlers() {
+    if [[ $1 == builtin ]]; then
+        echo main
+    elif [[ -f $1 ]]; then
+        awk '/^[ \t]*\[\[[ \t]*handler[ \t]*\]\]/ { on = 1; next }
+            /^[ \t]*\[/ { on = 0 }
+            on && sub(/^[ \t]*name[ \t]*=[ \t]*["\047]/, "") && match($0, /^[A-Za-z_][A-Za-z0-9_]*["\047]/) { print substr($0, 1, RLENGTH - 1) }' <"$1"
+    fi 2>/dev/null
+}
+
 _mate() {
-    local word=${COMP_WORDS[COMP_CWORD]} words=() i
+    local LC_ALL=C word=${COMP_WORDS[COMP_CWORD]} words=() i name machine='' flags='--brief --fold'
     COMPREPLY=()
     for ((i = 1; i < COMP_CWORD; i++)); do
         case ${COMP_WORDS[i]} in --brief | --fold | --) ;; *) words+=("${COMP_WORDS[i]}") ;; esac
     done
     if [[ $word == -* ]]; then
-        mapfile -t COMPREPLY < <(compgen -W '--brief --fold' -- "$word")
+        case ${words[0]-} in table | check | expand) flags= ;; compile) flags=--fold ;; esac
+        mapfile -t COMPREPLY < <(compgen -W "$flags" -- "$word")
         return
     fi
     case ${#words[@]}:${words[0]-} in
-        0:*) mapfile -t COMPREPLY < <(compgen -W 'node table compile check expand' -- "$word") ;;
-        # the machine: its file, or the built-in one
-        1:node | 1:table | 1:compile | 1:check)
-            mapfile -t COMPREPLY < <(compgen -W builtin -- "$word"; compgen -f -X '!*.toml' -- "$word"; compgen -d -- "$word") ;;
-        # a handler of the machine
+        0:*) mapfile -t COMPREPLY < <(compgen -W 'node sim gen table compile check expand' -- "$word") ;;
+        1:node | 1:sim | 1:table | 1:compile | 1:check | 2:gen) machine=yes ;;
+        1:gen | 3:compile) mapfile -t COMPREPLY < <(compgen -W 1 -- "$word") ;;
         2:compile)
-            if [[ ${words[1]} == builtin ]]; then
-                mapfile -t COMPREPLY < <(compgen -W main -- "$word")
-            else
-                mapfile -t COMPREPLY < <(compgen -W "$(awk '/^ *\[\[handler\]\]/ { on = 1; next } /^ *\[/ { on = 0 }
-                    on && sub(/^ *name *= *"/, "") { sub(/".*/, ""); print }' "${words[1]}" 2>/dev/null)" -- "$word")
-            fi ;;
-        3:compile) mapfile -t COMPREPLY < <(compgen -W 1 -- "$word") ;;
+            while IFS= read -r name; do
+                [[ $name =~ ^[A-Za-z_][A-Za-z0-9_]*$ && $name == "$word"* ]] && COMPREPLY+=("$name")
+            done < <(_mate_handlers "${words[1]}") ;;
         4:compile | 1:expand) mapfile -t COMPREPLY < <(compgen -f -X '!*.ts' -- "$word"; compgen -d -- "$word") ;;
-        2:node | 2:check) mapfile -t COMPREPLY < <(compgen -f -- "$word") ;;
+        2:node | 2:sim | 2:check) mapfile -t COMPREPLY < <(compgen -f -- "$word") ;;
     esac
+    # a machine: its file, or the built-in one
+    [[ -z $machine ]] || mapfile -t COMPREPLY < <(compgen -W builtin -- "$word"; compgen -f -X '!*.toml' -- "$word"; compgen -d -- "$word")
 }
 complete -o filenames -F _mate mate ./mate explain ./explain

@@ -1,0 +1,2 @@
+shared on;
+on = 1;

@@ -1,0 +1,2 @@
+shared rounds;
+rounds = rounds + 1;

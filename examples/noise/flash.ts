@@ -1,0 +1,3 @@
+shared count;
+count = count + 1;
+set(count);

@@ -1,0 +1,2 @@
+shared total;
+total = total + 10;
