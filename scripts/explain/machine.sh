@@ -1,0 +1,27 @@
+# Read by ./explain: what a machine has, by the words of the program.
+
+# VM: puts its handlers, functions (those that send, too), shared variables and buffers into lists.
+know_machine() {
+    local word rows
+    handlers=() functions=() senders=() shared=() buffers=()
+    mapfile -t handlers < <("$program" node --brief -- "$1" /dev/null 2>/dev/null | sed -n 's/^newest \([^ ]*\) .*/\1/p')
+    for word in $("$program" node -- "$1" /dev/null 2>/dev/null | sed -n 's/^.* seen//p'); do
+        case $word in *=[[]*) buffers+=("${word%%=*}") ;; *) shared+=("${word%%=*}") ;; esac
+    done
+    # behind the machine's own instructions stand its functions; those that send take a buffer
+    rows=28
+    [ ${#buffers[@]} -eq 0 ] || rows=34
+    while read -r _ word bytes; do
+        functions+=("$word")
+        [ "$bytes" = 0 ] || senders+=("$word")
+    done < <("$program" table -- "$1" 2>/dev/null | tail -n "+$((rows + 1))")
+    [ ${#handlers[@]} -gt 0 ]
+}
+
+# WORD OF ..: whether the word is one of the others.
+is_among() {
+    local word=$1 other
+    shift
+    for other in "$@"; do [ "$word" != "$other" ] || return 0; done
+    return 1
+}

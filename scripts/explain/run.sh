@@ -1,0 +1,105 @@
+# Read by ./explain: how a run ends.
+
+# KIND: the lines of the source at $path in which this fault can arise.
+fault_lines() {
+    tokens | awk -v kind="$1" '
+        { row[NR] = $2; token[NR] = $3 }
+        END {
+            for (i = 1; i <= NR; i++) {
+                t = token[i]; behind = token[i + 1]; then_ = token[i + 2]
+                # (what is divided by a number but 0 never faults)
+                if (kind == "divzero") can = (t == "/" || t == "%") && !(behind ~ /^[0-9]+$/ && behind + 0 > 0)
+                else if (kind == "index") can = t == "[" && behind != "]"
+                else if (kind == "bufferfull") can = t == "[" && behind == "]" && then_ == "="
+                else if (kind == "bufferempty") can = t == "[" && behind == "]" && then_ != "="
+                else can = (t == "for" || t == "while") && token[i - 1] != "end"
+                if (can) print row[i]
+            }
+        }' | uniq
+}
+
+# What a report tells of its faults and its end, a line each: `fault HANDLER VERSION KIND COUNT EVENT TIME NODE INVOCATION`, of the
+# first one of its kind, and `waits NODE INVOCATION HANDLER CONTEXT FUNCTION`, `ready ..` and `queued ..`.
+ends_of_report() {
+    awk '
+        { key = $3 " " $5 }
+        $4 == "post" { what[key] = $6 " " $7; state[key] = "queued" }
+        $4 == "start" || $4 == "answer" { state[key] = "ready" }
+        $4 == "ask" { state[key] = "waits"; asked[key] = $6 }
+        $4 == "halt" || $4 == "fault" {
+            if ($4 == "fault") {
+                split(what[key], part, " ")
+                fault = part[1] " " version[$3, part[1]] " " $6
+                if (!count[fault]++) { order[++faults] = fault; first[fault] = $1 " " $2 " " $3 " " $5 }
+            }
+            delete state[key]; delete what[key]
+        }
+        # an era ends: what ran on this node is cut
+        $4 == "install" { version[$3, $5] = $6 }
+        $4 == "install" || $4 == "reset" { for (k in state) if (index(k, $3 " ") == 1) { delete state[k]; delete what[k] } }
+        END {
+            for (i = 1; i <= faults; i++) print "fault", order[i], count[order[i]], first[order[i]]
+            for (k in state) { print state[k], k, what[k], asked[k] | "sort -k2,2n -k3,3n" }
+        }'
+}
+
+# HANDLER VERSION: the source that the script installs as this version, into $source.
+source_of() {
+    source=$(HANDLER=$1 VERSION=$2 awk '
+        $1 == "install" && $2 == ENVIRON["HANDLER"] && $3 == ENVIRON["VERSION"] { print $4; exit }
+        $1 == "at" && $3 == "inject" && $5 == ENVIRON["HANDLER"] && $6 == ENVIRON["VERSION"] { print $7; exit }' "$script" | tr -d '\r')
+    [ -n "$source" ] && find_again "$source" && [ "$(wc -c <"$path")" -le $longest ]
+}
+
+# KIND: a fault in words.
+fault_words() {
+    case $1 in
+    divzero) echo 'it divided by 0' ;;
+    index) echo 'an index was outside of its buffer or message' ;;
+    bufferfull) echo 'a buffer had ten values and was given one more' ;;
+    bufferempty) echo 'a value was taken from an empty buffer' ;;
+    overrun) echo 'it went back more often than `turns` allows' ;;
+    esac
+}
+
+tell_fault() { # HANDLER VERSION KIND COUNT EVENT TIME NODE INVOCATION
+    local rows=() where='' times=''
+    if source_of "$1" "$2"; then
+        mapfile -t rows < <(fault_lines "$3")
+        where=" ($(shown_name "$source")"
+        case ${#rows[@]} in
+        0) where="$where)" ;;
+        1) where="$where, line ${rows[0]})" ;;
+        *) where="$where, one of the lines $(listed "${rows[@]}"))" ;;
+        esac
+    fi
+    [ "$4" -eq 1 ] || times=" The same happened $(counted $(($4 - 1)) 'more time')."
+    echo "event $5: invocation $8 of \`$1\` version $2 on node $7 ended by a fault: $(fault_words "$3")$where.$times"
+}
+
+tell_end() { # STATE NODE INVOCATION HANDLER CONTEXT [FUNCTION]
+    local who="at the end invocation $3 of \`$4\`, in context $5 of node $2,"
+    case $1 in
+    waits)
+        if [ "${words[0]}" = node ]; then echo "$who still waits for the answer of \`$6\`: a line \`answer $5 V\` gives it."
+        else echo "$who still waits for the answer of \`$6\`, which comes later than \`until\`."; fi ;;
+    ready) echo "$who is ready and had no turn: a line \`run\`, or \`step $5 N\`, gives it one." ;;
+    queued) echo "$who hasn't started: it waits for others that use what it uses." ;;
+    esac
+}
+
+# Runs the command once more, as a whole report, and tells its faults and who is left.
+show_end() {
+    local line told=0 whole=() word flags=yes script=/dev/null
+    for word in "$@"; do
+        [ "$word" != -- ] || flags=''
+        [ "$flags$word" = yes--brief ] || whole+=("$word")
+    done
+    [ "${words[0]}" = gen ] || { find_again "${words[2]}" && script=$path; }
+    while read -r line; do
+        told=$((told + 1))
+        [ $told -le 20 ] || { echo '..'; break; }
+        # shellcheck disable=SC2086 (words of a report hold no blanks and no patterns)
+        case $line in fault*) tell_fault ${line#fault } ;; *) tell_end $line ;; esac
+    done < <("$program" "${whole[@]}" 2>/dev/null | ends_of_report)
+}
