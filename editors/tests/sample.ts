@@ -10,3 +10,8 @@ for i = 0 to size(p) - 1 step 2
   end if
 next i
 while msg[0] < 70000 a = 12x; end while
+! procedures, and names that only look like them
+proc add(n, m)
+  total = total + n; proc = do;
+end proc
+do add(1, do);

@@ -90,16 +90,15 @@ tell_end() { # STATE NODE INVOCATION HANDLER CONTEXT [FUNCTION]
 
 # Runs the command once more, as a whole report, and tells its faults and who is left.
 show_end() {
-    local line told=0 whole=() word flags=yes script=/dev/null
+    local parts told=0 whole=() word flags=yes script=/dev/null
     for word in "$@"; do
         [ "$word" != -- ] || flags=''
         [ "$flags$word" = yes--brief ] || whole+=("$word")
     done
     [ "${words[0]}" = gen ] || { find_again "${words[2]}" && script=$path; }
-    while read -r line; do
+    while read -ra parts; do
         told=$((told + 1))
         [ $told -le 20 ] || { echo '..'; break; }
-        # shellcheck disable=SC2086 (words of a report hold no blanks and no patterns)
-        case $line in fault*) tell_fault ${line#fault } ;; *) tell_end $line ;; esac
+        if [ "${parts[0]}" = fault ]; then tell_fault "${parts[@]:1}"; else tell_end "${parts[@]}"; fi
     done < <("$program" "${whole[@]}" 2>/dev/null | ends_of_report)
 }

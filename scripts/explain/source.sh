@@ -49,8 +49,8 @@ what_may_stand() {
         if fits x && ! fits clear; then may+=('a name'); fi
         for word in '(' msg; do fits "$word" && may+=("\`$word\`"); done
     fi
-    if fits '*'; then may+=('an operator'); elif fits '<'; then may+=('a comparison'); elif fits =; then may+=('`=`'); fi
-    for word in ';' , ')' '[' ']' 'then' 'else' end to step next 'do' proc; do
+    if fits '*'; then may+=('an operator'); elif fits '<'; then may+=('a comparison'); elif fits '='; then may+=('`=`'); fi
+    for word in ';' ',' ')' '[' ']' 'then' 'else' end to step next 'do' proc; do
         [[ $word =~ ^(do|proc)$ && ${words[0]} != expand ]] || ! fits "$word" || may+=("\`$word\`")
     done
     [ ${#may[@]} -gt 0 ] && listed "${may[@]}"

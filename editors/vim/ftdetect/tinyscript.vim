@@ -1,19 +1,25 @@
-" TinyScript sources end in .ts, as TypeScript's do. So a file is taken for TinyScript where its first word that is no
-" comment is one that only TinyScript begins with, or where the first comment is one of '!'.
+" TinyScript sources end in .ts, as TypeScript's do. A file is taken for TinyScript where the first thing in it is a comment of
+" '!' or a line that has words and signs of TinyScript alone, and where no line near the top shows what only TypeScript has.
 autocmd BufRead,BufNewFile *.ts call s:Detect()
 
 function! s:Detect() abort
-  for line in getline(1, 50)
-    if line =~# '^\s*!'
-      setlocal filetype=tinyscript
+  let lines = filter(getline(1, 100), 'v:val =~# ''\S''')
+  if empty(lines)
+    return
+  endif
+  if lines[0] =~# '^\s*!'
+    setlocal filetype=tinyscript
+    return
+  endif
+  let first = substitute(lines[0], '!.*$', '', '')
+  let foreign = '\<\(import\|export\|const\|let\|var\|function\|return\|new\|class\|interface\|type\|enum\|declare\|namespace\|abstract\|async\|await\)\>'
+  if first =~# '[^A-Za-z0-9_ \t\r;,()\[\]=<>+*/%-]' || first =~# '//\|/\*\|=>\|==' || first =~# foreign
+    return
+  endif
+  for line in lines
+    if substitute(line, '!.*$', '', '') =~# '[{}''"`]\|=>\|//'
       return
     endif
-    if line =~# '^\s*$'
-      continue
-    endif
-    if line =~# '^\s*\(shared\|private\|buffer\)\>[^:]*;' || line =~# '^\s*\(while\|for\|if\|clear\)\>[^{]*$'
-      setlocal filetype=tinyscript
-    endif
-    return
   endfor
+  setlocal filetype=tinyscript
 endfunction

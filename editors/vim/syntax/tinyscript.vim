@@ -12,6 +12,10 @@ syntax keyword tinyscriptConditional if then else end
 syntax keyword tinyscriptRepeat for to step next while
 syntax keyword tinyscriptOperatorWord and or not
 syntax keyword tinyscriptBuiltin size clear msg
+" in the dialect with procedures 'proc' and 'do' are keywords; elsewhere they are names
+syntax match tinyscriptProcedure '\<proc\>\ze\s\+[A-Za-z_][A-Za-z0-9_]*\s*('
+syntax match tinyscriptProcedure '\(\<end\s\+\)\@<=proc\>'
+syntax match tinyscriptProcedure '\<do\>\ze\s\+[A-Za-z_][A-Za-z0-9_]*\s*('
 syntax match tinyscriptNumber '\<[0-9]\+\>'
 " a literal is at most 65535, and no letter follows it
 syntax match tinyscriptBadNumber '\<0*\(6553[6-9]\|655[4-9][0-9]\|65[6-9][0-9]\{2}\|6[6-9][0-9]\{3}\|[7-9][0-9]\{4}\|[1-9][0-9]\{5,}\)\>'
@@ -27,6 +31,7 @@ highlight default link tinyscriptConditional Conditional
 highlight default link tinyscriptRepeat Repeat
 highlight default link tinyscriptOperatorWord Operator
 highlight default link tinyscriptBuiltin Keyword
+highlight default link tinyscriptProcedure Define
 highlight default link tinyscriptNumber Number
 highlight default link tinyscriptBadNumber Error
 highlight default link tinyscriptSign Operator
