@@ -11,7 +11,7 @@ ghost use Rattle.capsule_exchange.specs.Sound.{AreSound};
 ghost use Rattle.capsule_exchange.specs.Steps.{state_at, aimed_each, asks_upto, hears_status, hears_fragment, completes_in, after_sending, is_marked_in, fragment_in};
 
 use crate::handler_state::{Form, HandlerState};
-use crate::handlers::{aim_each, asks, first_marked, forget_each, held_versions, next_slot};
+use crate::handlers::{aim_each, ask_each, first_marked, forget_each, held_versions, next_slot};
 use arrayvec::ArrayVec;
 use capsule_codec::Piece;
 use mate_num::{HandlerId, Image};
@@ -23,9 +23,6 @@ use std::marker::Model;
 pub struct Heard {
     /// Whether a Vector has exactly the versions that the node holds; None for other packets.
     pub consistent: Option<bool>,
-    /// The packets that the node sends at once: one Status for each handler of which the Vector has a
-    /// greater version than the held one.
-    pub asks: ArrayVec<Packet, 8>,
     /// The handler of a fragment with which the fragments of its target became complete.
     pub complete: Option<HandlerId>,
 }
@@ -34,12 +31,10 @@ impl Heard {
     // What a packet calls for that is no Vector.
     fn completing(complete: Option<HandlerId>) -> Heard
         ensures consistent { result.consistent ≡ None }
-        ensures asks { result.asks.items ≡ [] }
         ensures complete { result.complete ≡ complete }
     {
         Heard {
             consistent: None,
-            asks: ArrayVec::new(),
             complete,
         }
     }
@@ -100,24 +95,29 @@ impl Exchange {
 
     /// A packet was heard. A Vector or a fragment tells of a version, which becomes the target where it is over
     /// the held one and the target; a fragment of the target is collected; a Status marks the fragments that it
-    /// asks for of the held version.
-    pub fn hear(&mut self, packet: &Packet) -> Heard
-        requires { IsRight (length self.old.handlers) packet.now }
+    /// asks for of the held version. `asks` gets the packets that the node sends at once: one Status for each handler
+    /// of which a Vector has a greater version than the held one.
+    pub fn hear(&mut self, packet: &Packet, asks: &mut ArrayVec<Packet, 8>) -> Heard
+        requires right { IsRight (length self.old.handlers) packet.now }
+        requires empty { asks.old.items ≡ [] }
         ensures learned { Learns self.old (Hears packet.now) self.new }
         ensures handlers { length self.new.handlers ≡ length self.old.handlers }
         ensures consistent { Whatever self.old (λ n before. Judges n packet.now before result.consistent) }
-        ensures asks { Whatever self.old (λ n before. result.asks.items ≡ asks_after n packet.now before) }
+        ensures asks { Whatever self.old (λ n before. asks.new.items ≡ asks_after n packet.now before) }
         ensures complete { Whatever self.old (λ n before. result.complete ≡ completed_by packet.now before) }
 
         // What is asked for is right, unless an image that is complete was not installed.
-        ensures right { Whatever self.old (λ n before. IsOpen n before → All (IsRight n) result.asks.items) }
+        ensures right { Whatever self.old (λ n before. IsOpen n before → All (IsRight n) asks.new.items) }
     {
         match packet {
-            Packet::Vector { versions } => Heard {
-                consistent: Some(self.is_consistent(versions)),
-                asks: self.hear_vector(versions),
-                complete: None,
-            },
+            Packet::Vector { versions } => {
+                let consistent = self.is_consistent(versions);
+                self.hear_vector(versions, asks);
+                Heard {
+                    consistent: Some(consistent),
+                    complete: None,
+                }
+            }
             Packet::Status {
                 handler,
                 version,
@@ -153,14 +153,15 @@ impl Exchange {
     }
 
     // The versions of a Vector were heard of: what is asked for.
-    fn hear_vector(&mut self, versions: &ArrayVec<u32, 8>) -> ArrayVec<Packet, 8>
-        requires { length versions.now.items ≡ length self.old.handlers }
+    fn hear_vector(&mut self, versions: &ArrayVec<u32, 8>, asks: &mut ArrayVec<Packet, 8>)
+        requires same_len { length versions.now.items ≡ length self.old.handlers }
+        requires empty { asks.old.items ≡ [] }
         ensures aimed { self.new ≡ record self.old { handlers = aimed_each versions.now.items self.old.handlers } }
-        ensures asks { result.items ≡ asks_upto versions.now.items self.new.handlers (length self.new.handlers) }
+        ensures asks { asks.new.items ≡ asks_upto versions.now.items self.new.handlers (length self.new.handlers) }
         ensures sound { AreSound self.new.handlers }
     {
         aim_each(self.handlers.as_mut_slice(), versions.as_slice());
-        asks(self.handlers.as_slice(), versions.as_slice())
+        ask_each(self.handlers.as_slice(), versions.as_slice(), asks);
     }
 
     // A Status of the handler was heard.

@@ -12,8 +12,8 @@ aimed_sound_all : (states lent after : List HandlerState) (versions told : List 
 aimed_sound_all states lent after versions told same known is sound =
     changed_each states after (λ h. aimed (get_or versions h 0)) (is ∙ ap (aimed_each told) same ∙ ap (λ (vs : List ℕ). aimed_each vs states) known) (λ h s. aimed_sound (get_or versions h 0) s) sound
 
-pub asks-requires-clause-sound : goal.asks-requires-clause-sound
-asks-requires-clause-sound c =
+pub ask_each-requires-clause-sound : goal.ask_each-requires-clause-sound
+ask_each-requires-clause-sound c =
     All-same IsSoundState c.as_slice-2.result.now (refill (length c.self.inside.handlers.items) c.self.inside.handlers.items c.aim_each.new.states) c.as_slice-2.ensures.value
     (aimed_sound_all c.self.inside.handlers.items c.as_mut_slice.result.now c.aim_each.new.states c.args.versions.now.items c.as_slice.result.now c.as_mut_slice.ensures.value c.as_slice.ensures.value c.aim_each.ensures c.self.invariant)
 
