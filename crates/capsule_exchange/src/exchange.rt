@@ -11,7 +11,8 @@ ghost use Rattle.capsule_exchange.specs.Sound.{AreSound};
 ghost use Rattle.capsule_exchange.specs.Steps.{state_at, aimed_each, asks_upto, hears_status, hears_fragment, completes_in, after_sending, is_marked_in, fragment_in};
 
 use crate::handler_state::{Form, HandlerState};
-use crate::handlers::{aim_each, ask_each, first_marked, forget_each, held_versions, next_slot};
+use crate::handlers::{aim_each, ask_each, forget_each, held_versions, next_slot};
+use crate::summary::Summary;
 use arrayvec::ArrayVec;
 use capsule_codec::Piece;
 use mate_num::{HandlerId, Image};
@@ -47,17 +48,18 @@ impl Heard {
 pub struct Exchange {
     handlers: ArrayVec<HandlerState, 8>,
     last: Option<u8>,
+    summary: Summary,
 }
 
 impl Model for Exchange {
     ghost use Rattle.capsule_exchange.specs.Knowledge.{Knowledge};
-    ghost use Rattle.capsule_exchange.specs.Sound.{AreSound};
+    ghost use Rattle.capsule_exchange.specs.Summary.{AreKept};
 
     ghost Value = { Knowledge };
 
     ghost view = { λ e. record { handlers = e.handlers.items; last = e.last } };
 
-    ghost invariant = { λ e. AreSound e.handlers.items };
+    ghost invariant = { λ e. AreKept e.handlers.items e.summary };
 }
 
 impl Exchange {
@@ -71,9 +73,11 @@ impl Exchange {
         for _ in 0..handlers {
             states.push(HandlerState::default());
         }
+        let summary = Summary::of(states.as_slice());
         Exchange {
             handlers: states,
             last: None,
+            summary,
         }
     }
 
@@ -110,14 +114,10 @@ impl Exchange {
         ensures right { Whatever self.old (λ n before. IsOpen n before → All (IsRight n) asks.new.items) }
     {
         match packet {
-            Packet::Vector { versions } => {
-                let consistent = self.is_consistent(versions);
-                self.hear_vector(versions, asks);
-                Heard {
-                    consistent: Some(consistent),
-                    complete: None,
-                }
-            }
+            Packet::Vector { versions } => Heard {
+                consistent: Some(self.hear_vector(versions, asks)),
+                complete: None,
+            },
             Packet::Status {
                 handler,
                 version,
@@ -144,24 +144,23 @@ impl Exchange {
         }
     }
 
-    // Whether the versions are those that are held.
-    fn is_consistent(&self, versions: &ArrayVec<u32, 8>) -> bool
-        ensures { IsTrue result ↔ (versions.now.items ≡ map (λ s. s.held) self.now.handlers) }
-    {
-        let held = held_versions(self.handlers.as_slice());
-        versions.as_slice() == held.as_slice()
-    }
-
-    // The versions of a Vector were heard of: what is asked for.
-    fn hear_vector(&mut self, versions: &ArrayVec<u32, 8>, asks: &mut ArrayVec<Packet, 8>)
+    // The versions of a Vector were heard of: whether they are those that are held, and what is asked for.
+    fn hear_vector(&mut self, versions: &ArrayVec<u32, 8>, asks: &mut ArrayVec<Packet, 8>) -> bool
         requires same_len { length versions.now.items ≡ length self.old.handlers }
         requires empty { asks.old.items ≡ [] }
+        ensures consistent { IsTrue result ↔ (versions.now.items ≡ map (λ s. s.held) self.old.handlers) }
         ensures aimed { self.new ≡ record self.old { handlers = aimed_each versions.now.items self.old.handlers } }
         ensures asks { asks.new.items ≡ asks_upto versions.now.items self.new.handlers (length self.new.handlers) }
         ensures sound { AreSound self.new.handlers }
     {
+        // Of versions that are held nothing is new.
+        if versions.as_slice() == self.summary.held.as_slice() {
+            return true;
+        }
         aim_each(self.handlers.as_mut_slice(), versions.as_slice());
         ask_each(self.handlers.as_slice(), versions.as_slice(), asks);
+        self.summary = Summary::of(self.handlers.as_slice());
+        false
     }
 
     // A Status of the handler was heard.
@@ -171,6 +170,7 @@ impl Exchange {
     {
         let state = &mut self.handlers.as_mut_slice()[usize::from(handler.0)];
         state.hear_status(version, missing);
+        self.summary = Summary::of(self.handlers.as_slice());
     }
 
     // A fragment of the handler was heard: the handler, where its fragments became complete.
@@ -193,11 +193,9 @@ impl Exchange {
         let state = &mut self.handlers.as_mut_slice()[usize::from(handler.0)];
         let before = state.complete_version();
         state.hear_fragment(version, index, form, bytes);
-        if before < state.complete_version() {
-            Some(handler)
-        } else {
-            None
-        }
+        let after = state.complete_version();
+        self.summary = Summary::of(self.handlers.as_slice());
+        if before < after { Some(handler) } else { None }
     }
 
     /// The versions that the node holds.
@@ -214,7 +212,7 @@ impl Exchange {
     pub fn marked(&self) -> bool
         ensures { Whatever self.now (λ n hs. result ≡ list_any (is_marked_slot hs) (slots_from n 0)) }
     {
-        first_marked(self.handlers.as_slice(), 0).is_some()
+        self.summary.owes
     }
 
     /// Sends the fragment that is owed and comes next, in the order of the slots: the first after the last one
@@ -243,6 +241,7 @@ impl Exchange {
         let state = &mut self.handlers.as_mut_slice()[handler];
         let packet = state.fragment(HandlerId(handler as u8), index as u8);
         state.unmark(index);
+        self.summary = Summary::of(self.handlers.as_slice());
         self.last = Some(slot as u8);
         packet
     }
@@ -265,6 +264,7 @@ impl Exchange {
     {
         let state = &mut self.handlers.as_mut_slice()[usize::from(handler.0)];
         state.install(version, image);
+        self.summary = Summary::of(self.handlers.as_slice());
     }
 
     /// What is collected and owed is dropped.
@@ -273,5 +273,6 @@ impl Exchange {
         ensures handlers { length self.new.handlers ≡ length self.old.handlers }
     {
         forget_each(self.handlers.as_mut_slice());
+        self.summary = Summary::of(self.handlers.as_slice());
     }
 }

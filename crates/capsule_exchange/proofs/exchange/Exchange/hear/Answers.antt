@@ -14,7 +14,7 @@ returns-in-Vector-clause-learned c = λ n before was.
 
 pub returns-in-Vector-clause-consistent : goal.returns-in-Vector-clause-consistent
 returns-in-Vector-clause-consistent c = λ n before was.
-    subst (λ (p : Packet). Judges n p before (Some c.is_consistent-consistent.result)) (sym c.in-Vector.is) (vector_judged c.args.self.now c.in-Vector.versions c.is_consistent-consistent.result c.is_consistent-consistent.ensures n before was)
+    subst (λ (p : Packet). Judges n p before (Some c.hear_vector.result)) (sym c.in-Vector.is) (vector_judged c.args.self.now c.in-Vector.versions c.hear_vector.result c.hear_vector.ensures.consistent n before was)
 
 pub returns-in-Vector-clause-asks : goal.returns-in-Vector-clause-asks
 returns-in-Vector-clause-asks c = λ n before was.
