@@ -239,7 +239,7 @@ fn post_received(
     for h in 0..desc.handlers.len() as u8 {
         if is_receiver(desc, HandlerId(h)) {
             // How many entries a post makes is known from what the whole journal keeps.
-            let _ = mote.node.log();
+            let _ = mote.node.kept();
             mote.post(HandlerId(h), payload, at)?;
         }
     }

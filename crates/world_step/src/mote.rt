@@ -19,7 +19,7 @@ use crate::effect::Effect;
 use capsule_exchange::Exchange;
 use mate_journal::Air;
 use mate_num::{ContextId, HandlerId, Image, NoMemory, Payload, Stamp};
-use node_core::Node;
+use open_node::OpenNode;
 use packet_codec::Packet;
 use std::alloc::Global;
 use trickle_timer::{Fire, Trickle};
@@ -29,7 +29,7 @@ use world_calls::Calls;
 /// A node of a world.
 #[derive(Drop)]
 pub struct Mote {
-    pub node: Node,
+    pub node: OpenNode,
     pub timer: Trickle,
     pub exchange: Exchange,
     /// Whether a pump is due.
@@ -44,7 +44,7 @@ impl Mote {
         ensures { IfOk result (BeginsMote desc.now random node) }
     {
         Ok(Mote {
-            node: Node::new(alloc, desc)?,
+            node: OpenNode::new(alloc, desc)?,
             timer: Trickle::start(desc.trickle, random, node, 0),
             exchange: Exchange::new(desc.handlers.len() as u8),
             pumps: false,
