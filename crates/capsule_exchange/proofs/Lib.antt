@@ -4,6 +4,7 @@ pub mod SlotLemmas
 pub mod CollectLemmas
 pub mod StateLemmas
 pub mod SoundLemmas
+pub mod SummaryLemmas
 pub mod KnowledgeLemmas
 pub mod AnswerLemmas
 pub mod LawLemmas

@@ -3,4 +3,5 @@ pub mod Happenings
 pub mod Knowledge
 pub mod Steps
 pub mod Sound
+pub mod Summary
 pub mod Laws

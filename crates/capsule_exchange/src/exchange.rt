@@ -11,7 +11,8 @@ ghost use Rattle.capsule_exchange.specs.Sound.{AreSound};
 ghost use Rattle.capsule_exchange.specs.Steps.{state_at, aimed_each, asks_upto, hears_status, hears_fragment, completes_in, after_sending, is_marked_in, fragment_in};
 
 use crate::handler_state::{Form, HandlerState};
-use crate::handlers::{aim_each, asks, first_marked, forget_each, held_versions, next_slot};
+use crate::handlers::{aim_each, ask_each, forget_each, held_versions, next_slot};
+use crate::summary::Summary;
 use arrayvec::ArrayVec;
 use capsule_codec::Piece;
 use mate_num::{HandlerId, Image};
@@ -23,9 +24,6 @@ use std::marker::Model;
 pub struct Heard {
     /// Whether a Vector has exactly the versions that the node holds; None for other packets.
     pub consistent: Option<bool>,
-    /// The packets that the node sends at once: one Status for each handler of which the Vector has a
-    /// greater version than the held one.
-    pub asks: ArrayVec<Packet, 8>,
     /// The handler of a fragment with which the fragments of its target became complete.
     pub complete: Option<HandlerId>,
 }
@@ -34,12 +32,10 @@ impl Heard {
     // What a packet calls for that is no Vector.
     fn completing(complete: Option<HandlerId>) -> Heard
         ensures consistent { result.consistent ≡ None }
-        ensures asks { result.asks.items ≡ [] }
         ensures complete { result.complete ≡ complete }
     {
         Heard {
             consistent: None,
-            asks: ArrayVec::new(),
             complete,
         }
     }
@@ -52,17 +48,18 @@ impl Heard {
 pub struct Exchange {
     handlers: ArrayVec<HandlerState, 8>,
     last: Option<u8>,
+    summary: Summary,
 }
 
 impl Model for Exchange {
     ghost use Rattle.capsule_exchange.specs.Knowledge.{Knowledge};
-    ghost use Rattle.capsule_exchange.specs.Sound.{AreSound};
+    ghost use Rattle.capsule_exchange.specs.Summary.{AreKept};
 
     ghost Value = { Knowledge };
 
     ghost view = { λ e. record { handlers = e.handlers.items; last = e.last } };
 
-    ghost invariant = { λ e. AreSound e.handlers.items };
+    ghost invariant = { λ e. AreKept e.handlers.items e.summary };
 }
 
 impl Exchange {
@@ -76,9 +73,11 @@ impl Exchange {
         for _ in 0..handlers {
             states.push(HandlerState::default());
         }
+        let summary = Summary::of(states.as_slice());
         Exchange {
             handlers: states,
             last: None,
+            summary,
         }
     }
 
@@ -100,22 +99,23 @@ impl Exchange {
 
     /// A packet was heard. A Vector or a fragment tells of a version, which becomes the target where it is over
     /// the held one and the target; a fragment of the target is collected; a Status marks the fragments that it
-    /// asks for of the held version.
-    pub fn hear(&mut self, packet: &Packet) -> Heard
-        requires { IsRight (length self.old.handlers) packet.now }
+    /// asks for of the held version. `asks` gets the packets that the node sends at once: one Status for each handler
+    /// of which a Vector has a greater version than the held one.
+    pub fn hear(&mut self, packet: &Packet, asks: &mut ArrayVec<Packet, 8>) -> Heard
+        requires right { IsRight (length self.old.handlers) packet.now }
+        requires empty { asks.old.items ≡ [] }
         ensures learned { Learns self.old (Hears packet.now) self.new }
         ensures handlers { length self.new.handlers ≡ length self.old.handlers }
         ensures consistent { Whatever self.old (λ n before. Judges n packet.now before result.consistent) }
-        ensures asks { Whatever self.old (λ n before. result.asks.items ≡ asks_after n packet.now before) }
+        ensures asks { Whatever self.old (λ n before. asks.new.items ≡ asks_after n packet.now before) }
         ensures complete { Whatever self.old (λ n before. result.complete ≡ completed_by packet.now before) }
 
         // What is asked for is right, unless an image that is complete was not installed.
-        ensures right { Whatever self.old (λ n before. IsOpen n before → All (IsRight n) result.asks.items) }
+        ensures right { Whatever self.old (λ n before. IsOpen n before → All (IsRight n) asks.new.items) }
     {
         match packet {
             Packet::Vector { versions } => Heard {
-                consistent: Some(self.is_consistent(versions)),
-                asks: self.hear_vector(versions),
+                consistent: Some(self.hear_vector(versions, asks)),
                 complete: None,
             },
             Packet::Status {
@@ -144,23 +144,23 @@ impl Exchange {
         }
     }
 
-    // Whether the versions are those that are held.
-    fn is_consistent(&self, versions: &ArrayVec<u32, 8>) -> bool
-        ensures { IsTrue result ↔ (versions.now.items ≡ map (λ s. s.held) self.now.handlers) }
-    {
-        let held = held_versions(self.handlers.as_slice());
-        versions.as_slice() == held.as_slice()
-    }
-
-    // The versions of a Vector were heard of: what is asked for.
-    fn hear_vector(&mut self, versions: &ArrayVec<u32, 8>) -> ArrayVec<Packet, 8>
-        requires { length versions.now.items ≡ length self.old.handlers }
+    // The versions of a Vector were heard of: whether they are those that are held, and what is asked for.
+    fn hear_vector(&mut self, versions: &ArrayVec<u32, 8>, asks: &mut ArrayVec<Packet, 8>) -> bool
+        requires same_len { length versions.now.items ≡ length self.old.handlers }
+        requires empty { asks.old.items ≡ [] }
+        ensures consistent { IsTrue result ↔ (versions.now.items ≡ map (λ s. s.held) self.old.handlers) }
         ensures aimed { self.new ≡ record self.old { handlers = aimed_each versions.now.items self.old.handlers } }
-        ensures asks { result.items ≡ asks_upto versions.now.items self.new.handlers (length self.new.handlers) }
+        ensures asks { asks.new.items ≡ asks_upto versions.now.items self.new.handlers (length self.new.handlers) }
         ensures sound { AreSound self.new.handlers }
     {
+        // Of versions that are held nothing is new.
+        if versions.as_slice() == self.summary.held.as_slice() {
+            return true;
+        }
         aim_each(self.handlers.as_mut_slice(), versions.as_slice());
-        asks(self.handlers.as_slice(), versions.as_slice())
+        ask_each(self.handlers.as_slice(), versions.as_slice(), asks);
+        self.summary = Summary::of(self.handlers.as_slice());
+        false
     }
 
     // A Status of the handler was heard.
@@ -170,6 +170,7 @@ impl Exchange {
     {
         let state = &mut self.handlers.as_mut_slice()[usize::from(handler.0)];
         state.hear_status(version, missing);
+        self.summary = Summary::of(self.handlers.as_slice());
     }
 
     // A fragment of the handler was heard: the handler, where its fragments became complete.
@@ -192,11 +193,9 @@ impl Exchange {
         let state = &mut self.handlers.as_mut_slice()[usize::from(handler.0)];
         let before = state.complete_version();
         state.hear_fragment(version, index, form, bytes);
-        if before < state.complete_version() {
-            Some(handler)
-        } else {
-            None
-        }
+        let after = state.complete_version();
+        self.summary = Summary::of(self.handlers.as_slice());
+        if before < after { Some(handler) } else { None }
     }
 
     /// The versions that the node holds.
@@ -213,7 +212,7 @@ impl Exchange {
     pub fn marked(&self) -> bool
         ensures { Whatever self.now (λ n hs. result ≡ list_any (is_marked_slot hs) (slots_from n 0)) }
     {
-        first_marked(self.handlers.as_slice(), 0).is_some()
+        self.summary.owes
     }
 
     /// Sends the fragment that is owed and comes next, in the order of the slots: the first after the last one
@@ -242,6 +241,7 @@ impl Exchange {
         let state = &mut self.handlers.as_mut_slice()[handler];
         let packet = state.fragment(HandlerId(handler as u8), index as u8);
         state.unmark(index);
+        self.summary = Summary::of(self.handlers.as_slice());
         self.last = Some(slot as u8);
         packet
     }
@@ -264,6 +264,7 @@ impl Exchange {
     {
         let state = &mut self.handlers.as_mut_slice()[usize::from(handler.0)];
         state.install(version, image);
+        self.summary = Summary::of(self.handlers.as_slice());
     }
 
     /// What is collected and owed is dropped.
@@ -272,5 +273,6 @@ impl Exchange {
         ensures handlers { length self.new.handlers ≡ length self.old.handlers }
     {
         forget_each(self.handlers.as_mut_slice());
+        self.summary = Summary::of(self.handlers.as_slice());
     }
 }

@@ -6,7 +6,7 @@ ghost use Rattle.capsule_codec.specs.Fragments.{count_of};
 ghost use Rattle.capsule_exchange.specs.Happenings.{fragment_of};
 ghost use Rattle.capsule_exchange.specs.Steps.{no_state, aimed, takes, kept, hears_fragment, marked, hears_status, after_sending, installs, forgets, places_in, image_held, complete_in, ask_in};
 
-use crate::pieces::{copy_of, joined, missing_mask, no_marks, no_pieces};
+use crate::pieces::{copy_of, is_whole, joined, missing_mask, no_marks, no_pieces};
 use capsule_codec::{Piece, count, fragment};
 use mate_num::{HandlerId, Image, SHORT_IMAGE};
 use packet_codec::Packet;
@@ -161,7 +161,7 @@ impl HandlerState {
         requires { IfSome self.now.form (λ form. form.count ≤ 22) }
         ensures { result ≡ complete_in self.now }
     {
-        if self.collected().is_some() {
+        if is_whole(self.places()) {
             self.target
         } else {
             0

@@ -1,6 +1,6 @@
 //! The states of all handlers, in order.
 
-ghost use Rattle.std.specs.Prelude.{◌≡◌, ◌*◌, ◌<◌, ◌≤◌, length, map, slice_set, IfSome, IsTrue, find};
+ghost use Rattle.std.specs.Prelude.{◌≡◌, ◌*◌, ◌<◌, ◌≤◌, [], length, map, slice_set, IfSome, IsTrue, find};
 ghost use Rattle.capsule_exchange.specs.Happenings.{next_place, slots_from};
 ghost use Rattle.capsule_exchange.specs.Sound.{AreSound};
 ghost use Rattle.capsule_exchange.specs.Steps.{state_at, hears_status, hears_fragment, after_sending, installs, forgets, aimed_each, asks_upto, is_marked_in, next_in};
@@ -33,21 +33,20 @@ pub(crate) fn aim_each(states: &mut [HandlerState], versions: &[u32])
     }
 }
 
-/// The requests for the versions of which more than what is held was heard.
-pub(crate) fn asks(states: &[HandlerState], versions: &[u32]) -> ArrayVec<Packet, 8>
+/// Requests the versions of which more than what is held was heard.
+pub(crate) fn ask_each(states: &[HandlerState], versions: &[u32], asks: &mut ArrayVec<Packet, 8>)
     requires same_len { length versions.now ≡ length states.now }
     requires few { length states.now ≤ 8 }
     requires sound { AreSound states.now }
-    ensures { result.items ≡ asks_upto versions.now states.now (length states.now) }
+    requires empty { asks.old.items ≡ [] }
+    ensures { asks.new.items ≡ asks_upto versions.now states.now (length states.now) }
 {
-    let mut asks: ArrayVec<Packet, 8> = ArrayVec::new();
     for h in 0..versions.len() {
         let state = &states[h];
         if versions[h] > state.held {
             asks.push(state.ask(HandlerId(h as u8)));
         }
     }
-    asks
 }
 
 /// What is collected and owed of each handler is forgotten.

@@ -6,6 +6,7 @@ mod handler_state;
 mod handlers;
 pub mod laws;
 mod pieces;
+mod summary;
 
 pub use exchange::{Exchange, Heard};
 pub use laws::{fragments_go_together, gaps_are_asked_for};

@@ -59,8 +59,8 @@ pub(crate) fn joined(places: &[Option<Piece>]) -> Option<Image>
     }
 }
 
-// Whether no piece is missing.
-fn is_whole(places: &[Option<Piece>]) -> bool
+/// Whether no piece is missing.
+pub(crate) fn is_whole(places: &[Option<Piece>]) -> bool
     ensures { result ≡ list_all is_some places.now }
 {
     places.iter().all(|place| place.is_some())

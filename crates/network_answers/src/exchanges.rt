@@ -1,9 +1,10 @@
 //! Random exchanges of two nodes with two handlers, from the first number of the stream: how many requests and how many
 //! fragments were sent, how many of both were lost, how many images became complete, and the sum over all that was sent.
 
-ghost use Rattle.std.specs.Prelude.{◌≡◌, ◌<◌, length, IsTrue};
+ghost use Rattle.std.specs.Prelude.{◌≡◌, ◌<◌, [], length, IsTrue};
 ghost use Rattle.packet_codec.specs.Packet.{IsRight};
 
+use arrayvec::ArrayVec;
 use capsule_exchange::{Exchange, Heard};
 use mate_num::{HandlerId, Image};
 use packet_codec::Packet;
@@ -153,12 +154,14 @@ fn is_right(handlers: usize, packet: &Packet) -> bool
     }
 }
 
-// The node hears the packet, which is right for it.
-fn hear(node: &mut Exchange, packet: &Packet) -> Option<Heard> {
+// The node hears the packet, which is right for it, and asks for what it lacks.
+fn hear(node: &mut Exchange, packet: &Packet, asks: &mut ArrayVec<Packet, 8>) -> Option<Heard>
+    requires { asks.old.items ≡ [] }
+{
     if !is_right(node.handlers(), packet) {
         return None;
     }
-    Some(node.hear(packet))
+    Some(node.hear(packet, asks))
 }
 
 // The node installs an image of a newer version.
@@ -237,12 +240,13 @@ impl Air {
         requires { node < 2 }
     {
         let vector = self.nodes[node].vector();
-        let heard = hear(&mut self.nodes[1 - node], &vector)?;
+        let mut asks = ArrayVec::new();
+        let heard = hear(&mut self.nodes[1 - node], &vector, &mut asks)?;
         let consistent = heard.consistent?;
         self.tally.add(u32::from(consistent));
-        for ask in heard.asks.as_slice() {
+        for ask in asks.as_slice() {
             if self.carries(ask) {
-                hear(&mut self.nodes[node], ask)?;
+                hear(&mut self.nodes[node], ask, &mut ArrayVec::new())?;
             }
         }
         Some(())
@@ -263,8 +267,8 @@ impl Air {
         if !self.carries(&packet) {
             return Some(());
         }
-        let complete = hear(&mut self.nodes[1 - node], &packet)?.complete;
-        match (complete, &packet) {
+        let heard = hear(&mut self.nodes[1 - node], &packet, &mut ArrayVec::new())?;
+        match (heard.complete, &packet) {
             (Some(handler), Packet::Fragment { version, .. }) => {
                 self.complete(1 - node, handler, *version)
             }

@@ -2,10 +2,11 @@
 //! `vector NODE`, `marked NODE`, `pump NODE`, `collected NODE HANDLER` and `forget NODE`, with images and packets in
 //! hexadecimal digits. `hold` and `forget` print nothing.
 
+use arrayvec::ArrayVec;
 use capsule_codec::from_hex;
-use capsule_exchange::Exchange;
+use capsule_exchange::{Exchange, Heard};
 use mate_num::HandlerId;
-use packet_codec::decode;
+use packet_codec::{Packet, decode};
 use std::alloc::{AllocError, Global};
 use vm_desc::Description;
 
@@ -61,7 +62,14 @@ fn hear(
     };
     match decode(desc, bytes.as_slice()) {
         Ok(packet) if node.handlers() == desc.handlers.len() => {
-            format!(in alloc; "{:?}", node.hear(&packet))
+            let mut asks: ArrayVec<Packet, 8> = ArrayVec::new();
+            let Heard {
+                consistent,
+                complete,
+            } = node.hear(&packet, &mut asks);
+            format!(in alloc;
+                "Heard {{ consistent: {consistent:?}, asks: {asks:?}, complete: {complete:?} }}"
+            )
         }
         _ => "no packet".to_string(alloc),
     }

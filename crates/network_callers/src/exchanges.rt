@@ -31,11 +31,12 @@ pub fn another_version_is_not_marked() -> bool
     ensures { result ≡ false }
 {
     let mut exchange = a_holder();
-    exchange.hear(&Packet::Status {
+    let packet = Packet::Status {
         handler: HandlerId(0),
         version: 1,
         missing: 1,
-    });
+    };
+    exchange.hear(&packet, &mut ArrayVec::new());
     exchange.marked()
 }
 
@@ -45,7 +46,9 @@ pub fn an_equal_version_is_not_asked_for() -> usize
     let mut exchange = a_holder();
     let mut versions = ArrayVec::new();
     versions.push(2);
-    exchange.hear(&Packet::Vector { versions }).asks.len()
+    let mut asks = ArrayVec::new();
+    exchange.hear(&Packet::Vector { versions }, &mut asks);
+    asks.len()
 }
 
 /// The target is version 4.
@@ -55,16 +58,17 @@ pub fn a_fragment_of_another_version_completes_nothing() -> Option<Image>
     let mut exchange = a_holder();
     let mut versions = ArrayVec::new();
     versions.push(4);
-    exchange.hear(&Packet::Vector { versions });
+    exchange.hear(&Packet::Vector { versions }, &mut ArrayVec::new());
     let mut bytes = Piece::new();
     bytes.push(7);
-    exchange.hear(&Packet::Fragment {
+    let packet = Packet::Fragment {
         handler: HandlerId(0),
         version: 3,
         index: 0,
         count: 1,
         large: false,
         bytes,
-    });
+    };
+    exchange.hear(&packet, &mut ArrayVec::new());
     exchange.complete(HandlerId(0))
 }

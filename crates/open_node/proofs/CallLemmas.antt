@@ -21,22 +21,22 @@ use Rattle.open_node.specs.View.{NodeView, Tells}
 use Rattle.open_node.specs.Calls.{Pacing}
 use Rattle.open_node.proofs.PaceLemmas.{seen_as, Tells-from}
 
-module _ (d : Description) (old new : Parts) (at_ : Stamp) (rests : Rests d old) where
+module _ (d : Description) (old new : Parts) (at_ : Stamp) (rests : Rests d old) (gone : new.log.gone ≡ old.log.gone) where
   -- entries that meet a rule at each pace
   pub Tells-paced : (Rule : Pace → List Told → Type 0) → RestsAgain d old new at_ (AtPace d old Rule) → Tells (seen_as d old) (seen_as d new) at_ (Pacing Rule)
   Tells-paced Rule again =
-      Tells-from d old new at_ (Pacing Rule) again.adds.told rests.order.keeps again.rests.order.keeps again.adds.grows
+      Tells-from d old new at_ (Pacing Rule) again.adds.told rests.order.keeps again.rests.order.keeps again.adds.grows gone
       (λ p pace. (paced_all p again.adds.told, (again.adds.made p pace, refl), again.pace p pace))
 
   -- and at all paces
   pub Tells-again : (Rule : List Told → Type 0) → RestsAgain d old new at_ Rule → Tells (seen_as d old) (seen_as d new) at_ (Pacing (λ _. Rule))
   Tells-again Rule again =
-      Tells-from d old new at_ (Pacing (λ _. Rule)) again.adds.told rests.order.keeps again.rests.order.keeps again.adds.grows
+      Tells-from d old new at_ (Pacing (λ _. Rule)) again.adds.told rests.order.keeps again.rests.order.keeps again.adds.grows gone
       (λ p pace. (paced_all p again.adds.told, (again.adds.made, refl), again.pace p pace))
 
   pub Tells-store : TellsStore d old new at_ → Tells (seen_as d old) (seen_as d new) at_ (Pacing (ShowsOnce (clock_of d) (machine_in d) (reading d old.log.all)))
   Tells-store t =
-      Tells-from d old new at_ _ t.again.adds.told rests.order.keeps t.again.rests.order.keeps t.again.adds.grows
+      Tells-from d old new at_ _ t.again.adds.told rests.order.keeps t.again.rests.order.keeps t.again.adds.grows gone
       (λ p pace. (paced_all p t.again.adds.told, (record { seen = old.heap; shown = t.shown p pace; made = t.again.adds.made }, refl), t.again.pace p pace))
 
   -- it rests whether it was refused or not
@@ -58,8 +58,15 @@ Tells-by old new at Rule Other goes t = record {
   told = t.told;
   description = t.description;
   grows = t.grows;
+  gone = t.gone;
   paces = λ p has. let x = t.paces p has in (x.0, goes p t.told x.0 x.1, x.2);
 }
+
+-- nothing is forgotten whether it was refused or not
+pub gone-either : {A E : Type 0} (old new : NodeView) (at : Stamp) (r : Result A E) (Rule : A → Pace → List Told → Pace → Type 0) (Refused : E → Type 0)
+    → MatchResult r (λ a. Tells old new at (Rule a)) (λ e. Refused e × (new ≡ old)) → new.gone ≡ old.gone
+gone-either old new at (Ok a) Rule Refused t = t.gone
+gone-either old new at (Err e) Rule Refused (why, same) = ap (λ (v : NodeView). v.gone) same
 
 -- what a post answers is an occasion
 pub Occasion-given : (m : Machine) (r : Reading) (h : HandlerId) (payload : ArrayVec ℤ) (answer : PostAnswer) (told : List Told) → PostGives m r h payload answer told → Occasion m r h payload told

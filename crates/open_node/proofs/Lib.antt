@@ -3,3 +3,4 @@ pub mod JournalLemmas
 pub mod StandingLemmas
 pub mod MadeLemmas
 pub mod CallLemmas
+pub mod KeptLemmas

@@ -50,11 +50,12 @@ module _ (d : Description) (s : Parts) (keeps : Keeps d s) (p : Pace) where
     counts c o is = subst Right (sym (entry-is c ∙ ap entry_of is)) (by c o is)
 
 -- what the parts tell, as it is seen
-pub Tells-from : (d : Description) (old new : Parts) (at_ : Stamp) (Rule : Pace → List Told → Pace → Type 0) (told : List Told) → Keeps d old → Keeps d new → Grows old.log.all new.log.all at_ told
+pub Tells-from : (d : Description) (old new : Parts) (at_ : Stamp) (Rule : Pace → List Told → Pace → Type 0) (told : List Told) → Keeps d old → Keeps d new → Grows old.log.all new.log.all at_ told → new.log.gone ≡ old.log.gone
     → ((p : Pace) → IsPace (reading d old.log.all) old.contexts p → (q : Pace) × Rule p told q × IsPace (reading d new.log.all) new.contexts q) → Tells (seen_as d old) (seen_as d new) at_ Rule
-Tells-from d old new at_ Rule told before after grows paces = record {
+Tells-from d old new at_ Rule told before after grows gone paces = record {
   told = told;
   description = refl;
   grows = grows;
+  gone = gone;
   paces = λ p pace. (let h = paces p (IsPace-seen d old before p pace) in (h.0, h.1, HasPace-from d new after h.0 h.2));
 }

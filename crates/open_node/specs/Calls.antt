@@ -1,11 +1,13 @@
 -- What the calls of a node answer.
-use Rattle.std.specs.Prelude.{◌≡◌, ◌<◌, ◌≤◌, ◌+◌, ◌*◌, min, ℕ, List, Some}
+use Rattle.std.specs.Prelude.{◌≡◌, ◌<◌, ◌≤◌, ◌+◌, ◌*◌, min, ℕ, List, Some, map, drop}
 use Rattle.arrayvec.specs.ArrayVec.{ArrayVec}
 use Rattle.mate_num.specs.declared.bounds.TheConstants.{CODE_MAX}
 use Rattle.mate_num.specs.declared.id.ContextId.{ContextId}
 use Rattle.mate_num.specs.declared.id.HandlerId.{HandlerId}
+use Rattle.mate_journal.specs.Log.{Log}
 use Rattle.mate_journal.specs.Machine.{Machine, HeldProgram}
-use Rattle.mate_journal.specs.Journal.{Told, Ready, Waiting, Reading}
+use Rattle.mate_journal.specs.Journal.{Told, Ready, Waiting, Reading, told_of}
+use Rattle.mate_journal.specs.declared.entry.Stamped.{Stamped}
 use Rattle.mate_journal.specs.WellFormed.{IsWaiting}
 use Rattle.mate_journal.specs.NodeScript.{IsReadyIn, TurnsIn}
 use Rattle.mate_journal.specs.Pace.{Pace, paced_all}
@@ -52,3 +54,16 @@ pub record IsImageOf (r : Reading) (h : HandlerId) (image : ArrayVec ℕ) : Type
   pub installed : r.installed h ≡ Some program
   pub is : program.image ≡ image
   pub version : 0 < program.version
+
+-- what entries tell
+abbrev pub told_by_entries : Log → List Stamped → List Told
+told_by_entries l es = map (λ (e : Stamped). told_of l e.entry) es
+
+-- what the entries from a position on tell
+abbrev pub told_from : ℕ → Log → List Told
+told_from from l = told_by_entries l (drop from l.entries)
+
+-- with the images and stores of some log the entries tell what those from the position on tell
+pub record TellFrom (from : ℕ) (l : Log) (es : List Stamped) : Type 0 where
+  pub by : Log
+  pub told : told_by_entries by es ≡ told_from from l

@@ -5,7 +5,7 @@ use Rattle.node_invariant.specs.Queue.{number_at, invocation_in}
 use Rattle.node_invariant.specs.Starting.{Rests}
 use Rattle.node_invariant.specs.Totals.{seat_count}
 use Rattle.open_node.specs.declared.open_node.OpenNode.TheInside.{Inside}
-use Rattle.open_node.specs.View.{NodeView, OpenNodeView}
+use Rattle.open_node.specs.View.{NodeView}
 
 abbrev pub entry_of : Option Seat → ℕ × ℕ
 entry_of o = (number_at o, seat_count o)
@@ -14,12 +14,10 @@ abbrev pub view_of : Inside → NodeView
 view_of n = record {
   description = n.description;
   log = n.parts.log.all;
+  gone = n.parts.log.gone;
   line = map (invocation_in n.parts.contexts) n.parts.contexts.ring;
   counts = map entry_of n.parts.contexts.seats;
 }
-
-abbrev pub open_view_of : Inside → OpenNodeView
-open_view_of n = record { node = view_of n; gone = n.parts.log.gone }
 
 -- what each node keeps: it rests
 pub record IsResting (n : Inside) : Type 0 where

@@ -1,5 +1,5 @@
--- What contracts see of a node: its machine, its log, the line of its ready invocations, and how many instructions each live one
--- executed.
+-- What contracts see of a node: its machine, its log and how much of it is gone, the line of its ready invocations, and how many
+-- instructions each live one executed.
 use Rattle.std.specs.Prelude.{◌≡◌, ◌≤◌, ℕ, true, List, slice_index_or}
 use Rattle.mate_num.specs.declared.call.Stamp.{Stamp}
 use Rattle.mate_num.specs.declared.id.ContextId.{ContextId}
@@ -10,18 +10,14 @@ use Rattle.mate_journal.specs.Pace.{Pace}
 use Rattle.mate_journal.specs.OpenLog.{Gone}
 use Rattle.node_invariant.specs.Keeps.{reading, Grows}
 
--- `line` has the ready invocations, the one that has the next turn first. `counts` has for each context the number of its
+-- `log` is the whole log, of which `gone` may be forgotten. `line` has the ready invocations, the one that has the next turn first. `counts` has for each context the number of its
 -- invocation and how many instructions this one executed, or 0 and 0.
 pub record NodeView : Type 0 where
   pub description : Description
   pub log : Log
+  pub gone : Gone
   pub line : List ℕ
   pub counts : List (ℕ × ℕ)
-
--- the same of a node whose log may be forgotten in part: it has the whole log, and how much of it is gone
-pub record OpenNodeView : Type 0 where
-  pub node : NodeView
-  pub gone : Gone
 
 -- what was heard of the node
 abbrev pub heard_of : NodeView → Reading
@@ -40,12 +36,14 @@ pub record Tells (old new : NodeView) (at : Stamp) (Rule : Pace → List Told �
   pub told : List Told
   pub description : new.description ≡ old.description
   pub grows : Grows old.log new.log at told
+  pub gone : new.gone ≡ old.gone
   pub paces : (p : Pace) → HasPace old p → (q : Pace) × Rule p told q × HasPace new q
 
 -- the same node, with as much room or more
 pub record IsSameNode (old new : NodeView) : Type 0 where
   pub description : new.description ≡ old.description
   pub log : IsSameLog new.log old.log
+  pub gone : new.gone ≡ old.gone
   pub line : new.line ≡ old.line
   pub counts : new.counts ≡ old.counts
   pub room : old.log.spare ≤ new.log.spare

@@ -26,12 +26,11 @@ impl OpenNode {
     /// holds it back. It is dropped with `NoCode` exactly where nothing is installed for the handler, and else with
     /// `AllBusy` exactly where no context of the handler is idle.
     pub fn post(&mut self, handler: HandlerId, payload: &Payload, at: Stamp) -> PostAnswer
-        requires handler { handler.0 < length self.old.node.description.handlers.items }
-        requires timely { IsTimely at self.old.node.log }
-        requires few { length self.old.node.log.entries < 4000000000 }
-        requires room { 2 ≤ self.old.node.log.spare }
-        ensures tells { Tells self.old.node self.new.node at (Pacing (λ _. PostGives (machine_in self.old.node.description) (heard_of self.old.node) handler payload.now result)) }
-        ensures gone { self.new.gone ≡ self.old.gone }
+        requires handler { handler.0 < length self.old.description.handlers.items }
+        requires timely { IsTimely at self.old.log }
+        requires few { length self.old.log.entries < 4000000000 }
+        requires room { 2 ≤ self.old.log.spare }
+        ensures { Tells self.old self.new at (Pacing (λ _. PostGives (machine_in self.old.description) (heard_of self.old) handler payload.now result)) }
     {
         post_in(&self.description, &mut self.parts, handler, payload, at)
     }
@@ -40,12 +39,11 @@ impl OpenNode {
     /// `NotWaiting` comes exactly where none waits there, and leaves the node as it was.
     pub fn answer(&mut self, ctx: ContextId, value: i16, at: Stamp) -> Result<(), NotWaiting>
         requires context { ctx.0 < CONTEXTS_MAX }
-        requires timely { IsTimely at self.old.node.log }
-        requires room { 1 ≤ self.old.node.log.spare }
-        ensures tells { MatchResult result
-            (λ _. Tells self.old.node self.new.node at (Pacing (λ _. Answers (heard_of self.old.node) ctx value)))
-            (λ _. NobodyWaits (heard_of self.old.node) ctx × (self.new.node ≡ self.old.node)) }
-        ensures gone { self.new.gone ≡ self.old.gone }
+        requires timely { IsTimely at self.old.log }
+        requires room { 1 ≤ self.old.log.spare }
+        ensures { MatchResult result
+            (λ _. Tells self.old self.new at (Pacing (λ _. Answers (heard_of self.old) ctx value)))
+            (λ _. NobodyWaits (heard_of self.old) ctx × (self.new ≡ self.old)) }
     {
         answer_in(&self.description, &mut self.parts, ctx, value, at)
     }
@@ -55,45 +53,41 @@ impl OpenNode {
     /// code's, then `NotNewer` exactly where the version that is held for the handler is at least the capsule's, with that
     /// version.
     pub fn install(&mut self, bytes: &[u8], at: Stamp) -> Result<(), InstallFault>
-        requires timely { IsTimely at self.old.node.log }
-        requires few { length self.old.node.log.entries < 4000000000 }
-        requires room { 4 ≤ self.old.node.log.spare }
-        ensures tells { MatchResult result
-            (λ _. Tells self.old.node self.new.node at (Pacing (InstallsBytes self.old.node.description (heard_of self.old.node) bytes.now)))
-            (λ fault. Refuses self.old.node.description (heard_of self.old.node) bytes.now fault × (self.new.node ≡ self.old.node)) }
-        ensures gone { self.new.gone ≡ self.old.gone }
+        requires timely { IsTimely at self.old.log }
+        requires few { length self.old.log.entries < 4000000000 }
+        requires room { 4 ≤ self.old.log.spare }
+        ensures { MatchResult result
+            (λ _. Tells self.old self.new at (Pacing (InstallsBytes self.old.description (heard_of self.old) bytes.now)))
+            (λ fault. Refuses self.old.description (heard_of self.old) bytes.now fault × (self.new ≡ self.old)) }
     {
         install_in(&self.description, &mut self.parts, bytes, at)
     }
 
     /// An era begins as with an install, but what is installed stays, and nothing is posted.
     pub fn reset(&mut self, at: Stamp)
-        requires timely { IsTimely at self.old.node.log }
-        requires few { length self.old.node.log.entries < 4000000000 }
-        requires room { 2 ≤ self.old.node.log.spare }
-        ensures tells { Tells self.old.node self.new.node at (Pacing (Resets (clock_of self.old.node.description) (machine_in self.old.node.description) (heard_of self.old.node))) }
-        ensures gone { self.new.gone ≡ self.old.gone }
+        requires timely { IsTimely at self.old.log }
+        requires few { length self.old.log.entries < 4000000000 }
+        requires room { 2 ≤ self.old.log.spare }
+        ensures { Tells self.old self.new at (Pacing (Resets (clock_of self.old.description) (machine_in self.old.description) (heard_of self.old))) }
     {
         reset_in(&self.description, &mut self.parts, at);
     }
 
     /// The shared variables and buffers are shown as they are.
     pub fn seen(&mut self, at: Stamp)
-        requires timely { IsTimely at self.old.node.log }
-        requires few { length self.old.node.log.entries < 4000000000 }
-        requires room { 1 ≤ self.old.node.log.spare }
-        ensures tells { Tells self.old.node self.new.node at (Pacing (ShowsOnce (clock_of self.old.node.description) (machine_in self.old.node.description) (heard_of self.old.node))) }
-        ensures gone { self.new.gone ≡ self.old.gone }
+        requires timely { IsTimely at self.old.log }
+        requires few { length self.old.log.entries < 4000000000 }
+        requires room { 1 ≤ self.old.log.spare }
+        ensures { Tells self.old self.new at (Pacing (ShowsOnce (clock_of self.old.description) (machine_in self.old.description) (heard_of self.old))) }
     {
         seen_in(&self.description, &mut self.parts, at);
     }
 
     /// A step that could do nothing is told.
     pub fn void(&mut self, cause: VoidCause, at: Stamp)
-        requires timely { IsTimely at self.old.node.log }
-        requires room { 1 ≤ self.old.node.log.spare }
-        ensures tells { Tells self.old.node self.new.node at (Pacing (λ _ told. told ≡ Void cause ∷ [])) }
-        ensures gone { self.new.gone ≡ self.old.gone }
+        requires timely { IsTimely at self.old.log }
+        requires room { 1 ≤ self.old.log.spare }
+        ensures { Tells self.old self.new at (Pacing (λ _ told. told ≡ Void cause ∷ [])) }
     {
         void_in(&self.description, &mut self.parts, cause, at);
     }

@@ -1,6 +1,6 @@
 //! A node whose log can be forgotten in part: its heap and contexts, what is installed for its handlers, and its log.
 
-ghost use Rattle.std.specs.Prelude.{◌≡◌, ◌<◌, ◌≤◌, ◌+◌, ◌*◌, length, MatchOption, MatchResult, IfOk, OnOk};
+ghost use Rattle.std.specs.Prelude.{◌≡◌, ◌<◌, ◌≤◌, ◌+◌, ◌*◌, length, All, MatchOption, MatchResult, IfOk, OnOk};
 ghost use Rattle.mate_num.specs.declared.bounds.TheConstants.{CODE_MAX, CONTEXTS_MAX};
 ghost use Rattle.mate_journal.specs.Log.{IsEmpty};
 ghost use Rattle.mate_journal.specs.Journal.{held as held_version};
@@ -12,11 +12,13 @@ ghost use Rattle.node_invariant.specs.Starting.{Rests};
 ghost use Rattle.node_calls.specs.Pacing.{SettlesWithin};
 ghost use Rattle.node_calls.specs.Calls.{NobodyWaits};
 ghost use Rattle.mate_journal.specs.OpenLog.{nothing_gone, gone_of, IsKept};
+ghost use Rattle.mate_journal.specs.Tidy.{IsEntryInRange};
+ghost use Rattle.mate_journal.specs.declared.entry.Stamped.{Stamped as Entered};
 ghost use Rattle.open_node.specs.Journal.{KeepsJournal};
 
 use crate::standing::{Asked, NotReady, Standing};
 use journal_laws::asks_devices_in_order;
-use mate_journal::{NodeLog, OpenLog};
+use mate_journal::{NodeLog, OpenLog, Stamped};
 use mate_num::{ContextId, HandlerId, Image, NoMemory, Stamp};
 use node_calls::{settle, take_turn};
 use node_contexts::{Contexts, Handlers};
@@ -46,13 +48,13 @@ impl Drop for OpenNode {
 }
 
 impl Model for OpenNode {
-    ghost use Rattle.open_node.specs.View.{OpenNodeView};
+    ghost use Rattle.open_node.specs.View.{NodeView};
 
-    ghost Value = { OpenNodeView };
+    ghost Value = { NodeView };
 
-    ghost use Rattle.open_node.specs.Inside.{open_view_of, IsResting};
+    ghost use Rattle.open_node.specs.Inside.{view_of, IsResting};
 
-    ghost view = { open_view_of };
+    ghost view = { view_of };
 
     ghost invariant = { IsResting };
 }
@@ -69,11 +71,11 @@ fn keeps_journal(description: &Description, parts: &Parts)
 
 impl OpenNode {
     ghost use Rattle.open_node.specs.View.{heard_of, HasPace, Tells, IsSameNode};
-    ghost use Rattle.open_node.specs.Calls.{HasStepped, StandsAs, IsAsked, IsImageOf};
+    ghost use Rattle.open_node.specs.Calls.{HasStepped, StandsAs, IsAsked, IsImageOf, TellFrom};
 
     /// A node of this machine. Nothing is installed, all variables are 0, all buffers are empty, and nothing was told.
     pub fn new(alloc: Global, description: &Description) -> Result<OpenNode, NoMemory>
-        ensures { IfOk result (λ made. (made.node.description ≡ description.now) × IsEmpty made.node.log × HasPace made.node no_pace × (made.gone ≡ nothing_gone)) }
+        ensures { IfOk result (λ made. (made.description ≡ description.now) × IsEmpty made.log × HasPace made no_pace × (made.gone ≡ nothing_gone)) }
     {
         Ok(OpenNode {
             description: description.copy(),
@@ -92,17 +94,16 @@ impl OpenNode {
 
     /// Makes room for n more entries. `NoMemory` leaves the node as it was, but for its room.
     pub fn reserve(&mut self, n: usize) -> Result<(), NoMemory>
-        ensures same { IsSameNode self.old.node self.new.node }
-        ensures pace { (p : Pace) → HasPace self.old.node p → HasPace self.new.node p }
-        ensures room { OnOk result (n ≤ self.new.node.log.spare) }
-        ensures gone { self.new.gone ≡ self.old.gone }
+        ensures same { IsSameNode self.old self.new }
+        ensures pace { (p : Pace) → HasPace self.old p → HasPace self.new p }
+        ensures room { OnOk result (n ≤ self.new.log.spare) }
     {
         self.parts.log.reserve(n)
     }
 
     /// How many entries, of whatever kind, are made without memory.
     pub fn spare(&self) -> usize
-        ensures { result ≡ self.now.node.log.spare }
+        ensures { result ≡ self.now.log.spare }
     {
         self.parts.log.spare()
     }
@@ -112,12 +113,11 @@ impl OpenNode {
     pub fn step(&mut self, ctx: ContextId, n: u32, at: Stamp) -> Result<u32, NotReady>
         requires context { ctx.0 < CONTEXTS_MAX }
         requires some { 0 < n }
-        requires timely { IsTimely at self.old.node.log }
-        requires room { 16 ≤ self.old.node.log.spare }
-        ensures steps { MatchResult result
-            (λ ran. Tells self.old.node self.new.node at (HasStepped (clock_of self.old.node.description) (machine_in self.old.node.description) (heard_of self.old.node) ctx n ran))
-            (λ _. (IsReadyIn (heard_of self.old.node) ctx → ⊥) × (self.new.node ≡ self.old.node)) }
-        ensures gone { self.new.gone ≡ self.old.gone }
+        requires timely { IsTimely at self.old.log }
+        requires room { 16 ≤ self.old.log.spare }
+        ensures { MatchResult result
+            (λ ran. Tells self.old self.new at (HasStepped (clock_of self.old.description) (machine_in self.old.description) (heard_of self.old) ctx n ran))
+            (λ _. (IsReadyIn (heard_of self.old) ctx → ⊥) × (self.new ≡ self.old)) }
     {
         if !self.parts.contexts.is_ready(ctx) {
             return Err(NotReady);
@@ -128,17 +128,16 @@ impl OpenNode {
     /// Turns of the description's quantum follow one another, each to the invocation that is longest without one, until
     /// none is ready.
     pub fn settle(&mut self, at: Stamp)
-        requires timely { IsTimely at self.old.node.log }
-        requires room { 32 ≤ self.old.node.log.spare }
-        ensures settles { Tells self.old.node self.new.node at (SettlesWithin (clock_of self.old.node.description) (machine_in self.old.node.description) ((self.old.node.description.turns + 1) * CODE_MAX) (heard_of self.old.node)) }
-        ensures gone { self.new.gone ≡ self.old.gone }
+        requires timely { IsTimely at self.old.log }
+        requires room { 32 ≤ self.old.log.spare }
+        ensures { Tells self.old self.new at (SettlesWithin (clock_of self.old.description) (machine_in self.old.description) ((self.old.description.turns + 1) * CODE_MAX) (heard_of self.old)) }
     {
         settle(&self.description, &mut self.parts, at);
     }
 
     /// What can go on. A `step` in a context that it names as `Can` is never refused.
     pub fn standing(&self) -> Standing
-        ensures { StandsAs (heard_of self.now.node) result }
+        ensures { StandsAs (heard_of self.now) result }
     {
         if let Some(ctx) = self.parts.contexts.first_ready() {
             return Standing::Can(ctx);
@@ -152,7 +151,7 @@ impl OpenNode {
     /// The call that the invocation in the context waits with; None exactly where none waits there.
     pub fn asked(&self, ctx: ContextId) -> Option<Asked>
         requires { ctx.0 < CONTEXTS_MAX }
-        ensures { MatchOption result (NobodyWaits (heard_of self.now.node) ctx) (IsAsked (heard_of self.now.node) ctx) }
+        ensures { MatchOption result (NobodyWaits (heard_of self.now) ctx) (IsAsked (heard_of self.now) ctx) }
     {
         let (fun, args) = self.parts.contexts.asked(ctx)?;
         let inv = self.parts.contexts.seat(ctx)?.inv;
@@ -161,14 +160,14 @@ impl OpenNode {
 
     /// The version that is installed for the handler, 0 for none.
     pub fn held(&self, handler: HandlerId) -> u32
-        ensures { result ≡ held_version (heard_of self.now.node) handler }
+        ensures { result ≡ held_version (heard_of self.now) handler }
     {
         self.parts.handlers.version(handler)
     }
 
     /// The image that is installed for the handler; None exactly where none is.
     pub fn image(&self, handler: HandlerId) -> Option<&Image>
-        ensures { MatchOption result (held_version (heard_of self.now.node) handler ≡ 0) (λ image. IsImageOf (heard_of self.now.node) handler image.now) }
+        ensures { MatchOption result (held_version (heard_of self.now) handler ≡ 0) (λ image. IsImageOf (heard_of self.now) handler image.now) }
     {
         match self.parts.handlers.get(handler) {
             Some(held) => Some(&held.image),
@@ -176,37 +175,51 @@ impl OpenNode {
         }
     }
 
-    /// How many entries were told.
+    /// How many entries were told, with those that are forgotten.
     pub fn told(&self) -> usize
-        ensures { result ≡ length self.now.node.log.entries }
+        ensures count { result ≡ length self.now.log.entries }
+        ensures gone { self.now.gone.entries ≤ result }
     {
+        let _kept = self.parts.log.kept();
         self.parts.log.told()
     }
 
     /// Forgets all that was told until now: its memory is free for what comes.
     pub fn forget(&mut self)
-        requires { length self.old.node.log.entries < 4000000000 }
-        ensures same { IsSameNode self.old.node self.new.node }
-        ensures pace { (p : Pace) → HasPace self.old.node p → HasPace self.new.node p }
-        ensures gone { self.new.gone ≡ gone_of self.old.node.log }
+        requires { length self.old.log.entries < 4000000000 }
+        ensures same { IsSameNode (record self.old { gone = gone_of self.old.log }) self.new }
+        ensures pace { (p : Pace) → HasPace self.old p → HasPace self.new p }
     {
         self.parts.log.forget();
     }
 
     /// What was told since the last `forget`.
     pub fn kept(&self) -> &NodeLog
-        ensures kept { IsKept (record { all = self.now.node.log; gone = self.now.gone }) result.now }
-        ensures keeps { KeepsJournal self.now.node.description (machine_in self.now.node.description) self.now.node.log }
+        ensures kept { IsKept (record { all = self.now.log; gone = self.now.gone }) result.now }
+        ensures keeps { KeepsJournal self.now.description (machine_in self.now.description) self.now.log }
     {
         keeps_journal(&self.description, &self.parts);
         self.parts.log.kept()
     }
 
+    /// The entries that were told from this position on. Positions count what is forgotten too.
+    pub fn told_since(&self, from: usize) -> &[Stamped]
+        requires kept { self.now.gone.entries ≤ from }
+        requires within { from ≤ length self.now.log.entries }
+        ensures count { from + length result.now ≡ length self.now.log.entries }
+        ensures tell { TellFrom from self.now.log result.now }
+        ensures range { All (λ (e : Entered). IsEntryInRange self.now.description e.entry) result.now }
+    {
+        let entries = self.kept().entries();
+        let gone = self.told() - entries.len();
+        &entries[from - gone..]
+    }
+
     /// What happened on the node, where nothing was forgotten.
     pub fn log(&self) -> &NodeLog
         requires { self.now.gone ≡ nothing_gone }
-        ensures same { result.now ≡ self.now.node.log }
-        ensures keeps { KeepsJournal self.now.node.description (machine_in self.now.node.description) self.now.node.log }
+        ensures same { result.now ≡ self.now.log }
+        ensures keeps { KeepsJournal self.now.description (machine_in self.now.description) self.now.log }
     {
         keeps_journal(&self.description, &self.parts);
         self.parts.log.whole()
@@ -215,8 +228,8 @@ impl OpenNode {
     /// The same, handed out.
     pub fn into_log(self) -> NodeLog
         requires { self.gone ≡ nothing_gone }
-        ensures same { result ≡ self.node.log }
-        ensures keeps { KeepsJournal self.node.description (machine_in self.node.description) self.node.log }
+        ensures same { result ≡ self.log }
+        ensures keeps { KeepsJournal self.description (machine_in self.description) self.log }
     {
         keeps_journal(&self.description, &self.parts);
         let OpenNode {

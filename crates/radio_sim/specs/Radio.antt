@@ -11,10 +11,12 @@ use Rattle.radio_sim.specs.declared.wire.Sending.{Sending}
 use Rattle.radio_sim.specs.Wires.{leaving, turned_wire, losts, delivered}
 use Rattle.radio_sim.specs.Sending.{sent_record}
 
--- what waits, what happened on the air, how many packets were sent, how long each is on its way in ms, and the links that leave each node
+-- what waits, what happened on the air, how much of that is gone, how many packets were sent, how long each is on its way in ms, and the
+-- links that leave each node
 pub record Ether : Type 0 where
   pub agenda : Agenda Event
   pub air : List Aired
+  pub gone : ℕ
   pub sent : ℕ
   pub delay : ℕ
   pub wires : List (List Wire)
@@ -28,6 +30,7 @@ abbrev pub transmitted : Ether → Sending → ArrayVec ℕ → Ether
 transmitted e s bytes = record {
   agenda = scheduled_all e.agenda (s.at.time + e.delay) (delivered s bytes (wires_of e s.node));
   air = e.air ++ sent_record s bytes ∷ [] ++ losts s (wires_of e s.node);
+  gone = e.gone;
   sent = e.sent + 1;
   delay = e.delay;
   wires = slice_set e.wires s.node (map turned_wire (wires_of e s.node));
@@ -47,12 +50,15 @@ pub record IsEtherOf (w : World) (senders : List ℕ) (e : Ether) : Type 0 where
 pub record StartsRadio (w : World) (d : Description) (e : Ether) : Type 0 where
   pub agenda : e.agenda ≡ record { until = w.until; now = 0; items = [] }
   pub air : e.air ≡ []
+  pub gone : e.gone ≡ 0
   pub delay : e.delay ≡ d.radio.delay
   pub stands : IsEtherOf w [] e
 
--- what the radio keeps
-pub record IsRightRadio (airs : List Aired) (sent delay : ℕ) (wires : List (List Wire)) (left : List Event) : Type 0 where
+-- what the radio keeps, with the records that are gone and those that are at hand
+pub record IsRightRadio (past : List Aired) (gone : ℕ) (airs : List Aired) (sent delay : ℕ) (wires : List (List Wire)) (left : List Event) : Type 0 where
   pub none_left : left ≡ []
-  pub counted : sent ≤ length airs
+  pub gone_is : gone ≡ length past
+  pub gone_few : gone < 4000000000
+  pub counted : sent ≤ length (past ++ airs)
   pub near : delay ≤ 10000
   pub nodes : length wires ≡ 256

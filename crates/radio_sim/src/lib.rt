@@ -2,6 +2,7 @@
 #![tactic(auto)]
 
 pub mod event;
+pub mod past;
 pub mod radio;
 pub mod wire;
 

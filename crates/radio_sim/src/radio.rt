@@ -1,6 +1,6 @@
 //! The radio of a world.
 
-ghost use Rattle.std.specs.Prelude.{◌≡◌, ◌+◌, ◌<◌, ◌≤◌, ◌^◌, [], ◌∷◌, ◌++◌, ℕ, filter, slice_index_or, length, MatchOption, MatchResult, IfNone, IfOk, OnOk};
+ghost use Rattle.std.specs.Prelude.{◌≡◌, ◌+◌, ◌<◌, ◌≤◌, ◌^◌, [], ◌∷◌, ◌++◌, ℕ, drop, filter, slice_index_or, length, MatchOption, MatchResult, IfNone, IfOk, OnOk};
 ghost use Rattle.event_queue.specs.Agenda.{scheduled, scheduled_all, is_other, Adds, AddsAll, Comes};
 ghost use Rattle.world_script.specs.World.{IsRightWorld};
 ghost use Rattle.std.specs.List.{All};
@@ -10,6 +10,7 @@ ghost use Rattle.radio_sim.specs.Wires.{losts, delivered};
 ghost use Rattle.radio_sim.specs.Sending.{sent_record, AreLeaving, IsFurther};
 
 use crate::event::{Cancel, Event};
+use crate::past::PastAir;
 use crate::wire::{Sending, Wire, Wires, copy_of};
 use event_queue::{Queue, Timed};
 use mate_journal::{Air, Aired, Airs};
@@ -23,10 +24,14 @@ use world_script::{Link, World};
 /// How many numbers of nodes there are.
 const NODES: usize = 256;
 
-/// What waits in a world, its links, and what happened on the air. Contracts see these as an `Ether`.
+/// What waits in a world, its links, and what happened on the air. Contracts see these as an `Ether`, with all that happened on
+/// the air; memory has what was recorded since the last `forget`.
 #[derive(Drop)]
 pub struct Radio {
     queue: Queue<Event>,
+    past: PastAir,
+    // how many records are gone
+    gone: usize,
     air: Airs,
     /// How many packets were sent.
     sent: u32,
@@ -43,9 +48,11 @@ impl Model for Radio {
 
     ghost Value = { Ether };
 
-    ghost view = { λ r. record { agenda = r.queue; air = r.air; sent = r.sent; delay = r.delay; wires = r.wires.items } };
+    ghost use Rattle.std.specs.Prelude.{◌++◌};
 
-    ghost invariant = { λ r. IsRightRadio r.air r.sent r.delay r.wires.items r.carried.items };
+    ghost view = { λ r. record { agenda = r.queue; air = r.past.air ++ r.air; gone = r.gone; sent = r.sent; delay = r.delay; wires = r.wires.items } };
+
+    ghost invariant = { λ r. IsRightRadio r.past.air r.gone r.air r.sent r.delay r.wires.items r.carried.items };
 }
 
 impl Radio {
@@ -62,6 +69,8 @@ impl Radio {
         let queue = Queue::new(alloc, world.until)?;
         Ok(Radio {
             queue,
+            past: PastAir::new(),
+            gone: 0,
             air: Airs::new(alloc),
             sent: 0,
             delay: desc.radio.delay,
@@ -136,18 +145,36 @@ impl Radio {
         self.queue.cancel(which.number());
     }
 
-    /// What happened on the air.
+    /// How many records were made.
+    pub fn aired(&self) -> usize
+        ensures { result ≡ length self.now.air }
+    {
+        self.gone + self.air().len()
+    }
+
+    /// What happened on the air since the last `forget`.
     pub fn air(&self) -> &[Aired]
-        ensures { result.now ≡ self.now.air }
+        ensures { result.now ≡ drop self.now.gone self.now.air }
     {
         self.air.as_slice()
     }
 
-    /// Hands out what happened on the air.
+    /// Hands out what happened on the air, where nothing was forgotten.
     pub fn into_air(self) -> Airs
+        requires { self.gone ≡ 0 }
         ensures { result ≡ self.air }
     {
         self.air
+    }
+
+    /// Forgets what happened on the air until now: its memory is free for what comes.
+    pub fn forget(&mut self)
+        requires { length self.old.air < 4000000000 }
+        ensures { self.new ≡ record self.old { gone = length self.old.air } }
+    {
+        self.gone += self.air.len();
+        self.past = PastAir::with(&self.past, &self.air);
+        self.air.truncate(0);
     }
 
     /// Notes what happened on the air. `NoMemory` leaves the radio as it was.

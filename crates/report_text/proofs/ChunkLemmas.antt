@@ -3,27 +3,6 @@ use Rattle.std.proofs.Common.{◌≡◌, ℕ, ◌+◌, ◌<◌, ◌≤◌, List,
 use Rattle.std.specs.Prelude.{codes}
 use Rattle.report_text.specs.Words.{word}
 
--- ---- how long a chunk is at most
-
-pub at_most-new : {c : List ℕ} → c ≡ [] → length c ≤ 0
-at_most-new e = omega (arith, ap length e)
-
-pub at_most-byte : {c d : List ℕ} (b n : ℕ) → d ≡ b ∷ c → length c ≤ n → length d ≤ n + 1
-at_most-byte b n e p = omega (arith, ap length e, p)
-
-pub at_most-text : (c d t : List ℕ) (m n : ℕ) → d ≡ t ++ c → length t ≤ m → length c ≤ n → length d ≤ m + n
-at_most-text c d t m n e q p = omega (arith, ap length e, length-append t c, q, p)
-
-pub at_most-digits : (c d : List ℕ) (more n : ℕ) → length d ≤ length c + more → length c ≤ n → length d ≤ n + more
-at_most-digits c d more n e p = omega (arith, e, p)
-
--- there is room for a byte, and for a text
-pub room-byte : (c : List ℕ) (n : ℕ) → length c ≤ n → n < 64 → length c < 64
-room-byte c n p q = omega (arith, p, q)
-
-pub room-text : (c t : List ℕ) (m n : ℕ) → length t ≤ m → length c ≤ n → m + n ≤ 64 → length t + length c ≤ 64
-room-text c t m n p q r = omega (arith, p, q, r)
-
 -- ---- what stands in a chunk
 
 -- a text, and a word behind it
@@ -41,6 +20,19 @@ pub two-words_line : {c0 c1 c2 c3 c4 : List ℕ} (a b : List ℕ) → c0 ≡ [] 
 two-words_line a b e0 e1 e2 e3 e4 =
     e4 ∙ ap (λ (z : List ℕ). a ++ z) (e3 ∙ ap word (e2 ∙ ap (λ (z : List ℕ). b ++ z) (e1 ∙ ap (λ (z : List ℕ). 10 ∷ z) e0)))
     ∙ sym (append_assoc a (word b) (codes "\n"))
+
+-- a text and two words at the end of a line
+pub three-words_line : {c0 c1 c2 c3 c4 c5 c6 : List ℕ} (a b c : List ℕ) → c0 ≡ [] → c1 ≡ 10 ∷ c0 → c2 ≡ c ++ c1 → c3 ≡ 32 ∷ c2 → c4 ≡ b ++ c3 → c5 ≡ 32 ∷ c4 → c6 ≡ a ++ c5
+    → c6 ≡ (a ++ word b ++ word c) ++ codes "\n"
+three-words_line a b c e0 e1 e2 e3 e4 e5 e6 =
+    e6 ∙ ap (λ (z : List ℕ). a ++ z) (e5 ∙ ap word (two-words_line b c e0 e1 e2 e3 e4) ∙ append_assoc (word b) (word c) (codes "\n"))
+    ∙ sym (append_assoc a (word b) (word c ++ codes "\n")) ∙ sym (append_assoc (a ++ word b) (word c) (codes "\n"))
+
+-- three words in front of what stands there
+pub three-words_front : {c1 c2 c3 c4 c5 : List ℕ} (a b c c0 : List ℕ) → c1 ≡ c ++ c0 → c2 ≡ 32 ∷ c1 → c3 ≡ b ++ c2 → c4 ≡ 32 ∷ c3 → c5 ≡ a ++ c4 → c5 ≡ (a ++ word b ++ word c) ++ c0
+three-words_front a b c c0 e1 e2 e3 e4 e5 =
+    e5 ∙ ap (λ (z : List ℕ). a ++ z) (e4 ∙ ap word (e3 ∙ ap (λ (z : List ℕ). b ++ z) (e2 ∙ ap word e1)))
+    ∙ sym (append_assoc a (word b) (word c ++ c0)) ∙ sym (append_assoc (a ++ word b) (word c) c0)
 
 -- the head of a post
 pub post-words : {c0 c1 c2 c3 c4 c5 c6 : List ℕ} (inv handler ctx : List ℕ) → c0 ≡ [] → c1 ≡ ctx ++ c0 → c2 ≡ 32 ∷ c1 → c3 ≡ handler ++ c2 → c4 ≡ 32 ∷ c3 → c5 ≡ inv ++ c4

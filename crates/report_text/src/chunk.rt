@@ -7,9 +7,9 @@ use itoa::write_digits;
 use std::marker::Model;
 
 // The greatest length of a chunk.
-const ROOM: usize = 64;
+const ROOM: usize = 160;
 
-/// A text of at most 64 bytes, to which bytes are added in front. Contracts see its bytes.
+/// A text of at most 160 bytes, to which bytes are added in front. Contracts see its bytes.
 #[derive(Drop)]
 pub struct Chunk {
     bytes: [u8; ROOM],
@@ -23,13 +23,14 @@ impl Model for Chunk {
 
     ghost view = { λ c. drop c.start c.bytes };
 
-    ghost invariant = { λ c. c.start ≤ 64 };
+    ghost invariant = { λ c. c.start ≤ 160 };
 }
 
 impl Chunk {
     /// No bytes.
     pub fn new() -> Chunk
-        ensures { result ≡ [] }
+        ensures value { result ≡ [] }
+        ensures fits { length result ≡ 0 }
     {
         Chunk {
             bytes: [0; ROOM],
@@ -46,8 +47,9 @@ impl Chunk {
 
     /// Adds a byte in front.
     pub fn byte(&mut self, byte: u8)
-        requires { length self.old < 64 }
-        ensures { self.new ≡ byte ∷ self.old }
+        requires { length self.old < 160 }
+        ensures value { self.new ≡ byte ∷ self.old }
+        ensures fits { length self.new ≡ length self.old + 1 }
     {
         self.start -= 1;
         self.bytes[self.start] = byte;
@@ -55,8 +57,9 @@ impl Chunk {
 
     /// Adds bytes in front.
     pub fn text(&mut self, text: &[u8])
-        requires { length text.now + length self.old ≤ 64 }
-        ensures { self.new ≡ text.now ++ self.old }
+        requires { length text.now + length self.old ≤ 160 }
+        ensures value { self.new ≡ text.now ++ self.old }
+        ensures fits { length self.new ≡ length text.now + length self.old }
     {
         let start = self.start - text.len();
         self.bytes[start..self.start].copy_from_slice(text);
@@ -65,7 +68,7 @@ impl Chunk {
 
     /// Adds the digits of a number in front.
     pub fn number(&mut self, number: u64)
-        requires { length self.old ≤ 44 }
+        requires { length self.old ≤ 140 }
         ensures value { self.new ≡ decimal number ++ self.old }
         ensures fits { length self.new ≤ length self.old + 20 }
     {
@@ -74,7 +77,7 @@ impl Chunk {
 
     /// Adds the digits of a value in front, and before them a `-` where it is negative.
     pub fn value(&mut self, value: i16)
-        requires { length self.old ≤ 43 }
+        requires { length self.old ≤ 139 }
         ensures value { self.new ≡ signed_decimal value ++ self.old }
         ensures fits { length self.new ≤ length self.old + 21 }
     {

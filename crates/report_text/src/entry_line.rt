@@ -2,17 +2,18 @@
 
 ghost use Rattle.std.specs.Prelude.{◌≡◌, ◌≤◌, ◌++◌, codes, length, slice_get};
 ghost use Rattle.mate_files.specs.Pen.{Prints};
-ghost use Rattle.report_text.specs.Words.{handler_name, function_name, number, value, values, word, drop_word, fault_word, image_word, image_of, seen_words, entry_words};
+ghost use Rattle.report_text.specs.Words.{handler_name, function_name, number, value, values, word, drop_word, fault_word, image_word, image_of, seen_words, stamp_words, entry_words};
 ghost use Rattle.report_text.specs.Text.{entry_line};
 
 use crate::chunk::Chunk;
 use crate::store_words::store_words;
 use crate::words::{
-    drop_word, fault_word, image_word, number, stamp_words, value, values, void_words, word,
+    drop_word, fault_word, image_word, number, stamp_in_front, stamp_words, value, values,
+    void_words, word,
 };
 use mate_files::{Pen, Sink};
 use mate_journal::{Entry, NodeLog, Stamped};
-use mate_num::{ContextId, FunId, HandlerId};
+use mate_num::{ContextId, FunId, HandlerId, Stamp};
 use vm_desc::Description;
 
 /// The line of an entry in a node's log.
@@ -26,11 +27,11 @@ pub fn entry_line<S: Sink>(
 )
     ensures { Prints (S.written out.old) (S.faults out.old) pen.old.result (S.written out.new) (S.faults out.new) pen.new.result (entry_line desc.now log.now node stamped.now) }
 {
-    stamp_words(pen, out, stamped.stamp, node);
     match &stamped.entry {
-        Entry::Start { inv } => last_invocation(pen, out, " start", *inv),
-        Entry::Halt { inv } => last_invocation(pen, out, " halt", *inv),
+        Entry::Start { inv } => invocation_line(pen, out, stamped.stamp, node, " start", *inv),
+        Entry::Halt { inv } => invocation_line(pen, out, stamped.stamp, node, " halt", *inv),
         entry => {
+            stamp_words(pen, out, stamped.stamp, node);
             entry_words(pen, out, desc, log, entry);
             pen.text(out, "\n");
         }
@@ -117,16 +118,25 @@ fn invocation<S: Sink>(pen: &mut Pen, out: &mut S, verb: &str, inv: u32)
     pen.bytes(out, chunk.as_slice());
 }
 
-/// The same at the end of a line.
-fn last_invocation<S: Sink>(pen: &mut Pen, out: &mut S, verb: &str, inv: u32)
+/// The line of a verb and the number of an invocation.
+fn invocation_line<S: Sink>(
+    pen: &mut Pen,
+    out: &mut S,
+    stamp: Stamp,
+    node: u8,
+    verb: &str,
+    inv: u32,
+)
     requires { length verb.now ≤ 16 }
-    ensures { Prints (S.written out.old) (S.faults out.old) pen.old.result (S.written out.new) (S.faults out.new) pen.new.result (verb.now ++ number inv ++ codes "\n") }
+    ensures { Prints (S.written out.old) (S.faults out.old) pen.old.result (S.written out.new) (S.faults out.new) pen.new.result
+        (stamp_words stamp node ++ (verb.now ++ number inv) ++ codes "\n") }
 {
     let mut chunk = Chunk::new();
     chunk.byte(b'\n');
     chunk.number(inv as u64);
     chunk.byte(b' ');
     chunk.text(verb.as_bytes());
+    stamp_in_front(&mut chunk, stamp, node);
     pen.bytes(out, chunk.as_slice());
 }
 

@@ -1,6 +1,6 @@
 //! The words that lines are made of, each after a space.
 
-ghost use Rattle.std.specs.Prelude.{◌≡◌};
+ghost use Rattle.std.specs.Prelude.{◌≡◌, ◌≤◌, ◌++◌, length};
 ghost use Rattle.mate_files.specs.Pen.{Prints};
 ghost use Rattle.report_text.specs.Words.{number, value, word, values, spaced, drop_word, fault_word, void_words, image_word, stamp_words};
 
@@ -109,10 +109,18 @@ pub fn stamp_words<S: Sink>(pen: &mut Pen, out: &mut S, stamp: Stamp, node: u8)
     ensures { Prints (S.written out.old) (S.faults out.old) pen.old.result (S.written out.new) (S.faults out.new) pen.new.result (stamp_words stamp node) }
 {
     let mut chunk = Chunk::new();
+    stamp_in_front(&mut chunk, stamp, node);
+    pen.bytes(out, chunk.as_slice());
+}
+
+/// The same in front of a chunk.
+pub fn stamp_in_front(chunk: &mut Chunk, stamp: Stamp, node: u8)
+    requires { length chunk.old ≤ 98 }
+    ensures { chunk.new ≡ stamp_words stamp node ++ chunk.old }
+{
     chunk.number(node as u64);
     chunk.byte(b' ');
     chunk.number(stamp.time as u64);
     chunk.byte(b' ');
     chunk.number(stamp.event);
-    pen.bytes(out, chunk.as_slice());
 }

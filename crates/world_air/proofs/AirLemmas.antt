@@ -42,11 +42,12 @@ use Rattle.world_air.proofs.WalkLemmas.{losts-are, delivered-are, due-own, due-e
 -- ---- growth
 
 pub grows-nothing : (e : Ether) → EtherGrows e e [] []
-grows-nothing e = record { air = sym (append-nil e.air); due = λ t le. sym (append-nil (due_at t e.agenda.items)); until = refl; now = refl }
+grows-nothing e = record { air = sym (append-nil e.air); gone = refl; due = λ t le. sym (append-nil (due_at t e.agenda.items)); until = refl; now = refl }
 
 pub grows-both : (old mid new : Ether) (fs bs : List Aired) (xs ys : List (Timed Event)) → EtherGrows old mid fs xs → EtherGrows mid new bs ys → EtherGrows old new (fs ++ bs) (xs ++ ys)
 grows-both old mid new fs bs xs ys a b = record {
   air = b.air ∙ ap (λ (rs : List Aired). rs ++ bs) a.air ∙ append_assoc old.air fs bs;
+  gone = b.gone ∙ a.gone;
   due = λ t le.
       b.due t (subst (λ (u : ℕ). t ≤ u) (sym a.until) le) ∙ ap (λ (es : List Event). es ++ due_at t ys) (a.due t le) ∙ append_assoc (due_at t old.agenda.items) (due_at t xs) (due_at t ys)
       ∙ ap (λ (es : List Event). due_at t old.agenda.items ++ es) (sym (filter_map-append (item_at t) xs ys));
@@ -149,6 +150,7 @@ sends-one w node at senders packet bytes old new low stood fit bytes_are is adds
         ∙ ap (λ (vs : List Wire). old.air ++ (sent ∷ losts s vs)) (stood.stands.wires node low)
         ∙ ap (λ (ls : List Aired). old.air ++ (sent ∷ ls)) (losts-are w node at x)
         ∙ ap (λ (rs : List Air). old.air ++ map (aired_at at node) rs) (sym (append-nil (air_of_sending w node x)));
+    gone = ap (λ (e : Ether). e.gone) same;
     due = λ t le.
         adds-due old.agenda new.agenda (at.time + w.description.radio.delay) (delivered s (sent_bytes w packet) (leaving w.random x.before node 0 w.links)) adding t le
         ∙ ap (λ (es : List (Timed Event)). due_at t old.agenda.items ++ due_at t es) (delivered-are w node at x)

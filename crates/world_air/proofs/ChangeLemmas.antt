@@ -28,6 +28,7 @@ pub adds-record : (old new : Ether) (r : Aired) → new ≡ record old { air = o
 adds-record old new r is = record {
   grows = record {
     air = ap (λ (e : Ether). e.air) is;
+    gone = ap (λ (e : Ether). e.gone) is;
     due = λ t le. ap (λ (e : Ether). due_at t e.agenda.items) is ∙ sym (append-nil (due_at t old.agenda.items));
     until = ap (λ (e : Ether). e.agenda.until) is;
     now = ap (λ (e : Ether). e.agenda.now) is;
@@ -42,6 +43,7 @@ adds-event old new time x is adds =
     let same = scheduled-same old.agenda time x in record {
       grows = record {
         air = ap (λ (e : Ether). e.air) is ∙ sym (append-nil old.air);
+        gone = ap (λ (e : Ether). e.gone) is;
         due = λ t le. adds-due old.agenda new.agenda time (x ∷ []) (record { last = adds.last; others = adds.others }) t le;
         until = ap (λ (e : Ether). e.agenda.until) is ∙ same.0;
         now = ap (λ (e : Ether). e.agenda.now) is ∙ same.1;
@@ -171,6 +173,7 @@ cancels-three node ends old one two new low a b c =
           ∙ filter-twice (outlasts ends.answers (512 + node)) (λ e. outlasts ends.interval node e && outlasts ends.pump (256 + node) e) (due_at t xs)
           ∙ filter-near (λ e. (outlasts ends.interval node e && outlasts ends.pump (256 + node) e) && outlasts ends.answers (512 + node) e) (stays node ends) (due_at t xs) near (λ e at. tests node ends e low at);
       air = ap (λ (e : Ether). e.air) all;
+      gone = ap (λ (e : Ether). e.gone) all;
       until = ap (λ (e : Ether). e.agenda.until) all;
       now = ap (λ (e : Ether). e.agenda.now) all;
       sent = ap (λ (e : Ether). e.sent) all;

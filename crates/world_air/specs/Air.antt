@@ -53,6 +53,7 @@ pub record IsAirOf (w : World) (senders : List ℕ) (e : Ether) : Type 0 where
 -- more records, and at each time more items behind those that came there
 pub record EtherGrows (old new : Ether) (airs : List Aired) (items : List (Timed Event)) : Type 0 where
   pub air : new.air ≡ old.air ++ airs
+  pub gone : new.gone ≡ old.gone
   pub due : (t : ℕ) → t ≤ old.agenda.until → due_at t new.agenda.items ≡ due_at t old.agenda.items ++ due_at t items
   pub until : new.agenda.until ≡ old.agenda.until
   pub now : new.agenda.now ≡ old.agenda.now

@@ -57,6 +57,7 @@ AreNear (e ∷ es) = IsNear e × AreNear es
 pub record CancelsAll (node : ℕ) (ends : Ends) (old new : Ether) : Type 0 where
   pub due : (t : ℕ) → AreNear (due_at t old.agenda.items) → due_at t new.agenda.items ≡ filter (stays node ends) (due_at t old.agenda.items)
   pub air : new.air ≡ old.air
+  pub gone : new.gone ≡ old.gone
   pub until : new.agenda.until ≡ old.agenda.until
   pub now : new.agenda.now ≡ old.agenda.now
   pub sent : new.sent ≡ old.sent

@@ -17,7 +17,9 @@ use world_step::{Effect, Mote};
 pub fn a_silent_point_sends_nothing(mote: &mut Mote, suppress: bool) -> Effect
     ensures { (n : ℕ) (hs : List Happening) → mote.old.exchange ≡ knowledge n hs → at_point mote.old.timer.set mote.old.timer.running suppress ≡ Keep → result.sends.items ≡ [] }
 {
-    mote.fire(suppress)
+    let mut effect = Effect::none();
+    mote.fire(suppress, &mut effect);
+    effect
 }
 
 pub fn a_consistent_vector_counts(mote: &mut Mote, packet: &Packet, at: Stamp) -> Effect
@@ -27,5 +29,7 @@ pub fn a_consistent_vector_counts(mote: &mut Mote, packet: &Packet, at: Stamp) -
     ensures { (n : ℕ) (hs : List Happening) (versions : ArrayVec ℕ) → mote.old.exchange ≡ knowledge n hs → packet.now ≡ Vector versions → versions.items ≡ held_versions n hs
         → mote.new.timer ≡ timed mote.old.timer at.time Consistent }
 {
-    mote.hear_vector(packet, at)
+    let mut effect = Effect::none();
+    mote.hear_vector(packet, at, &mut effect);
+    effect
 }

@@ -20,7 +20,7 @@ use world_script::World;
 use world_step::{Effect, Mote, schedule_answers};
 
 /// The event is recorded on the air, cancels what ends with it, and schedules what comes of it: the next period, the
-/// interval that begins, deliveries, the pump, and answers, in this order.
+/// interval that begins, deliveries, the pump, and answers, in this order. What the effect records is taken from it.
 pub fn finish(
     radio: &mut Radio,
     mote: &mut Mote,
@@ -28,7 +28,7 @@ pub fn finish(
     world: &World,
     number: u8,
     event: &Event,
-    effect: Effect,
+    effect: &mut Effect,
     from: usize,
     at: Stamp,
 ) -> Result<(), NoMemory>
@@ -40,30 +40,24 @@ pub fn finish(
     requires few { length radio.old.air ≤ 1000000 }
     requires short { length mote.old.node.log.entries ≤ from + 32 }
     requires wires { length (wires_of radio.old number) ≤ 4096 }
-    requires right { All (IsRight (length desc.now.handlers.items)) effect.sends.items }
-    requires interval { effect.begins ≡ true → at.time ≤ mote.old.timer.running.begin }
+    requires right { All (IsRight (length desc.now.handlers.items)) effect.old.sends.items }
+    requires interval { effect.old.begins ≡ true → at.time ≤ mote.old.timer.running.begin }
     requires counts { length mote.old.calls.counts.items ≡ length desc.now.functions.items }
     ensures { OnOk result ((programs : List ProgramOfFile) (s : WorldState) (m : Moment) → m.time ≡ at.time → radio_event (code_world desc.now world.now programs) m.cause ≡ event.now
         → event_node (code_world desc.now world.now programs) m.cause ≡ number → IsTakenFrom (code_world desc.now world.now programs) s m radio.old
-        → HasSettled (code_world desc.now world.now programs) s m from mote.old effect → IsFinished (code_world desc.now world.now programs) s m at radio.old radio.new mote.old mote.new) }
+        → HasSettled (code_world desc.now world.now programs) s m from mote.old effect.old → IsFinished (code_world desc.now world.now programs) s m at radio.old radio.new mote.old mote.new) }
 {
-    let Effect {
-        first,
-        begins,
-        cuts,
-        resets,
-        sends,
-    } = effect;
-    note_all(radio, number, at, first, begins, &mote.timer)?;
+    let begins = effect.begins;
+    note_all(radio, number, at, effect.first.take(), begins, &mote.timer)?;
     let ends = Ends {
         interval: begins,
-        pump: resets,
-        answers: cuts,
+        pump: effect.resets,
+        answers: effect.cuts,
     };
     cancel(radio, number, ends);
     schedule_timed(radio, desc, number, event, begins, &mote.timer, at.time)?;
     let entries = &mote.node.log().entries()[from..];
-    send_packets(radio, desc, number, sends.as_slice(), entries, at)?;
+    send_packets(radio, desc, number, effect.sends.as_slice(), entries, at)?;
     let marked = mote.exchange.marked();
     mote.pumps = schedule_pump(radio, desc, number, mote.pumps, marked, at.time)?;
     schedule_answers(

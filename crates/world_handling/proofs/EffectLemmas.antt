@@ -92,6 +92,7 @@ tells-nothing old new at timely same = subst (λ (v : NodeView). Tells old v at 
   told = [];
   description = refl;
   grows = Grows-none old.log at timely;
+  gone = refl;
   paces = λ p has. (p, (refl, refl), has);
 })
 

@@ -12,7 +12,7 @@ use Rattle.open_node.specs.Calls.{Pacing}
 use Rattle.open_node.specs.View.{heard_of, Tells}
 use Rattle.packet_codec.specs.Packet.{IsRight}
 use Rattle.packet_codec.specs.declared.packet.Packet.{Packet}
-use Rattle.packet_codec.specs.declared.packet.Packet.TheVariants.{Vector, Status, App}
+use Rattle.packet_codec.specs.declared.packet.Packet.TheVariants.{Vector, Status, Fragment, App}
 use Rattle.trickle_timer.specs.Intervals as trickle
 use Rattle.trickle_timer.specs.Timer.{heard as heard_as}
 use Rattle.capsule_exchange.specs.Happenings.{Happening, Hears, held_versions, asks_after, collected_image, completed_by}
@@ -30,6 +30,34 @@ use Rattle.world_handling.specs.Handling.{IsFragmentOf, IsEffectBy, DoesEffect, 
 use Rattle.world_handling.proofs.EffectLemmas.{seen_as, does-by, quietly, does-quietly, plain-quietly, stays-on, does-install}
 use Rattle.world_handling.proofs.PostLemmas.{receivers-are}
 use Rattle.world_handling.proofs.ImageLemmas.{fragment-stays, fragment-installs, completed-handler, program_in}
+
+-- ---- what a packet that is no Vector asks for
+
+abbrev pub AsksNothing : Packet → Type 0
+AsksNothing (Vector versions) = ⊥
+AsksNothing (Status g version missing) = Unit {0}
+AsksNothing (Fragment g version index count large bytes) = Unit {0}
+AsksNothing (App payload) = Unit {0}
+
+pub fragment-silent : (version : ℕ) (p : Packet) → IsFragmentOf version p → AsksNothing p
+fragment-silent version (Vector versions) is = absurd is
+fragment-silent version (Status g told missing) is = absurd is
+fragment-silent version (Fragment g told index count large bytes) is = tt
+fragment-silent version (App payload) is = absurd is
+
+silent-by : (n : ℕ) (p : Packet) (hs : List Happening) → AsksNothing p → asks_after n p hs ≡ []
+silent-by n (Vector versions) hs none = absurd none
+silent-by n (Status g version missing) hs none = refl
+silent-by n (Fragment g version index count large bytes) hs none = refl
+silent-by n (App payload) hs none = refl
+
+pub heard-silent : (n : ℕ) (p : Packet) (hs : List Happening) (asks : ArrayVec Packet) → AsksNothing p → asks.items ≡ asks_after n p hs → asks.items ≡ []
+heard-silent n p hs asks none is = is ∙ silent-by n p hs none
+
+pub still-plain : (r : Effect) (asks : ArrayVec Packet) → r ≡ plain_effect → asks.items ≡ [] → record r { sends = asks } ≡ plain_effect
+still-plain r asks plain none =
+    let E : List Packet → Effect = λ ps. record plain_effect { sends = record { items = ps } } in
+    ap (λ (x : Effect). record x { sends = asks }) plain ∙ ap E none
 
 -- ---- an image
 

@@ -81,6 +81,7 @@ tells-then old mid new at First Then Both f g goes =
       told = f.told ++ g.told;
       description = g.description ∙ f.description;
       grows = Grows-then old.log mid.log new.log at f.told g.told f.grows g.grows;
+      gone = g.gone ∙ f.gone;
       paces = λ p has.
           let x = f.paces p has in
           let y = g.paces x.0 x.2 in

@@ -1,6 +1,6 @@
 //! An event on a node: what comes to it, and what it does beyond the node's journal, before the node has its turns.
 
-ghost use Rattle.std.specs.Prelude.{◌≡◌, ◌<◌, ◌≤◌, ℕ, [], ◌∷◌, length, slice_get, All, IfOk, OnOk};
+ghost use Rattle.std.specs.Prelude.{◌≡◌, ◌<◌, ◌≤◌, ℕ, [], ◌∷◌, length, slice_get, All, OnOk};
 ghost use Rattle.mate_journal.specs.declared.air.Air.TheVariants.{Got};
 ghost use Rattle.node_invariant.specs.Meaning.{machine_in};
 ghost use Rattle.open_node.specs.View.{heard_of};
@@ -16,7 +16,7 @@ ghost use Rattle.world_rules.specs.Effect.{Node as NodeState, of_line, of_packet
 ghost use Rattle.world_rules.specs.Run.{Occasions};
 ghost use Rattle.world_rules.specs.World.{want_of, is_receiver as receives};
 ghost use Rattle.world_air.specs.Air.{radio_event};
-ghost use Rattle.world_step.specs.Motes.{IsTellable, TellsAlone};
+ghost use Rattle.world_step.specs.Motes.{IsTellable, TellsAlone, plain_effect};
 ghost use Rattle.world_states.specs.Coming.{code_world, MayComeTo};
 ghost use Rattle.world_handling.specs.Handling.{IsMoteOf, IsFitEvent, IsOpenExchange, IsPaced, Handled, DoesBy, IsFragmentOf, receivers_below};
 
@@ -29,7 +29,8 @@ use vm_desc::{Description, HandlerKind};
 use world_script::{Link, What, World};
 use world_step::{Effect, Mote};
 
-/// What the event does to its node, before the node has its turns. After `NoMemory` nothing is said of the node.
+/// What the event does to its node, before the node has its turns. After `NoMemory` nothing is said of the node or the
+/// effect.
 pub fn handle(
     mote: &mut Mote,
     desc: &Description,
@@ -37,7 +38,8 @@ pub fn handle(
     programs: &Programs,
     event: &Event,
     at: Stamp,
-) -> Result<Effect, NoMemory>
+    effect: &mut Effect,
+) -> Result<(), NoMemory>
     requires machine { mote.old.node.description ≡ desc.now }
     requires world { IsRightWorld desc.now world.now }
     requires programs { AreRightPrograms desc.now programs.now }
@@ -50,66 +52,74 @@ pub fn handle(
     requires paced { IsPaced mote.old.node }
     requires hour { at.time ≤ 3600000 }
     requires within { mote.old.timer.running.begin ≤ at.time }
-    ensures handled { IfOk result (λ r. (k : ℕ) (n : NodeState) (c : Cause) → IsMoteOf (code_world desc.now world.now programs.now) k n mote.old
+    requires plain { effect.old ≡ plain_effect }
+    ensures handled { OnOk result ((k : ℕ) (n : NodeState) (c : Cause) → IsMoteOf (code_world desc.now world.now programs.now) k n mote.old
         → radio_event (code_world desc.now world.now programs.now) c ≡ event.now → MayComeTo (code_world desc.now world.now programs.now) n at.time c
-        → Handled (code_world desc.now world.now programs.now) k n c at mote.old mote.new r) }
-    ensures right { IfOk result (λ r. All (IsRight (length desc.now.handlers.items)) r.sends.items) }
+        → Handled (code_world desc.now world.now programs.now) k n c at mote.old mote.new effect.new) }
+    ensures right { OnOk result (All (IsRight (length desc.now.handlers.items)) effect.new.sends.items) }
 {
     match event {
         Event::Planned(line) => {
             let planned = &world.events.as_slice()[*line as usize];
-            follow(mote, &planned.what, programs, at)
+            follow(mote, &planned.what, programs, at, effect)
         }
-        Event::Period { handler, .. } => {
-            mote.post(*handler, &Payload::new(), at)?;
-            Ok(Effect::none())
+        Event::Period { handler, .. } => mote.post(*handler, &Payload::new(), at),
+        Event::Fire { .. } => {
+            mote.fire(world.suppress, effect);
+            Ok(())
         }
-        Event::Fire { .. } => Ok(mote.fire(world.suppress)),
-        Event::Expire { .. } => Ok(mote.expire(at.time)),
-        Event::Pump { .. } => Ok(mote.pump()),
-        Event::Due { ctx, value, .. } => {
-            mote.answer(*ctx, *value, at)?;
-            Ok(Effect::none())
+        Event::Expire { .. } => {
+            mote.expire(at.time, effect);
+            Ok(())
         }
+        Event::Pump { .. } => {
+            mote.pump(effect);
+            Ok(())
+        }
+        Event::Due { ctx, value, .. } => mote.answer(*ctx, *value, at),
         Event::Deliver {
             link,
             number,
             bytes,
         } => {
             let link = &world.links.as_slice()[*link as usize];
-            receive(mote, desc, link, *number, bytes, at)
+            receive(mote, desc, link, *number, bytes, at, effect)
         }
     }
 }
 
 /// A line of the script comes to the node.
-fn follow(mote: &mut Mote, what: &What, programs: &Programs, at: Stamp) -> Result<Effect, NoMemory>
+fn follow(
+    mote: &mut Mote,
+    what: &What,
+    programs: &Programs,
+    at: Stamp,
+    effect: &mut Effect,
+) -> Result<(), NoMemory>
     requires what { IsRightWhat mote.old.node.description (length programs.now) what.now }
     requires programs { AreRightPrograms mote.old.node.description programs.now }
     requires handlers { length mote.old.exchange.handlers ≡ length mote.old.node.description.handlers.items }
     requires tellable { IsTellable mote.old.node at }
     requires hour { at.time ≤ 3600000 }
     requires within { mote.old.timer.running.begin ≤ at.time }
-    ensures does { IfOk result (DoesBy at (λ _ _. of_line (want_of (program_at programs.now) what.now)) mote.old mote.new) }
-    ensures silent { IfOk result (λ r. r.sends.items ≡ []) }
+    requires plain { effect.old ≡ plain_effect }
+    ensures does { OnOk result (DoesBy at (λ _ _. of_line (want_of (program_at programs.now) what.now)) mote.old mote.new effect.new) }
+    ensures silent { OnOk result (effect.new.sends.items ≡ []) }
 {
     match what {
         What::Inject { program, .. } => {
             let program = &programs.as_slice()[*program as usize];
-            mote.install(program.handler, program.version, &program.image, at)
+            mote.install(program.handler, program.version, &program.image, at, effect)
         }
-        What::Post { handler, payload } => {
-            mote.post(*handler, payload, at)?;
-            Ok(Effect::none())
+        What::Post { handler, payload } => mote.post(*handler, payload, at),
+        What::Show => mote.show(at),
+        What::Reset => mote.reset(at, effect),
+        What::Noise { bytes } => {
+            effect.first = Some(Air::Noise {
+                bytes: copy_of(bytes),
+            });
+            Ok(())
         }
-        What::Show => {
-            mote.show(at)?;
-            Ok(Effect::none())
-        }
-        What::Reset => mote.reset(at),
-        What::Noise { bytes } => Ok(Effect::noted(Air::Noise {
-            bytes: copy_of(bytes),
-        })),
     }
 }
 
@@ -121,7 +131,8 @@ fn receive(
     number: u32,
     bytes: &PacketBytes,
     at: Stamp,
-) -> Result<Effect, NoMemory>
+    effect: &mut Effect,
+) -> Result<(), NoMemory>
     requires machine { mote.old.node.description ≡ desc.now }
     requires is_open { IsOpenExchange mote.old.exchange }
     requires handlers { length mote.old.exchange.handlers ≡ length desc.now.handlers.items }
@@ -130,23 +141,30 @@ fn receive(
     requires paced { IsPaced mote.old.node }
     requires hour { at.time ≤ 3600000 }
     requires within { mote.old.timer.running.begin ≤ at.time }
-    ensures does { IfOk result (λ r. (packet : RadioPacket) → IsRight (length desc.now.handlers.items) packet → HasRanges packet → bytes.now.items ≡ packet_bytes desc.now.vm_id packet
-        → DoesBy at (λ w n. record (of_packet w n.exchange packet) { first = Got number link.now.from ∷ [] }) mote.old mote.new r) }
-    ensures right { IfOk result (λ r. All (IsRight (length desc.now.handlers.items)) r.sends.items) }
+    requires plain { effect.old ≡ plain_effect }
+    ensures does { OnOk result ((packet : RadioPacket) → IsRight (length desc.now.handlers.items) packet → HasRanges packet → bytes.now.items ≡ packet_bytes desc.now.vm_id packet
+        → DoesBy at (λ w n. record (of_packet w n.exchange packet) { first = Got number link.now.from ∷ [] }) mote.old mote.new effect.new) }
+    ensures right { OnOk result (All (IsRight (length desc.now.handlers.items)) effect.new.sends.items) }
 {
     let Ok(packet) = decode(desc, bytes.as_slice()) else {
-        return Ok(Effect::none());
+        return Ok(());
     };
-    let mut effect = hear(mote, desc, &packet, at)?;
+    hear(mote, desc, &packet, at, effect)?;
     effect.first = Some(Air::Got {
         number,
         from: link.from,
     });
-    Ok(effect)
+    Ok(())
 }
 
 /// The node hears a packet.
-fn hear(mote: &mut Mote, desc: &Description, packet: &Packet, at: Stamp) -> Result<Effect, NoMemory>
+fn hear(
+    mote: &mut Mote,
+    desc: &Description,
+    packet: &Packet,
+    at: Stamp,
+    effect: &mut Effect,
+) -> Result<(), NoMemory>
     requires machine { mote.old.node.description ≡ desc.now }
     requires packet { IsRight (length desc.now.handlers.items) packet.now }
     requires is_open { IsOpenExchange mote.old.exchange }
@@ -156,20 +174,23 @@ fn hear(mote: &mut Mote, desc: &Description, packet: &Packet, at: Stamp) -> Resu
     requires paced { IsPaced mote.old.node }
     requires hour { at.time ≤ 3600000 }
     requires within { mote.old.timer.running.begin ≤ at.time }
-    ensures does { IfOk result (DoesBy at (λ w n. of_packet w n.exchange packet.now) mote.old mote.new) }
-    ensures right { IfOk result (λ r. All (IsRight (length desc.now.handlers.items)) r.sends.items) }
+    requires plain { effect.old ≡ plain_effect }
+    ensures does { OnOk result (DoesBy at (λ w n. of_packet w n.exchange packet.now) mote.old mote.new effect.new) }
+    ensures right { OnOk result (All (IsRight (length desc.now.handlers.items)) effect.new.sends.items) }
 {
     match packet {
-        Packet::Vector { .. } => Ok(mote.hear_vector(packet, at)),
-        Packet::Status { .. } => {
-            mote.exchange.hear(packet);
-            Ok(Effect::none())
+        Packet::Vector { .. } => {
+            mote.hear_vector(packet, at, effect);
+            Ok(())
         }
-        Packet::Fragment { version, .. } => hear_fragment(mote, packet, *version, at),
+        Packet::Status { .. } => {
+            mote.exchange.hear(packet, &mut effect.sends);
+            Ok(())
+        }
+        Packet::Fragment { version, .. } => hear_fragment(mote, packet, *version, at, effect),
         Packet::App { payload } => {
-            mote.exchange.hear(packet);
-            post_received(mote, desc, payload, at)?;
-            Ok(Effect::none())
+            mote.exchange.hear(packet, &mut effect.sends);
+            post_received(mote, desc, payload, at)
         }
     }
 }
@@ -180,23 +201,25 @@ fn hear_fragment(
     packet: &Packet,
     version: u32,
     at: Stamp,
-) -> Result<Effect, NoMemory>
+    effect: &mut Effect,
+) -> Result<(), NoMemory>
     requires packet { IsRight (length mote.old.exchange.handlers) packet.now }
     requires fragment { IsFragmentOf version packet.now }
     requires is_open { IsOpenExchange mote.old.exchange }
     requires tellable { IsTellable mote.old.node at }
     requires hour { at.time ≤ 3600000 }
     requires within { mote.old.timer.running.begin ≤ at.time }
-    ensures does { IfOk result (DoesBy at (λ w n. of_packet w n.exchange packet.now) mote.old mote.new) }
-    ensures silent { IfOk result (λ r. r.sends.items ≡ []) }
+    requires plain { effect.old ≡ plain_effect }
+    ensures does { OnOk result (DoesBy at (λ w n. of_packet w n.exchange packet.now) mote.old mote.new effect.new) }
+    ensures silent { OnOk result (effect.new.sends.items ≡ []) }
 {
-    let heard = mote.exchange.hear(packet);
+    let heard = mote.exchange.hear(packet, &mut effect.sends);
     let Some(handler) = heard.complete else {
-        return Ok(Effect::none());
+        return Ok(());
     };
     match mote.exchange.complete(handler) {
-        Some(image) => mote.install(handler, version, &image, at),
-        None => Ok(Effect::none()),
+        Some(image) => mote.install(handler, version, &image, at, effect),
+        None => Ok(()),
     }
 }
 
@@ -216,7 +239,7 @@ fn post_received(
     for h in 0..desc.handlers.len() as u8 {
         if is_receiver(desc, HandlerId(h)) {
             // How many entries a post makes is known from what the whole journal keeps.
-            let _ = mote.node.log();
+            let _ = mote.node.kept();
             mote.post(HandlerId(h), payload, at)?;
         }
     }

@@ -51,7 +51,9 @@ pub fn an_injection_has_its_own_version(
         → slice_get (code_world desc.now world.now programs.now).plan 0 ≡ Some (record { time = time; node = node; what = Inject p })
         → mote.new.exchange ≡ knowledge (handlers (code_world desc.now world.now programs.now)) (Installs p.handler.0 p.version p.image.items ∷ n.exchange)) }
 {
-    let effect = handle(mote, desc, world, programs, &Event::Planned(0), at)?;
+    let mut effect = Effect::none();
+    let event = Event::Planned(0);
+    handle(mote, desc, world, programs, &event, at, &mut effect)?;
     Ok(effect)
 }
 
@@ -87,6 +89,7 @@ pub fn a_packet_is_got_from_its_sender(
         number,
         bytes,
     };
-    let effect = handle(mote, desc, world, programs, &event, at)?;
+    let mut effect = Effect::none();
+    handle(mote, desc, world, programs, &event, at, &mut effect)?;
     Ok(effect)
 }

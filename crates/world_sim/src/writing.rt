@@ -1,6 +1,6 @@
 //! The run of a world whose lines are written as its events end.
 
-ghost use Rattle.std.specs.Prelude.{◌≡◌, ◌≤◌, ◌<◌, ◌*◌, ◌^◌, length, drop, sum_by, slice_get, All, Some};
+ghost use Rattle.std.specs.Prelude.{◌≡◌, ◌≤◌, ◌<◌, ◌*◌, ◌^◌, length, drop, sum_by, slice_get, All, Some, OnOk};
 ghost use Rattle.mate_files.specs.Sink.{Puts};
 ghost use Rattle.mate_journal.specs.NodeScript.{Whole, Full};
 ghost use Rattle.report_text.specs.Text.{event_piece};
@@ -9,6 +9,7 @@ ghost use Rattle.world_rules.specs.Report.{IsWorldReport};
 ghost use Rattle.world_states.specs.Coming.{code_world};
 ghost use Rattle.node_programs.specs.WorldPrograms.{AreProgramsOfWorld};
 ghost use Rattle.world_step.specs.declared.mote.Mote.{Mote as MoteState};
+ghost use Rattle.world_step.specs.Motes.{plain_effect};
 ghost use Rattle.world_sim.specs.Reporting.{mote_logs, told_report};
 ghost use Rattle.world_sim.specs.Running.{StandsAfter, StandsAtNext};
 ghost use Rattle.world_sim.specs.Writing.{AreKept, EndsSo, IsStartWritten, IsStepWritten, IsPieceOf, StandsAtEnd};
@@ -26,7 +27,7 @@ use std::alloc::Global;
 use vm_desc::Description;
 use world_script::World;
 use world_states::states_are_sound;
-use world_step::Mote;
+use world_step::{Effect, Mote};
 use world_text::text_grows_by_events;
 
 /// Runs a world as `run` does, and writes each event's lines when it ends, and then the last line. After a fault of the sink no
@@ -48,6 +49,7 @@ pub fn write_world<S: Sink>(
     if let Err(fault) = write_start(desc, world, programs, &sim, out) {
         return Err(fault);
     }
+    let mut effect = Effect::none();
     for events in 0..u64::MAX {
         let Some((time, event)) = sim.radio.next() else {
             return write_ending(desc, world, programs, &mut sim, events, out);
@@ -59,7 +61,16 @@ pub fn write_world<S: Sink>(
             event: events + 1,
             time,
         };
-        if let Err(fault) = write_step(desc, world, programs, &mut sim, &event, at, out) {
+        if let Err(fault) = write_step(
+            desc,
+            world,
+            programs,
+            &mut sim,
+            &event,
+            at,
+            &mut effect,
+            out,
+        ) {
             return Err(fault);
         }
     }
@@ -102,14 +113,17 @@ fn write_step<S: Sink>(
     sim: &mut Simulation,
     event: &Event,
     at: Stamp,
+    effect: &mut Effect,
     out: &mut S,
 ) -> Result<(), WriteFault>
     requires right { AreProgramsOfWorld desc.now world.now programs.now }
     requires stands { StandsAtNext (code_world desc.now world.now programs.now) event.now at sim.old }
     requires kept { AreKept sim.old.motes.items }
-    ensures { IsStepWritten desc.now (code_world desc.now world.now programs.now) at.event sim.old sim.new (S.written out.old) (S.faults out.old) (S.written out.new) (S.faults out.new) result }
+    requires plain { effect.old ≡ plain_effect }
+    ensures written { IsStepWritten desc.now (code_world desc.now world.now programs.now) at.event sim.old sim.new (S.written out.old) (S.faults out.old) (S.written out.new) (S.faults out.new) result }
+    ensures plain { OnOk result (effect.new ≡ plain_effect) }
 {
-    let Ok(piece) = sim.step(desc, world, programs, event, at) else {
+    let Ok(piece) = sim.step(desc, world, programs, event, at, effect) else {
         return Err(WriteFault::NoMemory);
     };
     match write_piece(desc, sim, piece, out) {

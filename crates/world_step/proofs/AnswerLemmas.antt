@@ -9,7 +9,8 @@ use Rattle.world_rules.specs.World.{World}
 use Rattle.world_rules.specs.State.{Scheduled, answers_due, calls_in}
 use Rattle.world_air.specs.Air.{timed_event, timed_events}
 use Rattle.call_waits.specs.Waiting.{asked_of, IsAwaitedBy, AreAwaited}
-use Rattle.world_step.specs.Answering.{answer_items, with_call, told_by_entries}
+use Rattle.open_node.specs.Calls.{told_by_entries}
+use Rattle.world_step.specs.Answering.{answer_items, with_call}
 
 -- one entry more in front
 pub due-front : (w : World) (node time : ℕ) (r : Reading) (called : List FunId) (t : Told) (told : List Told)

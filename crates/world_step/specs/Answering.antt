@@ -1,9 +1,7 @@
 -- The answers that fall due to a node's calls.
-use Rattle.std.specs.Prelude.{ℕ, ◌+◌, List, [], ◌∷◌, ◌++◌, map, Option, Some, None}
+use Rattle.std.specs.Prelude.{ℕ, ◌+◌, List, [], ◌∷◌, ◌++◌, Option, Some, None}
 use Rattle.mate_num.specs.declared.id.FunId.{FunId}
-use Rattle.mate_journal.specs.Log.{Log}
-use Rattle.mate_journal.specs.Journal.{Told, Reading, told_of}
-use Rattle.mate_journal.specs.declared.entry.Stamped.{Stamped}
+use Rattle.mate_journal.specs.Journal.{Reading}
 use Rattle.world_rules.specs.Cause as event
 use Rattle.world_rules.specs.World.{World, latency_of}
 use Rattle.world_rules.specs.State.{Scheduled, answer_at}
@@ -14,10 +12,6 @@ answer_item w node time r called f n = record {
   time = time + latency_of w f;
   cause = event.Due node (r.invocations n).context n (answer_at w node called f (time + latency_of w f));
 }
-
--- what entries tell
-abbrev pub told_by_entries : Log → List Stamped → List Told
-told_by_entries l es = map (λ (e : Stamped). told_of l e.entry) es
 
 abbrev pub answer_items : World → ℕ → ℕ → Reading → List FunId → Option (ℕ × FunId) → List Scheduled
 answer_items w node time r called None = []

@@ -6,6 +6,7 @@ use Rattle.mate_journal.specs.Log.{IsEmpty}
 use Rattle.mate_journal.specs.Journal.{Told}
 use Rattle.mate_journal.specs.Pace.{Pace, no_pace}
 use Rattle.mate_journal.specs.NodeScript.{Resets}
+use Rattle.mate_journal.specs.OpenLog.{nothing_gone}
 use Rattle.mate_journal.specs.declared.air.Air.{Air}
 use Rattle.mate_journal.specs.declared.air.Air.TheVariants as air
 use Rattle.node_invariant.specs.Meaning.{machine_in, clock_of}
@@ -35,6 +36,7 @@ use Rattle.world_step.specs.declared.mote.Mote.{Mote}
 pub record BeginsMote (d : Description) (random node : ℕ) (m : Mote) : Type 0 where
   pub description : m.node.description ≡ d
   pub empty : IsEmpty m.node.log
+  pub gone : m.node.gone ≡ nothing_gone
   pub pace : HasPace m.node no_pace
   pub timer : m.timer ≡ started_timer (record { set = d.trickle; random = random; node = node; time = 0 })
   pub exchange : m.exchange ≡ knowledge (length d.handlers.items) []

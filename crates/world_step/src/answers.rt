@@ -8,6 +8,7 @@ ghost use Rattle.mate_journal.specs.Tidy.{IsEntryInRange};
 ghost use Rattle.mate_journal.specs.WellFormed.{IsWaiting};
 ghost use Rattle.mate_journal.specs.declared.entry.Stamped.{Stamped as StampedEntry};
 ghost use Rattle.open_node.specs.View.{heard_of};
+ghost use Rattle.open_node.specs.Calls.{told_by_entries};
 ghost use Rattle.vm_desc.specs.declared.description.Description.{Description as Machine};
 ghost use Rattle.world_rules.specs.World.{World};
 ghost use Rattle.world_rules.specs.State.{answers_due, calls_in};
@@ -15,11 +16,11 @@ ghost use Rattle.world_calls.specs.Calls.{AreCallsOf, HasSensors};
 ghost use Rattle.world_air.specs.Air.{timed_event, timed_events};
 ghost use Rattle.world_air.specs.Changes.{AddsToAir};
 ghost use Rattle.call_waits.specs.Waiting.{WaitApart, WaitsWithin, IsAwaitedBy, AreAwaited, asked_of};
-ghost use Rattle.world_step.specs.Answering.{answer_item, answer_items, with_call, told_by_entries};
+ghost use Rattle.world_step.specs.Answering.{answer_item, answer_items, with_call};
 
 use mate_journal::{Entry, Stamped};
 use mate_num::{CONTEXTS_MAX, ContextId, FunId, NoMemory};
-use node_core::Node;
+use open_node::OpenNode;
 use radio_sim::{Event, Radio};
 use vm_desc::Description;
 use world_air::schedule;
@@ -27,7 +28,7 @@ use world_calls::Calls;
 use world_script::Series;
 
 /// Whether the invocation waits in the context.
-fn waits_in(node: &Node, ctx: ContextId, inv: u32) -> bool
+fn waits_in(node: &OpenNode, ctx: ContextId, inv: u32) -> bool
     requires { ctx.0 < CONTEXTS_MAX }
     ensures there { result ≡ true → ((heard_of node.now).invocations inv).context ≡ ctx }
     ensures found { WaitApart (heard_of node.now) → IsWaiting (heard_of node.now) inv → ((heard_of node.now).invocations inv).context ≡ ctx → result ≡ true }
@@ -39,7 +40,7 @@ fn waits_in(node: &Node, ctx: ContextId, inv: u32) -> bool
 }
 
 /// The context in which the invocation waits; None where it waits in none.
-fn context_of(node: &Node, inv: u32) -> Option<ContextId>
+fn context_of(node: &OpenNode, inv: u32) -> Option<ContextId>
     ensures { WaitApart (heard_of node.now) → WaitsWithin (heard_of node.now) inv → result ≡ Some ((heard_of node.now).invocations inv).context }
 {
     for ctx in 0..CONTEXTS_MAX as u8 {
@@ -54,7 +55,7 @@ fn context_of(node: &Node, inv: u32) -> Option<ContextId>
 fn answer_call(
     radio: &mut Radio,
     calls: &mut Calls,
-    node: &Node,
+    node: &OpenNode,
     desc: &Description,
     series: &[Series],
     number: u8,
@@ -112,7 +113,7 @@ fn asked_in(entry: &Entry) -> Option<(u32, FunId)>
 fn answer_entry(
     radio: &mut Radio,
     calls: &mut Calls,
-    node: &Node,
+    node: &OpenNode,
     desc: &Description,
     series: &[Series],
     number: u8,
@@ -145,7 +146,7 @@ fn answer_entry(
 pub fn schedule_answers(
     radio: &mut Radio,
     calls: &mut Calls,
-    node: &Node,
+    node: &OpenNode,
     desc: &Description,
     series: &[Series],
     number: u8,

@@ -19,7 +19,7 @@ use crate::effect::Effect;
 use capsule_exchange::Exchange;
 use mate_journal::Air;
 use mate_num::{ContextId, HandlerId, Image, NoMemory, Payload, Stamp};
-use node_core::Node;
+use open_node::OpenNode;
 use packet_codec::Packet;
 use std::alloc::Global;
 use trickle_timer::{Fire, Trickle};
@@ -29,7 +29,7 @@ use world_calls::Calls;
 /// A node of a world.
 #[derive(Drop)]
 pub struct Mote {
-    pub node: Node,
+    pub node: OpenNode,
     pub timer: Trickle,
     pub exchange: Exchange,
     /// Whether a pump is due.
@@ -44,7 +44,7 @@ impl Mote {
         ensures { IfOk result (BeginsMote desc.now random node) }
     {
         Ok(Mote {
-            node: Node::new(alloc, desc)?,
+            node: OpenNode::new(alloc, desc)?,
             timer: Trickle::start(desc.trickle, random, node, 0),
             exchange: Exchange::new(desc.handlers.len() as u8),
             pumps: false,
@@ -87,18 +87,22 @@ impl Mote {
     }
 
     /// The node is reset: its exchange forgets what it collected and owed, and its shortest interval begins.
-    pub fn reset(&mut self, at: Stamp) -> Result<Effect, NoMemory>
+    pub fn reset(&mut self, at: Stamp, effect: &mut Effect) -> Result<(), NoMemory>
         requires tellable { IsTellable self.old.node at }
         requires hour { at.time ≤ 3600000 }
         requires within { self.old.timer.running.begin ≤ at.time }
-        ensures { IfOk result (ResetsMote at self.old self.new) }
+        requires plain { effect.old ≡ plain_effect }
+        ensures { OnOk result (ResetsMote at self.old self.new effect.new) }
     {
         self.node.reserve(2)?;
         self.node.reset(at);
         self.exchange.forget();
         self.timer.again(at.time);
         self.pumps = false;
-        Ok(Effect::resetting())
+        effect.begins = true;
+        effect.cuts = true;
+        effect.resets = true;
+        Ok(())
     }
 
     /// The image is installed for the handler, as this version. One that isn't newer than what is held, or that the node
@@ -109,80 +113,81 @@ impl Mote {
         version: u32,
         image: &Image,
         at: Stamp,
-    ) -> Result<Effect, NoMemory>
+        effect: &mut Effect,
+    ) -> Result<(), NoMemory>
         requires handler { handler.0 < length self.old.exchange.handlers }
         requires tellable { IsTellable self.old.node at }
         requires hour { at.time ≤ 3600000 }
         requires within { self.old.timer.running.begin ≤ at.time }
-        ensures { IfOk result (λ r. InstallsImage at handler version image.now.items self.old self.new r ⊎ LeavesImage handler version image.now.items self.old self.new r) }
+        requires plain { effect.old ≡ plain_effect }
+        ensures { OnOk result (InstallsImage at handler version image.now.items self.old self.new effect.new ⊎ LeavesImage handler version image.now.items self.old self.new effect.new) }
     {
         self.node.reserve(4)?;
         if version <= self.exchange.held(handler) || image.is_empty() {
-            return Ok(Effect::none());
+            return Ok(());
         }
         match self.node.install(image.as_slice(), at) {
             Ok(()) => {
                 self.exchange.installed(handler, version, image);
-                Ok(Effect::installing(self.timer.reset(at.time)))
+                effect.cuts = true;
+                effect.begins = self.timer.reset(at.time);
+                Ok(())
             }
-            Err(_) => Ok(Effect::none()),
+            Err(_) => Ok(()),
         }
     }
 
     /// The point of the node's interval: it sends its versions, or is silent.
-    pub fn fire(&mut self, suppress: bool) -> Effect
+    pub fn fire(&mut self, suppress: bool, effect: &mut Effect)
+        requires { effect.old ≡ plain_effect }
         ensures same { self.new ≡ self.old }
-        ensures effect { (n : ℕ) (hs : List Happening) → self.old.exchange ≡ knowledge n hs → result ≡ at_fire (held_versions n hs) (at_point self.old.timer.set self.old.timer.running suppress) }
-        ensures right { All (IsRight (length self.old.exchange.handlers)) result.sends.items }
+        ensures effect { (n : ℕ) (hs : List Happening) → self.old.exchange ≡ knowledge n hs → effect.new ≡ at_fire (held_versions n hs) (at_point self.old.timer.set self.old.timer.running suppress) }
+        ensures right { All (IsRight (length self.old.exchange.handlers)) effect.new.sends.items }
     {
         match self.timer.fire(suppress) {
-            Fire::Send => Effect::sending(self.exchange.vector()),
-            Fire::Keep => Effect::noted(Air::Keep),
+            Fire::Send => effect.sends.push(self.exchange.vector()),
+            Fire::Keep => effect.first = Some(Air::Keep),
         }
     }
 
     /// The end of the node's interval: the next one begins.
-    pub fn expire(&mut self, now: u32) -> Effect
+    pub fn expire(&mut self, now: u32, effect: &mut Effect)
         requires hour { now ≤ 3600000 }
         requires end { now ≡ self.old.timer.running.begin + self.old.timer.running.length }
+        requires plain { effect.old ≡ plain_effect }
         ensures timer { self.new ≡ record self.old { timer = timed self.old.timer now Expired } }
-        ensures effect { result ≡ record plain_effect { begins = true } }
+        ensures effect { effect.new ≡ record plain_effect { begins = true } }
     {
         self.timer.expire(now);
-        Effect::beginning(true)
+        effect.begins = true;
     }
 
     /// The node sends the next fragment that it owes.
-    pub fn pump(&mut self) -> Effect
-        ensures pumps { (n : ℕ) (hs : List Happening) → self.old.exchange ≡ knowledge n hs → PumpsMote n hs self.old self.new result }
-        ensures right { All (IsRight (length self.old.exchange.handlers)) result.sends.items }
+    pub fn pump(&mut self, effect: &mut Effect)
+        requires { effect.old ≡ plain_effect }
+        ensures pumps { (n : ℕ) (hs : List Happening) → self.old.exchange ≡ knowledge n hs → PumpsMote n hs self.old self.new effect.new }
+        ensures right { All (IsRight (length self.old.exchange.handlers)) effect.new.sends.items }
     {
         self.pumps = false;
         match self.exchange.pump() {
-            Some(packet) => Effect::sending(packet),
-            None => Effect::none(),
+            Some(packet) => effect.sends.push(packet),
+            None => {}
         }
     }
 
     /// The node hears a Vector: it counts for the timer, and is answered with requests.
-    pub fn hear_vector(&mut self, packet: &Packet, at: Stamp) -> Effect
+    pub fn hear_vector(&mut self, packet: &Packet, at: Stamp, effect: &mut Effect)
         requires right { IsRight (length self.old.exchange.handlers) packet.now }
         requires hour { at.time ≤ 3600000 }
         requires within { self.old.timer.running.begin ≤ at.time }
-        ensures hears { (n : ℕ) (hs : List Happening) (versions : ArrayVec ℕ) → self.old.exchange ≡ knowledge n hs → packet.now ≡ Vector versions → HearsVector at versions.items n hs self.old self.new result }
+        requires plain { effect.old ≡ plain_effect }
+        ensures hears { (n : ℕ) (hs : List Happening) (versions : ArrayVec ℕ) → self.old.exchange ≡ knowledge n hs → packet.now ≡ Vector versions → HearsVector at versions.items n hs self.old self.new effect.new }
 
         // What is asked for is right, unless an image that is complete was not installed.
-        ensures asks { (n : ℕ) (hs : List Happening) → self.old.exchange ≡ knowledge n hs → IsOpen n hs → All (IsRight n) result.sends.items }
+        ensures asks { (n : ℕ) (hs : List Happening) → self.old.exchange ≡ knowledge n hs → IsOpen n hs → All (IsRight n) effect.new.sends.items }
     {
-        let heard = self.exchange.hear(packet);
-        let begins = self.count(heard.consistent, at.time);
-        Effect {
-            first: None,
-            begins,
-            cuts: false,
-            resets: false,
-            sends: heard.asks,
-        }
+        let heard = self.exchange.hear(packet, &mut effect.sends);
+        effect.begins = self.count(heard.consistent, at.time);
     }
 
     /// A Vector that is consistent or not counts for the timer. True exactly where an interval begins.

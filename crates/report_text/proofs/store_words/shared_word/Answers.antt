@@ -6,17 +6,11 @@ use mir.Val.{of_z, to_z}
 use mir.Syntax.{w16}
 use Rattle.report_text.specs.Words.{shared_word}
 use Rattle.mate_files.proofs.PenLemmas.{Prints-by}
-use Rattle.report_text.proofs.ChunkLemmas.{at_most-new, at_most-digits, room-byte, named-words}
+use Rattle.report_text.proofs.ChunkLemmas.{named-words}
 use Rattle.report_text.proofs.store_words.shared_word.Goals as goal
-
-pub byte-requires : goal.byte-requires
-byte-requires g c = room-byte c.value.new.self 21 (at_most-digits c.new-chunk.result c.value.new.self 21 0 c.value.ensures.fits (at_most-new c.new-chunk.ensures)) (lit< tt)
-
-pub value-requires : goal.value-requires
-value-requires g c = omega (arith, at_most-new c.new-chunk.ensures)
 
 pub returns : goal.returns
 returns g c =
-    Prints-by (c.as_slice.ensures ∙ named-words c.args.name.now (signed_decimal (to_z w16 (of_z w16 c.args.value))) c.new-chunk.ensures c.value.ensures.value c.byte.ensures (c.text.ensures ∙ ap (λ (n : List ℕ). n ++ c.byte.new.self) c.as_bytes.ensures.value) c.byte-2.ensures
+    Prints-by (c.as_slice.ensures ∙ named-words c.args.name.now (signed_decimal (to_z w16 (of_z w16 c.args.value))) c.new-chunk.ensures.value c.value.ensures.value c.byte.ensures.value (c.text.ensures.value ∙ ap (λ (n : List ℕ). n ++ c.byte.new.self) c.as_bytes.ensures.value) c.byte-2.ensures.value
     ∙ ap (λ (z : ℤ). shared_word (c.args.name.now, z)) (to_z-of_z w16 c.args.value c.ranges.value))
     c.bytes.ensures

@@ -35,15 +35,15 @@ handle-requires-clause-within c =
 
 pub have_turns-requires-clause-timely : goal.have_turns-requires-clause-timely
 have_turns-requires-clause-timely c =
-    timely-still c.args.desc.now c.args.world.now c.args.programs.now c.requires.may.0 c.requires.may.1 c.args.at c.args.event.now c.args.number c.args.radio.now c.args.mote.now c.requires.may.2 c.is_well_formed.ensures (c.states_are_sound.ensures.next c.args.desc.now c.args.world.now c.args.programs.now c.requires.right) (c.states_are_sound.ensures.nodes c.args.desc.now c.args.world.now c.args.programs.now c.requires.right) c.handle.new.mote c.in_ok-effect.effect c.in_ok-effect.ensures.handled
+    timely-still c.args.desc.now c.args.world.now c.args.programs.now c.requires.may.0 c.requires.may.1 c.args.at c.args.event.now c.args.number c.args.radio.now c.args.mote.now c.requires.may.2 c.is_well_formed.ensures (c.states_are_sound.ensures.next c.args.desc.now c.args.world.now c.args.programs.now c.requires.right) (c.states_are_sound.ensures.nodes c.args.desc.now c.args.world.now c.args.programs.now c.requires.right) c.handle.new.mote c.handle.new.effect c.in_ok-handle.ensures.handled
 
 pub have_turns-requires-clause-paced : goal.have_turns-requires-clause-paced
 have_turns-requires-clause-paced c =
-    paced-still c.args.desc.now c.args.world.now c.args.programs.now c.requires.may.0 c.requires.may.1 c.args.at c.args.event.now c.args.number c.args.radio.now c.args.mote.now c.requires.may.2 c.is_well_formed.ensures (c.states_are_sound.ensures.next c.args.desc.now c.args.world.now c.args.programs.now c.requires.right) (c.states_are_sound.ensures.nodes c.args.desc.now c.args.world.now c.args.programs.now c.requires.right) c.handle.new.mote c.in_ok-effect.effect c.in_ok-effect.ensures.handled
+    paced-still c.args.desc.now c.args.world.now c.args.programs.now c.requires.may.0 c.requires.may.1 c.args.at c.args.event.now c.args.number c.args.radio.now c.args.mote.now c.requires.may.2 c.is_well_formed.ensures (c.states_are_sound.ensures.next c.args.desc.now c.args.world.now c.args.programs.now c.requires.right) (c.states_are_sound.ensures.nodes c.args.desc.now c.args.world.now c.args.programs.now c.requires.right) c.handle.new.mote c.handle.new.effect c.in_ok-handle.ensures.handled
 
 pub finish-requires-clause-machine : goal.finish-requires-clause-machine
 finish-requires-clause-machine c =
-    c.in_ok-have_turns.ensures.tells.description ∙ described-still c.args.desc.now c.args.world.now c.args.programs.now c.requires.may.0 c.requires.may.1 c.args.at c.args.event.now c.args.number c.args.radio.now c.args.mote.now c.requires.may.2 c.is_well_formed.ensures (c.states_are_sound.ensures.next c.args.desc.now c.args.world.now c.args.programs.now c.requires.right) (c.states_are_sound.ensures.nodes c.args.desc.now c.args.world.now c.args.programs.now c.requires.right) c.handle.new.mote c.in_ok-effect.effect c.in_ok-effect.ensures.handled
+    c.in_ok-have_turns.ensures.tells.description ∙ described-still c.args.desc.now c.args.world.now c.args.programs.now c.requires.may.0 c.requires.may.1 c.args.at c.args.event.now c.args.number c.args.radio.now c.args.mote.now c.requires.may.2 c.is_well_formed.ensures (c.states_are_sound.ensures.next c.args.desc.now c.args.world.now c.args.programs.now c.requires.right) (c.states_are_sound.ensures.nodes c.args.desc.now c.args.world.now c.args.programs.now c.requires.right) c.handle.new.mote c.handle.new.effect c.in_ok-handle.ensures.handled
 
 pub finish-requires-clause-few : goal.finish-requires-clause-few
 finish-requires-clause-few c =
@@ -57,19 +57,19 @@ finish-requires-clause-wires c =
 
 pub finish-requires-clause-interval : goal.finish-requires-clause-interval
 finish-requires-clause-interval c =
-    begins-ahead c.args.desc.now c.args.world.now c.args.programs.now c.requires.may.0 c.requires.may.1 c.args.at c.args.event.now c.args.number c.args.radio.now c.args.mote.now c.requires.may.2 c.is_well_formed.ensures (c.states_are_sound.ensures.next c.args.desc.now c.args.world.now c.args.programs.now c.requires.right) (c.states_are_sound.ensures.nodes c.args.desc.now c.args.world.now c.args.programs.now c.requires.right) c.handle.new.mote c.in_ok-effect.effect c.in_ok-effect.ensures.handled
+    begins-ahead c.args.desc.now c.args.world.now c.args.programs.now c.requires.may.0 c.requires.may.1 c.args.at c.args.event.now c.args.number c.args.radio.now c.args.mote.now c.requires.may.2 c.is_well_formed.ensures (c.states_are_sound.ensures.next c.args.desc.now c.args.world.now c.args.programs.now c.requires.right) (c.states_are_sound.ensures.nodes c.args.desc.now c.args.world.now c.args.programs.now c.requires.right) c.handle.new.mote c.handle.new.effect c.in_ok-handle.ensures.handled
 
 pub finish-requires-clause-counts : goal.finish-requires-clause-counts
 finish-requires-clause-counts c =
-    counts-all c.args.desc.now c.args.world.now c.args.programs.now c.requires.may.0 c.requires.may.1 c.args.at c.args.event.now c.args.number c.args.radio.now c.args.mote.now c.requires.may.2 c.is_well_formed.ensures (c.states_are_sound.ensures.next c.args.desc.now c.args.world.now c.args.programs.now c.requires.right) (c.states_are_sound.ensures.nodes c.args.desc.now c.args.world.now c.args.programs.now c.requires.right) c.handle.new.mote c.in_ok-effect.effect c.in_ok-effect.ensures.handled
+    counts-all c.args.desc.now c.args.world.now c.args.programs.now c.requires.may.0 c.requires.may.1 c.args.at c.args.event.now c.args.number c.args.radio.now c.args.mote.now c.requires.may.2 c.is_well_formed.ensures (c.states_are_sound.ensures.next c.args.desc.now c.args.world.now c.args.programs.now c.requires.right) (c.states_are_sound.ensures.nodes c.args.desc.now c.args.world.now c.args.programs.now c.requires.right) c.handle.new.mote c.handle.new.effect c.in_ok-handle.ensures.handled
 
-pub returns : goal.returns
-returns c = λ ms cause may.
-    let own = handled c.args.desc.now c.args.world.now c.args.programs.now ms cause c.args.at c.args.event.now c.args.number c.args.radio.now c.args.mote.now may c.is_well_formed.ensures (c.states_are_sound.ensures.next c.args.desc.now c.args.world.now c.args.programs.now c.requires.right) (c.states_are_sound.ensures.nodes c.args.desc.now c.args.world.now c.args.programs.now c.requires.right) c.handle.new.mote c.in_ok-effect.effect c.in_ok-effect.ensures.handled in
+pub returns-clause-performed : goal.returns-clause-performed
+returns-clause-performed c = λ ms cause may.
+    let own = handled c.args.desc.now c.args.world.now c.args.programs.now ms cause c.args.at c.args.event.now c.args.number c.args.radio.now c.args.mote.now may c.is_well_formed.ensures (c.states_are_sound.ensures.next c.args.desc.now c.args.world.now c.args.programs.now c.requires.right) (c.states_are_sound.ensures.nodes c.args.desc.now c.args.world.now c.args.programs.now c.requires.right) c.handle.new.mote c.handle.new.effect c.in_ok-handle.ensures.handled in
     let from : length c.entries-from.result.now ≡ length c.handle.new.mote.node.log.entries =
     ap length (c.entries-from.ensures ∙ ap (λ (l : Log). l.entries) c.log.ensures.same) in
     let settled : Mote = record c.handle.new.mote { node = c.have_turns.new.node } in
-    performed-by c.args.desc.now c.args.world.now c.args.programs.now ms cause c.args.at c.args.event.now c.args.number c.args.radio.now c.finish.new.radio c.args.mote.now c.handle.new.mote c.finish.new.mote c.in_ok-effect.effect c.have_turns.new.node
+    performed-by c.args.desc.now c.args.world.now c.args.programs.now ms cause c.args.at c.args.event.now c.args.number c.args.radio.now c.finish.new.radio c.args.mote.now c.handle.new.mote c.finish.new.mote c.handle.new.effect c.have_turns.new.node
     may own c.in_ok-have_turns.ensures.tells c.in_ok-have_turns.ensures.apart c.in_ok-have_turns.ensures.awaited
     (λ q taken ended. c.in_ok-finish.ensures c.args.programs.now (state (code_world c.args.desc.now c.args.world.now c.args.programs.now) ms) (came c.args.at.time cause own.tells.told c.in_ok-have_turns.ensures.tells.told q) refl may.cause may.node taken
-    (subst (λ (n : ℕ). HasSettled (code_world c.args.desc.now c.args.world.now c.args.programs.now) (state (code_world c.args.desc.now c.args.world.now c.args.programs.now) ms) (came c.args.at.time cause own.tells.told c.in_ok-have_turns.ensures.tells.told q) n (record c.handle.new.mote { node = c.have_turns.new.node }) c.in_ok-effect.effect) (sym from) ended))
+    (subst (λ (n : ℕ). HasSettled (code_world c.args.desc.now c.args.world.now c.args.programs.now) (state (code_world c.args.desc.now c.args.world.now c.args.programs.now) ms) (came c.args.at.time cause own.tells.told c.in_ok-have_turns.ensures.tells.told q) n (record c.handle.new.mote { node = c.have_turns.new.node }) c.handle.new.effect) (sym from) ended))

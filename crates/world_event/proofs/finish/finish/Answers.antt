@@ -30,16 +30,16 @@ returns c = λ programs s m same_time same_event same_node taken settled.
     let calls : AreCallsOf (code_world c.args.desc.now c.args.world.now programs) c.args.number (node_at (code_world c.args.desc.now c.args.world.now programs) s m).called c.args.mote.now.calls =
     subst (λ (k : ℕ). AreCallsOf (code_world c.args.desc.now c.args.world.now programs) k (node_at (code_world c.args.desc.now c.args.world.now programs) s m).called c.args.mote.now.calls) same_node settled.calls in
     let A : List Stamped → Type 0 = λ es. AreAwaited (heard_of c.args.mote.now.node) (told_by_entries c.args.mote.now.node.log es) in
-    finished-by w s m c.args.from c.args.at c.args.mote.now c.args.effect c.marked-marked.result c.in_ok-mote.field-0 c.schedule_answers.new.calls
+    finished-by w s m c.args.from c.args.at c.args.mote.now c.args.effect.now c.marked-marked.result c.in_ok-mote.field-0 c.schedule_answers.new.calls
     c.args.radio.now c.note_all.new.radio c.cancel.new.radio c.schedule_timed.new.radio c.send_packets.new.radio c.schedule_pump.new.radio c.schedule_answers.new.radio
     c.args.number c.args.event.now same_time same_event same_node taken settled (record {
-      notes = c.in_ok-note_all.ensures;
+      notes = rw c.take.ensures.value at c.in_ok-note_all.ensures;
       cancels = c.cancel.ensures;
       times = c.in_ok-schedule_timed.ensures;
       sends =
           let P : List Packet → List Stamped → Type 0 =
           λ ps es. SendsAll (code_world c.args.desc.now c.args.world.now programs) c.args.number c.args.at s.senders (ps ++ messages (code_world c.args.desc.now c.args.world.now programs) (told_by_entries c.args.mote.now.node.log es)) c.schedule_timed.new.radio c.send_packets.new.radio in
-          subst (λ (es : List Stamped). P c.args.effect.sends.items es) entries
+          subst (λ (es : List Stamped). P c.args.effect.now.sends.items es) entries
           (subst (λ (ps : List Packet). P ps (take (length c.entries.result.now - c.args.from) (drop c.args.from c.entries.result.now))) c.as_slice.ensures.value (c.in_ok-send_packets.ensures.sends w s.senders log refl timed));
       marked_is = c.marked-marked.ensures;
       due = c.in_ok-mote.ensures.due;

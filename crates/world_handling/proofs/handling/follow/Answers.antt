@@ -1,7 +1,7 @@
 use Rattle.std.proofs.Common.{◌≡◌, ◌<◌, ℕ, List, length, Some, refl, sym, ◌∙◌, ap, subst, get_or}
-use Rattle.std.specs.Prelude.{◌⊎◌, Option, slice_get}
+use Rattle.std.specs.Prelude.{Option, slice_get}
 use Rattle.std.proofs.lemmas.Option.{slice_get_read}
-use Rattle.std.proofs.lemmas.Result.{IfOk-weaker}
+use Rattle.std.proofs.lemmas.Result.{on_ok_weaker}
 use Rattle.mate_journal.specs.declared.program.Program.{Program}
 use Rattle.node_programs.specs.Right.{IsRightProgram}
 use Rattle.node_programs.specs.ScriptSteps.{program_at, held_or_none}
@@ -10,8 +10,6 @@ use Rattle.world_script.specs.World.{IsRightWhat}
 use Rattle.world_script.specs.declared.world.What.{What}
 use Rattle.world_rules.specs.Effect.{of_line}
 use Rattle.world_rules.specs.World.{Inject, Post, Show, ResetNode, want_of}
-use Rattle.world_step.specs.Motes.{ResetsMote, InstallsImage, LeavesImage}
-use Rattle.world_handling.specs.Handling.{DoesBy}
 use Rattle.world_handling.proofs.HearLemmas.{does-inject}
 use Rattle.world_handling.proofs.LineLemmas.{by-want, does-post, does-show, does-reset}
 use Rattle.world_handling.proofs.handling.follow.Goals as goal
@@ -31,25 +29,29 @@ returns-in-Inject-clause-does c =
     let program : IsRightProgram d x = subst (IsRightProgram d) (sym is) (c.requires.programs place x right.program_high) in
     let below : x.handler.0 < length d.handlers.items = subst (λ (k : ℕ). k < length d.handlers.items) program.handler program.of_machine.handler in
     let want : want_of (program_at ps) c.args.what.now ≡ Inject (held_as x) = ap (want_of (program_at ps)) c.in-Inject.is ∙ ap (λ (o : Option Program). Inject (held_or_none o)) there in
-    IfOk-weaker c.install.result (λ r. InstallsImage at x.handler x.version x.image.items old c.install.new.self r ⊎ LeavesImage x.handler x.version x.image.items old c.install.new.self r)
-    (DoesBy at (λ _ _. of_line (want_of (program_at ps) c.args.what.now)) old c.install.new.self)
-    (λ r installs. by-want ps c.args.what.now (Inject (held_as x)) at old c.install.new.self r want (does-inject at old c.install.new.self r (held_as x) below installs)) c.install.ensures
+    let new = c.install.new.self in
+    let r = c.install.new.effect in
+    on_ok_weaker c.install.result (λ installs. by-want ps c.args.what.now (Inject (held_as x)) at old new r want (does-inject at old new r (held_as x) below installs)) c.install.ensures
 
-pub returns-in_ok-post-in-Post-clause-does : goal.returns-in_ok-post-in-Post-clause-does
-returns-in_ok-post-in-Post-clause-does c =
+pub returns-in-Post-clause-does : goal.returns-in-Post-clause-does
+returns-in-Post-clause-does c =
     let h = c.in-Post.handler in
     let payload = c.in-Post.payload in
-    by-want c.args.programs.now c.args.what.now (Post h payload) c.args.at c.args.mote.now c.post.new.self c.none.result (ap (want_of (program_at c.args.programs.now)) c.in-Post.is)
-    (does-post c.args.at c.args.mote.now c.post.new.self c.none.result h payload c.in_ok-post-in-Post.ensures c.none.ensures)
+    let r = c.args.effect.now in
+    on_ok_weaker c.post.result
+    (λ told. by-want c.args.programs.now c.args.what.now (Post h payload) c.args.at c.args.mote.now c.post.new.self r (ap (want_of (program_at c.args.programs.now)) c.in-Post.is)
+    (does-post c.args.at c.args.mote.now c.post.new.self r h payload told c.requires.plain)) c.post.ensures
 
-pub returns-in_ok-show-in-Show-clause-does : goal.returns-in_ok-show-in-Show-clause-does
-returns-in_ok-show-in-Show-clause-does c =
-    by-want c.args.programs.now c.args.what.now Show c.args.at c.args.mote.now c.show.new.self c.none-in-Show.result (ap (want_of (program_at c.args.programs.now)) c.in-Show.is)
-    (does-show c.args.at c.args.mote.now c.show.new.self c.none-in-Show.result c.in_ok-show-in-Show.ensures c.none-in-Show.ensures)
+pub returns-in-Show-clause-does : goal.returns-in-Show-clause-does
+returns-in-Show-clause-does c =
+    let r = c.args.effect.now in
+    on_ok_weaker c.show.result
+    (λ told. by-want c.args.programs.now c.args.what.now Show c.args.at c.args.mote.now c.show.new.self r (ap (want_of (program_at c.args.programs.now)) c.in-Show.is)
+    (does-show c.args.at c.args.mote.now c.show.new.self r told c.requires.plain)) c.show.ensures
 
 pub returns-in-Reset-clause-does : goal.returns-in-Reset-clause-does
 returns-in-Reset-clause-does c =
     let old = c.args.mote.now in
     let new = c.reset.new.self in
-    IfOk-weaker c.reset.result (ResetsMote c.args.at old new) (DoesBy c.args.at (λ _ _. of_line (want_of (program_at c.args.programs.now) c.args.what.now)) old new)
-    (λ r x. by-want c.args.programs.now c.args.what.now ResetNode c.args.at old new r (ap (want_of (program_at c.args.programs.now)) c.in-Reset.is) (does-reset c.args.at old new r x)) c.reset.ensures
+    let r = c.reset.new.effect in
+    on_ok_weaker c.reset.result (λ x. by-want c.args.programs.now c.args.what.now ResetNode c.args.at old new r (ap (want_of (program_at c.args.programs.now)) c.in-Reset.is) (does-reset c.args.at old new r x)) c.reset.ensures

@@ -1,13 +1,9 @@
 use Rattle.std.proofs.Common.{◌≡◌, ◌<◌, ℕ, ◌∷◌, length, Some, sym, ◌∙◌, subst}
-use Rattle.std.specs.Prelude.{◌⊎◌}
-use Rattle.std.proofs.lemmas.Result.{IfOk-weaker}
+use Rattle.std.proofs.lemmas.Result.{on_ok_weaker}
 use Rattle.capsule_exchange.specs.Happenings.{Hears, completed_by}
 use Rattle.capsule_exchange.specs.Knowledge.{Whatever}
-use Rattle.world_rules.specs.Effect.{of_packet}
-use Rattle.world_step.specs.Motes.{InstallsImage, LeavesImage}
-use Rattle.world_handling.specs.Handling.{DoesBy}
 use Rattle.world_handling.proofs.ImageLemmas.{completed-none, completed-handler}
-use Rattle.world_handling.proofs.HearLemmas.{does-image, does-fragment}
+use Rattle.world_handling.proofs.HearLemmas.{fragment-silent, heard-silent, still-plain, does-image, does-fragment}
 use Rattle.world_handling.proofs.handling.hear_fragment.Goals as goal
 
 pub complete-requires : goal.complete-requires
@@ -26,8 +22,16 @@ install-requires-clause-handler c =
 
 pub returns-in_default-clause-does : goal.returns-in_default-clause-does
 returns-in_default-clause-does c =
-    does-fragment c.args.at c.args.mote.now c.none.result c.args.packet.now c.args.version c.hear-heard.new.self c.hear-heard.result.complete c.requires.tellable.timely c.requires.fragment c.hear-heard.ensures.complete
-    c.in_default.is c.hear-heard.ensures.learned c.none.ensures
+    let before = c.requires.is_open in
+    let silent = heard-silent before.handlers c.args.packet.now before.happened c.hear-heard.new.asks (fragment-silent c.args.version c.args.packet.now c.requires.fragment) (c.hear-heard.ensures.asks before.handlers before.happened before.known) in
+    does-fragment c.args.at c.args.mote.now _ c.args.packet.now c.args.version c.hear-heard.new.self c.hear-heard.result.complete c.requires.tellable.timely c.requires.fragment c.hear-heard.ensures.complete
+    c.in_default.is c.hear-heard.ensures.learned (still-plain c.args.effect.now c.hear-heard.new.asks c.requires.plain silent)
+
+pub install-requires-clause-plain : goal.install-requires-clause-plain
+install-requires-clause-plain c =
+    let before = c.requires.is_open in
+    still-plain c.args.effect.now c.hear-heard.new.asks c.requires.plain
+    (heard-silent before.handlers c.args.packet.now before.happened c.hear-heard.new.asks (fragment-silent c.args.version c.args.packet.now c.requires.fragment) (c.hear-heard.ensures.asks before.handlers before.happened before.known))
 
 pub returns-in-Some-complete-clause-does : goal.returns-in-Some-complete-clause-does
 returns-in-Some-complete-clause-does c =
@@ -36,10 +40,8 @@ returns-in-Some-complete-clause-does c =
     let heard = c.hear-heard.new.self in
     let image = c.in-Some-complete.image in
     let complete : Whatever old.exchange (λ n hs. Some h ≡ completed_by c.args.packet.now hs) = λ n hs known. sym c.in-Some.is ∙ c.hear-heard.ensures.complete n hs known in
-    IfOk-weaker c.install.result (λ r. InstallsImage c.args.at h c.args.version image.items (record old { exchange = heard }) c.install.new.self r ⊎ LeavesImage h c.args.version image.items (record old { exchange = heard }) c.install.new.self r)
-    (DoesBy c.args.at (λ w n. of_packet w n.exchange c.args.packet.now) old c.install.new.self)
-    (λ r installs.
-    does-image c.args.at old c.install.new.self r c.args.packet.now c.args.version h image heard c.requires.fragment c.requires.packet complete c.hear-heard.ensures.learned (c.in-Some-complete.ensures) installs) c.install.ensures
+    on_ok_weaker c.install.result
+    (λ installs. does-image c.args.at old c.install.new.self c.install.new.effect c.args.packet.now c.args.version h image heard c.requires.fragment c.requires.packet complete c.hear-heard.ensures.learned (c.in-Some-complete.ensures) installs) c.install.ensures
 
 pub returns-in-None-clause-does : goal.returns-in-None-clause-does
 returns-in-None-clause-does c =

@@ -19,7 +19,7 @@ loop-h-init c = record { tells = tells-nothing c.args.mote.now.node c.args.mote.
 pub post-requires-clause-tellable : goal.post-requires-clause-tellable
 post-requires-clause-tellable c =
     let few =
-    posts-few c.args.desc.now c.args.mote.now.node c.loop-h.mote.node c.args.at c.args.payload.now (receivers_below c.args.desc.now c.loop-h.h) c.loop-h.invariant.tells c.requires.paced c.log.ensures.keeps in
+    posts-few c.args.desc.now c.args.mote.now.node c.loop-h.mote.node c.args.at c.args.payload.now (receivers_below c.args.desc.now c.loop-h.h) c.loop-h.invariant.tells c.requires.paced c.kept.ensures.keeps in
     let short = receivers-few c.args.desc.now c.loop-h.h in
     let old_few = c.requires.few in record { timely = c.loop-h.invariant.tells.grows.timely; few = omega (arith, few, short, old_few, c.loop-h-test.true, c.len-h-end.ensures.value) }
 

@@ -10,5 +10,5 @@ use Rattle.world_run_callers.proofs.events.a_packet_is_got_from_its_sender.Goals
 
 pub returns : goal.returns
 returns c = λ k n packet link mote may sent is.
-    (c.in_ok-effect.ensures.handled k n (Deliver 0 c.args.number packet) mote (ap (λ (bytes : ArrayVec ℕ). radio.Deliver 0 c.args.number bytes) sent) may).effect.first
+    (c.in_ok-handle.ensures.handled k n (Deliver 0 c.args.number packet) mote (ap (λ (bytes : ArrayVec ℕ). radio.Deliver 0 c.args.number bytes) sent) may).effect.first
     ∙ ap (λ (l : Option Link). let got : Air = Got c.args.number (option_map_or (λ (l : Link). l.from) l 0) in got ∷ []) is

@@ -10,5 +10,5 @@ use Rattle.world_run_callers.proofs.events.an_injection_has_its_own_version.Goal
 pub returns : goal.returns
 returns c = λ k time node n p mote may is.
     let w : World = code_world c.args.desc.now c.args.world.now c.args.programs.now in
-    (c.in_ok-effect.ensures.handled k n (Planned 0) mote refl may).exchange
+    (c.in_ok-handle.ensures.handled k n (Planned 0) mote refl may).exchange
     ∙ ap (λ (line : Option PlannedLine). knowledge (handlers w) ((option_map_or (λ (l : PlannedLine). of_line l.what) line no_effect).happened ++ n.exchange)) is

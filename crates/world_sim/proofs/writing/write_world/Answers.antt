@@ -8,10 +8,12 @@ use Rattle.world_sim.proofs.EndingLemmas.{written-air}
 use Rattle.world_sim.proofs.writing.write_world.Goals as goal
 
 pub returns-in_default : goal.returns-in_default
-returns-in_default g c = record { gives = record {
-  report = record { nodes = []; air = []; events = 0; whole = false };
-  gives = inl (record { report = refl; same = refl });
-} }
+returns-in_default g c = record {
+  gives = record {
+    report = record { nodes = []; air = []; events = 0; whole = false };
+    gives = inl (record { report = refl; same = refl });
+  };
+}
 
 pub write_ending-requires-clause-ends : goal.write_ending-requires-clause-ends
 write_ending-requires-clause-ends g c =
@@ -31,7 +33,7 @@ pub write_full-requires-clause-ends : goal.write_full-requires-clause-ends
 write_full-requires-clause-ends g c =
     let b = c.loop-events.invariant.stands in
     let n = behind (code_world c.args.desc.now c.args.world.now c.args.programs.now) b.moments c.loop-events.sim.radio c.next.new.self c.in-Some.time c.in-Some.event c.requires.world.nodes_high
-        (c.states_are_sound.ensures.dues c.args.desc.now c.args.world.now c.args.programs.now c.requires) b.come b.radio c.in-Some.ensures.first c.next.ensures.others in
+    (c.states_are_sound.ensures.dues c.args.desc.now c.args.world.now c.args.programs.now c.requires) b.come b.radio c.in-Some.ensures.first c.next.ensures.others in
     at-end (code_world c.args.desc.now c.args.world.now c.args.programs.now) Full c.loop-events.events c.loop-events.sim (record { radio = c.next.new.self; motes = c.loop-events.sim.motes; records = c.loop-events.sim.records }) b
     (subst (λ (k : ℕ). 1000000 ≤ k) b.records c.if-sim-ge-RECORDS_MAX.true, c.in-Some.time, n.cause, n.within, n.next) c.loop-events.invariant.kept (ap (λ (e : Ether). e.air) c.next.ensures.others) refl
 
@@ -48,7 +50,7 @@ write_step-requires-clause-stands g c =
     let s = c.loop-events.invariant.stands in
     let count = s.count in
     let b = behind (code_world c.args.desc.now c.args.world.now c.args.programs.now) s.moments c.loop-events.sim.radio c.next.new.self c.in-Some.time c.in-Some.event c.requires.world.nodes_high
-        (c.states_are_sound.ensures.dues c.args.desc.now c.args.world.now c.args.programs.now c.requires) s.come s.radio c.in-Some.ensures.first c.next.ensures.others in
+    (c.states_are_sound.ensures.dues c.args.desc.now c.args.world.now c.args.programs.now c.requires) s.come s.radio c.in-Some.ensures.first c.next.ensures.others in
     record {
       moments = s.moments;
       cause = b.cause;
@@ -70,17 +72,18 @@ write_step-requires-clause-stands g c =
 pub returns-in-Err-write_step : goal.returns-in-Err-write_step
 returns-in-Err-write_step g c = record {
   gives =
-      c.in-Err-write_step.ensures _ _
+      c.in-Err-write_step.ensures.written _ _
       (written-air c.args.desc.now c.loop-events.sim (record { radio = c.next.new.self; motes = c.loop-events.sim.motes; records = c.loop-events.sim.records }) (ap (λ (e : Ether). e.air) c.next.ensures.others) refl _ _ _ _
       c.loop-events.invariant.written);
 }
 
 pub loop-events-preserved : goal.loop-events-preserved
 loop-events-preserved g c = record {
-  stands = c.in_default-write_step.ensures.0;
-  kept = c.in_default-write_step.ensures.1;
+  stands = c.in_default-write_step.ensures.written.0;
+  kept = c.in_default-write_step.ensures.written.1;
+  plain = c.in_default-write_step.ensures.plain;
   written =
-      c.in_default-write_step.ensures.2 _ _
+      c.in_default-write_step.ensures.written.2 _ _
       (written-air c.args.desc.now c.loop-events.sim (record { radio = c.next.new.self; motes = c.loop-events.sim.motes; records = c.loop-events.sim.records }) (ap (λ (e : Ether). e.air) c.next.ensures.others) refl _ _ _ _
       c.loop-events.invariant.written);
 }

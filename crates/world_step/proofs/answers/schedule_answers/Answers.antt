@@ -13,7 +13,8 @@ use Rattle.world_air.specs.Air.{timed_events}
 use Rattle.world_air.specs.Changes.{AddsToAir}
 use Rattle.world_air.proofs.ChangeLemmas.{adds-nothing, adds-both}
 use Rattle.call_waits.specs.Waiting.{asked_of}
-use Rattle.world_step.specs.Answering.{answer_items, told_by_entries}
+use Rattle.open_node.specs.Calls.{told_by_entries}
+use Rattle.world_step.specs.Answering.{answer_items}
 use Rattle.world_step.proofs.AnswerLemmas.{awaited-at, due-more, calls-more}
 use Rattle.world_step.proofs.answers.schedule_answers.Goals as goal
 

@@ -8,7 +8,7 @@ use Rattle.world_calls.specs.Calls.{AreCallsOf, HasSensors}
 use Rattle.world_air.specs.Air.{timed_events}
 use Rattle.world_air.specs.Changes.{AddsToAir}
 use Rattle.call_waits.specs.Waiting.{WaitApart, AreAwaited}
-use Rattle.world_step.specs.Answering.{told_by_entries}
+use Rattle.open_node.specs.Calls.{told_by_entries}
 use Rattle.world_step.proofs.answers.schedule_answers.Given as goal
 
 abbrev pub invariant-loop-stamped : goal.invariant-loop-stamped

@@ -9,7 +9,7 @@ pub returns : goal.returns
 returns c =
     let h = c.args.handler.0 in
     let state = c.index-deref-from.result in
-    let sound = subst (λ (k : Knowledge). AreSound k.handlers) c.self.view_is c.self.invariant in
+    let sound = subst (λ (k : Knowledge). AreSound k.handlers) c.self.view_is c.self.invariant.sound in
     let read : state ≡ get_or c.args.self.now.handlers h state =
     c.index-deref-from.is
     ∙ ap (λ (k : ℕ). get_or c.deref.result.now k state) c.from.ensures

@@ -2,11 +2,13 @@ use Rattle.std.proofs.Common.{map, ap, ◌∙◌}
 use Rattle.capsule_exchange.specs.Steps.{forgets}
 use Rattle.capsule_exchange.proofs.KnowledgeLemmas.{wrote_all, forget_learned}
 use Rattle.capsule_exchange.proofs.SoundLemmas.{changed_all, forgets_sound}
+use Rattle.capsule_exchange.proofs.SummaryLemmas.{kept_now}
 use Rattle.capsule_exchange.proofs.exchange.Exchange.forget.Goals as goal
 
 pub invariant_of-self : goal.invariant_of-self
 invariant_of-self c =
-    changed_all c.self.inside.handlers.items c.forget_each.new.states forgets (c.forget_each.ensures ∙ ap (map forgets) c.as_mut_slice.ensures.value) forgets_sound c.self.invariant
+    kept_now _ c.as_slice.result.now c.of-self-inside.result c.as_slice.ensures.value
+    (changed_all c.self.inside.handlers.items c.forget_each.new.states forgets (c.forget_each.ensures ∙ ap (map forgets) c.as_mut_slice.ensures.value) forgets_sound c.self.invariant.sound) c.of-self-inside.ensures
 
 pub returns-clause-learned : goal.returns-clause-learned
 returns-clause-learned c =

@@ -14,27 +14,27 @@ returns-in-Vector-clause-learned c = λ n before was.
 
 pub returns-in-Vector-clause-consistent : goal.returns-in-Vector-clause-consistent
 returns-in-Vector-clause-consistent c = λ n before was.
-    subst (λ (p : Packet). Judges n p before (Some c.is_consistent.result)) (sym c.in-Vector.is) (vector_judged c.args.self.now c.in-Vector.versions c.is_consistent.result c.is_consistent.ensures n before was)
+    subst (λ (p : Packet). Judges n p before (Some c.hear_vector.result)) (sym c.in-Vector.is) (vector_judged c.args.self.now c.in-Vector.versions c.hear_vector.result c.hear_vector.ensures.consistent n before was)
 
 pub returns-in-Vector-clause-asks : goal.returns-in-Vector-clause-asks
 returns-in-Vector-clause-asks c = λ n before was.
-    vector_asks c.args.self.now c.hear_vector.new.self c.in-Vector.versions c.hear_vector.result.items c.hear_vector.ensures.aimed c.hear_vector.ensures.sound c.hear_vector.ensures.asks n before was
+    vector_asks c.args.self.now c.hear_vector.new.self c.in-Vector.versions c.hear_vector.new.asks.items c.hear_vector.ensures.aimed c.hear_vector.ensures.sound c.hear_vector.ensures.asks n before was
     ∙ ap (λ (p : Packet). asks_after n p before) (sym c.in-Vector.is)
 
 pub returns-in-Vector-clause-right : goal.returns-in-Vector-clause-right
 returns-in-Vector-clause-right c =
-    asks_right c.args.self.now c.hear_vector.new.self c.in-Vector.versions c.hear_vector.result.items c.hear_vector.ensures.aimed c.hear_vector.ensures.sound c.hear_vector.ensures.asks
+    asks_right c.args.self.now c.hear_vector.new.self c.in-Vector.versions c.hear_vector.new.asks.items c.hear_vector.ensures.aimed c.hear_vector.ensures.sound c.hear_vector.ensures.asks
 
 pub returns-in-Status-clause-learned : goal.returns-in-Status-clause-learned
 returns-in-Status-clause-learned c = λ n before was.
-    let right : IsRightStatus (length c.args.self.now.handlers) c.in-Status.handler.0 c.in-Status.version c.in-Status.missing = subst (IsRight (length c.args.self.now.handlers)) c.in-Status.is c.requires in
+    let right : IsRightStatus (length c.args.self.now.handlers) c.in-Status.handler.0 c.in-Status.version c.in-Status.missing = subst (IsRight (length c.args.self.now.handlers)) c.in-Status.is c.requires.right in
     status_learned c.args.self.now c.hear_status.new.self c.in-Status.handler c.in-Status.version c.in-Status.missing right.handler_high c.hear_status.ensures n before was
     ∙ ap (λ (p : Packet). knowledge n (Hears p ∷ before)) (sym c.in-Status.is)
 
 pub returns-in-Fragment-clause-learned : goal.returns-in-Fragment-clause-learned
 returns-in-Fragment-clause-learned c = λ n before was.
     let f = c.in-Fragment in
-    let right : IsRightFragment (length c.args.self.now.handlers) f.handler.0 f.version f.index f.count f.large f.bytes.items = subst (IsRight (length c.args.self.now.handlers)) f.is c.requires in
+    let right : IsRightFragment (length c.args.self.now.handlers) f.handler.0 f.version f.index f.count f.large f.bytes.items = subst (IsRight (length c.args.self.now.handlers)) f.is c.requires.right in
     let few = right.count_high in
     let low = right.index_high in
     fragment_learned c.args.self.now c.hear_fragment.new.self f.handler f.version f.index f.count f.large f.bytes right.handler_high right.version_low (omega arith) c.hear_fragment.ensures.state n before was
@@ -43,7 +43,7 @@ returns-in-Fragment-clause-learned c = λ n before was.
 pub returns-in-Fragment-clause-complete : goal.returns-in-Fragment-clause-complete
 returns-in-Fragment-clause-complete c = λ n before was.
     let f = c.in-Fragment in
-    let right : IsRightFragment (length c.args.self.now.handlers) f.handler.0 f.version f.index f.count f.large f.bytes.items = subst (IsRight (length c.args.self.now.handlers)) f.is c.requires in
+    let right : IsRightFragment (length c.args.self.now.handlers) f.handler.0 f.version f.index f.count f.large f.bytes.items = subst (IsRight (length c.args.self.now.handlers)) f.is c.requires.right in
     let few = right.count_high in
     let low = right.index_high in
     let learned = fragment_learned c.args.self.now c.hear_fragment.new.self f.handler f.version f.index f.count f.large f.bytes right.handler_high right.version_low (omega arith) c.hear_fragment.ensures.state in

@@ -1,10 +1,11 @@
-use Rattle.std.proofs.Common.{◌≡◌, ℕ, List, length, get_or, ap, ◌∙◌}
+use Rattle.std.proofs.Common.{◌≡◌, ℕ, List, length, get_or, sym, ap, ◌∙◌}
 use Rattle.std.specs.List.{refill}
 use Rattle.std.proofs.lemmas.List.Elements.{All-same}
 use Rattle.capsule_exchange.specs.declared.handler_state.HandlerState.{HandlerState}
 use Rattle.capsule_exchange.specs.Sound.{IsSoundState, AreSound}
-use Rattle.capsule_exchange.specs.Steps.{aimed, aimed_each}
+use Rattle.capsule_exchange.specs.Steps.{aimed, aimed_each, asks_upto}
 use Rattle.capsule_exchange.proofs.SoundLemmas.{changed_each, aimed_sound}
+use Rattle.capsule_exchange.proofs.SummaryLemmas.{kept_now, held_in, told_held, aimed_same, asks_none}
 use Rattle.capsule_exchange.proofs.exchange.Exchange.hear_vector.Goals as goal
 
 -- the states that `aim_each` leaves
@@ -12,15 +13,34 @@ aimed_sound_all : (states lent after : List HandlerState) (versions told : List 
 aimed_sound_all states lent after versions told same known is sound =
     changed_each states after (λ h. aimed (get_or versions h 0)) (is ∙ ap (aimed_each told) same ∙ ap (λ (vs : List ℕ). aimed_each vs states) known) (λ h s. aimed_sound (get_or versions h 0) s) sound
 
-pub asks-requires-clause-sound : goal.asks-requires-clause-sound
-asks-requires-clause-sound c =
-    All-same IsSoundState c.as_slice-2.result.now (refill (length c.self.inside.handlers.items) c.self.inside.handlers.items c.aim_each.new.states) c.as_slice-2.ensures.value
-    (aimed_sound_all c.self.inside.handlers.items c.as_mut_slice.result.now c.aim_each.new.states c.args.versions.now.items c.as_slice.result.now c.as_mut_slice.ensures.value c.as_slice.ensures.value c.aim_each.ensures c.self.invariant)
+pub ask_each-requires-clause-sound : goal.ask_each-requires-clause-sound
+ask_each-requires-clause-sound c =
+    All-same IsSoundState c.as_slice-4.result.now (refill (length c.self.inside.handlers.items) c.self.inside.handlers.items c.aim_each.new.states) c.as_slice-4.ensures.value
+    (aimed_sound_all c.self.inside.handlers.items c.as_mut_slice.result.now c.aim_each.new.states c.args.versions.now.items c.as_slice-3.result.now c.as_mut_slice.ensures.value c.as_slice-3.ensures.value c.aim_each.ensures c.self.invariant.sound)
 
 pub invariant_of-self : goal.invariant_of-self
 invariant_of-self c =
-    aimed_sound_all c.self.inside.handlers.items c.as_mut_slice.result.now c.aim_each.new.states c.args.versions.now.items c.as_slice.result.now c.as_mut_slice.ensures.value c.as_slice.ensures.value c.aim_each.ensures c.self.invariant
+    kept_now _ c.as_slice-6.result.now c.of-self-inside.result c.as_slice-6.ensures.value
+    (aimed_sound_all c.self.inside.handlers.items c.as_mut_slice.result.now c.aim_each.new.states c.args.versions.now.items c.as_slice-3.result.now c.as_mut_slice.ensures.value c.as_slice-3.ensures.value c.aim_each.ensures
+    c.self.invariant.sound) c.of-self-inside.ensures
 
 pub returns-clause-sound : goal.returns-clause-sound
 returns-clause-sound c =
-    aimed_sound_all c.self.inside.handlers.items c.as_mut_slice.result.now c.aim_each.new.states c.args.versions.now.items c.as_slice.result.now c.as_mut_slice.ensures.value c.as_slice.ensures.value c.aim_each.ensures c.self.invariant
+    aimed_sound_all c.self.inside.handlers.items c.as_mut_slice.result.now c.aim_each.new.states c.args.versions.now.items c.as_slice-3.result.now c.as_mut_slice.ensures.value c.as_slice-3.ensures.value c.aim_each.ensures
+    c.self.invariant.sound
+
+pub returns-then-eq-clause-aimed : goal.returns-then-eq-clause-aimed
+returns-then-eq-clause-aimed c =
+    let states = c.args.self.now.handlers in
+    let told : c.args.versions.now.items ≡ held_in c.args.self.now.handlers =
+    told_held c.args.self.now c.self.inside.handlers.items c.self.inside.last c.self.inside.summary c.args.versions.now.items c.as_slice.result.now c.as_slice-2.result.now c.self.view_is c.self.invariant.summed
+    c.as_slice.ensures.value c.as_slice-2.ensures.value (sym c.eq.ensures ∙ c.if-eq.true) in
+    ap (λ (ss : List HandlerState). record c.args.self.now { handlers = ss }) (aimed_same states ∙ ap (λ (vs : List ℕ). aimed_each vs states) (sym told))
+
+pub returns-then-eq-clause-asks : goal.returns-then-eq-clause-asks
+returns-then-eq-clause-asks c =
+    let states = c.args.self.now.handlers in
+    let told : c.args.versions.now.items ≡ held_in c.args.self.now.handlers =
+    told_held c.args.self.now c.self.inside.handlers.items c.self.inside.last c.self.inside.summary c.args.versions.now.items c.as_slice.result.now c.as_slice-2.result.now c.self.view_is c.self.invariant.summed
+    c.as_slice.ensures.value c.as_slice-2.ensures.value (sym c.eq.ensures ∙ c.if-eq.true) in
+    c.requires.empty ∙ sym (ap (λ (vs : List ℕ). asks_upto vs states (length states)) told ∙ asks_none states)

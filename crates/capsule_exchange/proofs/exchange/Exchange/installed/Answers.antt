@@ -2,13 +2,15 @@ use Rattle.std.proofs.Common.{rules, arith}
 use Rattle.capsule_exchange.specs.Steps.{installs}
 use Rattle.capsule_exchange.proofs.KnowledgeLemmas.{wrote_one, install_learned}
 use Rattle.capsule_exchange.proofs.SoundLemmas.{changed_one, installs_sound}
+use Rattle.capsule_exchange.proofs.SummaryLemmas.{kept_now}
 use Rattle.capsule_exchange.proofs.exchange.Exchange.installed.Goals as goal
 
 pub invariant_of-self : goal.invariant_of-self
 invariant_of-self c =
     let newer = c.requires.newer in
-    changed_one c.self.inside.handlers.items c.as_mut_slice.result.now c.from.result c.index-as_mut_slice-from.result c.install.new.self (installs c.args.version c.args.image.now)
-    c.as_mut_slice.ensures.value (search rules) c.install.ensures (λ s _. installs_sound c.args.version c.args.image.now s (omega arith)) c.self.invariant
+    kept_now _ c.as_slice.result.now c.of-self-inside.result c.as_slice.ensures.value
+    (changed_one c.self.inside.handlers.items c.as_mut_slice.result.now c.from.result c.index-as_mut_slice-from.result c.install.new.self (installs c.args.version c.args.image.now)
+    c.as_mut_slice.ensures.value (search rules) c.install.ensures (λ s _. installs_sound c.args.version c.args.image.now s (omega arith)) c.self.invariant.sound) c.of-self-inside.ensures
 
 pub returns-clause-learned : goal.returns-clause-learned
 returns-clause-learned c =

@@ -1,4 +1,4 @@
-use Rattle.std.proofs.Common.{List, length, ap, ◌∙◌}
+use Rattle.std.proofs.Common.{List, length, ap}
 use Rattle.std.specs.List.{find}
 use Rattle.capsule_exchange.specs.declared.handler_state.HandlerState.{HandlerState}
 use Rattle.capsule_exchange.specs.Happenings.{slots_from}
@@ -10,4 +10,4 @@ use Rattle.capsule_exchange.proofs.exchange.Exchange.marked.Goals as goal
 pub returns : goal.returns
 returns c =
     let first = λ (ss : List HandlerState). find (is_marked_in ss) (slots_from (length ss) 0) in
-    any_is c.args.self.now c.first_marked.result c.is_some.result (c.first_marked.ensures.value ∙ ap first c.as_slice.ensures.value ∙ ap (λ (k : Knowledge). first k.handlers) c.self.view_is) c.is_some.ensures
+    any_is c.args.self.now (first c.self.inside.handlers.items) c.self.inside.summary.owes (ap (λ (k : Knowledge). first k.handlers) c.self.view_is) c.self.invariant.summed.owes

@@ -6,6 +6,7 @@ use Rattle.capsule_exchange.specs.declared.handler_state.HandlerState.{HandlerSt
 use Rattle.capsule_exchange.specs.Knowledge.{state_after}
 use Rattle.capsule_exchange.specs.Sound.{IsSoundState}
 use Rattle.capsule_exchange.proofs.SoundLemmas.{no_state_sound}
+use Rattle.capsule_exchange.proofs.SummaryLemmas.{kept_now}
 use Rattle.capsule_exchange.proofs.exchange.Exchange.new.Goals as goal
 
 pub loop-preserved : goal.loop-preserved
@@ -22,8 +23,9 @@ loop-preserved c =
 
 pub invariant_of-result : goal.invariant_of-result
 invariant_of-result c =
-    All-same IsSoundState c.loop.states.items (map (state_after []) (range_with_len 0 c.loop.counter)) c.loop.invariant.so_far
-    (All-map IsSoundState (state_after []) (range_with_len 0 c.loop.counter) (λ k d below. no_state_sound))
+    kept_now c.loop.states.items c.as_slice.result.now c.of-summary.result c.as_slice.ensures.value
+    (All-same IsSoundState c.loop.states.items (map (state_after []) (range_with_len 0 c.loop.counter)) c.loop.invariant.so_far
+    (All-map IsSoundState (state_after []) (range_with_len 0 c.loop.counter) (λ k d below. no_state_sound))) c.of-summary.ensures
 
 pub returns : goal.returns
 returns c =

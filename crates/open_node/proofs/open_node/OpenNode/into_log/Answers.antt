@@ -1,11 +1,11 @@
 -- What a node that rests keeps.
-use Rattle.std.proofs.Common.{ap, subst}
+use Rattle.std.proofs.Common.{subst}
 use Rattle.node_invariant.specs.Meaning.{machine_in}
-use Rattle.open_node.specs.View.{OpenNodeView, NodeView}
+use Rattle.open_node.specs.View.{NodeView}
 use Rattle.open_node.specs.Journal.{KeepsJournal}
 use Rattle.open_node.proofs.open_node.OpenNode.into_log.Goals as goal
 
 pub returns-clause-keeps : goal.returns-clause-keeps
 returns-clause-keeps c =
     let P : NodeView → Type 0 = λ v. KeepsJournal v.description (machine_in v.description) v.log in
-    subst P (ap (λ (v : OpenNodeView). v.node) c.self.view_is) c.keeps_journal.ensures
+    subst P c.self.view_is c.keeps_journal.ensures

@@ -1,8 +1,8 @@
 -- The entries of the post, as they are seen.
-use Rattle.std.proofs.Common.{ap, subst}
+use Rattle.std.proofs.Common.{subst}
 use Rattle.node_invariant.specs.Meaning.{machine_in}
 use Rattle.node_calls.specs.Posting.{PostGives}
-use Rattle.open_node.specs.View.{OpenNodeView, NodeView, heard_of, Tells}
+use Rattle.open_node.specs.View.{NodeView, heard_of, Tells}
 use Rattle.open_node.specs.Calls.{Pacing}
 use Rattle.open_node.proofs.PaceLemmas.{seen_as}
 use Rattle.open_node.proofs.CallLemmas.{Tells-again}
@@ -11,8 +11,8 @@ use Rattle.open_node.proofs.open_node.OpenNode.post.Goals as goal
 pub invariant_of-self : goal.invariant_of-self
 invariant_of-self c = record { rests = c.post_in.ensures.again.rests }
 
-pub returns-clause-tells : goal.returns-clause-tells
-returns-clause-tells c =
+pub returns : goal.returns
+returns c =
     let n = c.self.inside in
     let P : NodeView → Type 0 = λ v. Tells v (seen_as n.description c.post_in.new.parts) c.args.at (Pacing (λ _. PostGives (machine_in v.description) (heard_of v) c.args.handler c.args.payload.now c.post_in.result)) in
-    subst P (ap (λ (v : OpenNodeView). v.node) c.self.view_is) (Tells-again n.description n.parts c.post_in.new.parts c.args.at c.self.invariant.rests _ c.post_in.ensures.again)
+    subst P c.self.view_is (Tells-again n.description n.parts c.post_in.new.parts c.args.at c.self.invariant.rests c.post_in.ensures.gone _ c.post_in.ensures.again)

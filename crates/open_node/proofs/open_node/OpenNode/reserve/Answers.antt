@@ -1,6 +1,6 @@
 -- More room changes nothing else.
-use Rattle.std.proofs.Common.{ap, sym, subst}
-use Rattle.open_node.specs.View.{OpenNodeView, NodeView, HasPace}
+use Rattle.std.proofs.Common.{sym, subst}
+use Rattle.open_node.specs.View.{NodeView, HasPace}
 use Rattle.open_node.proofs.PaceLemmas.{IsPace-seen, HasPace-from}
 use Rattle.open_node.proofs.JournalLemmas.{Rests-room, IsPace-room}
 use Rattle.open_node.proofs.open_node.OpenNode.reserve.Goals as goal
@@ -16,4 +16,4 @@ returns-clause-pace c = λ p pace.
     let P : NodeView → Type 0 = λ v. HasPace v p in
     let after = Rests-room d s c.reserve.new.self c.reserve.ensures.same rests in
     HasPace-from d (record s { log = c.reserve.new.self }) after.order.keeps p
-    (IsPace-room d s c.reserve.new.self c.reserve.ensures.same rests p (IsPace-seen d s rests.order.keeps p (subst P (sym (ap (λ (v : OpenNodeView). v.node) c.self.view_is)) pace))))
+    (IsPace-room d s c.reserve.new.self c.reserve.ensures.same rests p (IsPace-seen d s rests.order.keeps p (subst P (sym c.self.view_is) pace))))

@@ -1,8 +1,8 @@
 -- The reset, as it is seen.
-use Rattle.std.proofs.Common.{ap, subst}
+use Rattle.std.proofs.Common.{subst}
 use Rattle.mate_journal.specs.NodeScript.{Resets}
 use Rattle.node_invariant.specs.Meaning.{machine_in, clock_of}
-use Rattle.open_node.specs.View.{OpenNodeView, NodeView, heard_of, Tells}
+use Rattle.open_node.specs.View.{NodeView, heard_of, Tells}
 use Rattle.open_node.specs.Calls.{Pacing}
 use Rattle.open_node.proofs.PaceLemmas.{seen_as}
 use Rattle.open_node.proofs.CallLemmas.{Tells-paced}
@@ -11,8 +11,8 @@ use Rattle.open_node.proofs.open_node.OpenNode.reset.Goals as goal
 pub invariant_of-self : goal.invariant_of-self
 invariant_of-self c = record { rests = c.reset_in.ensures.again.rests }
 
-pub returns-clause-tells : goal.returns-clause-tells
-returns-clause-tells c =
+pub returns : goal.returns
+returns c =
     let n = c.self.inside in
     let P : NodeView → Type 0 = λ v. Tells v (seen_as n.description c.reset_in.new.parts) c.args.at (Pacing (Resets (clock_of v.description) (machine_in v.description) (heard_of v))) in
-    subst P (ap (λ (v : OpenNodeView). v.node) c.self.view_is) (Tells-paced n.description n.parts c.reset_in.new.parts c.args.at c.self.invariant.rests _ c.reset_in.ensures.again)
+    subst P c.self.view_is (Tells-paced n.description n.parts c.reset_in.new.parts c.args.at c.self.invariant.rests c.reset_in.ensures.gone _ c.reset_in.ensures.again)

@@ -7,17 +7,17 @@ use Rattle.node_invariant.specs.Meaning.{machine_in, clock_of}
 use Rattle.node_invariant.specs.Keeps.{reading}
 use Rattle.node_invariant.proofs.MoveLemmas.{none_ready}
 use Rattle.node_invariant.proofs.RoomLemmas.{starts-most}
-use Rattle.open_node.specs.View.{OpenNodeView, NodeView, heard_of, Tells}
+use Rattle.open_node.specs.View.{NodeView, heard_of, Tells}
 use Rattle.open_node.specs.Calls.{HasStepped}
 use Rattle.open_node.proofs.PaceLemmas.{seen_as}
 use Rattle.open_node.proofs.MadeLemmas.{Tells-turn}
 use Rattle.open_node.proofs.open_node.OpenNode.step.Goals as goal
 
-pub returns-then-not-is_ready-clause-steps : goal.returns-then-not-is_ready-clause-steps
-returns-then-not-is_ready-clause-steps c =
+pub returns-then-not-is_ready : goal.returns-then-not-is_ready
+returns-then-not-is_ready c =
     let n = c.self.inside in
     let P : NodeView → Type 0 = λ v. IsReadyIn (heard_of v) c.args.ctx → ⊥ in (
-      subst P (ap (λ (v : OpenNodeView). v.node) c.self.view_is)
+      subst P c.self.view_is
           (none_ready (held_at n.parts.handlers.programs) (reading n.description n.parts.log.all) n.parts.contexts c.args.ctx c.self.invariant.rests.order.keeps.fits (sym c.is_ready.ensures ∙ c.if-not-is_ready.true)),
       refl,
     )
@@ -30,13 +30,13 @@ take_turn-requires-clause-room c =
     let n = c.self.inside in
     let ready : (at n.parts.contexts c.args.ctx).ready ≡ true = sym c.is_ready.ensures ∙ c.if-not-is_ready.false in
     let few = starts-most (machine_in n.description) (held_at n.parts.handlers.programs) (reading n.description n.parts.log.all) n.parts.contexts c.args.ctx c.self.invariant.rests.order.keeps.fits c.requires.context ready in
-    let same = ap (λ (v : NodeView). v.log.spare) (ap (λ (v : OpenNodeView). v.node) c.self.view_is) in
+    let same = ap (λ (v : NodeView). v.log.spare) c.self.view_is in
     let room = c.requires.room in
     omega arith
 
-pub returns-clause-steps : goal.returns-clause-steps
-returns-clause-steps c =
+pub returns : goal.returns
+returns c =
     let n = c.self.inside in
     let ready : (at n.parts.contexts c.args.ctx).ready ≡ true = sym c.is_ready.ensures ∙ c.if-not-is_ready.false in
     let P : NodeView → Type 0 = λ v. Tells v (seen_as n.description c.take_turn.new.parts) c.args.at (HasStepped (clock_of v.description) (machine_in v.description) (heard_of v) c.args.ctx c.args.n c.take_turn.result) in
-    subst P (ap (λ (v : OpenNodeView). v.node) c.self.view_is) (Tells-turn n.description n.parts c.take_turn.new.parts c.args.at c.args.ctx c.args.n c.take_turn.result c.self.invariant.rests ready c.take_turn.ensures.turn)
+    subst P c.self.view_is (Tells-turn n.description n.parts c.take_turn.new.parts c.args.at c.args.ctx c.args.n c.take_turn.result c.self.invariant.rests ready c.take_turn.ensures.gone c.take_turn.ensures.turn)

@@ -1,4 +1,5 @@
-use Rattle.std.proofs.Common.{◌≡◌, List, length, ap, subst, refl, arith}
+use Rattle.std.proofs.Common.{◌≡◌, List, ◌++◌, length, sym, ◌∙◌, ap, subst, refl, arith}
+use Rattle.mate_journal.specs.declared.air.Aired.{Aired}
 use Rattle.world_script.specs.declared.world.Link.{Link}
 use Rattle.radio_sim.specs.Sending.{AreLeaving}
 use Rattle.vm_desc.proofs.DescriptionLemmas.{bounds_of}
@@ -13,7 +14,9 @@ wires_of-requires-clause-few c =
 
 pub invariant_of-result : goal.invariant_of-result
 invariant_of-result c = record {
-  none_left = c.new-3.ensures.items;
+  none_left = c.new-4.ensures.items;
+  gone_is = ap (λ (xs : List Aired). length xs) (sym c.new-2.ensures);
+  gone_few = omega arith;
   counted = omega arith;
   near = (let bounds = bounds_of c.args.desc.now in let near = bounds.delay_high in omega (arith, near));
   nodes = c.in_ok-wires.ensures.nodes;
@@ -24,7 +27,8 @@ returns c =
     let leaving = subst (λ (ls : List Link). AreLeaving c.args.world.now.random ls c.in_ok-wires.wires.items) c.as_slice.ensures c.in_ok-wires.ensures.leaving in
     record {
       agenda = c.in_ok-queue.ensures;
-      air = c.new-2.ensures;
+      air = ap (λ (xs : List Aired). xs ++ c.new-3.result) c.new-2.ensures ∙ c.new-3.ensures;
+      gone = refl;
       delay = refl;
       stands = record { sent = refl; wires = leaving };
     }

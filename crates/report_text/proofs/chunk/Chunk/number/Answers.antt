@@ -7,7 +7,7 @@ use Rattle.report_text.proofs.chunk.Chunk.number.Goals as goal
 pub write_digits-self-inside-requires : goal.write_digits-self-inside-requires
 write_digits-self-inside-requires c =
     let now : drop c.self.inside.start c.self.inside.bytes ≡ c.args.self.now = c.self.view_is in
-    let long : length c.self.inside.bytes ≡ 64 = search rules in
+    let long : length c.self.inside.bytes ≡ 160 = search rules in
     let short = length-decimal-le 20 c.args.number (omega arith) (omega arith) c.ranges.number.fits in
     (omega (arith, long, short, ap length now, length-drop c.self.inside.start c.self.inside.bytes), search rules)
 
@@ -15,6 +15,6 @@ pub returns-clause-fits : goal.returns-clause-fits
 returns-clause-fits c =
     let w = c.write_digits-self-inside in
     let now : drop c.self.inside.start c.self.inside.bytes ≡ c.args.self.now = c.self.view_is in
-    let long : length c.self.inside.bytes ≡ 64 = search rules in
+    let long : length c.self.inside.bytes ≡ 160 = search rules in
     let short = length-decimal-le 20 c.args.number (omega arith) (omega arith) c.ranges.number.fits in
     omega (arith, short, ap length w.ensures.written, length-append (decimal c.args.number) (drop c.self.inside.start c.self.inside.bytes), ap length now)

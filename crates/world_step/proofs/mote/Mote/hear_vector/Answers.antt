@@ -18,11 +18,12 @@ returns-clause-hears c = λ n hs versions knows is.
     judged c.hear-heard.result.consistent versions.items (held_versions n hs) (subst J is (c.hear-heard.ensures.consistent n hs knows)) in
     let M : Timer → Knowledge → Mote = λ t k. record old { timer = t; exchange = k } in
     let E : Bool → List Packet → Effect = λ b ps. record plain_effect { begins = b; sends = record { items = ps } } in
-    let counted = c.count-begins.ensures.timer in record {
+    let counted = c.count-effect.ensures.timer in record {
       timer = ap (λ (m : Mote). m.timer) counted ∙ ap (λ (o : Option Bool). counted_timer old.timer c.args.at.time o) judgement;
       exchange = ap (λ (m : Mote). m.exchange) counted ∙ c.hear-heard.ensures.learned n hs knows ∙ ap (λ (p : Packet). knowledge n (Hears p ∷ hs)) is;
       same = counted ∙ ap (λ (m : Mote). M m.timer m.exchange) (sym counted);
       effect =
-          ap (λ (b : Bool). E b c.hear-heard.result.asks.items) (c.count-begins.ensures.begins ∙ ap (λ (o : Option Bool). begins_counted old.timer o) judgement)
+          ap (λ (e : Effect). record e { begins = c.count-effect.result; sends = c.hear-heard.new.asks }) c.requires.plain
+          ∙ ap (λ (b : Bool). E b c.hear-heard.new.asks.items) (c.count-effect.ensures.begins ∙ ap (λ (o : Option Bool). begins_counted old.timer o) judgement)
           ∙ ap (λ (ps : List Packet). E (begins_with old.timer (heard (bytes_eq versions.items (held_versions n hs)))) ps) (c.hear-heard.ensures.asks n hs knows ∙ ap (λ (p : Packet). asks_after n p hs) is);
     }

@@ -22,11 +22,11 @@ returns-in-Ok c =
       tells =
           tells-behind c.args.self.now.node mid c.install.new.self c.args.at (λ d r. Pacing (InstallsBytes d r c.args.image.now.items)) c.in_ok-reserve.ensures.same c.in_ok-reserve.ensures.pace
           (subst P c.as_slice.ensures.value c.in-Ok.ensures);
-      timer = c.reset.ensures.next.next;
+      timer = c.reset-effect.ensures.next.next;
       exchange = c.installed.ensures.learned;
       pumps = refl;
       calls = refl;
-      effect = c.installing.ensures ∙ ap E (c.reset.ensures.begun ∙ sym (begins-reset c.args.self.now.timer));
+      effect = ap (λ (e : Effect). record e { begins = c.reset-effect.result; cuts = true }) c.requires.plain ∙ ap E (c.reset-effect.ensures.begun ∙ sym (begins-reset c.args.self.now.timer));
     })
 
 pub returns-in-Err : goal.returns-in-Err
@@ -42,5 +42,5 @@ returns-in-Err c =
       why = inr (inr (fault, subst B c.as_slice.ensures.value (subst R (heard-same v mid c.in_ok-reserve.ensures.same) (subst D c.in_ok-reserve.ensures.same.description c.in-Err.ensures.0))));
       node = subst S (sym c.in-Err.ensures.1) c.in_ok-reserve.ensures.same;
       same = refl;
-      effect = c.none-in-Err.ensures;
+      effect = c.requires.plain;
     })

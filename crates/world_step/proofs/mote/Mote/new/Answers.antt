@@ -10,6 +10,7 @@ pub returns : goal.returns
 returns c = record {
   description = c.in_ok-new.ensures.0;
   empty = c.in_ok-new.ensures.1;
+  gone = c.in_ok-new.ensures.3;
   pace = c.in_ok-new.ensures.2;
   timer = c.start.ensures.first;
   exchange = c.new-2.ensures ∙ ap (λ (n : ℕ). knowledge n []) c.len.ensures.value;

@@ -1,7 +1,8 @@
-use Rattle.std.proofs.Common.{refl}
+use Rattle.std.proofs.Common.{true, refl, ap}
 use Rattle.mate_journal.specs.NodeScript.{Resets}
 use Rattle.node_invariant.specs.Meaning.{machine_in, clock_of}
 use Rattle.open_node.specs.Calls.{Pacing}
+use Rattle.world_step.specs.declared.effect.Effect.{Effect}
 use Rattle.world_step.proofs.NodeLemmas.{tellable-same, tells-behind}
 use Rattle.world_step.proofs.mote.Mote.reset.Goals as goal
 
@@ -15,5 +16,5 @@ returns c = record {
   exchange = c.forget.ensures.learned;
   pumps = refl;
   calls = refl;
-  effect = c.resetting.ensures;
+  effect = ap (λ (e : Effect). record e { begins = true; cuts = true; resets = true }) c.requires.plain;
 }

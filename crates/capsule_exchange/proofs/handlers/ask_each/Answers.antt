@@ -4,8 +4,8 @@ use Rattle.std.proofs.lemmas.List.{append-nil}
 use Rattle.arrayvec.specs.ArrayVec.{ArrayVec}
 use Rattle.packet_codec.specs.declared.packet.Packet.{Packet}
 use Rattle.capsule_exchange.proofs.KnowledgeLemmas.{asks_next}
-use Rattle.capsule_exchange.proofs.handlers.asks.Goals as goal
-use Rattle.capsule_exchange.proofs.handlers.asks.Goals.{then-versions-h, else-versions-h}
+use Rattle.capsule_exchange.proofs.handlers.ask_each.Goals as goal
+use Rattle.capsule_exchange.proofs.handlers.ask_each.Goals.{then-versions-h, else-versions-h}
 
 pub loop-h-preserved : goal.loop-h-preserved
 loop-h-preserved c =

@@ -1,6 +1,6 @@
 use Rattle.std.proofs.Common.{◌≡◌, ◌≤◌, length}
 use Rattle.capsule_exchange.specs.Steps.{asks_upto}
-use Rattle.capsule_exchange.proofs.handlers.asks.Given as goal
+use Rattle.capsule_exchange.proofs.handlers.ask_each.Given as goal
 
 abbrev pub invariant-loop-h : goal.invariant-loop-h
 invariant-loop-h l = record {

@@ -1,0 +1,30 @@
+//! What a node asks of all its handlers at each event, kept beside their states.
+
+ghost use Rattle.std.specs.Prelude.{◌≤◌, length};
+ghost use Rattle.capsule_exchange.specs.Summary.{IsSummaryOf};
+
+use crate::handler_state::HandlerState;
+use crate::handlers::{first_marked, held_versions};
+use arrayvec::ArrayVec;
+
+/// What the states of all handlers say together.
+#[derive(Drop)]
+pub struct Summary {
+    /// The versions that are held.
+    pub(crate) held: ArrayVec<u32, 8>,
+    /// Whether a fragment is owed.
+    pub(crate) owes: bool,
+}
+
+impl Summary {
+    /// What these states say.
+    pub(crate) fn of(states: &[HandlerState]) -> Summary
+        requires { length states.now ≤ 8 }
+        ensures { IsSummaryOf states.now result }
+    {
+        Summary {
+            held: held_versions(states),
+            owes: first_marked(states, 0).is_some(),
+        }
+    }
+}

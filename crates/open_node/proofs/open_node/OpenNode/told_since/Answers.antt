@@ -1,0 +1,32 @@
+-- What is at hand of the log has its entries from some position on.
+use Rattle.std.proofs.Common.{◌≡◌, ◌+◌, ◌-◌, ℕ, List, length, drop, sym, ap, subst, arith}
+use Rattle.std.specs.Prelude.{All}
+use Rattle.mate_journal.specs.declared.entry.Stamped.{Stamped}
+use Rattle.mate_journal.specs.OpenLog.{OpenView}
+use Rattle.mate_journal.specs.Tidy.{IsEntryInRange}
+use Rattle.open_node.specs.Calls.{TellFrom}
+use Rattle.open_node.proofs.KeptLemmas.{count-kept, left-kept, tell-from, range-kept}
+use Rattle.open_node.proofs.open_node.OpenNode.told_since.Goals as goal
+
+pub returns-clause-tell : goal.returns-clause-tell
+returns-clause-tell c =
+    let v : OpenView = record { all = c.args.self.now.log; gone = c.args.self.now.gone } in
+    let is = c.kept.ensures.kept in
+    let es = c.entries-entries.result.now in
+    let at : ℕ = c.args.from - (c.told.result - length es) in
+    let count = count-kept v c.kept.result.now is in
+    let told = c.told.ensures.count in
+    let low = c.requires.kept in
+    let long = ap (λ (xs : List Stamped). length xs) c.entries-entries.ensures in
+    let from_is : v.gone.entries + at ≡ c.args.from = omega (arith, count, told, low, long) in
+    subst (λ (xs : List Stamped). TellFrom c.args.from c.args.self.now.log xs) (sym (left-kept v c.kept.result.now is es at c.entries-entries.ensures))
+    (subst (λ (n : ℕ). TellFrom n c.args.self.now.log (drop at c.kept.result.now.entries)) from_is (tell-from v c.kept.result.now is at))
+
+pub returns-clause-range : goal.returns-clause-range
+returns-clause-range c =
+    let v : OpenView = record { all = c.args.self.now.log; gone = c.args.self.now.gone } in
+    let es = c.entries-entries.result.now in
+    let at : ℕ = c.args.from - (c.told.result - length es) in
+    let P : Stamped → Type 0 = λ e. IsEntryInRange c.args.self.now.description e.entry in
+    subst (All P) (sym (left-kept v c.kept.result.now c.kept.ensures.kept es at c.entries-entries.ensures))
+    (range-kept v c.kept.result.now c.kept.ensures.kept c.args.self.now.description at c.kept.ensures.keeps.tidy.in_range)
