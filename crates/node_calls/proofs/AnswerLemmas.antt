@@ -183,6 +183,7 @@ module _ (d : Description) (old : Parts) (contexts : Contexts) (log : OpenView) 
           numbers = omega arith;
           after = record {
             posts = keeps.posts;
+            places = keeps.places;
             installed = keeps.installed;
             fits = Fits-answered (machine_in d) held r old.contexts c call keeps.fits is_waiting contexts answers.now value now-inv now-handler fitting becomes-ready;
             lengths = keeps.lengths;

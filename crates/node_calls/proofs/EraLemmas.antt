@@ -20,7 +20,7 @@ use Rattle.journal_laws.proofs.Append.{last_is_seen-push}
 use Rattle.journal_laws.proofs.Moves.{Cuts}
 use Rattle.exec_unit.specs.Step.{HasLengths}
 use Rattle.node_contexts.specs.At.{At, AreIdle}
-use Rattle.node_contexts.specs.Programs.{held_at}
+use Rattle.node_contexts.specs.Programs.{HeldPrograms, held_at}
 use Rattle.node_invariant.specs.declared.parts.Parts.{Parts}
 use Rattle.node_invariant.specs.Meaning.{machine_in, clock_of}
 use Rattle.node_invariant.specs.Fits.{AreInstalled}
@@ -64,6 +64,7 @@ pub record BeginsEra (d : Description) (r : Reading) (told : Told) : Type 0 wher
 
 module _ (d : Description) (old new : Parts) (before : Log) (stamp : Stamp) (e : Entry) (told : Told) (rests : Rests d old) (timely : IsTimely stamp old.log.all) (era : BeginsEra d (reading d old.log.all) told)
     (seen : last_is_seen false (journal_of old.log.all) ≡ true) (idles : AreIdle new.contexts) (zero : new.heap ≡ zero_store (length d.shared.items) (length d.buffers.items)) (posts : new.posts ≡ old.posts)
+    (places : length new.handlers.programs ≡ length d.handlers.items)
     (installed : AreInstalled d (heard (machine_in d) (reading d old.log.all) told).installed (held_at new.handlers.programs))
     (prepared : IsPrepared old.log.all before) (pushed : IsPushed before record { stamp = stamp; entry = e } new.log.all) (tells : told_of before e ≡ told) (tidily : AddsTidily d old.log.all e new.log.all)
     (room : old.log.all.spare ≤ new.log.all.spare + 1) where
@@ -103,6 +104,7 @@ module _ (d : Description) (old new : Parts) (before : Log) (stamp : Stamp) (e :
         numbers = omega arith;
         after = record {
           posts = era.cuts.posts ∙ keeps.posts ∙ sym posts;
+          places = places;
           installed = installed;
           fits = Fits-idle (held_at new.handlers.programs) later new.contexts idles dead;
           lengths = lengths-now;
@@ -150,7 +152,7 @@ pub RestsAgain-reset : (d : Description) (old new : Parts) (stamp : Stamp) → R
     → old.log.all.spare ≤ new.log.all.spare + 1 → RestsAgain d old new stamp (λ xs. xs ≡ Reset ∷ [])
 RestsAgain-reset d old new stamp rests timely seen idles zero posts handlers pushed room =
     let P : _ → Type 0 = λ h. AreInstalled d (reading d old.log.all).installed (held_at h.programs) in
-    RestsAgain-era d old new old.log.all stamp entry.Reset Reset rests timely (BeginsEra-reset d (reading d old.log.all)) seen idles zero posts (subst P (sym handlers) rests.order.keeps.installed)
+    RestsAgain-era d old new old.log.all stamp entry.Reset Reset rests timely (BeginsEra-reset d (reading d old.log.all)) seen idles zero posts (ap (λ (h : HeldPrograms). length h.programs) handlers ∙ rests.order.keeps.places) (subst P (sym handlers) rests.order.keeps.installed)
     (IsPrepared-same old.log.all) pushed refl (AddsTidily-plain d old.log.all new.log.all stamp entry.Reset pushed (record { image = refl; store = refl; in_range = tt })) room
 
 -- the store is told, all is cleared, and the reset is told

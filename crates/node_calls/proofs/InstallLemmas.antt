@@ -1,5 +1,5 @@
 -- An install: the program that the bytes are takes the place of what was held, and an era begins.
-use Rattle.std.proofs.Common.{◌≡◌, ◌≢◌, ◌⊎◌, ℕ, ◌+◌, ◌≤◌, ◌<◌, Bool, true, false, cond, eqb, List, [], ◌∷◌, ◌++◌, Option, Some, None, Result, Ok, Err, length, map, set, drop, ℤ, refl, sym, ◌∙◌, ap, subst, arith, inl, inr, get_or-set_same, get_or-set_other}
+use Rattle.std.proofs.Common.{◌≡◌, ◌≢◌, ◌⊎◌, ℕ, ◌+◌, ◌≤◌, ◌<◌, Bool, true, false, cond, eqb, List, [], ◌∷◌, ◌++◌, Option, Some, None, Result, Ok, Err, length, map, set, drop, ℤ, refl, sym, ◌∙◌, ap, subst, arith, inl, inr, get_or-set_same, get_or-set_other, length-set}
 use Rattle.std.specs.Prelude.{All, IsTrue, nat_lt}
 use Rattle.std.specs.Option.{option_map}
 use Rattle.std.proofs.Math.Seq.{get_or-append_seam}
@@ -30,7 +30,6 @@ use Rattle.mate_journal.specs.Tidy.{IsStoreOf}
 use Rattle.journal_laws.proofs.TidyLemmas.{NumbersInOrder-install, NamesInLog-numbered}
 use Rattle.vm_desc.specs.declared.description.Description.{Description}
 use Rattle.vm_desc.specs.Shapes.{shape_of}
-use Rattle.vm_desc.proofs.DescriptionLemmas.{bounds_of}
 use Rattle.mate_journal.specs.declared.entry.Entry.TheVariants as entry
 use Rattle.mate_journal.specs.Log.{Log}
 use Rattle.mate_journal.specs.Machine.{Machine, HeldProgram}
@@ -164,6 +163,7 @@ module _ (d : Description) (old new : Parts) (stamp : Stamp) (h : HandlerId) (x 
   RestsAgain-installed held_now of_machine below idles zero posts set_now is room =
       let P : List (Option Held) → Type 0 = λ programs. AreInstalled d (installed_with (reading d old.log.all).installed (program_of h x)) (held_at programs) in
       RestsAgain-era d old new before stamp (entry.Install h x.version (length old.log.all.images)) (Installed (program_of h x)) rests timely (BeginsEra-install d (reading d old.log.all) (program_of h x)) seen idles zero posts
+      (ap (λ (programs : List (Option Held)). length programs) set_now ∙ length-set old.handlers.programs h.0 (Some x) ∙ keeps.places)
       (subst P (sym set_now) (AreInstalled-with d (reading d old.log.all).installed old.handlers.programs h x keeps.installed held_now below))
       prepared (record { entries = is.entries; images = is.images; stores = is.stores })
       (ap (λ (image : ArrayVec ℕ). Installed (record { handler = h; version = x.version; image = image })) (get_or-append_seam old.log.all.images x.image [] (record { items = [] })))
@@ -171,14 +171,13 @@ module _ (d : Description) (old new : Parts) (stamp : Stamp) (h : HandlerId) (x 
 
 -- the image and the program take their places, and all is cleared
 pub RestsAgain-begun : (d : Description) (old mid : Parts) (pushed : OpenView) (handlers : HeldPrograms) (at_ : Stamp) (h : HandlerId) (x : Held) → Rests d old → IsTimely at_ old.log.all → last_is_seen false (journal_of old.log.all) ≡ true → IsHeld d x → h.0 < length d.handlers.items
-    → length mid.handlers.programs ≡ 8 → IsInstalledIn old.log.all h x.version x.image at_ pushed.all → old.log.all.spare ≤ pushed.all.spare + 1 → IsCleared d (record old { log = pushed }) mid → handlers.programs ≡ set mid.handlers.programs h.0 (Some x)
+    → IsInstalledIn old.log.all h x.version x.image at_ pushed.all → old.log.all.spare ≤ pushed.all.spare + 1 → IsCleared d (record old { log = pushed }) mid → handlers.programs ≡ set mid.handlers.programs h.0 (Some x)
     → RestsAgain d old (record mid { handlers = handlers }) at_ (λ told. told ≡ Installed (program_of h x) ∷ [])
-RestsAgain-begun d old mid pushed handlers at_ h x rests timely seen held_now of_machine eight is room cleared set_now =
+RestsAgain-begun d old mid pushed handlers at_ h x rests timely seen held_now of_machine is room cleared set_now =
     let log_is : mid.log.all ≡ pushed.all = ap (λ (s : Parts). s.log.all) cleared.same in
     let P : Log → Type 0 = λ l. IsInstalledIn old.log.all h x.version x.image at_ l in
     let Q : Log → Type 0 = λ l. old.log.all.spare ≤ l.spare + 1 in
-    let places : length old.handlers.programs ≡ 8 = sym (ap (λ (s : Parts). length s.handlers.programs) cleared.same) ∙ eight in
-    RestsAgain-installed d old (record mid { handlers = handlers }) at_ h x rests timely seen held_now of_machine (let high = (bounds_of d).handlers_high in omega arith) cleared.idle cleared.zero (ap (λ (s : Parts). s.posts) cleared.same)
+    RestsAgain-installed d old (record mid { handlers = handlers }) at_ h x rests timely seen held_now of_machine (let places = rests.order.keeps.places in omega arith) cleared.idle cleared.zero (ap (λ (s : Parts). s.posts) cleared.same)
     (set_now ∙ ap (λ (s : Parts). set s.handlers.programs h.0 (Some x)) cleared.same) (subst P (sym log_is) is) (subst Q (sym log_is) room)
 
 -- ---- versions

@@ -131,6 +131,7 @@ module _ (d : Description) (old : Parts) (contexts : Contexts) (c : ContextId) (
             numbers = keeps.numbers;
             well_formed = keeps.well_formed;
             posts = keeps.posts;
+            places = keeps.places;
             installed = keeps.installed;
             fits = fits-way (held_at old.handlers.programs) (reading d old.log.all) keeps.fits;
             lengths = keeps.lengths;

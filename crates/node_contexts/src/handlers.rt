@@ -5,7 +5,7 @@ ghost use Rattle.std.specs.Option.{option_copied};
 ghost use Rattle.mate_num.specs.declared.id.HandlerId.{HandlerId as Handler};
 
 use code_verifier::Verified;
-use mate_num::{HANDLERS_MAX, HandlerId, Image, LockSet, NoMemory};
+use mate_num::{HandlerId, Image, LockSet, NoMemory};
 use std::alloc::Global;
 use std::marker::Model;
 
@@ -28,26 +28,23 @@ pub struct Handlers {
 }
 
 impl Model for Handlers {
-    ghost use Rattle.std.specs.Prelude.{◌≡◌, length};
     ghost use Rattle.node_contexts.specs.Programs.{HeldPrograms};
-    ghost use Rattle.mate_num.specs.declared.bounds.TheConstants.{HANDLERS_MAX};
 
     ghost Value = { HeldPrograms };
 
     ghost view = { λ h. record { programs = h.programs.items } };
-
-    ghost invariant = { λ h. length h.programs.items ≡ HANDLERS_MAX };
 }
 
 impl Handlers {
     ghost use Rattle.node_contexts.specs.Programs.{held_at, version_in};
 
-    /// Nothing is installed. No other call takes memory.
-    pub fn new(alloc: Global) -> Result<Handlers, NoMemory>
-        ensures { IfOk result (λ handlers. (h : Handler) → held_at handlers.programs h ≡ None) }
+    /// Places for so many handlers, in which nothing is installed. No other call takes memory.
+    pub fn new(alloc: Global, count: usize) -> Result<Handlers, NoMemory>
+        ensures none { IfOk result (λ handlers. (h : Handler) → held_at handlers.programs h ≡ None) }
+        ensures places { IfOk result (λ handlers. length handlers.programs ≡ count) }
     {
-        let mut programs = Vec::with_capacity(alloc, HANDLERS_MAX)?;
-        for _place in 0..HANDLERS_MAX {
+        let mut programs = Vec::with_capacity(alloc, count)?;
+        for _place in 0..count {
             programs.push(None)?;
         }
         Ok(Handlers { programs })
@@ -65,9 +62,8 @@ impl Handlers {
 
     /// The program is installed in place of what was.
     pub fn install(&mut self, handler: HandlerId, held: Held)
-        requires { handler.0 < HANDLERS_MAX }
-        ensures installed { self.new.programs ≡ slice_set self.old.programs handler.0 (Some held) }
-        ensures places { length self.old.programs ≡ HANDLERS_MAX }
+        requires { handler.0 < length self.old.programs }
+        ensures { self.new.programs ≡ slice_set self.old.programs handler.0 (Some held) }
     {
         self.programs[usize::from(handler.0)] = Some(held);
     }

@@ -146,6 +146,7 @@ module _ (d : Description) (old : Parts) (contexts : Contexts) (log : OpenView) 
         numbers = omega arith;
         after = record {
           posts = keeps.posts;
+          places = keeps.places;
           installed = keeps.installed;
           fits = Fits-started (machine_in d) held r old.contexts contexts c keeps.fits starts s seat;
           lengths = keeps.lengths;
@@ -286,6 +287,7 @@ module _ (d : Description) (old : Parts) (contexts : Contexts) (heap : Store) (c
           numbers = keeps.numbers;
           well_formed = keeps.well_formed;
           posts = keeps.posts;
+          places = keeps.places;
           installed = keeps.installed;
           fits = Fits-executed (machine_in d) programs q old.contexts c keeps.fits is_ready contexts ex.now now-inv now-handler fitting becomes-ready;
           lengths = lengths-after;
@@ -339,6 +341,7 @@ module _ (d : Description) (old : Parts) (contexts : Contexts) (heap : Store) (c
           numbers = omega arith;
           after = record {
             posts = keeps.posts;
+            places = keeps.places;
             installed = keeps.installed;
             lengths = lengths-after;
             fits = Fits-asked (machine_in d) programs q old.contexts c keeps.fits is_ready after ex.now f args now-inv now-handler waits-now becomes-waiting;
@@ -399,6 +402,7 @@ module _ (d : Description) (old : Parts) (contexts : Contexts) (heap : Store) (c
           numbers = omega arith;
           after = record {
             posts = keeps.posts;
+            places = keeps.places;
             installed = keeps.installed;
             lengths = lengths-after;
             fits = Fits-ended (machine_in d) programs q old.contexts c keeps.fits is_ready after e becomes-idle;

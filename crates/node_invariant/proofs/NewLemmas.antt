@@ -38,7 +38,7 @@ use Rattle.node_invariant.proofs.OrderLemmas.{IsQueue-idle}
 all-none : {A : Type 0} (P : A → Type 0) (xs : List A) → xs ≡ [] → All P xs
 all-none P xs none = let Q : List _ → Type 0 = λ l. All P l in subst Q (sym none) (All-nil P)
 
-module _ (d : Description) (s : Parts) (idles : AreIdle s.contexts) (none : (h : HandlerId) → held_at s.handlers.programs h ≡ None) (no_posts : s.posts ≡ 0) (empty : IsEmpty s.log.all)
+module _ (d : Description) (s : Parts) (idles : AreIdle s.contexts) (none : (h : HandlerId) → held_at s.handlers.programs h ≡ None) (places : length s.handlers.programs ≡ length d.handlers.items) (no_posts : s.posts ≡ 0) (empty : IsEmpty s.log.all)
     (zero : s.heap ≡ zero_store (length d.shared.items) (length d.buffers.items)) where
   journal-is : journal_of s.log.all ≡ []
   journal-is = journal_of-empty s.log.all empty
@@ -79,6 +79,7 @@ module _ (d : Description) (s : Parts) (idles : AreIdle s.contexts) (none : (h :
         numbers = omega arith;
         well_formed = at_start (λ es. IsWellFormed m (nothing_heard m) es) (record { in_time = tt; follow = tt });
         posts = ap (λ (r : Reading). r.posts) reading-is ∙ sym no_posts;
+        places = places;
         installed = heard_nothing (λ r. AreInstalled d r.installed (held_at s.handlers.programs)) installed-none;
         fits = heard_nothing (λ r. Fits (held_at s.handlers.programs) r s.contexts) (Fits-idle (held_at s.handlers.programs) (nothing_heard m) s.contexts idles (λ n. refl));
         lengths = subst H (sym zero) (record { shared = length-replicate _ _; buffers = length-replicate _ _ });

@@ -113,6 +113,7 @@ module _ (d : Description) (old : Parts) (contexts : Contexts) (log : OpenView) 
         numbers = omega arith;
         after = record {
           posts = refl;
+          places = keeps.places;
           installed = keeps.installed;
           fits = subst Q (sym posts-is) fits-new;
           lengths = keeps.lengths;

@@ -34,6 +34,7 @@ pub record AddsTidily (d : Description) (old : Log) (e : Entry) (new : Log) : Ty
 -- the parts agree with what is heard after the entry
 pub record AgreesAfter (d : Description) (r : Reading) (new : Parts) : Type 0 where
   pub posts : r.posts ≡ new.posts
+  pub places : length new.handlers.programs ≡ length d.handlers.items
   pub installed : AreInstalled d r.installed (held_at new.handlers.programs)
   pub fits : Fits (held_at new.handlers.programs) r new.contexts
   pub lengths : HasLengths (shape_of d) new.heap

@@ -28,6 +28,7 @@ pub record Keeps (d : Description) (s : Parts) : Type 0 where
   pub numbers : s.posts ≤ length s.log.all.entries
   pub well_formed : IsWellFormed (machine_in d) (nothing_heard (machine_in d)) (journal_of s.log.all)
   pub posts : (reading d s.log.all).posts ≡ s.posts
+  pub places : length s.handlers.programs ≡ length d.handlers.items
   pub installed : AreInstalled d (reading d s.log.all).installed (held_at s.handlers.programs)
   pub fits : Fits (held_at s.handlers.programs) (reading d s.log.all) s.contexts
   pub lengths : HasLengths (shape_of d) s.heap

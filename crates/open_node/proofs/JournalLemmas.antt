@@ -104,6 +104,7 @@ module _ (d : Description) (s : Parts) (log : OpenView) (same : IsSameLog log.al
             numbers = omega arith;
             well_formed = along (λ es. IsWellFormed m n es) keeps.well_formed;
             posts = heard (λ r. r.posts ≡ s.posts) keeps.posts;
+            places = keeps.places;
             installed = heard (λ r. AreInstalled d r.installed (held_at s.handlers.programs)) keeps.installed;
             fits = heard (λ r. Fits (held_at s.handlers.programs) r s.contexts) keeps.fits;
             lengths = keeps.lengths;

@@ -85,7 +85,7 @@ impl OpenNode {
                     description.buffers.len() as u8,
                 ),
                 contexts: Contexts::new(alloc)?,
-                handlers: Handlers::new(alloc)?,
+                handlers: Handlers::new(alloc, description.handlers.len())?,
                 posts: 0,
                 log: OpenLog::new(alloc),
             },

@@ -7,8 +7,8 @@ use Rattle.node_calls.proofs.installing.begin.Goals as goal
 pub returns-clause-again : goal.returns-clause-again
 returns-clause-again c =
     RestsAgain-begun c.args.description.now c.args.parts.now c.clear.new.parts c.push_install.new.self c.install.new.self c.args.at c.args.program.handler c.args.program.held c.requires.rests c.requires.timely c.requires.seen
-    c.requires.held c.requires.handler c.install.ensures.places
-    (record { entries = c.push_install.ensures.entries; images = c.push_install.ensures.images; stores = c.push_install.ensures.stores }) c.push_install.ensures.spare c.clear.ensures c.install.ensures.installed
+    c.requires.held c.requires.handler
+    (record { entries = c.push_install.ensures.entries; images = c.push_install.ensures.images; stores = c.push_install.ensures.stores }) c.push_install.ensures.spare c.clear.ensures c.install.ensures
 
 pub push_install-requires-clause-count : goal.push_install-requires-clause-count
 push_install-requires-clause-count c =

@@ -14,5 +14,5 @@ loop-place-preserved c =
     let more = c.in_ok-push.ensures.items in
     record { count = one-place-more old new c.loop-place._place more c.loop-place.invariant.count; none = nothing-more old new more c.loop-place.invariant.none }
 
-pub returns : goal.returns
-returns c = λ h. nothing-held c.loop-place.programs.items c.loop-place.invariant.none h
+pub returns-clause-none : goal.returns-clause-none
+returns-clause-none c = λ h. nothing-held c.loop-place.programs.items c.loop-place.invariant.none h

@@ -1,5 +1,5 @@
 -- A new node rests.
-use Rattle.std.proofs.Common.{◌≡◌, length, refl, sym, subst, arith}
+use Rattle.std.proofs.Common.{◌≡◌, length, refl, sym, ◌∙◌, ap, subst, arith}
 use Rattle.std.proofs.lemmas.Grind.{common_steps}
 use Rattle.mate_num.specs.Store.{zero_store}
 use Rattle.mate_journal.specs.Log.{IsEmpty}
@@ -20,7 +20,7 @@ invariant_of-result c =
     let zero_is = c.new.ensures in
     let P : Description → Type 0 = λ x. c.new.result ≡ zero_store (length x.shared.items) (length x.buffers.items) in
     let zero : P c.args.description.now = grind (arith, common_steps) in
-    record { rests = Rests-new d s c.in_ok-new.ensures c.in_ok-new-2.ensures refl empty (subst P (sym c.copy.ensures) zero) }
+    record { rests = Rests-new d s c.in_ok-new.ensures c.in_ok-new-2.ensures.none (c.in_ok-new-2.ensures.places ∙ c.len-3.ensures.value ∙ sym (ap (λ (x : Description). length x.handlers.items) c.copy.ensures)) refl empty (subst P (sym c.copy.ensures) zero) }
 
 pub returns : goal.returns
 returns c =
@@ -30,5 +30,5 @@ returns c =
     let zero_is = c.new.ensures in
     let P : Description → Type 0 = λ x. c.new.result ≡ zero_store (length x.shared.items) (length x.buffers.items) in
     let zero : P c.args.description.now = grind (arith, common_steps) in
-    let rests = Rests-new d s c.in_ok-new.ensures c.in_ok-new-2.ensures refl empty (subst P (sym c.copy.ensures) zero) in
+    let rests = Rests-new d s c.in_ok-new.ensures c.in_ok-new-2.ensures.none (c.in_ok-new-2.ensures.places ∙ c.len-3.ensures.value ∙ sym (ap (λ (x : Description). length x.handlers.items) c.copy.ensures)) refl empty (subst P (sym c.copy.ensures) zero) in
     (c.copy.ensures, empty, HasPace-from d s rests.order.keeps no_pace (IsPace-idle (reading d s.log.all) s.contexts c.in_ok-new.ensures), c.new-4.ensures.gone)
