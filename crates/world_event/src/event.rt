@@ -32,12 +32,12 @@ pub fn perform(
     requires right { AreProgramsOfWorld desc.now world.now programs.now }
     requires may { (ms : List Moment) × (c : Cause) × MayPerform (code_world desc.now world.now programs.now) ms c number event.now at radio.old mote.old }
     ensures { OnOk result ((ms : List Moment) (c : Cause) → MayPerform (code_world desc.now world.now programs.now) ms c number event.now at radio.old mote.old
-        → Performed (code_world desc.now world.now programs.now) ms c number at radio.new mote.new) }
+        → Performed (code_world desc.now world.now programs.now) ms c number at radio.old radio.new mote.old mote.new) }
 {
     states_are_sound();
     is_well_formed(&mote.node);
     let effect = handle(mote, desc, world, programs, event, at)?;
-    let from = mote.node.log().entries().len();
+    let from = mote.node.told();
     have_turns(&mut mote.node, at)?;
     finish(radio, mote, desc, world, number, event, effect, from, at)?;
     Ok(())
