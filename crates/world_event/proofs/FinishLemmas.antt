@@ -53,6 +53,7 @@ timer_next w s m = timer_after (node_at w s m) (effect_at w s m) m.time
 pub record IsLeft (w : World) (s : WorldState) (m : Moment) (at : Stamp) (old new : Ether) : Type 0 where
   pub due : (t : ℕ) → t ≤ w.until → due_at t new.agenda.items ≡ map (radio_event w) ((after_moment w s m).due t)
   pub air : new.air ≡ old.air ++ map (aired_at at (event_node w m.cause)) (air_made w s m)
+  pub gone : new.gone ≡ old.gone
   pub stands : IsAirOf w (after_moment w s m).senders new
   pub fit : AreFitPackets w (messages w m.told)
   pub until : new.agenda.until ≡ old.agenda.until
@@ -145,6 +146,7 @@ left-stamped w s m event old noted cancelled timed sent pumped new had stood x =
           ∙ ap (λ (bs : List Air). old.air ++ ((map (aired_at at node) (effect_at w s m).first ++ map (aired_at at node) bs) ++ map (aired_at at node) flat)) (begun-is (node_at w s m) (effect_at w s m) m.time)
           ∙ ap (λ (rs : List Aired). old.air ++ (rs ++ map (aired_at at node) flat)) (sym (map-append (aired_at at node) (effect_at w s m).first begun))
           ∙ ap (λ (rs : List Aired). old.air ++ rs) (sym (map-append (aired_at at node) ((effect_at w s m).first ++ begun) flat));
+      gone = grown.gone ∙ x.cancels.gone ∙ x.notes.grows.gone;
       stands =
           stands-added w (after_moment w s m).senders pumped new [] _ x.answers
           (stands-added w (after_moment w s m).senders sent pumped [] _ x.pumps x.sends.stands);

@@ -30,14 +30,11 @@ use Rattle.world_calls.specs.Calls.{AreCallsOf}
 use Rattle.world_step.specs.declared.effect.Effect.{Effect}
 use Rattle.world_step.specs.declared.mote.Mote.{Mote}
 use Rattle.world_event.specs.Pieces.{length_of, interval_items, period_items, pump_items}
-use Rattle.world_event.specs.Finishing.{told_from, IsTakenFrom, HasSettled, IsFinished}
+use Rattle.open_node.specs.Calls.{told_from}
+use Rattle.world_event.specs.Finishing.{IsTakenFrom, HasSettled, IsFinished}
 use Rattle.world_event.proofs.PieceLemmas.{ends_of}
 use Rattle.world_event.proofs.FinishLemmas.{begins, HasPieces, IsLeft, left-by}
 use Rattle.world_event.proofs.QuietLemmas.{messages-quiet, calls-quiet, answers-quiet}
-
--- the entries of a log from a position on, as a slice
-pub entries-from : (xs : List Stamped) (l : Log) (n : ℕ) → xs ≡ l.entries → take (length xs - n) (drop n xs) ≡ drop n l.entries
-entries-from xs l n is = take_all (length xs - n) (drop n xs) (let long = length-drop n xs in omega (arith, long)) ∙ ap (drop n) is
 
 -- what the calls answered, one behind the other
 pub record HasEnded (w : World) (s : WorldState) (m : Moment) (from : ℕ) (at : Stamp) (node : ℕ) (event : Event) (x : Mote) (r : Effect) (marked pumps : Bool) (calls : Calls) (old noted cancelled timed sent pumped new : Ether) : Type 0 where
@@ -98,6 +95,7 @@ module _ (w : World) (s : WorldState) (m : Moment) (from : ℕ) (at : Stamp) (x 
       record {
         due = left.due;
         air = left.air;
+        gone = left.gone;
         stands = left.stands;
         fit = left.fit;
         until = left.until;

@@ -27,7 +27,8 @@ use Rattle.world_states.specs.Coming.{code_world}
 use Rattle.world_handling.specs.Handling.{IsMoteOf, Handled}
 use Rattle.world_step.specs.declared.effect.Effect.{Effect}
 use Rattle.world_step.specs.declared.mote.Mote.{Mote}
-use Rattle.world_event.specs.Finishing.{told_from, IsTakenFrom, HasSettled, IsFinished}
+use Rattle.open_node.specs.Calls.{told_from}
+use Rattle.world_event.specs.Finishing.{IsTakenFrom, HasSettled, IsFinished}
 use Rattle.world_event.specs.Performing.{IsRadioAfter, IsMoteAfter, MayPerform, Performed}
 use Rattle.world_event.proofs.NeedLemmas.{mote-at}
 use Rattle.world_event.proofs.DeedLemmas.{deed-quiet}
@@ -155,7 +156,7 @@ module _ (d : Description) (script : Script) (ps : List Program) (ms : List Mome
         ∙ ap (λ (a : Stamp). journal w k ms ++ map (event_at a) (handled.tells.told ++ settled.told)) stamp_is
         ∙ sym (journal-here w m ms)
 
-    performed : Performed w ms c number at new x4
+    performed : Performed w ms c number at old new x0 x4
     performed = record {
       moment = m;
       time = refl;
@@ -165,6 +166,8 @@ module _ (d : Description) (script : Script) (ps : List Program) (ms : List Mome
       mote =
           subst (λ (j : ℕ). IsMoteAfter w (m ∷ ms) j x4) may.node
           (record { is = subst (λ (x : Node). IsMoteOf w k x x4) (sym (nodes-here w s m)) is-after; journal = journal-after });
+      air_gone = finished.gone;
+      log_gone = ap (λ (x : Mote). x.node.gone) finished.same ∙ settled.gone ∙ handled.tells.gone;
     }
 
 pub performed-by : (d : Description) (script : Script) (ps : List Program) (ms : List Moment) (c : Cause) (at : Stamp) (event : Event) (number : ℕ) (old new : Ether) (x0 x1 x4 : Mote) (r : Effect) (v : NodeView)
@@ -175,7 +178,7 @@ pub performed-by : (d : Description) (script : Script) (ps : List Program) (ms :
     → ((q : Pace) → IsTakenFrom (code_world d script ps) (state (code_world d script ps) ms) (came at.time c handled.tells.told settled.told q) old
     → HasSettled (code_world d script ps) (state (code_world d script ps) ms) (came at.time c handled.tells.told settled.told q) (length x1.node.log.entries) (record x1 { node = v }) r
     → IsFinished (code_world d script ps) (state (code_world d script ps) ms) (came at.time c handled.tells.told settled.told q) at old new (record x1 { node = v }) x4)
-    → Performed (code_world d script ps) ms c number at new x4
+    → Performed (code_world d script ps) ms c number at old new x0 x4
 performed-by d script ps ms c at event number old new x0 x1 x4 r v may handled settled apart awaited says =
     let mote = mote-at (code_world d script ps) ms c number event at old x0 may in
     let first = handled.tells.paces ((state (code_world d script ps) ms).nodes (event_node (code_world d script ps) c)).pace mote.is.pace in

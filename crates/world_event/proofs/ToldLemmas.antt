@@ -12,7 +12,7 @@ use Rattle.node_invariant.specs.Keeps.{reading, event_at, Grows}
 use Rattle.open_node.specs.View.{NodeView, heard_of, Tells}
 use Rattle.node_calls.proofs.SettleLemmas.{heard_told-append, reading-grows}
 use Rattle.vm_desc.specs.declared.description.Description.{Description}
-use Rattle.world_event.specs.Finishing.{told_from}
+use Rattle.open_node.specs.Calls.{told_from}
 
 -- what a node tells is heard
 pub tells-heard : (old new : NodeView) (at : Stamp) (Rule : Pace → List Told → Pace → Type 0) (t : Tells old new at Rule) → heard_of new ≡ heard_told (machine_in old.description) (heard_of old) t.told

@@ -19,7 +19,7 @@ use Rattle.vm_desc.proofs.DescriptionLemmas.{bounds_of}
 use Rattle.open_node.proofs.CallLemmas.{Tells-by}
 use Rattle.world_step.proofs.NodeLemmas.{tells-behind}
 use Rattle.call_waits.specs.Waiting.{WaitApart, WaitSmall, AreAwaited, AreFollowing, HasFewContexts, JournalsWaitApart, JournalsWaitSmall, SettlingAwaits, SettlingTellsFew}
-use Rattle.world_event.specs.Finishing.{told_from}
+use Rattle.open_node.specs.Calls.{told_from}
 use Rattle.world_handling.specs.Handling.{IsPaced}
 use Rattle.world_event.proofs.ToldLemmas.{tells-heard, told-behind}
 

@@ -2,7 +2,7 @@
 use Rattle.std.specs.Prelude.{◌≡◌, ℕ, ◌≤◌, ◌==◌, if◌then◌else◌, List, [], ◌∷◌, ◌++◌, map, drop, None}
 use Rattle.mate_num.specs.declared.call.Stamp.{Stamp}
 use Rattle.open_node.specs.View.{heard_of}
-use Rattle.mate_journal.specs.Log.{Log}
+use Rattle.open_node.specs.Calls.{told_from}
 use Rattle.mate_journal.specs.Journal.{Told, heard_told}
 use Rattle.capsule_exchange.specs.Knowledge.{knowledge}
 use Rattle.event_queue.specs.Agenda.{due_at}
@@ -14,7 +14,6 @@ use Rattle.world_air.specs.Air.{radio_event, aired_at, IsAirOf, AreFitPackets}
 use Rattle.world_air.specs.Changes.{AreNear}
 use Rattle.world_calls.specs.Calls.{AreCallsOf}
 use Rattle.call_waits.specs.Waiting.{WaitApart, AreAwaited, asked_of}
-use Rattle.world_step.specs.Answering.{told_by_entries}
 use Rattle.world_handling.specs.Handling.{IsEffectOf}
 use Rattle.world_step.specs.declared.effect.Effect.{Effect}
 use Rattle.world_step.specs.declared.mote.Mote.{Mote}
@@ -31,10 +30,6 @@ pub record IsTakenFrom (w : World) (s : WorldState) (m : Moment) (e : Ether) : T
 abbrev pub CallNothing : List Told → Type 0
 CallNothing [] = Unit {0}
 CallNothing (t ∷ told) = (asked_of t ≡ None) × CallNothing told
-
--- what the entries from a position on tell
-abbrev pub told_from : ℕ → Log → List Told
-told_from from l = told_by_entries l (drop from l.entries)
 
 -- its node did its part, which calls nothing, and had its turns; the log's entries from a position on are what it told in these
 pub record HasSettled (w : World) (s : WorldState) (m : Moment) (from : ℕ) (x : Mote) (r : Effect) : Type 0 where
@@ -54,6 +49,7 @@ pub record HasSettled (w : World) (s : WorldState) (m : Moment) (from : ℕ) (x 
 pub record IsFinished (w : World) (s : WorldState) (m : Moment) (at : Stamp) (old new : Ether) (before after : Mote) : Type 0 where
   pub due : (t : ℕ) → t ≤ w.until → due_at t new.agenda.items ≡ map (radio_event w) ((after_moment w s m).due t)
   pub air : new.air ≡ old.air ++ map (aired_at at (event_node w m.cause)) (air_made w s m)
+  pub gone : new.gone ≡ old.gone
   pub stands : IsAirOf w (after_moment w s m).senders new
   pub fit : AreFitPackets w (messages w m.told)
   pub until : new.agenda.until ≡ old.agenda.until

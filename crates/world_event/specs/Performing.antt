@@ -51,11 +51,13 @@ pub record MayPerform (w : World) (ms : List Moment) (c : Cause) (number : ℕ) 
   pub fit : HaveFitMessages w ms
   pub mote : IsMoteAfter w ms number x
 
--- the event came: the radio and its node are those after it
-pub record Performed (w : World) (ms : List Moment) (c : Cause) (number : ℕ) (at : Stamp) (new : Ether) (x : Mote) : Type 0 where
+-- the event came: the radio and its node are those after it, and nothing is forgotten
+pub record Performed (w : World) (ms : List Moment) (c : Cause) (number : ℕ) (at : Stamp) (old new : Ether) (before after : Mote) : Type 0 where
   pub moment : Moment
   pub time : moment.time ≡ at.time
   pub cause : moment.cause ≡ c
   pub may : MayCome w (state w ms) moment
   pub radio : IsRadioAfter w (moment ∷ ms) new
-  pub mote : IsMoteAfter w (moment ∷ ms) number x
+  pub mote : IsMoteAfter w (moment ∷ ms) number after
+  pub air_gone : new.gone ≡ old.gone
+  pub log_gone : after.node.gone ≡ before.node.gone

@@ -36,13 +36,13 @@ pub fn perform(
     requires may { (ms : List Moment) × (c : Cause) × MayPerform (code_world desc.now world.now programs.now) ms c number event.now at radio.old mote.old }
     requires plain { effect.old ≡ plain_effect }
     ensures performed { OnOk result ((ms : List Moment) (c : Cause) → MayPerform (code_world desc.now world.now programs.now) ms c number event.now at radio.old mote.old
-        → Performed (code_world desc.now world.now programs.now) ms c number at radio.new mote.new) }
+        → Performed (code_world desc.now world.now programs.now) ms c number at radio.old radio.new mote.old mote.new) }
     ensures plain { OnOk result (effect.new ≡ plain_effect) }
 {
     states_are_sound();
     is_well_formed(&mote.node);
     handle(mote, desc, world, programs, event, at, effect)?;
-    let from = mote.node.log().entries().len();
+    let from = mote.node.told();
     have_turns(&mut mote.node, at)?;
     finish(radio, mote, desc, world, number, event, effect, from, at)?;
     effect.clear();

@@ -34,6 +34,7 @@ pub fn finish(
 ) -> Result<(), NoMemory>
     requires world { IsRightWorld desc.now world.now }
     requires machine { mote.old.node.description ≡ desc.now }
+    requires kept { mote.old.node.gone.entries ≤ from }
     requires from { from ≤ length mote.old.node.log.entries }
     requires ahead { radio.old.agenda.now ≤ at.time }
     requires hour { at.time ≤ 3600000 }
@@ -56,7 +57,7 @@ pub fn finish(
     };
     cancel(radio, number, ends);
     schedule_timed(radio, desc, number, event, begins, &mote.timer, at.time)?;
-    let entries = &mote.node.log().entries()[from..];
+    let entries = mote.node.told_since(from);
     send_packets(radio, desc, number, effect.sends.as_slice(), entries, at)?;
     let marked = mote.exchange.marked();
     mote.pumps = schedule_pump(radio, desc, number, mote.pumps, marked, at.time)?;

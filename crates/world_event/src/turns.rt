@@ -7,16 +7,16 @@ ghost use Rattle.mate_journal.specs.Turns.{Settles};
 ghost use Rattle.node_invariant.specs.Meaning.{machine_in, clock_of};
 ghost use Rattle.node_invariant.specs.Keeps.{IsTimely};
 ghost use Rattle.open_node.specs.View.{heard_of, Tells};
+ghost use Rattle.open_node.specs.Calls.{told_from};
 ghost use Rattle.call_waits.specs.Waiting.{WaitApart, AreAwaited};
-ghost use Rattle.world_event.specs.Finishing.{told_from};
 ghost use Rattle.world_handling.specs.Handling.{IsPaced};
 
 use call_waits::{settling_leaves_waiting, settling_tells_few, waits_are_apart};
 use mate_num::{NoMemory, Stamp};
-use node_core::Node;
+use open_node::OpenNode;
 
 /// The node has turns until nobody is ready there. They tell at most 32 entries, and what calls in them waits behind them.
-pub(crate) fn have_turns(node: &mut Node, at: Stamp) -> Result<(), NoMemory>
+pub(crate) fn have_turns(node: &mut OpenNode, at: Stamp) -> Result<(), NoMemory>
     requires timely { IsTimely at node.old.log }
     requires paced { IsPaced node.old }
     ensures tells { OnOk result (Tells node.old node.new at (Settles (clock_of node.old.description) (machine_in node.old.description) (heard_of node.old))) }
@@ -35,8 +35,8 @@ pub(crate) fn have_turns(node: &mut Node, at: Stamp) -> Result<(), NoMemory>
 }
 
 /// The node's journal is well formed.
-pub(crate) fn is_well_formed(node: &Node)
+pub(crate) fn is_well_formed(node: &OpenNode)
     ensures { IsWellFormed (machine_in node.now.description) (nothing_heard (machine_in node.now.description)) (journal_of node.now.log) }
 {
-    let _log = node.log();
+    let _kept = node.kept();
 }

@@ -1,5 +1,4 @@
 use Rattle.std.proofs.Common.{◌≡◌, ◌<◌, ℕ, length, refl, sym, ◌∙◌, ap, subst, arith, rules}
-use Rattle.mate_journal.specs.Log.{Log}
 use Rattle.world_rules.specs.State.{state}
 use Rattle.world_states.specs.Coming.{code_world}
 use Rattle.world_step.specs.declared.mote.Mote.{Mote}
@@ -66,10 +65,8 @@ finish-requires-clause-counts c =
 pub returns-clause-performed : goal.returns-clause-performed
 returns-clause-performed c = λ ms cause may.
     let own = handled c.args.desc.now c.args.world.now c.args.programs.now ms cause c.args.at c.args.event.now c.args.number c.args.radio.now c.args.mote.now may c.is_well_formed.ensures (c.states_are_sound.ensures.next c.args.desc.now c.args.world.now c.args.programs.now c.requires.right) (c.states_are_sound.ensures.nodes c.args.desc.now c.args.world.now c.args.programs.now c.requires.right) c.handle.new.mote c.handle.new.effect c.in_ok-handle.ensures.handled in
-    let from : length c.entries-from.result.now ≡ length c.handle.new.mote.node.log.entries =
-    ap length (c.entries-from.ensures ∙ ap (λ (l : Log). l.entries) c.log.ensures.same) in
     let settled : Mote = record c.handle.new.mote { node = c.have_turns.new.node } in
     performed-by c.args.desc.now c.args.world.now c.args.programs.now ms cause c.args.at c.args.event.now c.args.number c.args.radio.now c.finish.new.radio c.args.mote.now c.handle.new.mote c.finish.new.mote c.handle.new.effect c.have_turns.new.node
     may own c.in_ok-have_turns.ensures.tells c.in_ok-have_turns.ensures.apart c.in_ok-have_turns.ensures.awaited
     (λ q taken ended. c.in_ok-finish.ensures c.args.programs.now (state (code_world c.args.desc.now c.args.world.now c.args.programs.now) ms) (came c.args.at.time cause own.tells.told c.in_ok-have_turns.ensures.tells.told q) refl may.cause may.node taken
-    (subst (λ (n : ℕ). HasSettled (code_world c.args.desc.now c.args.world.now c.args.programs.now) (state (code_world c.args.desc.now c.args.world.now c.args.programs.now) ms) (came c.args.at.time cause own.tells.told c.in_ok-have_turns.ensures.tells.told q) n (record c.handle.new.mote { node = c.have_turns.new.node }) c.handle.new.effect) (sym from) ended))
+    (subst (λ (n : ℕ). HasSettled (code_world c.args.desc.now c.args.world.now c.args.programs.now) (state (code_world c.args.desc.now c.args.world.now c.args.programs.now) ms) (came c.args.at.time cause own.tells.told c.in_ok-have_turns.ensures.tells.told q) n (record c.handle.new.mote { node = c.have_turns.new.node }) c.handle.new.effect) (sym c.told-from.ensures.count) ended))
