@@ -8,6 +8,6 @@ returns g c = record {
   put = c.write_end-put.result;
   puts =
       subst (λ (bs : List ℕ). Puts (g.S.Sink.written c.args.out.now) (g.S.Sink.faults c.args.out.now) (g.S.Sink.written c.write_end-put.new.out) (g.S.Sink.faults c.write_end-put.new.out) c.write_end-put.result bs)
-      (last_line-one c.args.node.now.node.log c.told.result c.args.events c.args.whole c.told.ensures.count) c.write_end-put.ensures;
+      (last_line-one c.args.node.now.log c.told.result c.args.events c.args.whole c.told.ensures.count) c.write_end-put.ensures;
   is = ap (λ result. record { events = c.args.events; whole = c.args.whole; result = result }) c.ended.ensures;
 }
