@@ -1,8 +1,9 @@
 //! The run of a world.
 
 ghost use Rattle.node_programs.specs.WorldPrograms.{AreProgramsOfWorld};
-ghost use Rattle.world_sim.specs.Running.{WorldRunGives};
+ghost use Rattle.world_sim.specs.Promise.{WorldRunGives};
 
+use crate::promise::reports_keep_the_promise;
 use crate::report::{report_of, see_stores};
 use crate::simulation::Simulation;
 use mate_journal::{NodeLogs, Programs, RECORDS_MAX, Report, RunFault};
@@ -24,6 +25,7 @@ pub fn run(
     requires { AreProgramsOfWorld desc.now world.now programs.now }
     ensures { WorldRunGives desc.now world.now programs.now result }
 {
+    reports_keep_the_promise();
     states_are_sound();
     let logs = NodeLogs::empty(alloc, world.nodes)?;
     let mut sim = Simulation::start(alloc, desc, world)?;

@@ -5,15 +5,16 @@ ghost use Rattle.mate_files.specs.Sink.{Puts};
 ghost use Rattle.mate_journal.specs.NodeScript.{Whole, Full};
 ghost use Rattle.report_text.specs.Text.{event_piece};
 ghost use Rattle.run_writing.specs.Writing.{WritesRun, last_line};
-ghost use Rattle.world_rules.specs.Report.{IsWorldReport};
 ghost use Rattle.world_states.specs.Coming.{code_world};
 ghost use Rattle.node_programs.specs.WorldPrograms.{AreProgramsOfWorld};
 ghost use Rattle.world_step.specs.declared.mote.Mote.{Mote as MoteState};
+ghost use Rattle.world_sim.specs.Promise.{IsReportOfWorld};
 ghost use Rattle.world_sim.specs.Reporting.{mote_logs, told_report};
 ghost use Rattle.world_sim.specs.Running.{StandsAfter, StandsAtNext};
 ghost use Rattle.world_sim.specs.Writing.{AreKept, EndsSo, IsStartWritten, IsStepWritten, IsPieceOf, StandsAtEnd};
 ghost use Rattle.world_text.specs.EventText.{store_lines};
 
+use crate::promise::reports_keep_the_promise;
 use crate::report::see_stores;
 use crate::simulation::{Piece, Simulation};
 use mate_files::{Sink, SinkFault};
@@ -39,8 +40,9 @@ pub fn write_world<S: Sink>(
     out: &mut S,
 ) -> Result<(), WriteFault>
     requires { AreProgramsOfWorld desc.now world.now programs.now }
-    ensures gives { WritesRun desc.now (IsWorldReport (code_world desc.now world.now programs.now)) (S.written out.old) (S.written out.new) (S.faults out.old) (S.faults out.new) result }
+    ensures gives { WritesRun desc.now (IsReportOfWorld desc.now world.now programs.now) (S.written out.old) (S.written out.new) (S.faults out.old) (S.faults out.new) result }
 {
+    reports_keep_the_promise();
     states_are_sound();
     let Ok(mut sim) = Simulation::start(alloc, desc, world) else {
         return Err(WriteFault::NoMemory);

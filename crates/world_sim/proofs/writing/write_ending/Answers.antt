@@ -30,7 +30,7 @@ write_stores-requires-clause-some g c =
     let kept = subst AreKept c.as_slice.ensures.value c.logs_are_kept.ensures in
     let new : Simulation = record { radio = c.args.sim.now.radio; motes = c.see_stores.new.motes; records = c.args.sim.now.records } in
     let e = ends-whole-of c.args.desc.now c.args.world.now c.args.programs.now c.args.events (record { event = c.args.events + 1; time = c.args.world.now.until }) c.args.sim.now new b
-        (ap (λ (n : ℕ). record { event = n; time = c.args.world.now.until }) next) c.in-Ok.ensures refl kept in
+    (ap (λ (n : ℕ). record { event = n; time = c.args.world.now.until }) next) c.in-Ok.ensures refl kept in
     subst (λ (ms : List Mote). All (λ (m : Mote). 1 ≤ length m.node.log.entries) ms) (sym c.as_slice-2.ensures.value) e.some
 
 pub returns-in-Err : goal.returns-in-Err
@@ -42,9 +42,9 @@ returns-in-Err g c =
     let w = code_world c.args.desc.now c.args.world.now c.args.programs.now in
     let new : Simulation = record { radio = c.args.sim.now.radio; motes = c.see_stores.new.motes; records = c.args.sim.now.records } in
     let e = ends-whole-of c.args.desc.now c.args.world.now c.args.programs.now c.args.events (record { event = c.args.events + 1; time = c.args.world.now.until }) c.args.sim.now new b
-        (ap (λ (n : ℕ). record { event = n; time = c.args.world.now.until }) next) c.in-Ok.ensures refl kept in
+    (ap (λ (n : ℕ). record { event = n; time = c.args.world.now.until }) next) c.in-Ok.ensures refl kept in
     λ out0 f0 written. stores-fail w c.args.desc.now (c.text_grows_by_events.ensures.stores w) b.moments c.args.sim.now new c.args.events b.air refl (sym b.count) e.shows e.whole c.in-Err.fault c.stopped.result _ _ _ _ out0 f0 written
-        (subst (λ (ms : List Mote). Puts {T = Unit {0}} (g.S.Sink.written c.args.out.now) (g.S.Sink.faults c.args.out.now) (g.S.Sink.written c.write_stores.new.out) (g.S.Sink.faults c.write_stores.new.out) (Err c.in-Err.fault) (store_lines c.args.desc.now 0 (mote_logs ms))) c.as_slice-2.ensures.value c.in-Err.ensures) c.stopped.ensures
+    (subst (λ (ms : List Mote). Puts {T = Unit {0}} (g.S.Sink.written c.args.out.now) (g.S.Sink.faults c.args.out.now) (g.S.Sink.written c.write_stores.new.out) (g.S.Sink.faults c.write_stores.new.out) (Err c.in-Err.fault) (store_lines c.args.desc.now 0 (mote_logs ms))) c.as_slice-2.ensures.value c.in-Err.ensures) c.stopped.ensures
 
 pub returns-in-Ok-write_last : goal.returns-in-Ok-write_last
 returns-in-Ok-write_last g c =
@@ -55,9 +55,9 @@ returns-in-Ok-write_last g c =
     let w = code_world c.args.desc.now c.args.world.now c.args.programs.now in
     let new : Simulation = record { radio = c.args.sim.now.radio; motes = c.see_stores.new.motes; records = c.args.sim.now.records } in
     let e = ends-whole-of c.args.desc.now c.args.world.now c.args.programs.now c.args.events (record { event = c.args.events + 1; time = c.args.world.now.until }) c.args.sim.now new b
-        (ap (λ (n : ℕ). record { event = n; time = c.args.world.now.until }) next) c.in-Ok.ensures refl kept in
+    (ap (λ (n : ℕ). record { event = n; time = c.args.world.now.until }) next) c.in-Ok.ensures refl kept in
     λ out0 f0 written. ends-whole w c.args.desc.now (c.text_grows_by_events.ensures.stores w) b.moments c.args.sim.now new c.args.events b.air refl (sym b.count) e.shows e.whole _ _ _ _ _ _ out0 f0 written
-        (subst (λ (ms : List Mote). Puts {T = Unit {0}} (g.S.Sink.written c.args.out.now) (g.S.Sink.faults c.args.out.now) (g.S.Sink.written c.write_stores.new.out) (g.S.Sink.faults c.write_stores.new.out) (Ok tt) (store_lines c.args.desc.now 0 (mote_logs ms))) c.as_slice-2.ensures.value c.in_default-write_stores.ensures) c.in-Ok-write_last.ensures
+    (subst (λ (ms : List Mote). Puts {T = Unit {0}} (g.S.Sink.written c.args.out.now) (g.S.Sink.faults c.args.out.now) (g.S.Sink.written c.write_stores.new.out) (g.S.Sink.faults c.write_stores.new.out) (Ok tt) (store_lines c.args.desc.now 0 (mote_logs ms))) c.as_slice-2.ensures.value c.in_default-write_stores.ensures) c.in-Ok-write_last.ensures
 
 pub returns-in-Err-write_last : goal.returns-in-Err-write_last
 returns-in-Err-write_last g c =
@@ -68,6 +68,6 @@ returns-in-Err-write_last g c =
     let w = code_world c.args.desc.now c.args.world.now c.args.programs.now in
     let new : Simulation = record { radio = c.args.sim.now.radio; motes = c.see_stores.new.motes; records = c.args.sim.now.records } in
     let e = ends-whole-of c.args.desc.now c.args.world.now c.args.programs.now c.args.events (record { event = c.args.events + 1; time = c.args.world.now.until }) c.args.sim.now new b
-        (ap (λ (n : ℕ). record { event = n; time = c.args.world.now.until }) next) c.in-Ok.ensures refl kept in
+    (ap (λ (n : ℕ). record { event = n; time = c.args.world.now.until }) next) c.in-Ok.ensures refl kept in
     λ out0 f0 written. last-fails w c.args.desc.now (c.text_grows_by_events.ensures.stores w) b.moments c.args.sim.now new c.args.events b.air refl (sym b.count) e.shows e.whole c.in-Err-write_last.fault c.stopped-in-Err-write_last.result
-        _ _ _ _ _ _ out0 f0 written (subst (λ (ms : List Mote). Puts {T = Unit {0}} (g.S.Sink.written c.args.out.now) (g.S.Sink.faults c.args.out.now) (g.S.Sink.written c.write_stores.new.out) (g.S.Sink.faults c.write_stores.new.out) (Ok tt) (store_lines c.args.desc.now 0 (mote_logs ms))) c.as_slice-2.ensures.value c.in_default-write_stores.ensures) c.in-Err-write_last.ensures c.stopped-in-Err-write_last.ensures
+    _ _ _ _ _ _ out0 f0 written (subst (λ (ms : List Mote). Puts {T = Unit {0}} (g.S.Sink.written c.args.out.now) (g.S.Sink.faults c.args.out.now) (g.S.Sink.written c.write_stores.new.out) (g.S.Sink.faults c.write_stores.new.out) (Ok tt) (store_lines c.args.desc.now 0 (mote_logs ms))) c.as_slice-2.ensures.value c.in_default-write_stores.ensures) c.in-Err-write_last.ensures c.stopped-in-Err-write_last.ensures

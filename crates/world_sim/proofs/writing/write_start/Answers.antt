@@ -21,7 +21,7 @@ returns-in-Ok g c =
     let found = at-mote c.args.sim.now.motes.items 0 low in (
       subst AreKept c.as_slice.ensures.value c.logs_are_kept.ensures,
       start-goes c.args.desc.now c.args.world.now c.args.programs.now (c.text_grows_by_events.ensures.starts (code_world c.args.desc.now c.args.world.now c.args.programs.now)) c.args.sim.now c.requires.stands m found _ _ _ _
-      (c.in-Ok.ensures m found),
+          (c.in-Ok.ensures m found),
     )
 
 pub returns-in-Err : goal.returns-in-Err

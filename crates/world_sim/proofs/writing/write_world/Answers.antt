@@ -5,13 +5,21 @@ use Rattle.world_states.specs.Coming.{code_world}
 use Rattle.world_sim.proofs.RunLemmas.{behind, is-done}
 use Rattle.world_sim.proofs.WritingLemmas.{at-end, memory-ends}
 use Rattle.world_sim.proofs.EndingLemmas.{written-air}
+use Rattle.world_sim.proofs.PromiseLemmas.{promised}
 use Rattle.world_sim.proofs.writing.write_world.Goals as goal
 
 pub returns-in_default : goal.returns-in_default
-returns-in_default g c = record { gives = record {
-  report = record { nodes = []; air = []; events = 0; whole = false };
-  gives = inl (record { report = refl; same = refl });
-} }
+returns-in_default g c = record {
+  gives = record {
+    report = record { nodes = []; air = []; events = 0; whole = false };
+    gives = inl (record { report = refl; same = refl });
+  };
+}
+
+pub returns-in-Err : goal.returns-in-Err
+returns-in-Err g c = record {
+  gives = promised c.args.desc.now c.args.world.now c.args.programs.now _ _ _ _ _ c.reports_keep_the_promise.ensures c.requires c.in-Err.ensures;
+}
 
 pub write_ending-requires-clause-ends : goal.write_ending-requires-clause-ends
 write_ending-requires-clause-ends g c =
@@ -21,26 +29,26 @@ write_ending-requires-clause-ends g c =
 
 pub returns-in_default-next : goal.returns-in_default-next
 returns-in_default-next g c = record {
-  gives =
-      c.write_ending.ensures _ _
+  gives = promised c.args.desc.now c.args.world.now c.args.programs.now _ _ _ _ _ c.reports_keep_the_promise.ensures c.requires
+      (c.write_ending.ensures _ _
       (written-air c.args.desc.now c.loop-events.sim (record { radio = c.next.new.self; motes = c.loop-events.sim.motes; records = c.loop-events.sim.records }) (ap (λ (e : Ether). e.air) c.next.ensures.others) refl _ _ _ _
-      c.loop-events.invariant.written);
+      c.loop-events.invariant.written));
 }
 
 pub write_full-requires-clause-ends : goal.write_full-requires-clause-ends
 write_full-requires-clause-ends g c =
     let b = c.loop-events.invariant.stands in
     let n = behind (code_world c.args.desc.now c.args.world.now c.args.programs.now) b.moments c.loop-events.sim.radio c.next.new.self c.in-Some.time c.in-Some.event c.requires.world.nodes_high
-        (c.states_are_sound.ensures.dues c.args.desc.now c.args.world.now c.args.programs.now c.requires) b.come b.radio c.in-Some.ensures.first c.next.ensures.others in
+    (c.states_are_sound.ensures.dues c.args.desc.now c.args.world.now c.args.programs.now c.requires) b.come b.radio c.in-Some.ensures.first c.next.ensures.others in
     at-end (code_world c.args.desc.now c.args.world.now c.args.programs.now) Full c.loop-events.events c.loop-events.sim (record { radio = c.next.new.self; motes = c.loop-events.sim.motes; records = c.loop-events.sim.records }) b
     (subst (λ (k : ℕ). 1000000 ≤ k) b.records c.if-sim-ge-RECORDS_MAX.true, c.in-Some.time, n.cause, n.within, n.next) c.loop-events.invariant.kept (ap (λ (e : Ether). e.air) c.next.ensures.others) refl
 
 pub returns-then-sim-ge-RECORDS_MAX : goal.returns-then-sim-ge-RECORDS_MAX
 returns-then-sim-ge-RECORDS_MAX g c = record {
-  gives =
-      c.write_full.ensures _ _
+  gives = promised c.args.desc.now c.args.world.now c.args.programs.now _ _ _ _ _ c.reports_keep_the_promise.ensures c.requires
+      (c.write_full.ensures _ _
       (written-air c.args.desc.now c.loop-events.sim (record { radio = c.next.new.self; motes = c.loop-events.sim.motes; records = c.loop-events.sim.records }) (ap (λ (e : Ether). e.air) c.next.ensures.others) refl _ _ _ _
-      c.loop-events.invariant.written);
+      c.loop-events.invariant.written));
 }
 
 pub write_step-requires-clause-stands : goal.write_step-requires-clause-stands
@@ -48,7 +56,7 @@ write_step-requires-clause-stands g c =
     let s = c.loop-events.invariant.stands in
     let count = s.count in
     let b = behind (code_world c.args.desc.now c.args.world.now c.args.programs.now) s.moments c.loop-events.sim.radio c.next.new.self c.in-Some.time c.in-Some.event c.requires.world.nodes_high
-        (c.states_are_sound.ensures.dues c.args.desc.now c.args.world.now c.args.programs.now c.requires) s.come s.radio c.in-Some.ensures.first c.next.ensures.others in
+    (c.states_are_sound.ensures.dues c.args.desc.now c.args.world.now c.args.programs.now c.requires) s.come s.radio c.in-Some.ensures.first c.next.ensures.others in
     record {
       moments = s.moments;
       cause = b.cause;
@@ -69,10 +77,10 @@ write_step-requires-clause-stands g c =
 
 pub returns-in-Err-write_step : goal.returns-in-Err-write_step
 returns-in-Err-write_step g c = record {
-  gives =
-      c.in-Err-write_step.ensures _ _
+  gives = promised c.args.desc.now c.args.world.now c.args.programs.now _ _ _ _ _ c.reports_keep_the_promise.ensures c.requires
+      (c.in-Err-write_step.ensures _ _
       (written-air c.args.desc.now c.loop-events.sim (record { radio = c.next.new.self; motes = c.loop-events.sim.motes; records = c.loop-events.sim.records }) (ap (λ (e : Ether). e.air) c.next.ensures.others) refl _ _ _ _
-      c.loop-events.invariant.written);
+      c.loop-events.invariant.written));
 }
 
 pub loop-events-preserved : goal.loop-events-preserved
@@ -88,6 +96,6 @@ loop-events-preserved g c = record {
 pub returns : goal.returns
 returns g c =
     let b = c.loop-events.invariant.stands in record {
-      gives =
-          memory-ends c.args.desc.now c.args.world.now c.args.programs.now b.moments c.loop-events.sim (length b.moments) b.come b.radio.air b.nodes b.motes refl c.loop-events.invariant.kept _ _ _ _ c.loop-events.invariant.written;
+      gives = promised c.args.desc.now c.args.world.now c.args.programs.now _ _ _ _ _ c.reports_keep_the_promise.ensures c.requires
+          (memory-ends c.args.desc.now c.args.world.now c.args.programs.now b.moments c.loop-events.sim (length b.moments) b.come b.radio.air b.nodes b.motes refl c.loop-events.invariant.kept _ _ _ _ c.loop-events.invariant.written);
     }
