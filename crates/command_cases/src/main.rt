@@ -17,7 +17,7 @@ use crate::machines::Machines;
 use std::{fs, io};
 
 /// The tables of cases; those of refusals begin with `bad-`.
-const TABLES: [&str; 17] = [
+const TABLES: [&str; 20] = [
     "table",
     "bad-table",
     "compile",
@@ -34,6 +34,9 @@ const TABLES: [&str; 17] = [
     "expanded-runs",
     "node",
     "bad-node",
+    "sim",
+    "gen",
+    "bad-sim",
     "bad-words",
 ];
 

@@ -2,8 +2,9 @@
 #![tactic(auto)]
 
 use mate_cli::mate;
-use mate_files::{OsFiles, OsSink, Sink};
+use mate_files::{OsFiles, OsSink, Sink, SinkFault};
 use mate_refusals::{Refusal, Status};
+use std::alloc::Global;
 use std::io::{BufWriter, ErrorKind, Write};
 use std::process::ExitCode;
 use std::rt::Env;
@@ -11,6 +12,9 @@ use std::{env, io};
 
 /// How many bytes are written to the output at once.
 const OUT_BLOCK: usize = 65_536;
+
+/// How many bytes the line of a refusal has room for before it takes more memory.
+const LINE: usize = 256;
 
 /// How many bytes of stack the deepest source takes, whatever the command.
 const STACK: usize = 196_608;
@@ -21,26 +25,43 @@ fn main(rt: HostRuntime) -> ExitCode {
         return ExitCode::from(Refusal::NoMemory.refuse(&mut err).code());
     }
     let status = match words(&rt) {
-        Ok(words) => match BufWriter::with_capacity(rt.alloc(), OUT_BLOCK, io::writer(&rt)) {
-            Ok(writer) => {
+        Ok(words) => match buffers(rt.alloc(), io::writer(&rt)) {
+            Ok((writer, line)) => {
                 let mut files = OsFiles::new(rt.alloc(), &rt);
                 let mut out = OsSink::new(writer);
-                let status = mate(rt.alloc(), &words, &mut files, &mut out, &mut err);
-                flushed(status, out.into_inner(), &mut err)
+                let mut told = OsSink::new(line);
+                let status = mate(rt.alloc(), &words, &mut files, &mut out, &mut told);
+                finished(status, out.into_inner(), told.into_inner(), &mut err)
             }
-            Err(_) => Refusal::NoMemory.refuse(&mut err),
+            Err(refusal) => refusal.refuse(&mut err),
         },
         Err(refusal) => refusal.refuse(&mut err),
     };
     ExitCode::from(status.code())
 }
 
-/// Writes what is left in the buffer of standard output. Where that fails, what was done isn't all written.
-fn flushed<W: Write + Drop, E: Sink>(status: Status, mut writer: W, err: &mut E) -> Status {
+/// The buffer of standard output, and that of the line that is told.
+fn buffers<W: Write + Drop>(alloc: Global, writer: W) -> Result<(BufWriter<W>, Vec<u8>), Refusal> {
+    let writer = BufWriter::with_capacity(alloc, OUT_BLOCK, writer).map_err(|_| Refusal::NoMemory)?;
+    let line = Vec::with_capacity(alloc, LINE).map_err(|_| Refusal::NoMemory)?;
+    Ok((writer, line))
+}
+
+/// Writes what is left in the buffer of standard output, and then the line that is told of the status. Where the former fails, what was
+/// done isn't all written, and that is told instead, of a run that a full log ended too.
+fn finished<W: Write + Drop, E: Sink>(
+    status: Status,
+    mut writer: W,
+    line: Vec<u8>,
+    err: &mut E,
+) -> Status {
     let flushed = writer.flush().is_ok();
     match status {
-        Status::Ok if !flushed => Refusal::SinkFault.refuse(err),
-        status => status,
+        Status::Ok | Status::LogFull if !flushed => Refusal::SinkFault.refuse(err),
+        status => match err.put(line.as_slice()) {
+            Err(SinkFault::NoMemory) => Status::NoMemory,
+            Ok(()) | Err(SinkFault::Failed) => status,
+        },
     }
 }
 

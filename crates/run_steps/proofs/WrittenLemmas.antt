@@ -1,12 +1,12 @@
 -- The lines of a run on one node, as they are written.
-use Rattle.std.proofs.Common.{◌≡◌, ◌≤◌, ◌+◌, ℕ, zero, suc, List, [], ◌∷◌, ◌++◌, Bool, true, false, Option, refl, sym, ◌∙◌, ap, subst, arith, inl, inr, lit<, length, map, drop, take, append_assoc}
+use Rattle.std.proofs.Common.{◌≡◌, ◌≤◌, ◌+◌, ℕ, zero, suc, List, [], ◌∷◌, ◌++◌, Bool, false, Option, refl, sym, ◌∙◌, ap, subst, arith, inl, lit<, length, map, drop, take, append_assoc, append-nil}
 use Rattle.std.specs.Prelude.{All, flat_map}
 use Rattle.std.proofs.Math.Seq.{drop-append_seam}
 use Rattle.std.proofs.lemmas.List.{length-map}
 use Rattle.std.proofs.lemmas.List.Elements.{All-nil, All-cons, All-same, All-weaker}
 use Rattle.mate_num.specs.declared.call.Stamp.{Stamp}
 use Rattle.vm_desc.specs.declared.description.Description.{Description}
-use Rattle.mate_files.specs.Sink.{Sent, SentPart}
+use Rattle.mate_files.specs.Sink.{Puts}
 use Rattle.arrayvec.specs.ArrayVec.{ArrayVec}
 use Rattle.mate_num.specs.declared.store.Store.{Store}
 use Rattle.mate_journal.specs.Log.{Log, IsSameLog}
@@ -26,29 +26,25 @@ use Rattle.journal_laws.specs.Growth.{event_of, last_stamp, AreNamedBelow, IsNam
 use Rattle.journal_laws.proofs.TidyLemmas.{NamesInLog-numbered}
 use Rattle.journal_laws.proofs.GoesOnLemmas.{GoesOn-journal}
 use Rattle.report_text.specs.Pieces.{IsNamed, AddsPiece}
-use Rattle.report_text.specs.Text.{lines, event_lines, event_piece, end_line, records, text}
-use Rattle.report_text.proofs.TextLemmas.{end_line-same}
+use Rattle.report_text.specs.Text.{lines, event_lines, event_piece, end_line, records}
 use Rattle.report_text.proofs.EventLemmas.{All-of_map}
 use Rattle.report_text.proofs.PieceLemmas.{lines-piece, lines-earlier, lines-upto, events_end-le}
 use Rattle.node_invariant.specs.Meaning.{machine_in}
 use Rattle.node_invariant.specs.Keeps.{event_at, IsTimely, Grows}
 use Rattle.open_node.specs.Journal.{KeepsJournal}
-use Rattle.std.specs.Prelude.{Result, Ok, Err, slice_index_or, sum_by}
-use Rattle.std.proofs.KnownBytes.{Appends-trans}
-use Rattle.mate_files.specs.Sink.{HasCause}
+use Rattle.std.specs.Prelude.{Result, Err}
 use Rattle.mate_files.specs.declared.sink.SinkFault.{SinkFault}
-use Rattle.mate_files.specs.declared.sink.SinkFault.TheVariants.{Failed, NoMemory as OutOfMemory}
-use Rattle.mate_files.proofs.SinkLemmas.{Sent-trans, Rose-after}
 use Rattle.script_reader.specs.Steps.{NodeScript}
-use Rattle.mate_journal.specs.NodeScript.{RunEnd, Whole, Full}
+use Rattle.mate_journal.specs.NodeScript.{RunEnd, Cut}
 use Rattle.mate_journal.specs.NodeReport.{is_whole}
 use Rattle.mate_journal.specs.declared.program.Program.{Program}
-use Rattle.mate_journal.specs.declared.report.IntoFault.{IntoFault}
-use Rattle.mate_journal.specs.declared.report.IntoFault.TheVariants.{LogFull, NoMemory, Sink}
 use Rattle.run_steps.specs.Running.{report_with, at_event, HasRun, IsReportOf}
-use Rattle.run_steps.specs.Passing.{write_fault_of, into_fault, with_report}
-use Rattle.run_steps.specs.declared.writing.WriteFault.{WriteFault}
-use Rattle.run_steps.specs.Writing.{last_event, lines_before, last_line, IsWrittenPart, RunsInto, IsOfOneNode, IsStopped, EndsInto}
+use Rattle.run_steps.specs.Writing.{PassWrites}
+use Rattle.run_steps.specs.declared.writing.Pass.{Pass}
+use Rattle.run_writing.specs.Writing.{last_event, lines_before, last_line, write_fault_of, WritesReport, ended_by, HasWritten}
+use Rattle.run_writing.specs.declared.write_fault.WriteFault.{WriteFault}
+use Rattle.run_writing.specs.declared.write_fault.WriteFault.TheVariants.{NoMemory}
+use Rattle.run_writing.proofs.WritingLemmas.{behind-lines, stopped-within, cut-short}
 
 -- the report of one log
 abbrev pub one : Log → Report
@@ -154,154 +150,39 @@ module _ (d : Description) where
 
 -- ---- what was written, where a run stops
 
-module _ (d : Description) (script : NodeScript) (ps : List Program) (how : RunEnd) (out0 out1 out2 : Option (List ℕ)) where
+module _ (d : Description) (script : NodeScript) (ps : List Program) (out0 out1 out2 : Option (List ℕ)) (f0 f1 f2 : ℕ) where
   -- the sink failed within an event's lines
-  pub stopped-within : (old new : Log) (events n : ℕ) (piece : List ℕ) → IsReportOf d script ps how (report_with new events (is_whole how)) → last_event how events ≡ n
-      → lines d (one new) ≡ lines d (one old) ++ piece → lines d (one old) ≡ flat_map (event_lines d (one new)) (below n) → Sent out0 out1 (lines d (one old)) → SentPart out1 out2 piece
-      → IsWrittenPart d script ps out0 out2 (report_with new events (is_whole how))
-  stopped-within old new events n piece report last next before sent part =
+  pub stops-within : (how : RunEnd) (old new : Log) (events n : ℕ) (piece : List ℕ) → IsReportOf d script ps how (report_with new events (is_whole how)) → last_event how events ≡ n
+      → lines d (one new) ≡ lines d (one old) ++ piece → lines d (one old) ≡ flat_map (event_lines d (one new)) (below n) → HasWritten out0 f0 out1 f1 (lines d (one old))
+      → (fault : SinkFault) (answer : WriteFault) → Puts {T = Unit {0}} out1 f1 out2 f2 (Err fault) piece → answer ≡ write_fault_of fault
+      → WritesReport d (IsReportOf d script ps) out0 out2 f0 f2 (Err answer) (report_with new events (is_whole how))
+  stops-within how old new events n piece report last next before written fault answer puts is =
       let r : Report = report_with new events (is_whole how) in
-      let before_last : lines d (one old) ≡ lines_before d r (last_event how events) = before ∙ ap (lines_before d r) (sym last) in
-      record {
-        how = how;
-        report = report;
-        part = record {
-          front = lines d (one old) ++ part.front;
-          rest = part.rest ++ last_line r;
-          whole = append_assoc (lines d (one old)) part.front (part.rest ++ last_line r)
-              ∙ ap (λ ys. lines d (one old) ++ ys) (sym (append_assoc part.front part.rest (last_line r)) ∙ ap (λ ys. ys ++ last_line r) part.whole)
-              ∙ sym (append_assoc (lines d (one old)) piece (last_line r)) ∙ ap (λ ys. ys ++ last_line r) (sym next);
-          appended = Appends-trans out0 out1 out2 (lines d (one old)) part.front sent.appended part.appended;
-        };
-        more = part.front;
-        covers = ap (λ ys. ys ++ part.front) before_last;
-      }
+      let tail = behind-lines how d r in
+      stopped-within d (IsReportOf d script ps) out0 out1 out2 f0 f1 f2 how r report (lines d (one old)) [] written
+      (before ∙ ap (λ (k : ℕ). lines_before d r k) (sym last) ∙ sym (append-nil (lines_before d r (last_event how events)))) fault answer piece tail.0
+      (sym (append_assoc (lines d (one old)) piece tail.0) ∙ ap (λ (bs : List ℕ). bs ++ tail.0) (sym next) ∙ tail.1) puts is
 
-  -- the sink failed within the last line, or nothing of it was written
-  pub stopped-behind : (l : Log) (events n : ℕ) → IsReportOf d script ps how (report_with l events (is_whole how)) → last_event how events ≡ n
-      → lines d (one l) ≡ flat_map (event_lines d (one l)) (below n) ++ event_lines d (one l) n → Sent out0 out1 (lines d (one l)) → SentPart out1 out2 (last_line (report_with l events (is_whole how)))
-      → IsWrittenPart d script ps out0 out2 (report_with l events (is_whole how))
-  stopped-behind l events n report last all sent part =
-      let r : Report = report_with l events (is_whole how) in
-      let P : ℕ → Type 0 = λ k. lines d (one l) ≡ lines_before d r k ++ event_lines d (one l) k in
-      let covered : lines d (one l) ≡ lines_before d r (last_event how events) ++ event_lines d (one l) (last_event how events) = subst P (sym last) all in
-      record {
-        how = how;
-        report = report;
-        part = record {
-          front = lines d (one l) ++ part.front;
-          rest = part.rest;
-          whole = append_assoc (lines d (one l)) part.front part.rest ∙ ap (λ ys. lines d (one l) ++ ys) part.whole;
-          appended = Appends-trans out0 out1 out2 (lines d (one l)) part.front sent.appended part.appended;
-        };
-        more = event_lines d (one l) (last_event how events) ++ part.front;
-        covers = ap (λ ys. ys ++ part.front) covered ∙ append_assoc (lines_before d r (last_event how events)) (event_lines d (one l) (last_event how events)) part.front;
-      }
+-- memory was refused before an event
+pub stops-before : (d : Description) (script : NodeScript) (ps : List Program) (out0 out1 : Option (List ℕ)) (f0 f1 : ℕ) (l : Log) (events : ℕ) → IsReportOf d script ps Cut (report_with l events false)
+    → lines d (one l) ≡ flat_map (event_lines d (one l)) (below events) ++ event_lines d (one l) events → HasWritten out0 f0 out1 f1 (lines d (one l))
+    → WritesReport d (IsReportOf d script ps) out0 out1 f0 f1 (Err NoMemory) (report_with l events false)
+stops-before d script ps out0 out1 f0 f1 l events report covers written =
+    cut-short d (IsReportOf d script ps) out0 out1 f0 f1 Cut (report_with l events false) report (lines d (one l)) [] (event_lines d (one l) events) written (append-nil (lines d (one l))) covers
 
--- the sink's faults only rise at the last line
-pub ended-later : (report : Report) (out out' : Option (List ℕ)) (before now : ℕ) (result : Result Report IntoFault) → EndsInto report out before out' now result → before ≤ now
-ended-later report out out' before now (Ok r) e = e.3
-ended-later report out out' before now (Err (LogFull r)) e = e.3
-ended-later report out out' before now (Err (NoMemory r)) e = e.2
-ended-later report out out' before now (Err (Sink r)) e = e.3
-
--- the last line was written, or the sink stopped there
-pub ended-whole : (d : Description) (script : NodeScript) (ps : List Program) (out0 out1 out2 : Option (List ℕ)) (f0 f1 f2 : ℕ) (l : Log) (events n : ℕ) (result : Result Report IntoFault)
-    → IsReportOf d script ps Whole (report_with l events true) → suc events ≡ n → lines d (one l) ≡ flat_map (event_lines d (one l)) (below n) ++ event_lines d (one l) n
-    → Sent out0 out1 (lines d (one l)) → f0 ≤ f1 → EndsInto (report_with l events true) out1 f1 out2 f2 result → RunsInto d script ps out0 out2 f0 f2 result
-ended-whole d script ps out0 out1 out2 f0 f1 f2 l events n (Ok r) report last all sent later e =
-    let P : Report → Type 0 = λ x. IsReportOf d script ps Whole x × Sent out0 out2 (text d x) in
-    subst P (sym e.0) (report, Sent-trans sent e.2)
-ended-whole d script ps out0 out1 out2 f0 f1 f2 l events n (Err (LogFull r)) report last all sent later e = let bad : true ≡ false = e.1 in absurd cc
-ended-whole d script ps out0 out1 out2 f0 f1 f2 l events n (Err (NoMemory r)) report last all sent later e =
-    let P : Report → Type 0 = λ x. IsWrittenPart d script ps out0 out2 x in
-    inr (subst P (sym e.0) (stopped-behind d script ps Whole out0 out1 out2 l events n report last all sent e.1))
-ended-whole d script ps out0 out1 out2 f0 f1 f2 l events n (Err (Sink r)) report last all sent later e =
-    let P : Report → Type 0 = λ x. IsWrittenPart d script ps out0 out2 x in
-    (subst P (sym e.0) (stopped-behind d script ps Whole out0 out1 out2 l events n report last all sent e.1), Rose-after f0 f1 f2 later e.2)
-
-pub ended-full : (d : Description) (script : NodeScript) (ps : List Program) (out0 out1 out2 : Option (List ℕ)) (f0 f1 f2 : ℕ) (l : Log) (events n : ℕ) (result : Result Report IntoFault)
-    → IsReportOf d script ps Full (report_with l events false) → events ≡ n → lines d (one l) ≡ flat_map (event_lines d (one l)) (below n) ++ event_lines d (one l) n
-    → Sent out0 out1 (lines d (one l)) → f0 ≤ f1 → EndsInto (report_with l events false) out1 f1 out2 f2 result → RunsInto d script ps out0 out2 f0 f2 result
-ended-full d script ps out0 out1 out2 f0 f1 f2 l events n (Ok r) report last all sent later e = let bad : false ≡ true = e.1 in absurd cc
-ended-full d script ps out0 out1 out2 f0 f1 f2 l events n (Err (LogFull r)) report last all sent later e =
-    let P : Report → Type 0 = λ x. IsReportOf d script ps Full x × Sent out0 out2 (text d x) in
-    subst P (sym e.0) (report, Sent-trans sent e.2)
-ended-full d script ps out0 out1 out2 f0 f1 f2 l events n (Err (NoMemory r)) report last all sent later e =
-    let P : Report → Type 0 = λ x. IsWrittenPart d script ps out0 out2 x in
-    inr (subst P (sym e.0) (stopped-behind d script ps Full out0 out1 out2 l events n report last all sent e.1))
-ended-full d script ps out0 out1 out2 f0 f1 f2 l events n (Err (Sink r)) report last all sent later e =
-    let P : Report → Type 0 = λ x. IsWrittenPart d script ps out0 out2 x in
-    (subst P (sym e.0) (stopped-behind d script ps Full out0 out1 out2 l events n report last all sent e.1), Rose-after f0 f1 f2 later e.2)
-
--- the sink's fault stopped the run
-pub stopped-by : (d : Description) (script : NodeScript) (ps : List Program) (out0 out1 out2 : Option (List ℕ)) (f0 f1 f2 : ℕ) (fault : SinkFault) (r : Report) (answer : IntoFault)
-    → IsWrittenPart d script ps out0 out2 r → f0 ≤ f1 → HasCause {T = Unit {0}} f1 f2 (Err fault) → IsStopped fault r answer → RunsInto d script ps out0 out2 f0 f2 (Err answer)
-stopped-by d script ps out0 out1 out2 f0 f1 f2 Failed r answer part later cause is =
-    let P : IntoFault → Type 0 = λ x. RunsInto d script ps out0 out2 f0 f2 (Err x) in subst P (sym is) (part, Rose-after f0 f1 f2 later cause)
-stopped-by d script ps out0 out1 out2 f0 f1 f2 OutOfMemory r answer part later cause is =
-    let P : IntoFault → Type 0 = λ x. RunsInto d script ps out0 out2 f0 f2 (Err x) in subst P (sym is) (inr part)
-
--- the same of a run without its report
-pub stopped-with : (d : Description) (script : NodeScript) (ps : List Program) (out0 out1 out2 : Option (List ℕ)) (f0 f1 f2 : ℕ) (fault : SinkFault) (r : Report) (answer : WriteFault)
-    → IsWrittenPart d script ps out0 out2 r → f0 ≤ f1 → HasCause {T = Unit {0}} f1 f2 (Err fault) → answer ≡ write_fault_of fault → RunsInto d script ps out0 out2 f0 f2 (with_report (Err answer) r)
-stopped-with d script ps out0 out1 out2 f0 f1 f2 fault r answer part later cause is =
-    let P : WriteFault → Type 0 = λ x. RunsInto d script ps out0 out2 f0 f2 (with_report (Err x) r) in
-    subst P (sym is) (stopped-by d script ps out0 out1 out2 f0 f1 f2 fault r (into_fault (write_fault_of fault) r) part later cause (is-stopped fault r)) where
-      is-stopped : (fault : SinkFault) (r : Report) → IsStopped fault r (into_fault (write_fault_of fault) r)
-      is-stopped Failed r = refl
-      is-stopped OutOfMemory r = refl
-
--- ---- with the report
-
-module _ (d : Description) (script : NodeScript) (ps : List Program) (out out' : Option (List ℕ)) (f f' : ℕ) (result : Result (Unit {0}) WriteFault) (made r : Report) where
-  pub given-whole : RunsInto d script ps out out' f f' (with_report result made) → result ≡ Ok tt → r ≡ made → RunsInto d script ps out out' f f' (Ok r)
-  given-whole gives whole is =
-      let P : Result (Unit {0}) WriteFault → Type 0 = λ x. RunsInto d script ps out out' f f' (with_report x made) in
-      let Q : Report → Type 0 = λ x. RunsInto d script ps out out' f f' (Ok x) in
-      subst Q (sym is) (subst P whole gives)
-
-  pub given-fault : (fault : WriteFault) (answer : IntoFault) → RunsInto d script ps out out' f f' (with_report result made) → result ≡ Err fault → r ≡ made → answer ≡ into_fault fault r
-      → RunsInto d script ps out out' f f' (Err answer)
-  given-fault fault answer gives failed is answers =
-      let P : Result (Unit {0}) WriteFault → Type 0 = λ x. RunsInto d script ps out out' f f' (with_report x made) in
-      let Q : Report → Type 0 = λ x. RunsInto d script ps out out' f f' (Err (into_fault fault x)) in
-      let R : IntoFault → Type 0 = λ x. RunsInto d script ps out out' f f' (Err x) in
-      subst R (sym answers) (subst Q (sym is) (subst P failed gives))
+-- so a run writes whose last line was put
+pub last-put : (d : Description) (script : NodeScript) (ps : List Program) (out out' : Option (List ℕ)) (f f' : ℕ) (l : Log) (events : ℕ) (whole : Bool) (put : Result (Unit {0}) SinkFault) (pass : Pass)
+    → pass ≡ record { events = events; whole = whole; result = ended_by whole put } → WritesReport d (IsReportOf d script ps) out out' f f' (ended_by whole put) (report_with l events whole)
+    → PassWrites d script ps out out' f f' l pass
+last-put d script ps out out' f f' l events whole put pass is writes = subst (λ (x : Pass). PassWrites d script ps out out' f f' l x) (sym is) writes
 
 -- ---- the last line
 
-one-sum : (nodes : List Log) (l : Log) → length nodes ≡ 1 → l ≡ slice_index_or nodes 0 l → sum_by (λ (x : Log). length x.entries) nodes ≡ length l.entries
-one-sum [] l count is = cc
-one-sum (x ∷ []) l count is = let e : length l.entries ≡ length x.entries = ap (λ (y : Log). length y.entries) is in omega (arith, e)
-one-sum (x ∷ (y ∷ nodes)) l count is = absurd (omega (arith, count))
-
 -- the last line of a report of one node has the number of its entries
-pub last_line-one : (r : Report) (l : Log) (entries events : ℕ) (whole : Bool) → IsOfOneNode r → l ≡ slice_index_or r.nodes 0 l → entries ≡ length l.entries → events ≡ r.events → whole ≡ r.whole
-    → end_line entries events 1 whole ≡ last_line r
-last_line-one r l entries events whole o is count same_events same_whole =
-    let sum = one-sum r.nodes l o.one is in
-    let air : length r.air ≡ 0 = ap (λ (xs : List Aired). length xs) o.quiet in
-    end_line-same entries (records r) events r.events 1 (length r.nodes) whole r.whole (omega (arith, count, sum, air)) same_events (sym o.one) same_whole
-
--- the sink stopped the last line
-pub ended-part : (r : Report) (out out' : Option (List ℕ)) (f f' : ℕ) (fault : SinkFault) (answer : IntoFault) → SentPart out out' (last_line r) → HasCause {T = Unit {0}} f f' (Err fault) → f ≤ f' → IsStopped fault r answer
-    → EndsInto r out f out' f' (Err answer)
-ended-part r out out' f f' Failed answer part cause later is =
-    let P : IntoFault → Type 0 = λ x. EndsInto r out f out' f' (Err x) in subst P (sym is) (refl, part, cause, later)
-ended-part r out out' f f' OutOfMemory answer part cause later is =
-    let P : IntoFault → Type 0 = λ x. EndsInto r out f out' f' (Err x) in subst P (sym is) (refl, part, later)
-
--- the same of a run without its report
-pub ended-with : (l : Log) (events : ℕ) (whole : Bool) (out out' : Option (List ℕ)) (f f' : ℕ) (fault : SinkFault) (answer : WriteFault) → SentPart out out' (last_line (report_with l events whole))
-    → HasCause {T = Unit {0}} f f' (Err fault) → f ≤ f' → answer ≡ write_fault_of fault → EndsInto (report_with l events whole) out f out' f' (with_report (Err answer) (report_with l events whole))
-ended-with l events whole out out' f f' fault answer part cause later is =
-    let r : Report = report_with l events whole in
-    let P : WriteFault → Type 0 = λ x. EndsInto r out f out' f' (with_report (Err x) r) in
-    subst P (sym is) (ended-part r out out' f f' fault (into_fault (write_fault_of fault) r) part cause later (is-stopped fault r)) where
-      is-stopped : (fault : SinkFault) (r : Report) → IsStopped fault r (into_fault (write_fault_of fault) r)
-      is-stopped Failed r = refl
-      is-stopped OutOfMemory r = refl
+pub last_line-one : (l : Log) (entries events : ℕ) (whole : Bool) → entries ≡ length l.entries → end_line entries events 1 whole ≡ last_line (report_with l events whole)
+last_line-one l entries events whole count =
+    let sum : entries ≡ records (report_with l events whole) = omega (arith, count) in
+    ap (λ (n : ℕ). end_line n events 1 whole) sum
 
 -- ---- an event on a node
 

@@ -1,4 +1,3 @@
 pub mod Running
 pub mod Keeping
 pub mod Writing
-pub mod Passing

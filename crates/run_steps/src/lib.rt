@@ -7,4 +7,4 @@ pub mod running;
 pub mod writing;
 
 pub use running::run_steps;
-pub use writing::{WriteFault, run_steps_into, write_steps};
+pub use writing::{run_steps_into, write_steps};

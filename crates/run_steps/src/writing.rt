@@ -1,17 +1,16 @@
 //! The run of a node script whose lines are written as its events end.
 
 ghost use Rattle.std.specs.Prelude.{◌≡◌, ◌≤◌, ◌+◌, [], length, false, Err};
-ghost use Rattle.mate_files.specs.Counts.{Rose};
 ghost use Rattle.mate_files.specs.Sink.{Puts};
 ghost use Rattle.report_text.specs.Text.{event_piece};
 ghost use Rattle.node_invariant.specs.Meaning.{machine_in};
 ghost use Rattle.open_node.specs.Journal.{KeepsJournal};
 ghost use Rattle.node_programs.specs.ScriptSteps.{AreProgramsOf};
-ghost use Rattle.run_steps.specs.Running.{report_with};
+ghost use Rattle.run_steps.specs.Running.{IsReportOf, report_with};
 ghost use Rattle.run_steps.specs.Keeping.{IsNewNode, StaysAsToldTo};
-ghost use Rattle.run_steps.specs.Writing.{RunsInto, EndsInto};
-ghost use Rattle.run_steps.specs.Passing.{write_fault_of, into_fault, with_report, PassWrites, WritesRun};
-ghost use Rattle.run_steps.specs.declared.writing.WriteFault.TheVariants.{NoMemory as OutOfMemory};
+ghost use Rattle.run_steps.specs.Writing.{PassWrites, PutsLast};
+ghost use Rattle.run_writing.specs.Writing.{RunsInto, WritesRun};
+ghost use Rattle.run_writing.specs.declared.write_fault.WriteFault.TheVariants.{NoMemory as OutOfMemory};
 
 use crate::heap_node::{HeapNode, Written};
 use crate::running::{is_full, report_of};
@@ -19,33 +18,10 @@ use mate_files::{Sink, SinkFault};
 use mate_journal::{Airs, IntoFault, NodeLogs, Programs, Report};
 use mate_num::Stamp;
 use report_text::{write_end, write_event};
+use run_writing::{WriteFault, ended, stopped};
 use script_reader::Steps;
 use std::alloc::Global;
 use vm_desc::Description;
-
-/// Why a run that is written as its events end was not written whole.
-#[derive(Clone, Copy)]
-pub enum WriteFault {
-    /// 1,000,000 records or more stood, and an event was left. The report was written whole.
-    LogFull,
-    /// Memory was refused, to the run or to the sink.
-    NoMemory,
-    /// The sink couldn't be written.
-    Sink,
-}
-
-impl WriteFault {
-    /// The same, with the report of the events that ended.
-    fn with_report(self, report: Report) -> IntoFault
-        ensures { result ≡ into_fault self report }
-    {
-        match self {
-            WriteFault::LogFull => IntoFault::LogFull(report),
-            WriteFault::NoMemory => IntoFault::NoMemory(report),
-            WriteFault::Sink => IntoFault::Sink(report),
-        }
-    }
-}
 
 /// How the writing of a run ended: how many events ended, whether they are all, and whether their lines were written.
 #[derive(Clone, Copy)]
@@ -60,16 +36,6 @@ fn nothing_run(alloc: Global) -> Report
     ensures { result ≡ record { nodes = []; air = []; events = 0; whole = false } }
 {
     Report::new(NodeLogs::new(alloc), Airs::new(alloc), 0, false)
-}
-
-/// The sink stopped the run.
-fn stopped(fault: SinkFault) -> WriteFault
-    ensures { result ≡ write_fault_of fault }
-{
-    match fault {
-        SinkFault::Failed => WriteFault::Sink,
-        SinkFault::NoMemory => WriteFault::NoMemory,
-    }
 }
 
 /// Memory was refused before an event.
@@ -109,28 +75,13 @@ fn write_new<S: Sink>(
 
 /// Writes the last line of the report of a run on a node, behind its other lines.
 fn write_last<S: Sink>(node: &HeapNode, events: u64, whole: bool, out: &mut S) -> Pass
-    ensures { EndsInto (report_with node.now.node.log events whole) (S.written out.old) (S.faults out.old) (S.written out.new) (S.faults out.new)
-        (with_report result.result (report_with node.now.node.log result.events result.whole)) }
+    ensures { PutsLast (report_with node.now.node.log events whole) (S.written out.old) (S.faults out.old) (S.written out.new) (S.faults out.new) result }
 {
-    if let Err(fault) = write_end(node.told() as u64, events, 1, whole, out) {
-        return Pass {
-            events,
-            whole,
-            result: Err(stopped(fault)),
-        };
-    }
-    if whole {
-        Pass {
-            events,
-            whole,
-            result: Ok(()),
-        }
-    } else {
-        Pass {
-            events,
-            whole,
-            result: Err(WriteFault::LogFull),
-        }
+    let put = write_end(node.told() as u64, events, 1, whole, out);
+    Pass {
+        events,
+        whole,
+        result: ended(whole, put),
     }
 }
 
@@ -204,7 +155,7 @@ pub fn run_steps_into<S: Sink>(
     out: &mut S,
 ) -> Result<Report, IntoFault>
     requires { AreProgramsOf desc.now steps.now programs.now }
-    ensures gives { RunsInto desc.now steps.now programs.now (S.written out.old) (S.written out.new) (S.faults out.old) (S.faults out.new) result }
+    ensures gives { RunsInto desc.now (IsReportOf desc.now steps.now programs.now) (S.written out.old) (S.written out.new) (S.faults out.old) (S.faults out.new) result }
     ensures later { S.faults out.old ≤ S.faults out.new }
 {
     let Ok(mut node) = HeapNode::new(alloc, desc) else {
@@ -231,7 +182,7 @@ pub fn write_steps<S: Sink>(
     out: &mut S,
 ) -> Result<(), WriteFault>
     requires { AreProgramsOf desc.now steps.now programs.now }
-    ensures gives { WritesRun desc.now steps.now programs.now (S.written out.old) (S.written out.new) (S.faults out.old) (S.faults out.new) result }
+    ensures gives { WritesRun desc.now (IsReportOf desc.now steps.now programs.now) (S.written out.old) (S.written out.new) (S.faults out.old) (S.faults out.new) result }
     ensures later { S.faults out.old ≤ S.faults out.new }
 {
     let Ok(mut node) = HeapNode::new(alloc, desc) else {

@@ -134,7 +134,7 @@ module _ (d : Description) (script : Script) (ps : List Program) (law : StartsWi
   start-fails kept fault answer out f out' f' puts is =
       let r : Report = told_report s 0 false in
       fails-within d (IsWorldReport (code_world d script ps)) out out out' f f f' Cut r (cut-report d script ps b.moments 0 s b.come b.radio.air b.nodes b.motes (sym b.count) kept) [] [] written-nothing refl fault answer
-      (event_piece d s.radio.air m.node.log 0 0) (last_line r) (ap (λ (bs : List ℕ). bs ++ last_line r) (sym start-lines)) puts is
+      (event_piece d s.radio.air m.node.log 0 0) [] (append-nil (event_piece d s.radio.air m.node.log 0 0) ∙ sym start-lines) puts is
 
 -- ---- the radio waits for less
 

@@ -213,8 +213,8 @@ module _ (d : Description) (script : Script) (ps : List Program) where
       → (each : (k : ℕ) → k < script.nodes → IsSomeAnd (slice_get s.motes.items k) (IsMoteAfter W ms k)) → events ≡ length ms → AreKept s.motes.items
       → (out f out0 f0 : _) → HasWrittenNow d s out0 f0 out f → WritesRun d Is out0 out f0 f (Err NoMemory)
   memory-ends ms s events come air count each number kept out f out0 f0 written =
-      wants-memory d Is out0 out f0 f Cut (told_report s events false) (cut-report d script ps ms events s come air count each number kept) (lines d (report_now s)) (last_line (told_report s events false))
-      (event_lines d (report_now s) events) written refl (covered W d ms s events false (tell W ms s.motes.items script.nodes count each) air number)
+      wants-memory d Is out0 out f0 f Cut (told_report s events false) (cut-report d script ps ms events s come air count each number kept) (lines d (report_now s)) []
+      (event_lines d (report_now s) events) written (append-nil (lines d (report_now s))) (covered W d ms s events false (tell W ms s.motes.items script.nodes count each) air number)
 
   -- the log is full, and the last line was written
   pub full-ends : (s : Simulation) (events : ℕ) (b : StandsAtEnd W Full events s) → (out f out' f' out0 f0 : _) → HasWrittenNow d s out0 f0 out f → Puts {T = Unit {0}} out f out' f' (Ok tt) (last_line (told_report s events false))
@@ -245,8 +245,8 @@ module _ (d : Description) (script : Script) (ps : List Program) where
       let r : Report = told_report new number false in
       let piece : List ℕ = event_piece d (drop p.air new.radio.air) adds.mote.node.log p.entries p.node in
       fails-within d Is out0 out out' f0 f f' Cut r (cut-report d script ps b.moments number new b.come b.radio.air b.nodes b.motes (sym b.count) kept) (lines d (report_now s)) [] written
-      (adds.adds.before d ∙ sym (append-nil (lines_before d r number))) fault answer piece (last_line r)
-      (sym (append_assoc (lines d (report_now s)) piece (last_line r)) ∙ ap (λ (bs : List ℕ). bs ++ last_line r) (sym (adds.adds.lines_are d))) puts is
+      (adds.adds.before d ∙ sym (append-nil (lines_before d r number))) fault answer piece []
+      (ap (λ (bs : List ℕ). lines d (report_now s) ++ bs) (append-nil piece) ∙ sym (adds.adds.lines_are d)) puts is
 
 -- ---- the last entries
 

@@ -1,19 +1,21 @@
-use Rattle.std.proofs.Common.{◌≡◌, ◌≤◌, ◌+◌, ℕ, suc, List, true, false, length, take, sym, ◌∙◌, ap, subst, arith, inr, refl}
+use Rattle.std.proofs.Common.{◌≡◌, ◌≤◌, ◌+◌, ℕ, suc, true, false, length, take, sym, ◌∙◌, ap, subst, arith, refl}
+use Rattle.std.specs.Prelude.{◌++◌, flat_map}
 use Rattle.std.proofs.lemmas.Bool.{leb-false, leb-true}
 use Rattle.vm_desc.specs.declared.description.Description.{Description}
-use Rattle.mate_files.specs.Sink.{Sent}
-use Rattle.mate_files.proofs.SinkLemmas.{Sent-nil, Sent-trans, SentPart-nil}
 use Rattle.mate_journal.specs.NodeScript.{Whole, Full, Cut}
+use Rattle.mate_journal.specs.Tidy.{below}
 use Rattle.mate_journal.specs.declared.entry.Stamped.{Stamped}
 use Rattle.mate_journal.specs.declared.report.TheConstants.{RECORDS_MAX}
 use Rattle.node_programs.specs.Right.{AreRightPrograms}
 use Rattle.mate_journal.specs.OpenLog.{Gone}
-use Rattle.run_steps.specs.Passing.{with_report, PassWrites}
-use Rattle.run_steps.specs.Running.{report_with}
+use Rattle.report_text.specs.Text.{lines, event_lines}
+use Rattle.run_steps.specs.Running.{IsReportOf, report_with}
+use Rattle.run_steps.specs.Writing.{PassWrites}
 use Rattle.run_steps.specs.declared.writing.Pass.{Pass}
+use Rattle.run_writing.proofs.WritingLemmas.{written-nothing, written-more, written-as, ended-whole, ended-full}
 use Rattle.run_steps.proofs.KeptLemmas.{stays-first, stays-then, stays-back}
 use Rattle.run_steps.proofs.RunLemmas.{HasRun-new, HasRun-same, HasRun-step, timely-at, timely-next, few-entries, run-whole, run-full, run-cut, reported, keeps-by, ok-room, right-step, few-contexts}
-use Rattle.run_steps.proofs.WrittenLemmas.{lines-none, lines-room, lines-last, event-written, stopped-within, stopped-behind, stopped-with, ended-later, ended-whole, ended-full}
+use Rattle.run_steps.proofs.WrittenLemmas.{one, lines-none, lines-room, lines-last, event-written, stops-within, stops-before, last-put}
 use Rattle.run_steps.proofs.writing.write_run.Goals as goal
 
 pub loop-step-init : goal.loop-step-init
@@ -22,8 +24,7 @@ loop-step-init g c =
     record {
       run = HasRun-new c.args.desc.now c.args.programs.now c.args.node.now.node fresh.description fresh.empty fresh.pace;
       count = refl;
-      sent = subst (λ (bs : List ℕ). Sent (g.S.Sink.written c.args.out.now) (g.S.Sink.written c.args.out.now) bs) (sym (lines-none c.args.desc.now c.args.node.now.node.log fresh.empty.entries)) Sent-nil;
-      later = omega arith;
+      written = written-as (lines c.args.desc.now (one c.args.node.now.node.log)) written-nothing (lines-none c.args.desc.now c.args.node.now.node.log fresh.empty.entries);
       gone = stays-first c.args.written c.args.node.now.gone;
     }
 
@@ -36,10 +37,14 @@ returns-then-is_full-clause-gives g c =
     (leb-true RECORDS_MAX (length c.loop-step.node.node.log.entries) (sym c.is_full.ensures.full ∙ c.if-is_full.true)) in
     let keeps = keeps-by d c.loop-step.node.node i.run.description c.is_full.ensures.keeps in
     let timely = timely-at d c.args.programs.now c.steps-list.result.now c.loop-step.step-index c.loop-step.events c.loop-step.node.node i.run (omega (arith, below)) i.count in
-    ended-full d c.args.steps.now c.args.programs.now (g.S.Sink.written c.args.out.now) (g.S.Sink.written c.loop-step.out) (g.S.Sink.written c.write_last.new.out) (g.S.Sink.faults c.args.out.now)
-    (g.S.Sink.faults c.loop-step.out) (g.S.Sink.faults c.write_last.new.out) c.loop-step.node.node.log c.loop-step.events c.loop-step.events (with_report c.write_last.result.result (report_with c.loop-step.node.node.log c.write_last.result.events c.write_last.result.whole))
-    (reported d c.args.steps.now c.args.programs.now Full c.steps-list.result.now c.loop-step.node.node c.loop-step.events c.steps-list.ensures c.requires.programs.programs i.run.description c.is_full.ensures.keeps run _ refl)
-    refl (lines-last d c.loop-step.node.node.log c.loop-step.events keeps timely) i.sent i.later c.write_last.ensures
+    let l = c.loop-step.node.node.log in
+    let report = reported d c.args.steps.now c.args.programs.now Full c.steps-list.result.now c.loop-step.node.node c.loop-step.events c.steps-list.ensures c.requires.programs.programs i.run.description c.is_full.ensures.keeps run _ refl in
+    let put = c.write_last.ensures in
+    last-put d c.args.steps.now c.args.programs.now (g.S.Sink.written c.args.out.now) (g.S.Sink.written c.write_last.new.out) (g.S.Sink.faults c.args.out.now) (g.S.Sink.faults c.write_last.new.out) l c.loop-step.events false put.put
+    c.write_last.result put.is
+    (ended-full d (IsReportOf d c.args.steps.now c.args.programs.now) (g.S.Sink.written c.args.out.now) (g.S.Sink.written c.loop-step.out) (g.S.Sink.written c.write_last.new.out) (g.S.Sink.faults c.args.out.now)
+    (g.S.Sink.faults c.loop-step.out) (g.S.Sink.faults c.write_last.new.out) (report_with l c.loop-step.events false) (event_lines d (one l) c.loop-step.events) i.written report
+    (lines-last d l c.loop-step.events keeps timely) put.put put.puts)
 
 -- memory was refused before a step
 pub returns-then-is_err-clause-gives : goal.returns-then-is_err-clause-gives
@@ -53,13 +58,13 @@ returns-then-is_err-clause-gives g c =
     let mid_run = HasRun-same d ps (take c.loop-step.step-index list) c.loop-step.node.node mid c.make_room.ensures.same c.make_room.ensures.pace i.run in
     let within : c.loop-step.step-index ≤ length list = omega (arith, below) in
     let keeps = keeps-by d mid mid_run.description c.no_room.ensures.keeps in
-    let sent = subst (λ (bs : List ℕ). Sent (g.S.Sink.written c.args.out.now) (g.S.Sink.written c.loop-step.out) bs) (sym (lines-room d mid.log c.loop-step.node.node.log c.make_room.ensures.same.log)) i.sent in
+    let written = written-as (lines d (one mid.log)) i.written (lines-room d mid.log c.loop-step.node.node.log c.make_room.ensures.same.log) in
     let report = reported d c.args.steps.now ps Cut list mid c.loop-step.events c.steps-list.ensures c.requires.programs.programs mid_run.description c.no_room.ensures.keeps
     (run-cut d ps list c.loop-step.step-index c.loop-step.events mid mid_run within i.count) (report_with mid.log c.loop-step.events false) refl in
     let P : Pass → Type 0 = λ x. PassWrites d c.args.steps.now ps (g.S.Sink.written c.args.out.now) (g.S.Sink.written c.loop-step.out) (g.S.Sink.faults c.args.out.now) (g.S.Sink.faults c.loop-step.out) mid.log x in
     subst P (sym c.no_room.ensures.is)
-    (inr (stopped-behind d c.args.steps.now ps Cut (g.S.Sink.written c.args.out.now) (g.S.Sink.written c.loop-step.out) (g.S.Sink.written c.loop-step.out) mid.log c.loop-step.events c.loop-step.events report refl
-    (lines-last d mid.log c.loop-step.events keeps (timely-at d ps list c.loop-step.step-index c.loop-step.events mid mid_run within i.count)) sent SentPart-nil))
+    (stops-before d c.args.steps.now ps (g.S.Sink.written c.args.out.now) (g.S.Sink.written c.loop-step.out) (g.S.Sink.faults c.args.out.now) (g.S.Sink.faults c.loop-step.out) mid.log c.loop-step.events report
+    (lines-last d mid.log c.loop-step.events keeps (timely-at d ps list c.loop-step.step-index c.loop-step.events mid mid_run within i.count)) written)
 
 pub make-requires-clause-ready : goal.make-requires-clause-ready
 make-requires-clause-ready g c =
@@ -115,14 +120,11 @@ returns-in-Err-clause-gives g c =
     let new_run = HasRun-step d ps list c.loop-step.step-index c.loop-step.events c.step-item.result mid new mid_run c.loop-step-test.true count c.step-item.is (omega (arith, few, entries)) c.make.ensures.tells in
     let written = event-written d ps list c.loop-step.step-index c.loop-step.events (c.make.new.self.gone.entries + c.next_position-from.result) mid new _ mid_run (omega (arith, below)) count (keeps-by d mid mid_run.description c.next_position-from.ensures.keeps)
     (keeps-by d new new_run.description c.write_new.ensures.keeps) c.make.ensures.tells (omega (arith, position, gone)) in
-    let sent = subst (λ (bs : List ℕ). Sent (g.S.Sink.written c.args.out.now) (g.S.Sink.written c.loop-step.out) bs) (sym (lines-room d mid.log c.loop-step.node.node.log same.log)) i.sent in
+    let before = written-as (lines d (one mid.log)) i.written (lines-room d mid.log c.loop-step.node.node.log same.log) in
     let report = reported d c.args.steps.now ps Cut list new (c.loop-step.events + 1) c.steps-list.ensures c.requires.programs.programs new_run.description c.write_new.ensures.keeps
     (run-cut d ps list (c.loop-step.step-index + 1) (c.loop-step.events + 1) new new_run (omega (arith, below)) (omega (arith, count))) (report_with new.log (c.loop-step.events + 1) false) refl in
-    stopped-with d c.args.steps.now ps (g.S.Sink.written c.args.out.now) (g.S.Sink.written c.loop-step.out) (g.S.Sink.written c.write_new.new.out) (g.S.Sink.faults c.args.out.now) (g.S.Sink.faults c.loop-step.out)
-    (g.S.Sink.faults c.write_new.new.out) c.in-Err.fault (report_with new.log (c.loop-step.events + 1) false) c.stopped.result
-    (stopped-within d c.args.steps.now ps Cut (g.S.Sink.written c.args.out.now) (g.S.Sink.written c.loop-step.out) (g.S.Sink.written c.write_new.new.out) mid.log new.log (c.loop-step.events + 1) (c.loop-step.events + 1) _
-    report refl written.0 written.1 sent c.in-Err.ensures.writes.writes)
-    i.later c.in-Err.ensures.writes.cause c.stopped.ensures
+    stops-within d c.args.steps.now ps (g.S.Sink.written c.args.out.now) (g.S.Sink.written c.loop-step.out) (g.S.Sink.written c.write_new.new.out) (g.S.Sink.faults c.args.out.now) (g.S.Sink.faults c.loop-step.out)
+    (g.S.Sink.faults c.write_new.new.out) Cut mid.log new.log (c.loop-step.events + 1) (c.loop-step.events + 1) _ report refl written.0 written.1 before c.in-Err.fault c.stopped.result c.in-Err.ensures.writes c.stopped.ensures
 
 pub loop-step-preserved : goal.loop-step-preserved
 loop-step-preserved g c =
@@ -143,14 +145,11 @@ loop-step-preserved g c =
     let new_run = HasRun-step d ps list c.loop-step.step-index c.loop-step.events c.step-item.result mid new mid_run c.loop-step-test.true count c.step-item.is (omega (arith, few, entries)) c.make.ensures.tells in
     let written = event-written d ps list c.loop-step.step-index c.loop-step.events (c.make.new.self.gone.entries + c.next_position-from.result) mid new _ mid_run (omega (arith, below)) count (keeps-by d mid mid_run.description c.next_position-from.ensures.keeps)
     (keeps-by d new new_run.description c.write_new.ensures.keeps) c.make.ensures.tells (omega (arith, position, gone)) in
-    let sent = subst (λ (bs : List ℕ). Sent (g.S.Sink.written c.args.out.now) (g.S.Sink.written c.loop-step.out) bs) (sym (lines-room d mid.log c.loop-step.node.node.log same.log)) i.sent in
-    let later = i.later in
-    let rose = c.in_default.ensures.writes.later in
+    let before = written-as (lines d (one mid.log)) i.written (lines-room d mid.log c.loop-step.node.node.log same.log) in
     record {
       run = new_run;
       count = omega (arith, count);
-      sent = subst (λ (bs : List ℕ). Sent (g.S.Sink.written c.args.out.now) (g.S.Sink.written c.write_new.new.out) bs) (sym written.0) (Sent-trans sent c.in_default.ensures.writes.writes);
-      later = omega (arith, later, rose);
+      written = written-more _ (lines d (one new.log)) before c.in_default.ensures.writes written.0;
       gone = stays-then c.args.written c.args.node.now.gone c.loop-step.node.gone c.make_room.new.self.gone c.make.new.self.gone i.gone c.make_room.ensures.gone c.make.ensures.gone;
     }
 
@@ -164,13 +163,13 @@ returns-then-is_err-2-clause-gives g c =
     let mid = c.reserve.new.self.node in
     let mid_run = HasRun-same d ps (take c.loop-step.step-index list) c.loop-step.node.node mid c.reserve.ensures.same c.reserve.ensures.pace i.run in
     let keeps = keeps-by d mid mid_run.description c.no_room-then-is_err-2.ensures.keeps in
-    let sent = subst (λ (bs : List ℕ). Sent (g.S.Sink.written c.args.out.now) (g.S.Sink.written c.loop-step.out) bs) (sym (lines-room d mid.log c.loop-step.node.node.log c.reserve.ensures.same.log)) i.sent in
+    let written = written-as (lines d (one mid.log)) i.written (lines-room d mid.log c.loop-step.node.node.log c.reserve.ensures.same.log) in
     let report = reported d c.args.steps.now ps Cut list mid c.loop-step.events c.steps-list.ensures c.requires.programs.programs mid_run.description c.no_room-then-is_err-2.ensures.keeps
     (run-cut d ps list c.loop-step.step-index c.loop-step.events mid mid_run c.loop-step.auto.step-index-end i.count) (report_with mid.log c.loop-step.events false) refl in
     let P : Pass → Type 0 = λ x. PassWrites d c.args.steps.now ps (g.S.Sink.written c.args.out.now) (g.S.Sink.written c.loop-step.out) (g.S.Sink.faults c.args.out.now) (g.S.Sink.faults c.loop-step.out) mid.log x in
     subst P (sym c.no_room-then-is_err-2.ensures.is)
-    (inr (stopped-behind d c.args.steps.now ps Cut (g.S.Sink.written c.args.out.now) (g.S.Sink.written c.loop-step.out) (g.S.Sink.written c.loop-step.out) mid.log c.loop-step.events c.loop-step.events report refl
-    (lines-last d mid.log c.loop-step.events keeps (timely-at d ps list c.loop-step.step-index c.loop-step.events mid mid_run c.loop-step.auto.step-index-end i.count)) sent SentPart-nil))
+    (stops-before d c.args.steps.now ps (g.S.Sink.written c.args.out.now) (g.S.Sink.written c.loop-step.out) (g.S.Sink.faults c.args.out.now) (g.S.Sink.faults c.loop-step.out) mid.log c.loop-step.events report
+    (lines-last d mid.log c.loop-step.events keeps (timely-at d ps list c.loop-step.step-index c.loop-step.events mid mid_run c.loop-step.auto.step-index-end i.count)) written)
 
 pub seen-requires-clause-timely : goal.seen-requires-clause-timely
 seen-requires-clause-timely g c =
@@ -212,15 +211,13 @@ returns-in-Err-write_new-clause-gives g c =
     let is = c.seen.ensures.tells.description ∙ mid_run.description in
     let written = event-written d ps list c.loop-step.step-index c.loop-step.events (c.seen.new.self.gone.entries + c.next_position-from-2.result) mid new _ mid_run c.loop-step.auto.step-index-end i.count (keeps-by d mid mid_run.description c.next_position-from-2.ensures.keeps)
     (keeps-by d new is c.write_new-2.ensures.keeps) c.seen.ensures.tells (omega (arith, position, gone)) in
-    let sent = subst (λ (bs : List ℕ). Sent (g.S.Sink.written c.args.out.now) (g.S.Sink.written c.loop-step.out) bs) (sym (lines-room d mid.log c.loop-step.node.node.log same.log)) i.sent in
+    let before = written-as (lines d (one mid.log)) i.written (lines-room d mid.log c.loop-step.node.node.log same.log) in
     let run = run-whole d ps list c.loop-step.step-index c.loop-step.events mid new mid_run c.loop-step.auto.step-index-end (omega (arith, past)) i.count c.seen.ensures.tells in
     let report = reported d c.args.steps.now ps Whole list new c.loop-step.events c.steps-list.ensures c.requires.programs.programs is c.write_new-2.ensures.keeps run (report_with new.log c.loop-step.events true) refl in
     let last : suc c.loop-step.events ≡ c.loop-step.events + 1 = omega arith in
-    stopped-with d c.args.steps.now ps (g.S.Sink.written c.args.out.now) (g.S.Sink.written c.loop-step.out) (g.S.Sink.written c.write_new-2.new.out) (g.S.Sink.faults c.args.out.now) (g.S.Sink.faults c.loop-step.out)
-    (g.S.Sink.faults c.write_new-2.new.out) c.in-Err-write_new.fault (report_with new.log c.loop-step.events true) c.stopped-in-Err-write_new.result
-    (stopped-within d c.args.steps.now ps Whole (g.S.Sink.written c.args.out.now) (g.S.Sink.written c.loop-step.out) (g.S.Sink.written c.write_new-2.new.out) mid.log new.log c.loop-step.events (c.loop-step.events + 1) _
-    report last written.0 written.1 sent c.in-Err-write_new.ensures.writes.writes)
-    i.later c.in-Err-write_new.ensures.writes.cause c.stopped-in-Err-write_new.ensures
+    stops-within d c.args.steps.now ps (g.S.Sink.written c.args.out.now) (g.S.Sink.written c.loop-step.out) (g.S.Sink.written c.write_new-2.new.out) (g.S.Sink.faults c.args.out.now) (g.S.Sink.faults c.loop-step.out)
+    (g.S.Sink.faults c.write_new-2.new.out) Whole mid.log new.log c.loop-step.events (c.loop-step.events + 1) _ report last written.0 written.1 before c.in-Err-write_new.fault c.stopped-in-Err-write_new.result
+    c.in-Err-write_new.ensures.writes c.stopped-in-Err-write_new.ensures
 
 -- all was made, and the last line is owed
 pub returns-clause-gives : goal.returns-clause-gives
@@ -241,25 +238,22 @@ returns-clause-gives g c =
     let keeps = keeps-by d new is c.write_new-2.ensures.keeps in
     let written = event-written d ps list c.loop-step.step-index c.loop-step.events (c.seen.new.self.gone.entries + c.next_position-from-2.result) mid new _ mid_run c.loop-step.auto.step-index-end i.count (keeps-by d mid mid_run.description c.next_position-from-2.ensures.keeps)
     keeps c.seen.ensures.tells (omega (arith, position, gone)) in
-    let sent = subst (λ (bs : List ℕ). Sent (g.S.Sink.written c.args.out.now) (g.S.Sink.written c.loop-step.out) bs) (sym (lines-room d mid.log c.loop-step.node.node.log same.log)) i.sent in
-    let all = subst (λ (bs : List ℕ). Sent (g.S.Sink.written c.args.out.now) (g.S.Sink.written c.write_new-2.new.out) bs) (sym written.0) (Sent-trans sent c.in_default-write_new.ensures.writes.writes) in
+    let before = written-as (lines d (one mid.log)) i.written (lines-room d mid.log c.loop-step.node.node.log same.log) in
+    let all = written-more _ (lines d (one new.log)) before c.in_default-write_new.ensures.writes written.0 in
     let run = run-whole d ps list c.loop-step.step-index c.loop-step.events mid new mid_run c.loop-step.auto.step-index-end (omega (arith, past)) i.count c.seen.ensures.tells in
     let report = reported d c.args.steps.now ps Whole list new c.loop-step.events c.steps-list.ensures c.requires.programs.programs is c.write_new-2.ensures.keeps run (report_with new.log c.loop-step.events true) refl in
     let last : suc c.loop-step.events ≡ c.loop-step.events + 1 = omega arith in
-    let later = i.later in
-    let rose = c.in_default-write_new.ensures.writes.later in
-    ended-whole d c.args.steps.now ps (g.S.Sink.written c.args.out.now) (g.S.Sink.written c.write_new-2.new.out) (g.S.Sink.written c.write_last-2.new.out) (g.S.Sink.faults c.args.out.now) (g.S.Sink.faults c.write_new-2.new.out)
-    (g.S.Sink.faults c.write_last-2.new.out) new.log c.loop-step.events (c.loop-step.events + 1) (with_report c.write_last-2.result.result (report_with new.log c.write_last-2.result.events c.write_last-2.result.whole)) report last
-    (lines-last d new.log (c.loop-step.events + 1) keeps c.seen.ensures.tells.grows.timely) all (omega (arith, later, rose)) c.write_last-2.ensures
+    let put = c.write_last-2.ensures in
+    let covers = subst (λ (n : ℕ). lines d (one new.log) ≡ flat_map (event_lines d (one new.log)) (below n) ++ event_lines d (one new.log) n) (sym last) (lines-last d new.log (c.loop-step.events + 1) keeps c.seen.ensures.tells.grows.timely) in
+    last-put d c.args.steps.now ps (g.S.Sink.written c.args.out.now) (g.S.Sink.written c.write_last-2.new.out) (g.S.Sink.faults c.args.out.now) (g.S.Sink.faults c.write_last-2.new.out) new.log c.loop-step.events true put.put
+    c.write_last-2.result put.is
+    (ended-whole d (IsReportOf d c.args.steps.now ps) (g.S.Sink.written c.args.out.now) (g.S.Sink.written c.write_new-2.new.out) (g.S.Sink.written c.write_last-2.new.out) (g.S.Sink.faults c.args.out.now)
+    (g.S.Sink.faults c.write_new-2.new.out) (g.S.Sink.faults c.write_last-2.new.out) (report_with new.log c.loop-step.events true) (event_lines d (one new.log) (suc c.loop-step.events)) all report covers put.put put.puts)
 
 -- ---- the sink's faults, and what is gone
 
 pub returns-then-is_full-clause-later : goal.returns-then-is_full-clause-later
-returns-then-is_full-clause-later g c =
-    let later = c.loop-step.invariant.later in
-    let rose = ended-later (report_with c.loop-step.node.node.log c.loop-step.events false) (g.S.Sink.written c.loop-step.out) (g.S.Sink.written c.write_last.new.out) (g.S.Sink.faults c.loop-step.out) (g.S.Sink.faults c.write_last.new.out)
-    (with_report c.write_last.result.result (report_with c.loop-step.node.node.log c.write_last.result.events c.write_last.result.whole)) c.write_last.ensures in
-    omega (arith, later, rose)
+returns-then-is_full-clause-later g c = let later = c.loop-step.invariant.written.later in let rose = c.write_last.ensures.puts.later in omega (arith, later, rose)
 
 pub returns-then-is_full-clause-gone : goal.returns-then-is_full-clause-gone
 returns-then-is_full-clause-gone g c = c.loop-step.invariant.gone
@@ -270,28 +264,28 @@ make_room-requires g c =
     omega (arith, few)
 
 pub returns-then-is_err-clause-later : goal.returns-then-is_err-clause-later
-returns-then-is_err-clause-later g c = c.loop-step.invariant.later
+returns-then-is_err-clause-later g c = c.loop-step.invariant.written.later
 
 pub returns-then-is_err-clause-gone : goal.returns-then-is_err-clause-gone
 returns-then-is_err-clause-gone g c =
     stays-then c.args.written c.args.node.now.gone c.loop-step.node.gone c.make_room.new.self.gone c.make_room.new.self.gone c.loop-step.invariant.gone c.make_room.ensures.gone refl
 
 pub returns-in-Err-clause-later : goal.returns-in-Err-clause-later
-returns-in-Err-clause-later g c = let later = c.loop-step.invariant.later in let rose = c.in-Err.ensures.writes.later in omega (arith, later, rose)
+returns-in-Err-clause-later g c = let later = c.loop-step.invariant.written.later in let rose = c.in-Err.ensures.writes.later in omega (arith, later, rose)
 
 pub returns-in-Err-clause-gone : goal.returns-in-Err-clause-gone
 returns-in-Err-clause-gone g c =
     stays-then c.args.written c.args.node.now.gone c.loop-step.node.gone c.make_room.new.self.gone c.make.new.self.gone c.loop-step.invariant.gone c.make_room.ensures.gone c.make.ensures.gone
 
 pub returns-then-is_err-2-clause-later : goal.returns-then-is_err-2-clause-later
-returns-then-is_err-2-clause-later g c = c.loop-step.invariant.later
+returns-then-is_err-2-clause-later g c = c.loop-step.invariant.written.later
 
 pub returns-then-is_err-2-clause-gone : goal.returns-then-is_err-2-clause-gone
 returns-then-is_err-2-clause-gone g c =
     stays-back c.args.written c.args.node.now.gone c.loop-step.node.gone c.reserve.new.self.gone c.loop-step.invariant.gone c.reserve.ensures.gone
 
 pub returns-in-Err-write_new-clause-later : goal.returns-in-Err-write_new-clause-later
-returns-in-Err-write_new-clause-later g c = let later = c.loop-step.invariant.later in let rose = c.in-Err-write_new.ensures.writes.later in omega (arith, later, rose)
+returns-in-Err-write_new-clause-later g c = let later = c.loop-step.invariant.written.later in let rose = c.in-Err-write_new.ensures.writes.later in omega (arith, later, rose)
 
 pub returns-in-Err-write_new-clause-gone : goal.returns-in-Err-write_new-clause-gone
 returns-in-Err-write_new-clause-gone g c =
@@ -299,10 +293,9 @@ returns-in-Err-write_new-clause-gone g c =
 
 pub returns-clause-later : goal.returns-clause-later
 returns-clause-later g c =
-    let later = c.loop-step.invariant.later in
+    let later = c.loop-step.invariant.written.later in
     let wrote = c.in_default-write_new.ensures.writes.later in
-    let rose = ended-later (report_with c.seen.new.self.node.log c.loop-step.events true) (g.S.Sink.written c.write_new-2.new.out) (g.S.Sink.written c.write_last-2.new.out) (g.S.Sink.faults c.write_new-2.new.out)
-    (g.S.Sink.faults c.write_last-2.new.out) (with_report c.write_last-2.result.result (report_with c.seen.new.self.node.log c.write_last-2.result.events c.write_last-2.result.whole)) c.write_last-2.ensures in
+    let rose = c.write_last-2.ensures.puts.later in
     omega (arith, later, wrote, rose)
 
 pub returns-clause-gone : goal.returns-clause-gone

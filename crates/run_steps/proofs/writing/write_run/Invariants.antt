@@ -1,5 +1,5 @@
-use Rattle.std.proofs.Common.{◌≡◌, ◌≤◌, take}
-use Rattle.mate_files.specs.Sink.{Sent}
+use Rattle.std.proofs.Common.{◌≡◌, take}
+use Rattle.run_writing.specs.Writing.{HasWritten}
 use Rattle.report_text.specs.Text.{lines}
 use Rattle.run_steps.specs.Running.{HasRun}
 use Rattle.run_steps.specs.Keeping.{StaysAsToldTo}
@@ -10,7 +10,6 @@ abbrev pub invariant-loop-step : goal.invariant-loop-step
 invariant-loop-step g l = record {
   run : HasRun l.desc l.programs (take l.step-index l.list) l.node.node;
   count : l.events ≡ l.step-index;
-  sent : Sent (g.S.Sink.written l.fn.out) (g.S.Sink.written l.out) (lines l.desc (one l.node.node.log));
-  later : g.S.Sink.faults l.fn.out ≤ g.S.Sink.faults l.out;
+  written : HasWritten (g.S.Sink.written l.fn.out) (g.S.Sink.faults l.fn.out) (g.S.Sink.written l.out) (g.S.Sink.faults l.out) (lines l.desc (one l.node.node.log));
   gone : StaysAsToldTo l.written l.fn.node.gone l.node.gone;
 }
