@@ -22,7 +22,7 @@ use mate_journal::{Programs, RECORDS_MAX};
 use mate_num::Stamp;
 use radio_sim::Event;
 use report_text::{write_end, write_event};
-use run_writing::{WriteFault, stopped};
+use run_writing::{WriteFault, ended, stopped};
 use std::alloc::Global;
 use vm_desc::Description;
 use world_script::World;
@@ -41,6 +41,7 @@ pub fn write_world<S: Sink>(
 ) -> Result<(), WriteFault>
     requires { AreProgramsOfWorld desc.now world.now programs.now }
     ensures gives { WritesRun desc.now (IsReportOfWorld desc.now world.now programs.now) (S.written out.old) (S.written out.new) (S.faults out.old) (S.faults out.new) result }
+    ensures later { S.faults out.old ≤ S.faults out.new }
 {
     reports_keep_the_promise();
     states_are_sound();
@@ -80,7 +81,8 @@ fn write_start<S: Sink>(
 ) -> Result<(), WriteFault>
     requires right { AreProgramsOfWorld desc.now world.now programs.now }
     requires stands { StandsAfter (code_world desc.now world.now programs.now) 0 sim.now }
-    ensures { IsStartWritten desc.now (code_world desc.now world.now programs.now) sim.now (S.written out.old) (S.faults out.old) (S.written out.new) (S.faults out.new) result }
+    ensures writes { IsStartWritten desc.now (code_world desc.now world.now programs.now) sim.now (S.written out.old) (S.faults out.old) (S.written out.new) (S.faults out.new) result }
+    ensures later { S.faults out.old ≤ S.faults out.new }
 {
     text_grows_by_events();
     logs_are_kept(sim.motes.as_slice());
@@ -109,7 +111,8 @@ fn write_step<S: Sink>(
     requires right { AreProgramsOfWorld desc.now world.now programs.now }
     requires stands { StandsAtNext (code_world desc.now world.now programs.now) event.now at sim.old }
     requires kept { AreKept sim.old.motes.items }
-    ensures { IsStepWritten desc.now (code_world desc.now world.now programs.now) at.event sim.old sim.new (S.written out.old) (S.faults out.old) (S.written out.new) (S.faults out.new) result }
+    ensures writes { IsStepWritten desc.now (code_world desc.now world.now programs.now) at.event sim.old sim.new (S.written out.old) (S.faults out.old) (S.written out.new) (S.faults out.new) result }
+    ensures later { S.faults out.old ≤ S.faults out.new }
 {
     let Ok(piece) = sim.step(desc, world, programs, event, at) else {
         return Err(WriteFault::NoMemory);
@@ -132,12 +135,10 @@ fn write_full<S: Sink>(
 ) -> Result<(), WriteFault>
     requires right { AreProgramsOfWorld desc.now world.now programs.now }
     requires ends { StandsAtEnd (code_world desc.now world.now programs.now) Full events sim.now }
-    ensures { EndsSo desc.now (code_world desc.now world.now programs.now) sim.now (S.written out.old) (S.faults out.old) (S.written out.new) (S.faults out.new) result }
+    ensures writes { EndsSo desc.now (code_world desc.now world.now programs.now) sim.now (S.written out.old) (S.faults out.old) (S.written out.new) (S.faults out.new) result }
+    ensures later { S.faults out.old ≤ S.faults out.new }
 {
-    match write_last(sim, events, false, out) {
-        Ok(()) => Err(WriteFault::LogFull),
-        Err(fault) => Err(stopped(fault)),
-    }
+    ended(false, write_last(sim, events, false, out))
 }
 
 /// Each node's store is seen; their lines are written, and the last line.
@@ -153,7 +154,8 @@ fn write_ending<S: Sink>(
     requires right { AreProgramsOfWorld desc.now world.now programs.now }
     requires ends { StandsAtEnd (code_world desc.now world.now programs.now) Whole events sim.old }
     requires few { events < 18446744073709551615 }
-    ensures { EndsSo desc.now (code_world desc.now world.now programs.now) sim.old (S.written out.old) (S.faults out.old) (S.written out.new) (S.faults out.new) result }
+    ensures writes { EndsSo desc.now (code_world desc.now world.now programs.now) sim.old (S.written out.old) (S.faults out.old) (S.written out.new) (S.faults out.new) result }
+    ensures later { S.faults out.old ≤ S.faults out.new }
 {
     text_grows_by_events();
     let at = Stamp {
@@ -167,10 +169,7 @@ fn write_ending<S: Sink>(
     if let Err(fault) = write_stores(desc, sim.motes.as_slice(), out) {
         return Err(stopped(fault));
     }
-    match write_last(sim, events, true, out) {
-        Ok(()) => Ok(()),
-        Err(fault) => Err(stopped(fault)),
-    }
+    ended(true, write_last(sim, events, true, out))
 }
 
 /// Writes an event's lines.
