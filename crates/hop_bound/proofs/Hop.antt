@@ -226,7 +226,7 @@ get-is [] k l below is = absurd (omega (arith, below))
 get-is (x ∷ ls) zero l below is = ap (λ (y : Link). Some y) is
 get-is (x ∷ ls) (suc k) l below is = get-is ls k l (omega (arith, below)) is
 
-pub link-at : (w : World) (a b : ℕ) → HasLink w a b → (j : ℕ) × Among j (links_from w a) × (receiver w j ≡ b)
+pub link-at : (w : World) (a b : ℕ) → HasLink w.links a b → (j : ℕ) × Among j (links_from w a) × (receiver w j ≡ b)
 link-at w a b linked = (linked.among.0, leaves_a, got_by_b) where
   got : slice_get w.links linked.among.0 ≡ Some linked.link
   got = get-is w.links linked.among.0 linked.link linked.among.1 linked.among.2

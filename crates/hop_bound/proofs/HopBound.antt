@@ -26,7 +26,7 @@ use Rattle.hop_bound.proofs.Spreading.{UpTo, up-to, spreads_in_time}
 -- ---- times don't fall
 
 -- an event isn't later than the last one
-times-rise : (w : World) (newer older : List Moment) (x : Moment) → HaveCome w (newer ++ (x ∷ older)) → x.time ≤ last_time (newer ++ (x ∷ older))
+pub times-rise : (w : World) (newer older : List Moment) (x : Moment) → HaveCome w (newer ++ (x ∷ older)) → x.time ≤ last_time (newer ++ (x ∷ older))
 times-rise w [] older x come = omega arith
 times-rise w (m ∷ newer) older x come =
     let later : last_time (newer ++ (x ∷ older)) ≤ m.time = last-before (state w (newer ++ (x ∷ older))) (last_time (newer ++ (x ∷ older))) m.time m.cause (run-past w (newer ++ (x ∷ older)) come.0) come.1.next in
@@ -50,10 +50,10 @@ inject-held w s m i p is injects =
 
 -- ---- where an event stands
 
-head-is : (x y : Moment) (xs ys : List Moment) → x ∷ xs ≡ y ∷ ys → x ≡ y
+pub head-is : (x y : Moment) (xs ys : List Moment) → x ∷ xs ≡ y ∷ ys → x ≡ y
 head-is x y xs ys e = cc
 
-tail-is : (x y : Moment) (xs ys : List Moment) → x ∷ xs ≡ y ∷ ys → xs ≡ ys
+pub tail-is : (x y : Moment) (xs ys : List Moment) → x ∷ xs ≡ y ∷ ys → xs ≡ ys
 tail-is x y xs ys e = cc
 
 -- x is among the events behind m, is m, or came before it

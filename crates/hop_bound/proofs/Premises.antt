@@ -77,28 +77,28 @@ pairs-at R xs i j a b all is_a is_b less =
     (subst (λ y. R (slice_index_or xs i a) y) (get_or_from_slice_get xs j b a is_b) (all i j a less (slice_get_within xs j b is_b)))
 
 -- the line of a script at a place
-record IsPlannedAt (script : Script) (programs : ℕ → HeldProgram) (i : ℕ) (l : PlannedLine) : Type 0 where
-  planned : Planned
-  stands : slice_get script.events i ≡ Some planned
-  line : line_planned programs planned ≡ l
+pub record IsPlannedAt (script : Script) (programs : ℕ → HeldProgram) (i : ℕ) (l : PlannedLine) : Type 0 where
+  pub planned : Planned
+  pub stands : slice_get script.events i ≡ Some planned
+  pub line : line_planned programs planned ≡ l
 
-planned-at : (script : Script) (programs : ℕ → HeldProgram) (i : ℕ) (l : PlannedLine) → slice_get (map (line_planned programs) script.events) i ≡ Some l → IsPlannedAt script programs i l
+pub planned-at : (script : Script) (programs : ℕ → HeldProgram) (i : ℕ) (l : PlannedLine) → slice_get (map (line_planned programs) script.events) i ≡ Some l → IsPlannedAt script programs i l
 planned-at script programs i l e = by (slice_get script.events i) refl (sym (slice_get-map (line_planned programs) script.events i) ∙ e) where
   by : (o : Option Planned) → slice_get script.events i ≡ o → option_map (line_planned programs) o ≡ Some l → IsPlannedAt script programs i l
   by None is clash = cc
   by (Some x) is found = record { planned = x; stands = is; line = (let same : line_planned programs x ≡ l = cc in same) }
 
 -- what a line that injects a program says
-record SaysInject (script : Script) (programs : ℕ → HeldProgram) (i : ℕ) (p : HeldProgram) : Type 0 where
-  planned : Planned
-  stands : slice_get script.events i ≡ Some planned
-  program : ℕ
-  handler : HandlerId
-  version : ℕ
-  what_is : planned.what ≡ what.Inject program handler version
-  program_is : programs program ≡ p
+pub record SaysInject (script : Script) (programs : ℕ → HeldProgram) (i : ℕ) (p : HeldProgram) : Type 0 where
+  pub planned : Planned
+  pub stands : slice_get script.events i ≡ Some planned
+  pub program : ℕ
+  pub handler : HandlerId
+  pub version : ℕ
+  pub what_is : planned.what ≡ what.Inject program handler version
+  pub program_is : programs program ≡ p
 
-says-inject : (d : Description) (meaning : Meaning) (clock : Clock) (script : Script) (programs : ℕ → HeldProgram) (i : ℕ) (p : HeldProgram) → InjectsAt (world_of d meaning clock script programs) i p → SaysInject script programs i p
+pub says-inject : (d : Description) (meaning : Meaning) (clock : Clock) (script : Script) (programs : ℕ → HeldProgram) (i : ℕ) (p : HeldProgram) → InjectsAt (world_of d meaning clock script programs) i p → SaysInject script programs i p
 says-inject d meaning clock script programs i p injects =
     by (planned-at script programs i injects.0 injects.1) where
       wants : (x : Planned) (y : What) → slice_get script.events i ≡ Some x → x.what ≡ y → want_of programs y ≡ Inject p → SaysInject script programs i p

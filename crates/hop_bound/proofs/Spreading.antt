@@ -37,7 +37,7 @@ quiet-parts w h before older (m ∷ newer) quiet =
     (rest.0, (rest.1, subst (λ (ms : List Moment). IsQuiet w h (state w ms) m) (append_assoc newer older before) quiet.1))
 
 -- a node that has links is one of the world's
-linked-node : (w : World) (c b : ℕ) → IsOpenWorld w → HasLink w c b → c < w.nodes
+linked-node : (w : World) (c b : ℕ) → IsOpenWorld w → HasLink w.links c b → c < w.nodes
 linked-node w c b open_ linked = omega (arith, (open_.ends linked.link linked.among).0, linked.from)
 
 more_time : (l time d : ℕ) → time + l * suc d ≡ time + l * d + l

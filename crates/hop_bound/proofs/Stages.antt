@@ -162,7 +162,7 @@ sparing-all w v now (m ∷ rest) a h right same come newest quiet holds = (
 )
 
 -- a slot of the version that is marked is sent, and its fragment comes to stand with a neighbour that seeks the version
-stage-slot : (w : World) (v : Version) (now rest : List Moment) (by a b i time : ℕ) → IsOpenWorld w → IsWorldVersion w v → Onward w v now rest by → a < w.nodes → HasLink w a b → i < count_of v.image
+stage-slot : (w : World) (v : Version) (now rest : List Moment) (by a b i time : ℕ) → IsOpenWorld w → IsWorldVersion w v → Onward w v now rest by → a < w.nodes → HasLink w.links a b → i < count_of v.image
     → last_time now ≤ time → time + handlers w * 22 * w.description.radio.gap + w.description.radio.delay ≤ by
     → is_marked_slot ((state w now).nodes a).exchange (22 * v.handler + i) ≡ true → At w (Holding v) a now → At w (Seeks v (λ k. ⊥)) b now → At w (Seeks v (λ k. k ≡ i)) b (rest ++ now)
 stage-slot w v now rest by a b i time open_ right on below linked within last room marked holds seeks = pumped (sends_in_time w open_.set a slot time now rest below slot_low on.come last marked spares (λ t early. on.done t (omega (arith, early, room)))) where
@@ -214,7 +214,7 @@ stage-slot w v now rest by a b i time open_ right on below linked within last ro
 
 -- ---- the request
 
-stage-status : (w : World) (v : Version) (now rest : List Moment) (by a b i j number missing t : ℕ) → IsOpenWorld w → IsWorldVersion w v → Onward w v now rest by → a < w.nodes → HasLink w a b → i < count_of v.image
+stage-status : (w : World) (v : Version) (now rest : List Moment) (by a b i j number missing t : ℕ) → IsOpenWorld w → IsWorldVersion w v → Onward w v now rest by → a < w.nodes → HasLink w.links a b → i < count_of v.image
     → t + handlers w * 22 * w.description.radio.gap + w.description.radio.delay ≤ by → receiver w j ≡ a → bit_at missing i ≡ 1
     → Among (event.Deliver j number (own_status v missing)) ((state w now).due t) → At w (Holding v) a now → At w (Seeks v (λ k. ⊥)) b now → At w (Seeks v (λ k. k ≡ i)) b (rest ++ now)
 stage-status w v now rest by a b i j number missing t open_ right on below linked within room to_a bit waits holds seeks =
@@ -243,7 +243,7 @@ stage-status w v now rest by a b i j number missing t open_ right on below linke
 
 -- ---- the Vector
 
-stage-vector : (w : World) (v : Version) (now rest : List Moment) (by a b i j number t : ℕ) (versions : ArrayVec ℕ) → IsOpenWorld w → IsWorldVersion w v → Onward w v now rest by → a < w.nodes → HasLink w a b → HasLink w b a → i < count_of v.image
+stage-vector : (w : World) (v : Version) (now rest : List Moment) (by a b i j number t : ℕ) (versions : ArrayVec ℕ) → IsOpenWorld w → IsWorldVersion w v → Onward w v now rest by → a < w.nodes → HasLink w.links a b → HasLink w.links b a → i < count_of v.image
     → t + w.description.radio.delay + handlers w * 22 * w.description.radio.gap + w.description.radio.delay ≤ by → receiver w j ≡ b → slice_index versions.items v.handler ≡ v.version
     → Among (event.Deliver j number (Vector versions)) ((state w now).due t) → At w (Holding v) a now → At w (Seeks v (λ k. k ≡ i)) b (rest ++ now)
 stage-vector w v now rest by a b i j number t versions open_ right on below linked back within room to_b value waits holds =
@@ -297,7 +297,7 @@ never-resets : (w : World) (h a : ℕ) (now rest : List Moment) → AreQuiet w h
 never-resets w h a now [] quiet = tt
 never-resets w h a now (m ∷ rest) quiet = (never-resets w h a now rest quiet.0, λ here. quiet.1.no_reset)
 
-stage-fire : (w : World) (v : Version) (a b i time : ℕ) (before later : List Moment) → IsOpenWorld w → IsWorldVersion w v → Onward w v before later (time + 3 * longest w.description.trickle) → a < w.nodes → HasLink w a b → HasLink w b a
+stage-fire : (w : World) (v : Version) (a b i time : ℕ) (before later : List Moment) → IsOpenWorld w → IsWorldVersion w v → Onward w v before later (time + 3 * longest w.description.trickle) → a < w.nodes → HasLink w.links a b → HasLink w.links b a
     → last_time before ≤ time → i < count_of v.image → At w (Holding v) a before → At w (Seeks v (λ k. k ≡ i)) b (later ++ before)
 stage-fire w v a b i time before later open_ right on below linked back last within holds =
     fired (fires_in_time w open_.set a time before later below on.come last (never-resets w v.handler a before later on.quiet) (λ t early. on.done t (omega (arith, early)))) where

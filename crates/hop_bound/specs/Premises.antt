@@ -82,7 +82,7 @@ abbrev pub InjectedIsInstalled : Type 0
 InjectedIsInstalled = (d : Description) (meaning : Meaning) (clock : Clock) (script : Script) (programs : ℕ → HeldProgram) → IsRightScript d script programs → IsOpenScript script
     → (before later : List Moment) (m : Moment) (i b hops : ℕ) (p : HeldProgram)
     → (let w = world_of d meaning clock script programs in
-    HaveCome w (later ++ (m ∷ before)) → m.cause ≡ event.Planned i → InjectsAt w i p → IsAway w (event_node w m.cause) b hops
+    HaveCome w (later ++ (m ∷ before)) → m.cause ≡ event.Planned i → InjectsAt w i p → IsAway w.links (event_node w m.cause) b hops
     → IsUndisturbed w p (m.time + 3 * longest d.trickle * hops) (m ∷ before) later
     → IsDone (state w (later ++ (m ∷ before))) (m.time + 3 * longest d.trickle * hops)
     → InstalledBy w p b (m.time + 3 * longest d.trickle * hops) (m ∷ before) later)

@@ -56,7 +56,7 @@ runs-other k m n whole (step ∷ steps) records r p count es (inr made) =
     (runs-other k m (suc n) whole steps (records + length made.front) (heard_all m r made.front) made.pace made.others made.rest made.goes_on)))
 
 -- events of one number that tell the same are the same
-events-once : (n : ℕ) (es fs : List Event) → AreOfEvent n es → AreOfEvent n fs → told_by es ≡ told_by fs → es ≡ fs
+pub events-once : (n : ℕ) (es fs : List Event) → AreOfEvent n es → AreOfEvent n fs → told_by es ≡ told_by fs → es ≡ fs
 events-once n [] [] of of' same = refl
 events-once n [] (f ∷ fs) of of' same = cc
 events-once n (e ∷ es) [] of of' same = cc

@@ -12,7 +12,7 @@ use Rattle.mate_documents.specs.Check.{check}
 use Rattle.mate_documents.specs.Compile.{compile}
 use Rattle.mate_documents.specs.Expand.{expand}
 use Rattle.mate_cli.specs.Node.{node}
-use Rattle.mate_cli.specs.Worlds.{IsReportOfWorld, sim, made_run}
+use Rattle.mate_cli.specs.Worlds.{sim, made_run}
 use Rattle.mate_documents.specs.Documents.{document_text, is_full}
 use Rattle.mate_steps.specs.Parts.{Folder, IsUnreadAnswer}
 use Rattle.mate_steps.specs.Steps.{judged, ◌▸◌}
@@ -26,6 +26,7 @@ use Rattle.report_text.specs.Text.{text}
 use Rattle.run_steps.specs.Running.{IsReportOf}
 use Rattle.run_writing.specs.Writing.{OfRun, IsWrittenPart, IsNothingRun}
 use Rattle.vm_desc.specs.declared.description.Description.{Description}
+use Rattle.world_sim.specs.Promise.{IsReportOfWorld}
 
 abbrev pub command : Folder → Task → Result Output Refusal → Type 0
 command f (Node fold brief vm script) = node f fold brief vm script

@@ -1,24 +1,11 @@
 -- The commands `sim` and `gen`: the run of a world with its programs, or the summary of its report.
-use Rattle.std.specs.Prelude.{◌≡◌, ◌⊎◌, ◌+◌, ◌*◌, ℕ, Bool, true, false, List, ◌∷◌, ◌++◌, Result}
-use Rattle.mate_journal.specs.NodeScript.{RunEnd, Whole, Full}
+use Rattle.std.specs.Prelude.{◌≡◌, ◌⊎◌, ℕ, Bool, true, false, List, Result}
+use Rattle.mate_journal.specs.NodeScript.{Whole, Full}
 use Rattle.mate_journal.specs.declared.program.Program.{Program}
 use Rattle.mate_journal.specs.declared.report.Report.{Report}
-use Rattle.report_text.specs.Tidy.{IsTidy}
 use Rattle.vm_desc.specs.declared.description.Description.{Description}
-use Rattle.world_rules.specs.Report.{IsWorldReport}
-use Rattle.world_rules.specs.Cause as event
-use Rattle.world_rules.specs.Effect.{event_node}
-use Rattle.world_rules.specs.World.{World as Rules}
-use Rattle.world_rules.specs.State.{Moment, state}
-use Rattle.world_rules.specs.Run.{IsDone}
-use Rattle.world_images.specs.Versions.{InjectsAt}
-use Rattle.hop_bound.specs.Hops.{IsAway}
-use Rattle.hop_bound.specs.HopBound.{IsUndisturbed}
-use Rattle.hop_bound.specs.Premises.{IsOpenScript, InstalledBy}
-use Rattle.mate_journal.specs.Machine.{HeldProgram}
-use Rattle.vm_desc.specs.Limits.{longest}
 use Rattle.world_script.specs.declared.world.World.{World}
-use Rattle.world_sources.specs.SourceWorld.{source_world}
+use Rattle.world_sim.specs.Promise.{IsReportOfWorld}
 use Rattle.world_programs.specs.Injected.{world_programs}
 use Rattle.world_programs.specs.Made.{made}
 use Rattle.world_programs.specs.WorldFiles.{world}
@@ -29,21 +16,7 @@ use Rattle.mate_documents.specs.declared.output.Output.TheVariants as output
 use Rattle.mate_documents.specs.declared.document.Document.TheVariants as document
 use Rattle.mate_refusals.specs.declared.refusal.Refusal.{Refusal}
 
--- Of each injected program of a world of these events, where no newer one is injected and no node resets for 3 * L * hops: the nodes so
--- many hops away install it by then, and hold it or a newer one ever after.
-abbrev pub KeepsHopBound : Description → Rules → List Moment → Type 0
-KeepsHopBound d w ms = (before later : List Moment) (m : Moment) (i b hops : ℕ) (p : HeldProgram) → later ++ (m ∷ before) ≡ ms → m.cause ≡ event.Planned i → InjectsAt w i p → IsAway w (event_node w m.cause) b hops
-    → IsUndisturbed w p (m.time + 3 * longest d.trickle * hops) (m ∷ before) later → IsDone (state w ms) (m.time + 3 * longest d.trickle * hops)
-    → InstalledBy w p b (m.time + 3 * longest d.trickle * hops) (m ∷ before) later
-
--- the report of a run of the world with its programs, by their sources; it is tidy, so that its text is read back; and where suppression
--- is off and no link loses a packet, it keeps the hop bound
-pub record IsReportOfWorld (d : Description) (w : World) (ps : List Program) (how : RunEnd) (r : Report) : Type 0 where
-  pub run : IsWorldReport (source_world d w ps) how r
-  pub tidy : IsTidy d r
-  pub hops : IsOpenScript w → KeepsHopBound d (source_world d w ps) run.moments
-
--- one of a run that is whole, or was ended by a full log
+-- the report of a run that is whole, or was ended by a full log
 abbrev pub IsEndedWorldReport : Description → World → List Program → Report → Type 0
 IsEndedWorldReport d w ps r = IsReportOfWorld d w ps Whole r ⊎ IsReportOfWorld d w ps Full r
 

@@ -7,16 +7,13 @@ ghost use Rattle.mate_refusals.specs.declared.refusal.Refusal.TheVariants.{NoMem
 ghost use Rattle.report_text.specs.Tidy.{IsTidy};
 ghost use Rattle.node_programs.specs.WorldPrograms.{AreProgramsOfWorld};
 
-use hop_bound::scripts_keep_the_bound;
 use mate_documents::{BoxedMachine, Document, Output};
 use mate_journal::{Programs, Report, RunFault};
 use mate_refusals::Refusal;
 use std::alloc::Global;
 use vm_desc::Description;
-use world_reports::world_report_is_tidy;
 use world_script::World;
 use world_sim::run;
-use world_sources::worlds_hold_by_their_sources;
 
 /// The run of a world with these programs, or the summary of its report.
 #[inline(never)]
@@ -68,9 +65,6 @@ fn reported(
     ensures does { world_reported desc.now world.now programs.now result }
     ensures tidy { IfOk result (IsTidy desc.now) }
 {
-    scripts_keep_the_bound();
-    world_report_is_tidy();
-    worlds_hold_by_their_sources();
     match run(alloc, desc, world, programs) {
         Ok(report) => Ok(report),
         Err(RunFault::LogFull(report)) => Ok(report),

@@ -1,6 +1,6 @@
 //! The writing of an output, and its status.
 
-ghost use Rattle.mate_cli.specs.Worlds.{IsReportOfWorld};
+ghost use Rattle.world_sim.specs.Promise.{IsReportOfWorld};
 ghost use Rattle.run_steps.specs.Running.{IsReportOf};
 ghost use Rattle.node_programs.specs.WorldPrograms.{AreProgramsOfWorld};
 ghost use Rattle.mate_cli.specs.Ends.{IsDocumentWritten, IsOutputWritten, IsRunWritten};
@@ -8,7 +8,6 @@ ghost use Rattle.mate_documents.specs.Outputs.{CanBeWritten};
 ghost use Rattle.mate_documents.specs.Documents.{HasText};
 ghost use Rattle.node_programs.specs.ScriptSteps.{AreProgramsOf};
 
-use hop_bound::scripts_keep_the_bound;
 use mate_documents::{Document, Output};
 use mate_files::{Sink, SinkFault};
 use mate_journal::Programs;
@@ -17,10 +16,8 @@ use run_steps::{WriteFault, write_steps};
 use script_reader::Steps;
 use std::alloc::Global;
 use vm_desc::Description;
-use world_reports::world_report_is_tidy;
 use world_script::World;
 use world_sim::write_world;
-use world_sources::worlds_hold_by_their_sources;
 
 /// Writes an output.
 #[inline(never)]
@@ -100,9 +97,6 @@ fn run_world<S: Sink, E: Sink>(
         (record { out = S.written out.old; out_faults = S.faults out.old; err = E.written err.old; err_faults = E.faults err.old })
         (record { out = S.written out.new; out_faults = S.faults out.new; err = E.written err.new; err_faults = E.faults err.new }) result }
 {
-    scripts_keep_the_bound();
-    world_report_is_tidy();
-    worlds_hold_by_their_sources();
     match write_world(alloc, desc, world, programs, out) {
         Ok(()) => Status::Ok,
         Err(run_writing::WriteFault::LogFull) => Refusal::LogFull.refuse(err),

@@ -36,7 +36,7 @@ words-same d l l' (entry.Seen store) named on =
     ap (λ o. codes " seen" ++ seen_words d o) (ap (λ xs. slice_get xs store) on.stores_are ∙ get-front l.stores on.stores store named)
 words-same d l l' _ named on = refl
 
-lines-same : (d : Description) (l l' : Log) (node : ℕ) (es : List Stamped) → GoesOn l l' → All (λ (e : Stamped). IsNamed l e.entry) es
+pub lines-same : (d : Description) (l l' : Log) (node : ℕ) (es : List Stamped) → GoesOn l l' → All (λ (e : Stamped). IsNamed l e.entry) es
     → flat_map (entry_line d l' node) es ≡ flat_map (entry_line d l node) es
 lines-same d l l' node [] on named = refl
 lines-same d l l' node (e ∷ es) on named =
@@ -154,7 +154,7 @@ logs-none d k ls h =
           at_event-none entry_event k l.entries
           (All-weaker (λ (e : Stamped). e.stamp.event < k) (λ (e : Stamped). entry_event e ≢ k) (λ (e : Stamped) (p : e.stamp.event < k) q. absurd (omega (arith, p, q))) l.entries before)
 
-event_lines-past : (d : Description) (r : Report) (k : ℕ) → events_end r ≤ k → event_lines d r k ≡ []
+pub event_lines-past : (d : Description) (r : Report) (k : ℕ) → events_end r ≤ k → event_lines d r k ≡ []
 event_lines-past d r k p =
     let air = at_event-none air_event k r.air
     (All-weaker (λ (a : Aired). a.stamp.event < events_end r) (λ (a : Aired). air_event a ≢ k) (λ (a : Aired) (q : a.stamp.event < events_end r) e. absurd (omega (arith, p, q, e))) r.air (below_end-air r)) in
@@ -168,7 +168,7 @@ pub lines-upto : (d : Description) (r : Report) (event : ℕ) → events_end r �
 lines-upto d r event p =
     sym (flat_map-skip (event_lines d r) (events_end r) (suc event) p (λ k q s. event_lines-past d r k q)) ∙ flat_map-below_next (event_lines d r) event
 
-agree-below : (f g : ℕ → List ℕ) (n : ℕ) → ((k : ℕ) → k < n → f k ≡ g k) → flat_map f (below n) ≡ flat_map g (below n)
+pub agree-below : (f g : ℕ → List ℕ) (n : ℕ) → ((k : ℕ) → k < n → f k ≡ g k) → flat_map f (below n) ≡ flat_map g (below n)
 agree-below f g zero h = refl
 agree-below f g (suc n) h =
     flat_map-below_next f n ∙ ap (λ ys. ys ++ f n) (agree-below f g n (λ k p. h k (omega (arith, p)))) ∙ ap (λ y. flat_map g (below n) ++ y) (h n (omega arith))

@@ -49,7 +49,7 @@ pub record TellsInstallBy (m : Machine) (h : HandlerId) (version by : ℕ) (es :
 abbrev pub ReportsKeepTheBound : Type 0
 ReportsKeepTheBound = (d : Description) (script : Script) (ps : List Program) (how : RunEnd) (r : Report) (i time a b hops : ℕ) (h : HandlerId) (version : ℕ)
     → AreProgramsOfWorld d script ps → IsOpenScript script → (of : IsWorldReport (source_world d script ps) how r)
-    → InjectsOn script i time a h version → IsAway (source_world d script ps) a b hops
+    → InjectsOn script i time a h version → IsAway script.links a b hops
     → IsLeftAlone script i h (time + 3 * longest d.trickle * hops)
     → HasReached (source_world d script ps) how of.moments (time + 3 * longest d.trickle * hops)
     → IsSomeAnd (slice_get r.nodes b) (λ l. TellsInstallBy (source_world d script ps).machine h version (time + 3 * longest d.trickle * hops) (journal_of l))
@@ -64,11 +64,15 @@ pub data ShowsTime (script : Script) (r : Report) (t : ℕ) : Type 0 where
 abbrev pub ShownIsReached : Type 0
 ShownIsReached = (d : Description) (script : Script) (ps : List Program) (how : RunEnd) (r : Report) (t : ℕ) → (of : IsWorldReport (source_world d script ps) how r) → ShowsTime script r t → HasReached (source_world d script ps) how of.moments t
 
--- the same where the report shows that the run reached that time
-abbrev pub ReportsShowTheBound : Type 0
-ReportsShowTheBound = (d : Description) (script : Script) (ps : List Program) (how : RunEnd) (r : Report) (i time a b hops : ℕ) (h : HandlerId) (version : ℕ)
-    → AreProgramsOfWorld d script ps → IsOpenScript script → IsWorldReport (source_world d script ps) how r
-    → InjectsOn script i time a h version → IsAway (source_world d script ps) a b hops
+-- The report of a right script without loss or suppression keeps the bound where it shows that its run reached the time: let line
+-- i inject a version on node a, let b be so many hops away, and let the line be left alone for 3 * L a hop; then b's journal
+-- installs the version by then, and the node holds it or a newer one ever after.
+abbrev pub KeepsTheBound : Description → Script → List Program → Report → Type 0
+KeepsTheBound d script ps r = IsOpenScript script → (i time a b hops : ℕ) (h : HandlerId) (version : ℕ)
+    → InjectsOn script i time a h version → IsAway script.links a b hops
     → IsLeftAlone script i h (time + 3 * longest d.trickle * hops)
     → ShowsTime script r (time + 3 * longest d.trickle * hops)
     → IsSomeAnd (slice_get r.nodes b) (λ l. TellsInstallBy (source_world d script ps).machine h version (time + 3 * longest d.trickle * hops) (journal_of l))
+
+abbrev pub ReportsShowTheBound : Type 0
+ReportsShowTheBound = (d : Description) (script : Script) (ps : List Program) (how : RunEnd) (r : Report) → AreProgramsOfWorld d script ps → IsWorldReport (source_world d script ps) how r → KeepsTheBound d script ps r

@@ -21,7 +21,7 @@ use Rattle.world_rules.specs.Effect.{Node, event_node, node_effect}
 use Rattle.world_rules.specs.State.{Moment, WorldState, state, air_made, node_after}
 use Rattle.world_rules.specs.Run.{MayCome, DeedMakes, stamp_of, airs, journal}
 use Rattle.world_laws.proofs.Points.{nodes-here}
-use Rattle.world_laws.proofs.Steps.{journal-here}
+use Rattle.world_laws.proofs.Journals.{journal-here}
 use Rattle.world_air.specs.Air.{aired_at}
 use Rattle.world_states.specs.Coming.{code_world}
 use Rattle.world_handling.specs.Handling.{IsMoteOf, Handled}

@@ -205,7 +205,8 @@ moves w h n (event.Deliver link number packet) = moves-packet w h n.exchange pac
 
 -- ---- both
 
-abbrev held-of : Option HeldProgram → ℕ
+-- the version of what is held, 0 where nothing is
+abbrev pub held-of : Option HeldProgram → ℕ
 held-of None = 0
 held-of (Some p) = p.version
 
@@ -225,7 +226,7 @@ both-move (Installing p) f h old is = elim (eqb_tells p.handler.0 h) [
   apart_turned : p.handler.0 ≢ h → (h == p.handler.0) ≡ false
   apart_turned e = elim (eqb_tells h p.handler.0) [ inl a ↦ absurd (e (sym a.1)) | inr b ↦ b.0 ]
 
-held-is : (r : Reading) (h : HandlerId) → held r h ≡ held-of (r.installed h)
+pub held-is : (r : Reading) (h : HandlerId) → held r h ≡ held-of (r.installed h)
 held-is r h = refl
 
 pub held_agrees : (w : World) → HeldAgrees w

@@ -6,8 +6,9 @@ pub mod Happens
 pub mod Pumps
 pub mod Comes
 pub mod Example
-pub mod Steps
+pub mod Journals
 pub mod Origins
 pub mod Timing
 pub mod Packets
 pub mod Periods
+pub mod Placed

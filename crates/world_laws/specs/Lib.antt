@@ -1,7 +1,7 @@
 pub mod Times
 pub mod Slots
 pub mod Causes
-pub mod Simulates
+pub mod Journals
 pub mod Calls
 pub mod Arrivals
 pub mod Timing

@@ -6,7 +6,7 @@ ghost use Rattle.world_laws.specs.Arrivals.{ArrivalsWereSent, SentArrive};
 ghost use Rattle.world_laws.specs.Calls.{AnswersWereCalled, CallsAreAnswered};
 ghost use Rattle.world_laws.specs.Causes.{ComeInOrder, EachComes, PeriodsCome};
 ghost use Rattle.world_laws.specs.Packets.{ExchangesStand, InstallsHaveReasons, PacketsHaveReasons};
-ghost use Rattle.world_laws.specs.Simulates.{ReadsJournals};
+ghost use Rattle.world_laws.specs.Journals.{ReadsJournals};
 ghost use Rattle.world_laws.specs.Slots.{SendsInTime};
 ghost use Rattle.world_laws.specs.Times.{FiresInTime, IsRightSet};
 ghost use Rattle.world_laws.specs.Timing.{PointsDecide, TimersStand};

@@ -29,7 +29,7 @@ use Rattle.world_rules.specs.Effect.{Node, no_effect, of_line, of_point, of_slot
 use Rattle.world_rules.specs.State.{Moment, WorldState, Sending, is_lost, sent_bytes, air_of_sending, sendings, node_at, effect_at, packets_of, air_made, state}
 use Rattle.world_rules.specs.Run.{HaveCome, stamp_of, airs}
 use Rattle.world_laws.proofs.Points.{among-next}
-use Rattle.world_states.proofs.Placed.{HasEnds, placed-node, run-placed, script-ends}
+use Rattle.world_laws.proofs.Placed.{HasEnds, placed-node, run-placed, script-ends}
 use Rattle.report_text.specs.Tidy.{IsAirInRange}
 use Rattle.world_reports.proofs.Stamps.{IsOfEvent}
 

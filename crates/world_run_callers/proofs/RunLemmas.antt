@@ -15,8 +15,8 @@ use Rattle.world_rules.specs.Report.{IsWorldReport, IsLogOf}
 use Rattle.world_rules.specs.Run.{HaveCome, journal}
 use Rattle.world_rules.specs.State.{Moment}
 use Rattle.world_rules.specs.World.{World}
-use Rattle.world_sim.specs.Running.{WorldRunGives}
-use Rattle.world_states.specs.Coming.{code_world}
+use Rattle.world_sim.specs.Promise.{WorldRunGives}
+use Rattle.world_sources.specs.SourceWorld.{source_world}
 use Rattle.world_run_callers.specs.Runs.{CameWithRoom, EndsSeen, IsFullBehind}
 
 of_report : (w : World) (r report : Report) → LogFull r ≡ LogFull report → IsWorldReport w Full r → IsFullBehind w report.events
@@ -25,9 +25,9 @@ of_report w r report is told =
     subst (λ (x : Report). IsFullBehind w x.events) same (record { moments = told.moments; come = told.come; count = told.events; full = told.at_end.0 })
 
 pub full_behind : (d : Description) (script : Script) (ps : List Program) (r : Result Report RunFault) → WorldRunGives d script ps r
-    → IfErr r (λ fault. (report : Report) → fault ≡ LogFull report → IsFullBehind (code_world d script ps) report.events)
+    → IfErr r (λ fault. (report : Report) → fault ≡ LogFull report → IsFullBehind (source_world d script ps) report.events)
 full_behind d script ps (Ok r) gives = tt
-full_behind d script ps (Err (LogFull r)) gives = λ report is. of_report (code_world d script ps) r report is gives
+full_behind d script ps (Err (LogFull r)) gives = λ report is. of_report (source_world d script ps) r report is gives.run
 full_behind d script ps (Err NoMemory) gives = λ report is. cc
 
 -- ---- a whole run
@@ -41,8 +41,8 @@ with_room w r told = record {
 }
 
 pub came_with_room : (d : Description) (script : Script) (ps : List Program) (r : Result Report RunFault) → WorldRunGives d script ps r
-    → IfOk r (λ report. CameWithRoom (code_world d script ps) report.events)
-came_with_room d script ps (Ok r) gives = with_room (code_world d script ps) r gives
+    → IfOk r (λ report. CameWithRoom (source_world d script ps) report.events)
+came_with_room d script ps (Ok r) gives = with_room (source_world d script ps) r gives.run
 came_with_room d script ps (Err fault) gives = tt
 
 of_log : (w : World) (ms : List Moment) (events : ℕ) (l : Log) → events ≡ suc (length ms) → IsLogOf w Whole ms 0 l → EndsSeen events w.until l
@@ -64,6 +64,6 @@ of_some None P Q weaker p = p
 pub ends_seen : (d : Description) (script : Script) (ps : List Program) (r : Result Report RunFault) → 1 ≤ script.nodes → WorldRunGives d script ps r
     → IfOk r (λ report. IsSomeAnd (slice_get report.nodes 0) (EndsSeen (suc report.events) script.until))
 ends_seen d script ps (Ok r) some gives =
-    let w = code_world d script ps in
-    of_some (slice_get r.nodes 0) (IsLogOf w Whole gives.moments 0) (EndsSeen (suc r.events) script.until) (λ l. of_log w gives.moments (suc r.events) l (ap suc gives.events)) (gives.logs 0 (omega (arith, some)))
+    let w = source_world d script ps in
+    of_some (slice_get r.nodes 0) (IsLogOf w Whole gives.run.moments 0) (EndsSeen (suc r.events) script.until) (λ l. of_log w gives.run.moments (suc r.events) l (ap suc gives.run.events)) (gives.run.logs 0 (omega (arith, some)))
 ends_seen d script ps (Err fault) some gives = tt

@@ -3,8 +3,8 @@
 ghost use Rattle.std.specs.Prelude.{◌≡◌, ◌≤◌, suc, slice_get, IsSomeAnd, IfOk, IfErr};
 ghost use Rattle.mate_journal.specs.declared.report.Report.{Report as Reported};
 ghost use Rattle.mate_journal.specs.declared.report.RunFault.TheVariants.{LogFull};
-ghost use Rattle.world_states.specs.Coming.{code_world};
 ghost use Rattle.node_programs.specs.WorldPrograms.{AreProgramsOfWorld};
+ghost use Rattle.world_sources.specs.SourceWorld.{source_world};
 ghost use Rattle.world_run_callers.specs.Runs.{CameWithRoom, EndsSeen, IsFullBehind};
 
 use mate_journal::{Programs, Report, RunFault};
@@ -21,7 +21,7 @@ pub fn a_full_run_has_a_million_records(
     programs: &Programs,
 ) -> Result<Report, RunFault>
     requires { AreProgramsOfWorld desc.now world.now programs.now }
-    ensures { IfErr result (λ fault. (report : Reported) → fault ≡ LogFull report → IsFullBehind (code_world desc.now world.now programs.now) report.events) }
+    ensures { IfErr result (λ fault. (report : Reported) → fault ≡ LogFull report → IsFullBehind (source_world desc.now world.now programs.now) report.events) }
 {
     run(alloc, desc, world, programs)
 }
@@ -34,7 +34,7 @@ pub fn the_last_event_had_room(
     programs: &Programs,
 ) -> Result<Report, RunFault>
     requires { AreProgramsOfWorld desc.now world.now programs.now }
-    ensures { IfOk result (λ report. CameWithRoom (code_world desc.now world.now programs.now) report.events) }
+    ensures { IfOk result (λ report. CameWithRoom (source_world desc.now world.now programs.now) report.events) }
 {
     run(alloc, desc, world, programs)
 }

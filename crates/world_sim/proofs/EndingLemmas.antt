@@ -13,9 +13,9 @@ use Rattle.mate_journal.specs.NodeScript.{Whole, Cut}
 use Rattle.mate_journal.specs.Tidy.{NumbersInOrder, below}
 use Rattle.mate_files.specs.Sink.{Puts}
 use Rattle.mate_files.specs.declared.sink.SinkFault.{SinkFault}
-use Rattle.run_writing.specs.Writing.{OfRun, HasWritten, lines_before, last_line, write_fault_of, WritesRun}
+use Rattle.run_writing.specs.Writing.{HasWritten, lines_before, last_line, write_fault_of, ended_by, WritesRun}
 use Rattle.run_writing.specs.declared.write_fault.WriteFault.{WriteFault}
-use Rattle.run_writing.proofs.WritingLemmas.{written-nothing, written-more, fails-within, wrote-whole}
+use Rattle.run_writing.proofs.WritingLemmas.{written-nothing, written-more, fails-within, ended-whole}
 use Rattle.mate_journal.specs.declared.air.Aired.{Aired}
 use Rattle.mate_journal.specs.declared.report.Report.{Report}
 use Rattle.mate_journal.specs.declared.program.Program.{Program}
@@ -75,11 +75,15 @@ module _ (w : World) (d : Description) (law : StoresAddTheirLines w) (ms : List 
       let N : ℕ → Type 0 = λ n. lines d (so_far (mote_logs s.motes.items) (airs w ms)) ≡ flat_map (event_lines d (so_far (mote_logs new.motes.items) (airs w ms))) (below (suc n)) in
       subst P (sym (same ∙ air)) (subst Q (sym air) (subst N (sym number) (law ms (mote_logs s.motes.items) (mote_logs new.motes.items) shows d).1))
 
-  -- all was written
-  pub ends-whole : (out f mid fm out' f' out0 f0 : _) → HasWrittenNow d s out0 f0 out f → Puts {T = Unit {0}} out f mid fm (Ok tt) Stores → Puts {T = Unit {0}} mid fm out' f' (Ok tt) (last_line R)
-      → WritesRun d (IsWorldReport w) out0 out' f0 f' (Ok tt)
-  ends-whole out f mid fm out' f' out0 f0 written stores last =
-      wrote-whole d (IsWorldReport w) R whole (written-more (last_line R) (text d R) (written-more Stores (lines d (report_now new)) written stores stored) last refl)
+  -- their lines were written, and the last line was put
+  pub ends-whole : (put : Result (Unit {0}) SinkFault) → (out f mid fm out' f' out0 f0 : _) → HasWrittenNow d s out0 f0 out f → Puts {T = Unit {0}} out f mid fm (Ok tt) Stores → Puts mid fm out' f' put (last_line R)
+      → WritesRun d (IsWorldReport w) out0 out' f0 f' (ended_by true put)
+  ends-whole put out f mid fm out' f' out0 f0 written stores last = record {
+    report = R;
+    gives =
+        ended-whole d (IsWorldReport w) out0 mid out' f0 fm f' R Stores (written-more Stores (lines d (report_now new)) written stores stored) whole
+        (stored ∙ ap (λ (bs : List ℕ). bs ++ Stores) front) put last;
+  }
 
   -- the sink failed in the stores' lines
   pub stores-fail : (fault : SinkFault) (answer : WriteFault) (out f out' f' out0 f0 : _) → HasWrittenNow d s out0 f0 out f → Puts {T = Unit {0}} out f out' f' (Err fault) Stores → answer ≡ write_fault_of fault
@@ -87,14 +91,6 @@ module _ (w : World) (d : Description) (law : StoresAddTheirLines w) (ms : List 
   stores-fail fault answer out f out' f' out0 f0 written puts is =
       fails-within d (IsWorldReport w) out0 out out' f0 f f' Whole R whole (lines d (report_now s)) [] written (front ∙ sym (append-nil (lines_before d R (suc events)))) fault answer Stores (last_line R)
       (sym (append_assoc (lines d (report_now s)) Stores (last_line R)) ∙ ap (λ (bs : List ℕ). bs ++ last_line R) (sym stored)) puts is
-
-  -- or in the last line
-  pub last-fails : (fault : SinkFault) (answer : WriteFault) (out f mid fm out' f' out0 f0 : _) → HasWrittenNow d s out0 f0 out f → Puts {T = Unit {0}} out f mid fm (Ok tt) Stores → Puts {T = Unit {0}} mid fm out' f' (Err fault) (last_line R)
-      → answer ≡ write_fault_of fault → WritesRun d (IsWorldReport w) out0 out' f0 f' (Err answer)
-  last-fails fault answer out f mid fm out' f' out0 f0 written stores puts is =
-      fails-within d (IsWorldReport w) out0 mid out' f0 fm f' Whole R whole (lines d (report_now new)) Stores (written-more Stores (lines d (report_now new)) written stores stored)
-      (stored ∙ ap (λ (bs : List ℕ). bs ++ Stores) front) fault answer (last_line R) []
-      (ap (λ (bs : List ℕ). lines d (report_now new) ++ bs) (append-nil (last_line R))) puts is
 
 -- ---- the start
 

@@ -5,3 +5,4 @@ pub mod RunLemmas
 pub mod WorldLemmas
 pub mod WritingLemmas
 pub mod EndingLemmas
+pub mod PromiseLemmas

@@ -32,7 +32,7 @@ use Rattle.world_rules.specs.Effect.{Node, event_node}
 use Rattle.world_rules.specs.State.{Moment, state, air_made}
 use Rattle.world_rules.specs.Run.{stamp_of, airs, journal}
 use Rattle.world_laws.proofs.Points.{nodes-other}
-use Rattle.world_laws.proofs.Steps.{journal-here, journal-other}
+use Rattle.world_laws.proofs.Journals.{journal-here, journal-other}
 use Rattle.world_air.specs.Air.{radio_event, aired_at}
 use Rattle.world_states.specs.Coming.{code_world, IsExpected}
 use Rattle.world_states.specs.Sound.{HasWellFormed, NextMayCome, AreOfNodes, DuesAreOfNodes}

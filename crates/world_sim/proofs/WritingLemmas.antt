@@ -14,10 +14,10 @@ use Rattle.mate_journal.specs.NodeReport.{is_whole}
 use Rattle.mate_journal.specs.Tidy.{NumbersInOrder, below}
 use Rattle.mate_files.specs.Sink.{Puts}
 use Rattle.mate_files.specs.declared.sink.SinkFault.{SinkFault}
-use Rattle.run_writing.specs.Writing.{OfRun, lines_before, last_line, write_fault_of, WritesRun}
+use Rattle.run_writing.specs.Writing.{OfRun, lines_before, last_line, write_fault_of, ended_by, WritesRun}
 use Rattle.run_writing.specs.declared.write_fault.WriteFault.{WriteFault}
-use Rattle.run_writing.specs.declared.write_fault.WriteFault.TheVariants.{LogFull, NoMemory}
-use Rattle.run_writing.proofs.WritingLemmas.{written-more, fails-within, wants-memory, wrote-full}
+use Rattle.run_writing.specs.declared.write_fault.WriteFault.TheVariants.{NoMemory}
+use Rattle.run_writing.proofs.WritingLemmas.{written-more, fails-within, wants-memory, ended-full}
 use Rattle.world_text.proofs.EventLemmas.{all_stand, store_lines-next, store_lines-both}
 use Rattle.mate_journal.specs.declared.air.Aired.{Aired}
 use Rattle.mate_journal.specs.declared.program.Program.{Program}
@@ -216,21 +216,16 @@ module _ (d : Description) (script : Script) (ps : List Program) where
       wants-memory d Is out0 out f0 f Cut (told_report s events false) (cut-report d script ps ms events s come air count each number kept) (lines d (report_now s)) []
       (event_lines d (report_now s) events) written (append-nil (lines d (report_now s))) (covered W d ms s events false (tell W ms s.motes.items script.nodes count each) air number)
 
-  -- the log is full, and the last line was written
-  pub full-ends : (s : Simulation) (events : ℕ) (b : StandsAtEnd W Full events s) → (out f out' f' out0 f0 : _) → HasWrittenNow d s out0 f0 out f → Puts {T = Unit {0}} out f out' f' (Ok tt) (last_line (told_report s events false))
-      → WritesRun d Is out0 out' f0 f' (Err LogFull)
-  full-ends s events b out f out' f' out0 f0 written puts =
-      let r : Report = told_report s events false in
-      wrote-full d Is r (full-report-now d script ps b.moments events s b.come b.air b.nodes b.each (sym b.count) b.kept b.ends)
-      (written-more (last_line r) (text d r) written puts refl)
-
-  pub full-fails : (s : Simulation) (events : ℕ) (b : StandsAtEnd W Full events s) (fault : SinkFault) (answer : WriteFault) → (out f out' f' out0 f0 : _) → HasWrittenNow d s out0 f0 out f
-      → Puts {T = Unit {0}} out f out' f' (Err fault) (last_line (told_report s events false)) → answer ≡ write_fault_of fault → WritesRun d Is out0 out' f0 f' (Err answer)
-  full-fails s events b fault answer out f out' f' out0 f0 written puts is =
-      let r : Report = told_report s events false in
-      fails-within d Is out0 out out' f0 f f' Full r (full-report-now d script ps b.moments events s b.come b.air b.nodes b.each (sym b.count) b.kept b.ends) (lines d (report_now s)) (event_lines d (report_now s) events) written
-      (covered W d b.moments s events false (tell W b.moments s.motes.items script.nodes b.nodes b.each) b.air (sym b.count)) fault answer (last_line r) []
-      (ap (λ (bs : List ℕ). lines d (report_now s) ++ bs) (append-nil (last_line r))) puts is
+  -- the log is full, and the last line was put
+  pub full-ends : (s : Simulation) (events : ℕ) (b : StandsAtEnd W Full events s) (put : Result (Unit {0}) SinkFault) → (out f out' f' out0 f0 : _) → HasWrittenNow d s out0 f0 out f → Puts out f out' f' put (last_line (told_report s events false))
+      → WritesRun d Is out0 out' f0 f' (ended_by false put)
+  full-ends s events b put out f out' f' out0 f0 written puts =
+      let r : Report = told_report s events false in record {
+        report = r;
+        gives =
+            ended-full d Is out0 out out' f0 f f' r (event_lines d (report_now s) events) written (full-report-now d script ps b.moments events s b.come b.air b.nodes b.each (sym b.count) b.kept b.ends)
+            (covered W d b.moments s events false (tell W b.moments s.motes.items script.nodes b.nodes b.each) b.air (sym b.count)) put puts;
+      }
 
   -- an event's lines were written
   pub step-goes : (number : ℕ) (s new : Simulation) (p : Piece) (adds : AddsEvent number s new p) → (out f out' f' out0 f0 : _) → HasWrittenNow d s out0 f0 out f

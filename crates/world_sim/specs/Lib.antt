@@ -1,3 +1,4 @@
+pub mod Promise
 pub mod Running
 pub mod Starting
 pub mod Reporting

@@ -1,16 +1,10 @@
--- The run of a world: what it gives, and what it keeps on its way.
-use Rattle.std.specs.Prelude.{◌≡◌, ℕ, suc, ◌<◌, ◌≤◌, List, length, slice_get, IsSomeAnd, Result, Ok, Err}
+-- What a world's run keeps on its way.
+use Rattle.std.specs.Prelude.{◌≡◌, ℕ, suc, ◌<◌, ◌≤◌, List, length, slice_get, IsSomeAnd}
 use Rattle.mate_num.specs.declared.call.Stamp.{Stamp}
-use Rattle.vm_desc.specs.declared.description.Description.{Description}
 use Rattle.std.specs.Option.{option_map_or}
 use Rattle.world_script.specs.declared.world.World.{World as Script}
 use Rattle.world_script.specs.declared.world.Link.{Link}
 use Rattle.world_script.specs.declared.world.Planned.{Planned}
-use Rattle.mate_journal.specs.NodeScript.{Whole, Full}
-use Rattle.mate_journal.specs.declared.program.Program.{Program}
-use Rattle.mate_journal.specs.declared.report.Report.{Report}
-use Rattle.mate_journal.specs.declared.report.RunFault.{RunFault}
-use Rattle.mate_journal.specs.declared.report.RunFault.TheVariants.{LogFull, NoMemory}
 use Rattle.mate_journal.specs.NodeScript.{records_max}
 use Rattle.radio_sim.specs.declared.event.Event.{Event}
 use Rattle.radio_sim.specs.declared.event.Event.TheVariants as radio
@@ -18,21 +12,11 @@ use Rattle.world_rules.specs.World.{World}
 use Rattle.world_rules.specs.State.{Moment, state}
 use Rattle.world_rules.specs.Cause.{Cause}
 use Rattle.world_rules.specs.Run.{HaveCome, IsNext, airs}
-use Rattle.world_rules.specs.Report.{IsWorldReport}
-use Rattle.world_states.specs.Coming.{code_world}
 use Rattle.world_states.specs.Sound.{HaveFitMessages, HasWellFormed}
 use Rattle.world_air.specs.Air.{radio_event}
 use Rattle.world_event.specs.Finishing.{IsTakenFrom}
 use Rattle.world_event.specs.Performing.{IsRadioAfter, IsMoteAfter, coming}
 use Rattle.world_sim.specs.declared.simulation.Simulation.{Simulation}
-
--- a whole report, or one whose records are too many before an event; the nodes run the programs' code
-abbrev pub WorldRunGives : Description → Script → List Program → Result Report RunFault → Type 0
-WorldRunGives d script ps (Ok r) = IsWorldReport (code_world d script ps) Whole r
-WorldRunGives d script ps (Err (LogFull r)) = IsWorldReport (code_world d script ps) Full r
-WorldRunGives d script ps (Err NoMemory) = Unit {0}
-
--- ---- on the way
 
 -- so many events came, and the radio, the nodes and the count of records are those after them
 pub record StandsAfter (w : World) (events : ℕ) (s : Simulation) : Type 0 where

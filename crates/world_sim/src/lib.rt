@@ -1,6 +1,7 @@
 //! The run of a world: its events in their order, and the report of them.
 #![tactic(auto)]
 
+mod promise;
 mod report;
 pub mod running;
 mod simulation;

@@ -1,8 +1,9 @@
 //! The run of a world.
 
 ghost use Rattle.node_programs.specs.WorldPrograms.{AreProgramsOfWorld};
-ghost use Rattle.world_sim.specs.Running.{WorldRunGives};
+ghost use Rattle.world_sim.specs.Promise.{WorldRunGives};
 
+use crate::promise::reports_keep_the_promise;
 use crate::report::{report_of, see_stores};
 use crate::simulation::Simulation;
 use mate_journal::{NodeLogs, Programs, RECORDS_MAX, Report, RunFault};
@@ -11,7 +12,6 @@ use std::alloc::Global;
 use vm_desc::Description;
 use world_script::World;
 use world_states::states_are_sound;
-use world_step::Effect;
 
 /// Runs a world on nodes of this machine, with the programs of its files: each event is the next that is due, and at the end
 /// each node's store is seen. `LogFull` comes exactly where 1,000,000 records stand or more and an event is left, with the
@@ -25,10 +25,10 @@ pub fn run(
     requires { AreProgramsOfWorld desc.now world.now programs.now }
     ensures { WorldRunGives desc.now world.now programs.now result }
 {
+    reports_keep_the_promise();
     states_are_sound();
     let logs = NodeLogs::empty(alloc, world.nodes)?;
     let mut sim = Simulation::start(alloc, desc, world)?;
-    let mut effect = Effect::none();
     for events in 0..u64::MAX {
         let Some((time, event)) = sim.radio.next() else {
             let at = Stamp {
@@ -45,7 +45,7 @@ pub fn run(
             event: events + 1,
             time,
         };
-        sim.step(desc, world, programs, &event, at, &mut effect)?;
+        sim.step(desc, world, programs, &event, at)?;
     }
     // (more events than 64 bits count)
     Err(RunFault::NoMemory)

@@ -7,7 +7,7 @@ ghost use Rattle.mate_journal.specs.declared.air.Air.TheVariants as air;
 ghost use Rattle.world_air.specs.Air.{aired_at};
 ghost use Rattle.world_air.specs.Changes.{AddsToAir};
 ghost use Rattle.world_air.specs.Starting.{beginning, first_items};
-ghost use Rattle.world_step.specs.Motes.{BeginsMote, plain_effect};
+ghost use Rattle.world_step.specs.Motes.{BeginsMote};
 ghost use Rattle.world_states.specs.Coming.{code_world};
 ghost use Rattle.node_programs.specs.WorldPrograms.{AreProgramsOfWorld};
 ghost use Rattle.world_sim.specs.Starting.{HaveBegun};
@@ -23,7 +23,7 @@ use world_air::{begin_node, schedule_lines};
 use world_event::perform;
 use world_script::World;
 use world_states::states_are_sound;
-use world_step::{Effect, Mote};
+use world_step::Mote;
 use world_text::text_grows_by_events;
 
 /// Where an event's lines begin: at a position of what happened on the air, and at one of its node's entries.
@@ -64,7 +64,7 @@ impl Simulation {
         })
     }
 
-    /// The event comes, with this stamp. It answers where its lines begin. The effect is nothing before it and after it.
+    /// The event comes, with this stamp. It answers where its lines begin.
     pub(crate) fn step(
         &mut self,
         desc: &Description,
@@ -72,15 +72,12 @@ impl Simulation {
         programs: &Programs,
         event: &Event,
         at: Stamp,
-        effect: &mut Effect,
     ) -> Result<Piece, NoMemory>
         requires right { AreProgramsOfWorld desc.now world.now programs.now }
         requires stands { StandsAtNext (code_world desc.now world.now programs.now) event.now at self.old }
-        requires plain { effect.old ≡ plain_effect }
         ensures stands { OnOk result (StandsAfter (code_world desc.now world.now programs.now) at.event self.new) }
         ensures adds { IfOk result (AddsEvent at.event self.old self.new) }
         ensures kept { OnOk result (AreKept self.old.motes.items → AreKept self.new.motes.items) }
-        ensures plain { OnOk result (effect.new ≡ plain_effect) }
     {
         states_are_sound();
         text_grows_by_events();
@@ -97,7 +94,6 @@ impl Simulation {
             number,
             event,
             at,
-            effect,
         )?;
         let told = mote.node.log().entries().len() - entries;
         let aired = self.radio.air().len() - air;

@@ -1,20 +1,20 @@
 //! The run of a world whose lines are written as its events end.
 
-ghost use Rattle.std.specs.Prelude.{◌≡◌, ◌≤◌, ◌<◌, ◌*◌, ◌^◌, length, drop, sum_by, slice_get, All, Some, OnOk};
+ghost use Rattle.std.specs.Prelude.{◌≡◌, ◌≤◌, ◌<◌, ◌*◌, ◌^◌, length, drop, sum_by, slice_get, All, Some};
 ghost use Rattle.mate_files.specs.Sink.{Puts};
 ghost use Rattle.mate_journal.specs.NodeScript.{Whole, Full};
 ghost use Rattle.report_text.specs.Text.{event_piece};
 ghost use Rattle.run_writing.specs.Writing.{WritesRun, last_line};
-ghost use Rattle.world_rules.specs.Report.{IsWorldReport};
 ghost use Rattle.world_states.specs.Coming.{code_world};
 ghost use Rattle.node_programs.specs.WorldPrograms.{AreProgramsOfWorld};
 ghost use Rattle.world_step.specs.declared.mote.Mote.{Mote as MoteState};
-ghost use Rattle.world_step.specs.Motes.{plain_effect};
+ghost use Rattle.world_sim.specs.Promise.{IsReportOfWorld};
 ghost use Rattle.world_sim.specs.Reporting.{mote_logs, told_report};
 ghost use Rattle.world_sim.specs.Running.{StandsAfter, StandsAtNext};
 ghost use Rattle.world_sim.specs.Writing.{AreKept, EndsSo, IsStartWritten, IsStepWritten, IsPieceOf, StandsAtEnd};
 ghost use Rattle.world_text.specs.EventText.{store_lines};
 
+use crate::promise::reports_keep_the_promise;
 use crate::report::see_stores;
 use crate::simulation::{Piece, Simulation};
 use mate_files::{Sink, SinkFault};
@@ -22,12 +22,12 @@ use mate_journal::{Programs, RECORDS_MAX};
 use mate_num::Stamp;
 use radio_sim::Event;
 use report_text::{write_end, write_event};
-use run_writing::{WriteFault, stopped};
+use run_writing::{WriteFault, ended, stopped};
 use std::alloc::Global;
 use vm_desc::Description;
 use world_script::World;
 use world_states::states_are_sound;
-use world_step::{Effect, Mote};
+use world_step::Mote;
 use world_text::text_grows_by_events;
 
 /// Runs a world as `run` does, and writes each event's lines when it ends, and then the last line. After a fault of the sink no
@@ -40,8 +40,10 @@ pub fn write_world<S: Sink>(
     out: &mut S,
 ) -> Result<(), WriteFault>
     requires { AreProgramsOfWorld desc.now world.now programs.now }
-    ensures gives { WritesRun desc.now (IsWorldReport (code_world desc.now world.now programs.now)) (S.written out.old) (S.written out.new) (S.faults out.old) (S.faults out.new) result }
+    ensures gives { WritesRun desc.now (IsReportOfWorld desc.now world.now programs.now) (S.written out.old) (S.written out.new) (S.faults out.old) (S.faults out.new) result }
+    ensures later { S.faults out.old ≤ S.faults out.new }
 {
+    reports_keep_the_promise();
     states_are_sound();
     let Ok(mut sim) = Simulation::start(alloc, desc, world) else {
         return Err(WriteFault::NoMemory);
@@ -49,7 +51,6 @@ pub fn write_world<S: Sink>(
     if let Err(fault) = write_start(desc, world, programs, &sim, out) {
         return Err(fault);
     }
-    let mut effect = Effect::none();
     for events in 0..u64::MAX {
         let Some((time, event)) = sim.radio.next() else {
             return write_ending(desc, world, programs, &mut sim, events, out);
@@ -61,16 +62,7 @@ pub fn write_world<S: Sink>(
             event: events + 1,
             time,
         };
-        if let Err(fault) = write_step(
-            desc,
-            world,
-            programs,
-            &mut sim,
-            &event,
-            at,
-            &mut effect,
-            out,
-        ) {
+        if let Err(fault) = write_step(desc, world, programs, &mut sim, &event, at, out) {
             return Err(fault);
         }
     }
@@ -89,7 +81,8 @@ fn write_start<S: Sink>(
 ) -> Result<(), WriteFault>
     requires right { AreProgramsOfWorld desc.now world.now programs.now }
     requires stands { StandsAfter (code_world desc.now world.now programs.now) 0 sim.now }
-    ensures { IsStartWritten desc.now (code_world desc.now world.now programs.now) sim.now (S.written out.old) (S.faults out.old) (S.written out.new) (S.faults out.new) result }
+    ensures writes { IsStartWritten desc.now (code_world desc.now world.now programs.now) sim.now (S.written out.old) (S.faults out.old) (S.written out.new) (S.faults out.new) result }
+    ensures later { S.faults out.old ≤ S.faults out.new }
 {
     text_grows_by_events();
     logs_are_kept(sim.motes.as_slice());
@@ -113,17 +106,15 @@ fn write_step<S: Sink>(
     sim: &mut Simulation,
     event: &Event,
     at: Stamp,
-    effect: &mut Effect,
     out: &mut S,
 ) -> Result<(), WriteFault>
     requires right { AreProgramsOfWorld desc.now world.now programs.now }
     requires stands { StandsAtNext (code_world desc.now world.now programs.now) event.now at sim.old }
     requires kept { AreKept sim.old.motes.items }
-    requires plain { effect.old ≡ plain_effect }
-    ensures written { IsStepWritten desc.now (code_world desc.now world.now programs.now) at.event sim.old sim.new (S.written out.old) (S.faults out.old) (S.written out.new) (S.faults out.new) result }
-    ensures plain { OnOk result (effect.new ≡ plain_effect) }
+    ensures writes { IsStepWritten desc.now (code_world desc.now world.now programs.now) at.event sim.old sim.new (S.written out.old) (S.faults out.old) (S.written out.new) (S.faults out.new) result }
+    ensures later { S.faults out.old ≤ S.faults out.new }
 {
-    let Ok(piece) = sim.step(desc, world, programs, event, at, effect) else {
+    let Ok(piece) = sim.step(desc, world, programs, event, at) else {
         return Err(WriteFault::NoMemory);
     };
     match write_piece(desc, sim, piece, out) {
@@ -144,12 +135,10 @@ fn write_full<S: Sink>(
 ) -> Result<(), WriteFault>
     requires right { AreProgramsOfWorld desc.now world.now programs.now }
     requires ends { StandsAtEnd (code_world desc.now world.now programs.now) Full events sim.now }
-    ensures { EndsSo desc.now (code_world desc.now world.now programs.now) sim.now (S.written out.old) (S.faults out.old) (S.written out.new) (S.faults out.new) result }
+    ensures writes { EndsSo desc.now (code_world desc.now world.now programs.now) sim.now (S.written out.old) (S.faults out.old) (S.written out.new) (S.faults out.new) result }
+    ensures later { S.faults out.old ≤ S.faults out.new }
 {
-    match write_last(sim, events, false, out) {
-        Ok(()) => Err(WriteFault::LogFull),
-        Err(fault) => Err(stopped(fault)),
-    }
+    ended(false, write_last(sim, events, false, out))
 }
 
 /// Each node's store is seen; their lines are written, and the last line.
@@ -165,7 +154,8 @@ fn write_ending<S: Sink>(
     requires right { AreProgramsOfWorld desc.now world.now programs.now }
     requires ends { StandsAtEnd (code_world desc.now world.now programs.now) Whole events sim.old }
     requires few { events < 18446744073709551615 }
-    ensures { EndsSo desc.now (code_world desc.now world.now programs.now) sim.old (S.written out.old) (S.faults out.old) (S.written out.new) (S.faults out.new) result }
+    ensures writes { EndsSo desc.now (code_world desc.now world.now programs.now) sim.old (S.written out.old) (S.faults out.old) (S.written out.new) (S.faults out.new) result }
+    ensures later { S.faults out.old ≤ S.faults out.new }
 {
     text_grows_by_events();
     let at = Stamp {
@@ -179,10 +169,7 @@ fn write_ending<S: Sink>(
     if let Err(fault) = write_stores(desc, sim.motes.as_slice(), out) {
         return Err(stopped(fault));
     }
-    match write_last(sim, events, true, out) {
-        Ok(()) => Ok(()),
-        Err(fault) => Err(stopped(fault)),
-    }
+    ended(true, write_last(sim, events, true, out))
 }
 
 /// Writes an event's lines.

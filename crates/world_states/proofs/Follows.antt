@@ -23,7 +23,7 @@ use Rattle.world_rules.specs.World.{World}
 use Rattle.world_rules.specs.Effect.{event_node}
 use Rattle.world_rules.specs.State.{Moment, node_at, state}
 use Rattle.world_rules.specs.Run.{stamp_of, journal}
-use Rattle.world_laws.proofs.Steps.{reads_journals}
+use Rattle.world_laws.proofs.Journals.{reads_journals}
 
 -- the entries of a node's journal follow one another
 abbrev pub IsFollowed : World → ℕ → List Moment → Type 0

@@ -1,4 +1,3 @@
-pub mod Placed
 pub mod Waits
 pub mod Follows
 pub mod Counts

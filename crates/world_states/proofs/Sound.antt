@@ -30,7 +30,7 @@ use Rattle.hop_bound.proofs.Premises.{right_set, plans_rightly, scripts_installs
 use Rattle.world_states.specs.Coming.{code_world, IsTaken, AwaitsAlone, IsExpected}
 use Rattle.node_programs.specs.WorldPrograms.{AreProgramsOfWorld}
 use Rattle.world_states.specs.Sound.{AreOfNodes, HaveFitMessages, HasWellFormed, NextMayCome, NodesAreSound, DuesAreOfNodes}
-use Rattle.world_states.proofs.Placed.{IsPlaced, HasEnds, placed-node, run-placed, script-ends}
+use Rattle.world_laws.proofs.Placed.{IsPlaced, HasEnds, placed-node, run-placed, script-ends}
 use Rattle.world_states.proofs.Follows.{few-contexts, run-apart, run-small}
 use Rattle.world_states.proofs.Awaited.{run-awaited}
 use Rattle.world_states.proofs.Open.{run-none, open-node}

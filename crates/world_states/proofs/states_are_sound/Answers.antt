@@ -1,3 +1,4 @@
+use Rattle.world_states.proofs.Programs.{right-script}
 use Rattle.world_states.proofs.Sound.{next-may-come, nodes-sound, dues-of-nodes}
 use Rattle.world_states.proofs.states_are_sound.Goals as goal
 
@@ -9,3 +10,6 @@ returns-clause-nodes c = nodes-sound
 
 pub returns-clause-dues : goal.returns-clause-dues
 returns-clause-dues c = dues-of-nodes
+
+pub returns-clause-script : goal.returns-clause-script
+returns-clause-script c = right-script

@@ -6,7 +6,7 @@ use Rattle.mate_documents.specs.declared.output.Output.{Output}
 use Rattle.node_programs.specs.ScriptSteps.{AreProgramsOf}
 use Rattle.run_steps.specs.Running.{IsReportOf}
 use Rattle.node_programs.specs.WorldPrograms.{AreProgramsOfWorld}
-use Rattle.mate_cli.specs.Worlds.{IsReportOfWorld}
+use Rattle.world_sim.specs.Promise.{IsReportOfWorld}
 use Rattle.mate_cli.proofs.writing.write_output.Goals as goal
 
 pub returns-in-Run : goal.returns-in-Run

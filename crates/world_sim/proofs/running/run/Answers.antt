@@ -1,5 +1,6 @@
 use Rattle.std.proofs.Common.{◌≡◌, ℕ, suc, ◌+◌, ◌≤◌, length, refl, sym, ◌∙◌, ap, subst, arith}
 use Rattle.mate_num.specs.declared.call.Stamp.{Stamp}
+use Rattle.mate_journal.specs.NodeScript.{Whole, Full}
 use Rattle.radio_sim.specs.Radio.{Ether}
 use Rattle.world_states.specs.Coming.{code_world}
 use Rattle.world_sim.proofs.RunLemmas.{behind, is-done}
@@ -19,14 +20,15 @@ pub returns-in_default : goal.returns-in_default
 returns-in_default c =
     let count = c.loop-events.invariant.stands.count in
     let next : c.loop-events.events + 1 ≡ suc (length c.loop-events.invariant.stands.moments) = omega (arith, count) in
-    whole-report c.args.desc.now c.args.world.now c.args.programs.now c.loop-events.invariant.stands.moments c.loop-events.events (record { event = c.loop-events.events + 1; time = c.args.world.now.until }) c.loop-events.sim.motes.items
+    c.reports_keep_the_promise.ensures c.args.desc.now c.args.world.now c.args.programs.now Whole c.report_of.result c.requires
+    (whole-report c.args.desc.now c.args.world.now c.args.programs.now c.loop-events.invariant.stands.moments c.loop-events.events (record { event = c.loop-events.events + 1; time = c.args.world.now.until }) c.loop-events.sim.motes.items
     (record { radio = c.next.new.self; motes = c.see_stores.new.motes; records = c.loop-events.sim.records }) c.report_of.result c.loop-events.invariant.stands.come
     (is-done (code_world c.args.desc.now c.args.world.now c.args.programs.now) c.loop-events.invariant.stands.moments c.loop-events.sim.radio c.loop-events.invariant.stands.radio c.in_default.ensures.first)
     (ap (λ (e : Ether). e.air) c.next.ensures.others ∙ c.loop-events.invariant.stands.radio.air) c.loop-events.invariant.stands.nodes c.loop-events.invariant.stands.motes (sym count)
     (λ i. record { event = next i; time = c.args.world.now.until }) c.in_ok-see_stores.ensures
     (c.report_of.ensures.keeps c.args.desc.now (shown-machine c.args.desc.now _ c.loop-events.sim.motes.items c.see_stores.new.motes.items c.in_ok-see_stores.ensures
     (of-machine c.args.desc.now c.args.world.now c.args.programs.now c.loop-events.invariant.stands.moments c.loop-events.sim.motes.items c.loop-events.invariant.stands.nodes c.loop-events.invariant.stands.motes)))
-    c.report_of.ensures.is
+    c.report_of.ensures.is)
 
 pub report_of-requires-then-sim-ge-RECORDS_MAX-clause-count : goal.report_of-requires-then-sim-ge-RECORDS_MAX-clause-count
 report_of-requires-then-sim-ge-RECORDS_MAX-clause-count c = c.loop-events.invariant.logs ∙ sym c.loop-events.invariant.stands.nodes
@@ -35,13 +37,14 @@ pub returns-then-sim-ge-RECORDS_MAX : goal.returns-then-sim-ge-RECORDS_MAX
 returns-then-sim-ge-RECORDS_MAX c =
     let b = behind (code_world c.args.desc.now c.args.world.now c.args.programs.now) c.loop-events.invariant.stands.moments c.loop-events.sim.radio c.next.new.self c.in-Some.time c.in-Some.event c.requires.world.nodes_high
     (c.states_are_sound.ensures.dues c.args.desc.now c.args.world.now c.args.programs.now c.requires) c.loop-events.invariant.stands.come c.loop-events.invariant.stands.radio c.in-Some.ensures.first c.next.ensures.others in
-    full-report c.args.desc.now c.args.world.now c.args.programs.now c.loop-events.invariant.stands.moments c.loop-events.events
+    c.reports_keep_the_promise.ensures c.args.desc.now c.args.world.now c.args.programs.now Full c.report_of-then-sim-ge-RECORDS_MAX.result c.requires
+    (full-report c.args.desc.now c.args.world.now c.args.programs.now c.loop-events.invariant.stands.moments c.loop-events.events
     (record { radio = c.next.new.self; motes = c.loop-events.sim.motes; records = c.loop-events.sim.records }) c.report_of-then-sim-ge-RECORDS_MAX.result c.loop-events.invariant.stands.come
     (subst (λ (n : ℕ). 1000000 ≤ n) c.loop-events.invariant.stands.records c.if-sim-ge-RECORDS_MAX.true, c.in-Some.time, b.cause, b.within, b.next)
     (ap (λ (e : Ether). e.air) c.next.ensures.others ∙ c.loop-events.invariant.stands.radio.air) c.loop-events.invariant.stands.nodes c.loop-events.invariant.stands.motes (sym c.loop-events.invariant.stands.count)
     (c.report_of-then-sim-ge-RECORDS_MAX.ensures.keeps c.args.desc.now
     (of-machine c.args.desc.now c.args.world.now c.args.programs.now c.loop-events.invariant.stands.moments c.loop-events.sim.motes.items c.loop-events.invariant.stands.nodes c.loop-events.invariant.stands.motes))
-    c.report_of-then-sim-ge-RECORDS_MAX.ensures.is
+    c.report_of-then-sim-ge-RECORDS_MAX.ensures.is)
 
 pub step-requires-clause-stands : goal.step-requires-clause-stands
 step-requires-clause-stands c =

@@ -12,8 +12,8 @@ write_piece-requires g c =
     let low : 0 < length c.args.sim.now.motes.items = omega (arith, count, some) in
     record { mote = first-mote c.args.sim.now.motes.items 0 low; found = at-mote c.args.sim.now.motes.items 0 low; air = omega arith; entries = omega arith }
 
-pub returns-in-Ok : goal.returns-in-Ok
-returns-in-Ok g c =
+pub returns-in-Ok-clause-writes : goal.returns-in-Ok-clause-writes
+returns-in-Ok-clause-writes g c =
     let count = c.requires.stands.nodes in
     let some = c.requires.right.world.nodes_low in
     let low : 0 < length c.args.sim.now.motes.items = omega (arith, count, some) in
@@ -21,11 +21,11 @@ returns-in-Ok g c =
     let found = at-mote c.args.sim.now.motes.items 0 low in (
       subst AreKept c.as_slice.ensures.value c.logs_are_kept.ensures,
       start-goes c.args.desc.now c.args.world.now c.args.programs.now (c.text_grows_by_events.ensures.starts (code_world c.args.desc.now c.args.world.now c.args.programs.now)) c.args.sim.now c.requires.stands m found _ _ _ _
-      (c.in-Ok.ensures m found),
+          (c.in-Ok.ensures m found),
     )
 
-pub returns-in-Err : goal.returns-in-Err
-returns-in-Err g c =
+pub returns-in-Err-clause-writes : goal.returns-in-Err-clause-writes
+returns-in-Err-clause-writes g c =
     let count = c.requires.stands.nodes in
     let some = c.requires.right.world.nodes_low in
     let low : 0 < length c.args.sim.now.motes.items = omega (arith, count, some) in
@@ -33,3 +33,17 @@ returns-in-Err g c =
     let found = at-mote c.args.sim.now.motes.items 0 low in
     start-fails c.args.desc.now c.args.world.now c.args.programs.now (c.text_grows_by_events.ensures.starts (code_world c.args.desc.now c.args.world.now c.args.programs.now)) c.args.sim.now c.requires.stands m found
     (subst AreKept c.as_slice.ensures.value c.logs_are_kept.ensures) c.in-Err.fault c.stopped.result _ _ _ _ (c.in-Err.ensures m found) c.stopped.ensures
+
+pub returns-in-Ok-clause-later : goal.returns-in-Ok-clause-later
+returns-in-Ok-clause-later g c =
+    let count = c.requires.stands.nodes in
+    let some = c.requires.right.world.nodes_low in
+    let low : 0 < length c.args.sim.now.motes.items = omega (arith, count, some) in
+    (c.in-Ok.ensures (first-mote c.args.sim.now.motes.items 0 low) (at-mote c.args.sim.now.motes.items 0 low)).later
+
+pub returns-in-Err-clause-later : goal.returns-in-Err-clause-later
+returns-in-Err-clause-later g c =
+    let count = c.requires.stands.nodes in
+    let some = c.requires.right.world.nodes_low in
+    let low : 0 < length c.args.sim.now.motes.items = omega (arith, count, some) in
+    (c.in-Err.ensures (first-mote c.args.sim.now.motes.items 0 low) (at-mote c.args.sim.now.motes.items 0 low)).later

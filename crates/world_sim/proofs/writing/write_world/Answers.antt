@@ -5,15 +5,18 @@ use Rattle.world_states.specs.Coming.{code_world}
 use Rattle.world_sim.proofs.RunLemmas.{behind, is-done}
 use Rattle.world_sim.proofs.WritingLemmas.{at-end, memory-ends}
 use Rattle.world_sim.proofs.EndingLemmas.{written-air}
+use Rattle.world_sim.proofs.PromiseLemmas.{promised}
 use Rattle.world_sim.proofs.writing.write_world.Goals as goal
 
-pub returns-in_default : goal.returns-in_default
-returns-in_default g c = record {
-  gives = record {
-    report = record { nodes = []; air = []; events = 0; whole = false };
-    gives = inl (record { report = refl; same = refl });
-  };
+pub returns-in_default-clause-gives : goal.returns-in_default-clause-gives
+returns-in_default-clause-gives g c = record {
+  report = record { nodes = []; air = []; events = 0; whole = false };
+  gives = inl (record { report = refl; same = refl });
 }
+
+pub returns-in-Err-clause-gives : goal.returns-in-Err-clause-gives
+returns-in-Err-clause-gives g c =
+    promised c.args.desc.now c.args.world.now c.args.programs.now _ _ _ _ _ c.reports_keep_the_promise.ensures c.requires c.in-Err.ensures.writes
 
 pub write_ending-requires-clause-ends : goal.write_ending-requires-clause-ends
 write_ending-requires-clause-ends g c =
@@ -21,13 +24,12 @@ write_ending-requires-clause-ends g c =
     at-end (code_world c.args.desc.now c.args.world.now c.args.programs.now) Whole c.loop-events.events c.loop-events.sim (record { radio = c.next.new.self; motes = c.loop-events.sim.motes; records = c.loop-events.sim.records }) b
     (is-done (code_world c.args.desc.now c.args.world.now c.args.programs.now) b.moments c.loop-events.sim.radio b.radio c.in_default-next.ensures.first) c.loop-events.invariant.kept (ap (λ (e : Ether). e.air) c.next.ensures.others) refl
 
-pub returns-in_default-next : goal.returns-in_default-next
-returns-in_default-next g c = record {
-  gives =
-      c.write_ending.ensures _ _
-      (written-air c.args.desc.now c.loop-events.sim (record { radio = c.next.new.self; motes = c.loop-events.sim.motes; records = c.loop-events.sim.records }) (ap (λ (e : Ether). e.air) c.next.ensures.others) refl _ _ _ _
-      c.loop-events.invariant.written);
-}
+pub returns-in_default-next-clause-gives : goal.returns-in_default-next-clause-gives
+returns-in_default-next-clause-gives g c =
+    promised c.args.desc.now c.args.world.now c.args.programs.now _ _ _ _ _ c.reports_keep_the_promise.ensures c.requires
+    (c.write_ending.ensures.writes _ _
+    (written-air c.args.desc.now c.loop-events.sim (record { radio = c.next.new.self; motes = c.loop-events.sim.motes; records = c.loop-events.sim.records }) (ap (λ (e : Ether). e.air) c.next.ensures.others) refl _ _ _ _
+    c.loop-events.invariant.written))
 
 pub write_full-requires-clause-ends : goal.write_full-requires-clause-ends
 write_full-requires-clause-ends g c =
@@ -37,13 +39,12 @@ write_full-requires-clause-ends g c =
     at-end (code_world c.args.desc.now c.args.world.now c.args.programs.now) Full c.loop-events.events c.loop-events.sim (record { radio = c.next.new.self; motes = c.loop-events.sim.motes; records = c.loop-events.sim.records }) b
     (subst (λ (k : ℕ). 1000000 ≤ k) b.records c.if-sim-ge-RECORDS_MAX.true, c.in-Some.time, n.cause, n.within, n.next) c.loop-events.invariant.kept (ap (λ (e : Ether). e.air) c.next.ensures.others) refl
 
-pub returns-then-sim-ge-RECORDS_MAX : goal.returns-then-sim-ge-RECORDS_MAX
-returns-then-sim-ge-RECORDS_MAX g c = record {
-  gives =
-      c.write_full.ensures _ _
-      (written-air c.args.desc.now c.loop-events.sim (record { radio = c.next.new.self; motes = c.loop-events.sim.motes; records = c.loop-events.sim.records }) (ap (λ (e : Ether). e.air) c.next.ensures.others) refl _ _ _ _
-      c.loop-events.invariant.written);
-}
+pub returns-then-sim-ge-RECORDS_MAX-clause-gives : goal.returns-then-sim-ge-RECORDS_MAX-clause-gives
+returns-then-sim-ge-RECORDS_MAX-clause-gives g c =
+    promised c.args.desc.now c.args.world.now c.args.programs.now _ _ _ _ _ c.reports_keep_the_promise.ensures c.requires
+    (c.write_full.ensures.writes _ _
+    (written-air c.args.desc.now c.loop-events.sim (record { radio = c.next.new.self; motes = c.loop-events.sim.motes; records = c.loop-events.sim.records }) (ap (λ (e : Ether). e.air) c.next.ensures.others) refl _ _ _ _
+    c.loop-events.invariant.written))
 
 pub write_step-requires-clause-stands : goal.write_step-requires-clause-stands
 write_step-requires-clause-stands g c =
@@ -69,28 +70,40 @@ write_step-requires-clause-stands g c =
       well_formed = s.well_formed;
     }
 
-pub returns-in-Err-write_step : goal.returns-in-Err-write_step
-returns-in-Err-write_step g c = record {
-  gives =
-      c.in-Err-write_step.ensures.written _ _
-      (written-air c.args.desc.now c.loop-events.sim (record { radio = c.next.new.self; motes = c.loop-events.sim.motes; records = c.loop-events.sim.records }) (ap (λ (e : Ether). e.air) c.next.ensures.others) refl _ _ _ _
-      c.loop-events.invariant.written);
-}
+pub returns-in-Err-write_step-clause-gives : goal.returns-in-Err-write_step-clause-gives
+returns-in-Err-write_step-clause-gives g c =
+    promised c.args.desc.now c.args.world.now c.args.programs.now _ _ _ _ _ c.reports_keep_the_promise.ensures c.requires
+    (c.in-Err-write_step.ensures.writes _ _
+    (written-air c.args.desc.now c.loop-events.sim (record { radio = c.next.new.self; motes = c.loop-events.sim.motes; records = c.loop-events.sim.records }) (ap (λ (e : Ether). e.air) c.next.ensures.others) refl _ _ _ _
+    c.loop-events.invariant.written))
 
 pub loop-events-preserved : goal.loop-events-preserved
 loop-events-preserved g c = record {
-  stands = c.in_default-write_step.ensures.written.0;
-  kept = c.in_default-write_step.ensures.written.1;
-  plain = c.in_default-write_step.ensures.plain;
+  stands = c.in_default-write_step.ensures.writes.0;
+  kept = c.in_default-write_step.ensures.writes.1;
   written =
-      c.in_default-write_step.ensures.written.2 _ _
+      c.in_default-write_step.ensures.writes.2 _ _
       (written-air c.args.desc.now c.loop-events.sim (record { radio = c.next.new.self; motes = c.loop-events.sim.motes; records = c.loop-events.sim.records }) (ap (λ (e : Ether). e.air) c.next.ensures.others) refl _ _ _ _
       c.loop-events.invariant.written);
 }
 
-pub returns : goal.returns
-returns g c =
-    let b = c.loop-events.invariant.stands in record {
-      gives =
-          memory-ends c.args.desc.now c.args.world.now c.args.programs.now b.moments c.loop-events.sim (length b.moments) b.come b.radio.air b.nodes b.motes refl c.loop-events.invariant.kept _ _ _ _ c.loop-events.invariant.written;
-    }
+pub returns-clause-gives : goal.returns-clause-gives
+returns-clause-gives g c =
+    let b = c.loop-events.invariant.stands in
+    promised c.args.desc.now c.args.world.now c.args.programs.now _ _ _ _ _ c.reports_keep_the_promise.ensures c.requires
+    (memory-ends c.args.desc.now c.args.world.now c.args.programs.now b.moments c.loop-events.sim (length b.moments) b.come b.radio.air b.nodes b.motes refl c.loop-events.invariant.kept _ _ _ _ c.loop-events.invariant.written)
+
+pub returns-in-Err-clause-later : goal.returns-in-Err-clause-later
+returns-in-Err-clause-later g c = c.in-Err.ensures.later
+
+pub returns-in_default-next-clause-later : goal.returns-in_default-next-clause-later
+returns-in_default-next-clause-later g c = let a = c.loop-events.invariant.written.later in let b = c.write_ending.ensures.later in omega (arith, a, b)
+
+pub returns-then-sim-ge-RECORDS_MAX-clause-later : goal.returns-then-sim-ge-RECORDS_MAX-clause-later
+returns-then-sim-ge-RECORDS_MAX-clause-later g c = let a = c.loop-events.invariant.written.later in let b = c.write_full.ensures.later in omega (arith, a, b)
+
+pub returns-in-Err-write_step-clause-later : goal.returns-in-Err-write_step-clause-later
+returns-in-Err-write_step-clause-later g c = let a = c.loop-events.invariant.written.later in let b = c.in-Err-write_step.ensures.later in omega (arith, a, b)
+
+pub returns-clause-later : goal.returns-clause-later
+returns-clause-later g c = c.loop-events.invariant.written.later

@@ -35,7 +35,7 @@ overflow_sub-told c =
     let own = of-mote c.args.desc.now c.args.world.now c.args.programs.now c.args.event.now c.args.at c.args.self.now c.from.result c.node_of-number.result c.index_mut-mote.result.now
     (c.states_are_sound.ensures.next c.args.desc.now c.args.world.now c.args.programs.now c.requires.right) (c.states_are_sound.ensures.dues c.args.desc.now c.args.world.now c.args.programs.now c.requires.right)
     c.requires.stands c.node_of-number.ensures c.from.ensures c.index_mut-mote.ensures.value in
-    let p = c.in_ok-perform.ensures.performed c.requires.stands.moments c.requires.stands.cause own.may in
+    let p = c.in_ok-perform.ensures c.requires.stands.moments c.requires.stands.cause own.may in
     let more = (has-more (code_world c.args.desc.now c.args.world.now c.args.programs.now) c.requires.stands.moments c.requires.stands.cause c.node_of-number.result c.args.event.now c.args.at c.args.self.now.radio c.perform.new.radio
     c.index_mut-mote.result.now c.perform.new.mote own.may p).told_more in
     let old = ap length (c.entries-entries.ensures ∙ ap (λ l. l.entries) c.log.ensures.same) in
@@ -47,7 +47,7 @@ overflow_sub-aired c =
     let own = of-mote c.args.desc.now c.args.world.now c.args.programs.now c.args.event.now c.args.at c.args.self.now c.from.result c.node_of-number.result c.index_mut-mote.result.now
     (c.states_are_sound.ensures.next c.args.desc.now c.args.world.now c.args.programs.now c.requires.right) (c.states_are_sound.ensures.dues c.args.desc.now c.args.world.now c.args.programs.now c.requires.right)
     c.requires.stands c.node_of-number.ensures c.from.ensures c.index_mut-mote.ensures.value in
-    let p = c.in_ok-perform.ensures.performed c.requires.stands.moments c.requires.stands.cause own.may in
+    let p = c.in_ok-perform.ensures c.requires.stands.moments c.requires.stands.cause own.may in
     let more = (has-more (code_world c.args.desc.now c.args.world.now c.args.programs.now) c.requires.stands.moments c.requires.stands.cause c.node_of-number.result c.args.event.now c.args.at c.args.self.now.radio c.perform.new.radio
     c.index_mut-mote.result.now c.perform.new.mote own.may p).aired_more in
     let old = ap length c.air-air.ensures in
@@ -59,7 +59,7 @@ returns-clause-stands c =
     let own = of-mote c.args.desc.now c.args.world.now c.args.programs.now c.args.event.now c.args.at c.args.self.now c.from.result c.node_of-number.result c.index_mut-mote.result.now
     (c.states_are_sound.ensures.next c.args.desc.now c.args.world.now c.args.programs.now c.requires.right) (c.states_are_sound.ensures.dues c.args.desc.now c.args.world.now c.args.programs.now c.requires.right)
     c.requires.stands c.node_of-number.ensures c.from.ensures c.index_mut-mote.ensures.value in
-    let p = c.in_ok-perform.ensures.performed c.requires.stands.moments c.requires.stands.cause own.may in
+    let p = c.in_ok-perform.ensures c.requires.stands.moments c.requires.stands.cause own.may in
     let more = has-more (code_world c.args.desc.now c.args.world.now c.args.programs.now) c.requires.stands.moments c.requires.stands.cause c.node_of-number.result c.args.event.now c.args.at c.args.self.now.radio c.perform.new.radio
     c.index_mut-mote.result.now c.perform.new.mote own.may p in
     let told = more.told_more in
@@ -87,7 +87,7 @@ returns-clause-adds c =
     let b = c.requires.stands in
     let own = of-mote d script ps c.args.event.now c.args.at s c.from.result c.node_of-number.result x (c.states_are_sound.ensures.next d script ps c.requires.right) (c.states_are_sound.ensures.dues d script ps c.requires.right)
     b c.node_of-number.ensures c.from.ensures c.index_mut-mote.ensures.value in
-    let p = c.in_ok-perform.ensures.performed b.moments b.cause own.may in
+    let p = c.in_ok-perform.ensures b.moments b.cause own.may in
     let old = ap length (c.entries-entries.ensures ∙ ap (λ l. l.entries) c.log.ensures.same) in
     let air_old = ap length c.air-air.ensures in
     let more = has-more w b.moments b.cause c.node_of-number.result c.args.event.now c.args.at s.radio c.perform.new.radio x y own.may p in

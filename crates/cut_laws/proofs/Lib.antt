@@ -1,0 +1,4 @@
+mod Fronts
+mod TextLemmas
+mod NodeFronts
+mod WorldFronts

@@ -1,0 +1,8 @@
+//! That what is left of a run that was stopped begins what the whole run would have written.
+#![tactic(auto)]
+
+pub mod laws;
+
+pub use laws::{
+    fewer_steps_begin_more, stopped_scripts_begin_whole_ones, stopped_worlds_begin_whole_ones,
+};
