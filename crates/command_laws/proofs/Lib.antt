@@ -1,3 +1,7 @@
 mod OneCommand
+mod OneOutput
 mod OneNode
+mod OneWorld
+mod OneText
 mod OneCall
+mod Steady

@@ -1,53 +1,77 @@
 -- Words have one answer, so what is owed comes.
-use Rattle.std.proofs.Common.{◌≡◌, ℕ, inl, inr, List, Ok, Err, sym, subst}
-use Rattle.command_line.specs.Commands.{Task, Node, Table, Compile, Check, Expand}
+use Rattle.std.proofs.Common.{◌≡◌, ℕ, Bool, true, false, inl, inr, List, Ok, Err, refl, subst}
+use Rattle.command_line.specs.Commands.{Task, Node, Sim, Gen, Table, Compile, Check, Expand}
+use Rattle.command_laws.specs.Completed.{IsUnhindered, Completes, whole, full, wanting}
+use Rattle.command_laws.specs.SameText.{SameText}
+use Rattle.command_laws.specs.Texts.{run_end, IsTextOf, IsRunText}
+use Rattle.command_laws.proofs.OneCommand.{table_agrees, compile_agrees, check_agrees, expand_agrees, task_agrees}
+use Rattle.command_laws.proofs.OneNode.{node_agrees}
+use Rattle.command_laws.proofs.OneText.{WorldsHaveOneReport}
+use Rattle.command_laws.proofs.OneWorld.{sim_agrees, gen_agrees}
+use Rattle.command_laws.proofs.Steady.{owes_steady}
+use Rattle.mate_cli.specs.Ends as ends
+use Rattle.mate_cli.specs.Ends.{command, Owes, Sinks, RefusesTo, IsDocumentWritten, IsRunWritten, IsOutputWritten, CallEnds}
+use Rattle.mate_documents.specs.declared.document.Document.{Document}
+use Rattle.mate_documents.specs.declared.output.Output.{Output}
+use Rattle.mate_documents.specs.declared.output.Output.TheVariants as output
 use Rattle.mate_files.specs.Counts.{Rose}
 use Rattle.mate_files.specs.Files.{Names}
 use Rattle.mate_refusals.specs.Refusals.{status_of}
-use Rattle.mate_refusals.specs.declared.status.Status.{Status}
 use Rattle.mate_refusals.specs.declared.refusal.Refusal.{Refusal}
-use Rattle.mate_refusals.specs.declared.refusal.Refusal.TheVariants.{LogFull, NoMemory}
+use Rattle.mate_refusals.specs.declared.refusal.Refusal.TheVariants.{NoMemory}
+use Rattle.mate_refusals.specs.declared.status.Status.{Status}
+use Rattle.mate_refusals.specs.declared.status.Status.TheVariants as status
 use Rattle.mate_steps.specs.OneAnswer.{AnswersAgree, steady}
+use Rattle.mate_steps.specs.Parts.{Folder}
 use Rattle.mate_steps.proofs.OneAnswer.{then_agrees}
-use Rattle.command_laws.specs.Completed.{IsCompleted}
-use Rattle.mate_cli.specs.Ends.{command, Owes, Sinks, RefusesTo, done, full, failed, wanting, whole, stopped, unwritten, cut, IsOutputWritten, CallEnds, written, refused}
-use Rattle.command_laws.specs.SameText.{SameText}
-use Rattle.mate_documents.specs.declared.output.Output.{Output}
-use Rattle.mate_documents.specs.declared.output.Output.TheVariants as output
-use Rattle.command_laws.proofs.OneCommand.{table_agrees, compile_agrees, check_agrees, expand_agrees, task_agrees}
-use Rattle.command_laws.proofs.OneNode.{node_agrees}
+use Rattle.run_steps.specs.Running.{IsReportOf}
+use Rattle.run_writing.specs.Writing.{OfRun}
+use Rattle.vm_desc.specs.declared.description.Description.{Description}
+use Rattle.world_sim.specs.Promise.{IsReportOfWorld}
 
-command_agrees : (names : Names) (t : Task) → AnswersAgree SameText (command (steady names) t) (command (steady names) t)
-command_agrees names (Node fold short vm script) = node_agrees names fold short vm script
-command_agrees names (Table vm) = table_agrees names vm
-command_agrees names (Compile fold vm h version name) = compile_agrees names fold vm h version name
-command_agrees names (Check vm name) = check_agrees names vm name
-command_agrees names (Expand name) = expand_agrees names name
+command_agrees : WorldsHaveOneReport → (names : Names) (t : Task) → AnswersAgree SameText (command (steady names) t) (command (steady names) t)
+command_agrees law names (Node fold short vm script) = node_agrees names fold short vm script
+command_agrees law names (Sim fold short vm script) = sim_agrees law names fold short vm script
+command_agrees law names (Gen fold short number vm) = gen_agrees law names fold short number vm
+command_agrees law names (Table vm) = table_agrees names vm
+command_agrees law names (Compile fold vm h version name) = compile_agrees names fold vm h version name
+command_agrees law names (Check vm name) = check_agrees names vm name
+command_agrees law names (Expand name) = expand_agrees names name
 
-pub owes_agree : (names : Names) (words : List (List ℕ)) → AnswersAgree SameText (Owes (steady names) words) (Owes (steady names) words)
-owes_agree names words =
+pub owes_agree : WorldsHaveOneReport → (names : Names) (words : List (List ℕ)) → AnswersAgree SameText (Owes (steady names) words) (Owes (steady names) words)
+owes_agree law names words =
     then_agrees ◌≡◌ SameText _ _ _ _ (task_agrees words)
-    (λ a b e. subst (λ (t : Task). AnswersAgree SameText (command (steady names) a) (command (steady names) t)) e (command_agrees names a))
+    (λ a b e. subst (λ (t : Task). AnswersAgree SameText (command (steady names) a) (command (steady names) t)) e (command_agrees law names a))
 
--- ---- statuses
+-- ---- how a call ends
 
-told : (s t : Sinks) (r : Refusal) (status : Status) → RefusesTo s t r status → IsCompleted (status_of r) → IsCompleted status
-told s t r status (inl x) completed = subst IsCompleted (sym x.0) completed
-told s t r status (inr x) completed = subst IsCompleted (sym x.0) tt
+-- a refusal for want of memory comes with its status
+told : (s t : Sinks) (r : Refusal) (code : Status) → RefusesTo s t r code → r ≡ NoMemory → code ≡ status.NoMemory
+told s t r code (inl x) wants = subst (λ (y : Refusal). code ≡ status_of y) wants x.0
+told s t r code (inr x) wants = x.0
 
-output_completed : (o : Output) (s t : Sinks) (status : Status) → IsOutputWritten o s t status → (Rose s.out_faults t.out_faults → ⊥) → IsCompleted status
-output_completed (output.Document x) s t status (done some sent same is) quiet = subst IsCompleted (sym is) tt
-output_completed (output.Document x) s t status (full all sent tells) quiet = told s t LogFull status tells tt
-output_completed (output.Document x) s t status (failed part rose tells) quiet = absurd (quiet rose)
-output_completed (output.Document x) s t status (wanting part tells) quiet = told s t NoMemory status tells tt
-output_completed (output.Run d script ps) s t status (whole r report sent same is) quiet = subst IsCompleted (sym is) tt
-output_completed (output.Run d script ps) s t status (stopped r report sent tells) quiet = told s t LogFull status tells tt
-output_completed (output.Run d script ps) s t status (unwritten r part rose tells) quiet = absurd (quiet rose)
-output_completed (output.Run d script ps) s t status (cut r part tells) quiet = told s t NoMemory status tells tt
+module _ (names : Names) (words : List (List ℕ)) (s t : Sinks) (code : Status) (quiet : Rose s.out_faults t.out_faults → ⊥) where
+  document_completes : (x : Document) → Owes (steady names) words (Ok (output.Document x)) → IsDocumentWritten x s t code → Completes names words s t code
+  document_completes x owes (ends.done some sent same is) = whole (output.Document x) owes _ (some, refl) sent same is
+  document_completes x owes (ends.full all sent tells) = full (output.Document x) owes _ (all, refl) sent tells
+  document_completes x owes (ends.failed part rose tells) = absurd (quiet rose)
+  document_completes x owes (ends.wanting part tells) = wanting (told s t NoMemory code tells refl)
 
-pub owed_comes : (names : Names) (words : List (List ℕ)) (before now : ℕ) (s t : Sinks) (status : Status) (o : Output) → Owes (steady names) words (Ok o) → (Rose s.out_faults t.out_faults → ⊥)
-    → CallEnds (steady names) words before now s t status → IsCompleted status
-owed_comes names words before now s t status o owes quiet (written p owes' ends) = output_completed p s t status ends quiet
-owed_comes names words before now s t status o owes quiet (refused r owes' counted same tells) =
-    let is : r ≡ NoMemory = owes_agree names words (Ok o) (Err r) owes owes' in
-    told s t r status tells (subst (λ (x : Refusal). IsCompleted (status_of x)) (sym is) tt)
+  -- of a run, whose texts these are
+  run_completes : (d : Description) (Is : OfRun) (o : Output) → Owes (steady names) words (Ok o) → ((how : Bool) (bs : List ℕ) → IsRunText d Is (run_end how) bs → IsTextOf how o bs)
+      → IsRunWritten d Is s t code → Completes names words s t code
+  run_completes d Is o owes texts (ends.whole r report sent same is) = whole o owes _ (texts false _ (record { report = r; ended = report; text_is = refl })) sent same is
+  run_completes d Is o owes texts (ends.stopped r report sent tells) = full o owes _ (texts true _ (record { report = r; ended = report; text_is = refl })) sent tells
+  run_completes d Is o owes texts (ends.unwritten r part rose tells) = absurd (quiet rose)
+  run_completes d Is o owes texts (ends.cut r part tells) = wanting (told s t NoMemory code tells refl)
+
+  output_completes : (o : Output) → Owes (steady names) words (Ok o) → IsOutputWritten o s t code → Completes names words s t code
+  output_completes (output.Document x) owes written = document_completes x owes written
+  output_completes (output.Run d script ps) owes written = run_completes d (IsReportOf d script ps) (output.Run d script ps) owes (λ how bs is. is) written
+  output_completes (output.World d w ps) owes written = run_completes d (IsReportOfWorld d w ps) (output.World d w ps) owes (λ how bs is. is) written
+
+pub completes : (f : Folder) (names : Names) (words : List (List ℕ)) (before now : ℕ) (s t : Sinks) (code : Status) → IsUnhindered f names words before now s t → CallEnds f words before now s t code → Completes names words s t code
+completes f names words before now s t code free (ends.written o owes written) =
+    output_completes names words s t code free.put o (owes_steady f names free.told words before now (Ok o) free.read (λ unread. absurd unread) owes) written
+completes f names words before now s t code free (ends.refused r owes counted same tells) =
+    wanting (told s t r code tells (free.owed r (owes_steady f names free.told words before now (Err r) free.read counted owes)))

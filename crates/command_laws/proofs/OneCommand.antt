@@ -42,7 +42,9 @@ use Rattle.ts_syntax.specs.declared.script.Script.{Script}
 pub writes_agree : (bytes : List ℕ) → AnswersAgree SameText (writes bytes) (writes bytes)
 writes_agree bytes (Ok (output.Document a)) (Ok (output.Document b)) p q = p ∙ sym q
 writes_agree bytes (Ok (output.Document a)) (Ok (output.Run d s ps)) p q = absurd q
+writes_agree bytes (Ok (output.Document a)) (Ok (output.World d w ps)) p q = absurd q
 writes_agree bytes (Ok (output.Run d s ps)) (Ok b) p q = absurd p
+writes_agree bytes (Ok (output.World d w ps)) (Ok b) p q = absurd p
 writes_agree bytes (Ok a) (Err r) p q = q
 writes_agree bytes (Err r) (Ok b) p q = p
 writes_agree bytes (Err r) (Err t) p q = inr (inl p)

@@ -1,11 +1,31 @@
--- What a call comes to where an output is owed and the output can be written.
-use Rattle.std.specs.Prelude.{⊤}
+-- What a call comes to where nothing stands in its way.
+use Rattle.std.specs.Prelude.{◌≡◌, ◌⊎◌, ℕ, true, false, List, Some, Ok, Err, IsTrue}
+use Rattle.command_laws.specs.Texts.{IsTextOf}
+use Rattle.mate_cli.specs.Ends.{Owes, Sinks, RefusesTo}
+use Rattle.mate_documents.specs.declared.output.Output.{Output}
+use Rattle.mate_files.specs.Counts.{Rose}
+use Rattle.mate_files.specs.Files.{Names}
+use Rattle.mate_files.specs.Sink.{Sent}
+use Rattle.mate_refusals.specs.declared.refusal.Refusal.{Refusal}
+use Rattle.mate_refusals.specs.declared.refusal.Refusal.TheVariants.{LogFull, NoMemory}
 use Rattle.mate_refusals.specs.declared.status.Status.{Status}
-use Rattle.mate_refusals.specs.declared.status.Status.TheVariants as status
+use Rattle.mate_refusals.specs.declared.status.Status.TheVariants.{Ok as AllDone, NoMemory as OutOfMemory}
+use Rattle.mate_steps.specs.OneAnswer.{steady}
+use Rattle.mate_steps.specs.Parts.{Folder}
 
--- all was written (0), or all of a run up to where its log was full (8), or memory was wanting (10)
-abbrev pub IsCompleted : Status → Type 0
-IsCompleted status.Ok = ⊤
-IsCompleted status.LogFull = ⊤
-IsCompleted status.NoMemory = ⊤
-IsCompleted _ = ⊥
+-- Nothing stands in the way of a call: the words and the bytes of the files are owed no refusal; the files are steady, or no
+-- read failed in the call; and no write of the output failed.
+pub record IsUnhindered (f : Folder) (names : Names) (words : List (List ℕ)) (before now : ℕ) (s t : Sinks) : Type 0 where
+  pub told : f.told ≡ Some names
+  pub owed : (r : Refusal) → Owes (steady names) words (Err r) → r ≡ NoMemory
+  pub read : IsTrue f.steady ⊎ (Rose before now → ⊥)
+  pub put : Rose s.out_faults t.out_faults → ⊥
+
+-- How it ends.
+pub data Completes (names : Names) (words : List (List ℕ)) (s t : Sinks) (status : Status) : Type 0 where
+  -- the whole text that is owed was written, and nothing told
+  whole : (o : Output) → Owes (steady names) words (Ok o) → (bs : List ℕ) → IsTextOf false o bs → Sent s.out t.out bs → t.err ≡ s.err → status ≡ AllDone → Completes names words s t status
+  -- the whole text of a run that a full log ended
+  full : (o : Output) → Owes (steady names) words (Ok o) → (bs : List ℕ) → IsTextOf true o bs → Sent s.out t.out bs → RefusesTo s t LogFull status → Completes names words s t status
+  -- memory was wanting
+  wanting : status ≡ OutOfMemory → Completes names words s t status

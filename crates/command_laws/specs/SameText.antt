@@ -1,15 +1,31 @@
 -- When two outputs are the same text.
-use Rattle.std.specs.Prelude.{◌≡◌}
-use Rattle.mate_journal.specs.declared.report.Report.{Report}
-use Rattle.report_text.specs.Text.{text}
-use Rattle.mate_cli.specs.Node.{IsEndedReport}
+use Rattle.std.specs.Prelude.{◌≡◌, List}
 use Rattle.mate_documents.specs.Documents.{document_text}
 use Rattle.mate_documents.specs.declared.output.Output.{Output}
 use Rattle.mate_documents.specs.declared.output.Output.TheVariants as output
+use Rattle.mate_journal.specs.declared.program.Program.{Program}
+use Rattle.node_programs.specs.ScriptSteps.{steps_of}
+use Rattle.node_programs.specs.Sources.{meaning_by}
+use Rattle.script_reader.specs.Steps.{NodeScript}
+use Rattle.vm_desc.specs.declared.description.Description.{Description}
+use Rattle.world_script.specs.declared.world.World.{World}
+use Rattle.world_sources.specs.SourceWorld.{source_world}
 
--- documents with the same text, and runs whose reports have
+-- the same steps, on the same machine, with programs that mean the same
+pub record IsSameRun (d d' : Description) (script script' : NodeScript) (ps ps' : List Program) : Type 0 where
+  pub machine : d ≡ d'
+  pub steps : steps_of script ps ≡ steps_of script' ps'
+  pub meaning : meaning_by d ps ≡ meaning_by d' ps'
+
+-- the same world, on the same machine, with programs that mean the same
+pub record IsSameWorld (d d' : Description) (w w' : World) (ps ps' : List Program) : Type 0 where
+  pub machine : d ≡ d'
+  pub world : w ≡ w'
+  pub meaning : source_world d w ps ≡ source_world d' w' ps'
+
+-- documents with the same text, and the same runs
 abbrev pub SameText : Output → Output → Type 0
 SameText (output.Document x) (output.Document y) = document_text x ≡ document_text y
-SameText (output.Run d script ps) (output.Run d' script' ps') =
-    (r r' : Report) → IsEndedReport d script ps r → IsEndedReport d' script' ps' r' → text d r ≡ text d' r'
+SameText (output.Run d script ps) (output.Run d' script' ps') = IsSameRun d d' script script' ps ps'
+SameText (output.World d w ps) (output.World d' w' ps') = IsSameWorld d d' w w' ps ps'
 SameText _ _ = ⊥

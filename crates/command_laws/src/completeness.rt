@@ -1,19 +1,23 @@
 //! Completeness: what the words and steady files are owed is one answer, but for want of memory.
 
-ghost use Rattle.std.specs.Prelude.{◌≡◌, List, ℕ, Bool, Ok};
-ghost use Rattle.mate_files.specs.Counts.{Rose};
+ghost use Rattle.std.specs.Prelude.{◌≡◌, List, ℕ, Bool};
 ghost use Rattle.mate_files.specs.Files.{Names};
 ghost use Rattle.mate_documents.specs.Check.{check};
 ghost use Rattle.mate_documents.specs.Compile.{compile};
-ghost use Rattle.command_laws.specs.Completed.{IsCompleted};
+ghost use Rattle.command_laws.specs.Completed.{Completes, IsUnhindered};
 ghost use Rattle.mate_documents.specs.Expand.{expand};
 ghost use Rattle.mate_cli.specs.Ends.{CallEnds, Owes, Sinks, task};
 ghost use Rattle.mate_documents.specs.declared.output.Output.{Output};
 ghost use Rattle.mate_refusals.specs.declared.status.Status.{Status};
 ghost use Rattle.mate_cli.specs.Node.{node};
+ghost use Rattle.mate_cli.specs.Worlds.{made_run, sim};
 ghost use Rattle.mate_steps.specs.OneAnswer.{AnswersAgree, steady};
+ghost use Rattle.mate_steps.specs.Parts.{Folder};
 ghost use Rattle.command_laws.specs.SameText.{SameText};
+ghost use Rattle.command_laws.specs.Texts.{IsTextOf};
 ghost use Rattle.mate_documents.specs.Table.{opcode_table};
+
+use world_once_laws::script_has_one_report;
 
 /// Words say one task, or none.
 pub fn words_have_one_task()
@@ -40,20 +44,43 @@ pub fn expand_has_one_answer()
     ensures { (names : Names) (name : List ℕ) → AnswersAgree SameText (expand (steady names) name) (expand (steady names) name) }
 {}
 
-/// The command `node` has one answer but for want of memory, where the files are steady: one run, all reports of which have
-/// the same text, whole or up to where the log is full; or one summary.
+/// The command `node` has one answer but for want of memory, where the files are steady: one run, or one summary.
 pub fn node_has_one_answer()
     ensures { (names : Names) (fold short : Bool) (vm name : List ℕ) → AnswersAgree SameText (node (steady names) fold short vm name) (node (steady names) fold short vm name) }
 {}
 
-/// So words have: what they and steady files are owed is one text or one refusal, but for want of memory.
+/// The command `sim` has one answer but for want of memory, where the files are steady: the run of one world, or one summary.
+pub fn sim_has_one_answer()
+    ensures { (names : Names) (fold short : Bool) (vm name : List ℕ) → AnswersAgree SameText (sim (steady names) fold short vm name) (sim (steady names) fold short vm name) }
+{
+    script_has_one_report();
+}
+
+/// So has the command `gen`.
+pub fn made_run_has_one_answer()
+    ensures { (names : Names) (fold short : Bool) (number : ℕ) (vm : List ℕ) → AnswersAgree SameText (made_run (steady names) fold short number vm) (made_run (steady names) fold short number vm) }
+{
+    script_has_one_report();
+}
+
+/// So words have: what they and steady files are owed is one output or one refusal, but for want of memory.
 pub fn words_have_one_answer()
     ensures { (names : Names) (words : List (List ℕ)) → AnswersAgree SameText (Owes (steady names) words) (Owes (steady names) words) }
-{}
+{
+    script_has_one_report();
+}
 
-/// Where words and steady files are owed an output, and the output's sink doesn't fail, the call comes to its end: all was
-/// written, or memory was wanting. So no body meets the contract of `mate` that always answers another status.
+/// Outputs that are the same have one text: all reports of one run that ended by itself have.
+pub fn same_outputs_have_one_text()
+    ensures { (o o' : Output) → SameText o o' → (full full' : Bool) (bs bs' : List ℕ) → IsTextOf full o bs → IsTextOf full' o' bs' → bs ≡ bs' }
+{
+    script_has_one_report();
+}
+
+/// Where words and the bytes of the files are owed no refusal, no file fails to be read and the output's sink doesn't fail, the
+/// call comes to its end: the whole text was written, or that of a run that a full log ended, or memory was wanting. So no body
+/// meets the contract of `mate` that always answers another status.
 pub fn owed_output_comes()
-    ensures { (names : Names) (words : List (List ℕ)) (before now : ℕ) (s t : Sinks) (status : Status) (o : Output) → Owes (steady names) words (Ok o)
-        → (Rose s.out_faults t.out_faults → ⊥) → CallEnds (steady names) words before now s t status → IsCompleted status }
+    ensures { (f : Folder) (names : Names) (words : List (List ℕ)) (before now : ℕ) (s t : Sinks) (status : Status) → IsUnhindered f names words before now s t
+        → CallEnds f words before now s t status → Completes names words s t status }
 {}

@@ -1,1 +1,1 @@
-pub mod WorldLemmas
+mod RunLemmas

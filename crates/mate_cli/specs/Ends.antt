@@ -25,6 +25,8 @@ use Rattle.mate_journal.specs.declared.report.Report.{Report}
 use Rattle.report_text.specs.Text.{text}
 use Rattle.run_steps.specs.Running.{IsReportOf}
 use Rattle.run_writing.specs.Writing.{OfRun, IsWrittenPart, IsNothingRun}
+use Rattle.run_writing.specs.declared.write_fault.WriteFault.{WriteFault}
+use Rattle.run_writing.specs.declared.write_fault.WriteFault.TheVariants as fault
 use Rattle.vm_desc.specs.declared.description.Description.{Description}
 use Rattle.world_sim.specs.Promise.{IsReportOfWorld}
 
@@ -68,15 +70,16 @@ pub data IsDocumentWritten (x : Document) (s t : Sinks) (status : Status) : Type
   wanting : SentPart s.out t.out (document_text x) → RefusesTo s t NoMemory status → IsDocumentWritten x s t status
 
 -- How the writing of a run ends, on nodes of this machine, where these reports are of the run. Its report is that of the events that
--- ended, and tidy.
+-- ended.
 pub data IsRunWritten (d : Description) (Is : OfRun) (s t : Sinks) (status : Status) : Type 0 where
   -- the whole text of the report of the whole run was written, and nothing told
   whole : (r : Report) → Is Whole r → Sent s.out t.out (text d r) → t.err ≡ s.err → status ≡ AllDone
       → IsRunWritten d Is s t status
-  -- the log was full before a step, and the whole text of the report up to there was written
+  -- the log was full before an event, and the whole text of the report up to there was written
   stopped : (r : Report) → Is Full r → Sent s.out t.out (text d r) → RefusesTo s t LogFull status
       → IsRunWritten d Is s t status
-  -- `out` failed, and a prefix of the report's text was written, with all lines of its events but those of the last one
+  -- `out` failed, and a prefix of the report's text was written, with all lines of its events but those of the last one; of a run that
+  -- was cut no last line was
   unwritten : (r : Report) → IsWrittenPart d Is s.out t.out r → Rose s.out_faults t.out_faults → RefusesTo s t SinkFault status
       → IsRunWritten d Is s t status
   -- memory was wanting; such a prefix was written, or nothing was run
@@ -95,3 +98,16 @@ pub data CallEnds (f : Folder) (words : List (List ℕ)) (before now : ℕ) (s t
   -- nothing was written; a file could not be read only where the count rose
   refused : (r : Refusal) → Owes f words (Err r) → (IsUnreadAnswer {A = Output} (Err r) → Rose before now) → t.out ≡ s.out
       → RefusesTo s t r status → CallEnds f words before now s t status
+
+-- ---- on the way
+
+-- what is told of a run that was not written whole
+abbrev pub run_refusal : WriteFault → Refusal
+run_refusal fault.LogFull = LogFull
+run_refusal fault.NoMemory = NoMemory
+run_refusal fault.Sink = SinkFault
+
+-- how the writing of a run ended is told, and the status comes
+abbrev pub TellsEnd : Result (Unit {0}) WriteFault → Option (List ℕ) → ℕ → Option (List ℕ) → ℕ → Status → Type 0
+TellsEnd (Ok all) written faults written' faults' status = (written' ≡ written) × (status ≡ AllDone)
+TellsEnd (Err fault) written faults written' faults' status = TellsRefusal written faults written' faults' (run_refusal fault) status

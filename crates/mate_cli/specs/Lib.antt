@@ -1,3 +1,4 @@
+pub mod Runs
 pub mod Node
 pub mod Worlds
 pub mod Ends

@@ -1,6 +1,6 @@
 -- The command `node`: the run of a node script with the programs of its files, or the summary of its report.
-use Rattle.std.specs.Prelude.{◌≡◌, ◌⊎◌, ℕ, Bool, true, false, List, Result}
-use Rattle.mate_journal.specs.NodeScript.{Whole, Full}
+use Rattle.std.specs.Prelude.{ℕ, Bool, List, Result}
+use Rattle.mate_cli.specs.Runs.{report_of, output_of}
 use Rattle.mate_journal.specs.declared.program.Program.{Program}
 use Rattle.mate_journal.specs.declared.report.Report.{Report}
 use Rattle.run_steps.specs.Running.{IsReportOf}
@@ -9,24 +9,18 @@ use Rattle.script_programs.specs.Scripts.{script}
 use Rattle.script_reader.specs.Steps.{NodeScript}
 use Rattle.vm_desc.specs.declared.description.Description.{Description}
 use Rattle.mate_steps.specs.Parts.{Folder, machine}
-use Rattle.mate_steps.specs.Steps.{obtained, ◌▸◌}
+use Rattle.mate_steps.specs.Steps.{◌▸◌}
 use Rattle.mate_documents.specs.declared.output.Output.{Output}
 use Rattle.mate_documents.specs.declared.output.Output.TheVariants as output
-use Rattle.mate_documents.specs.declared.document.Document.TheVariants as document
 use Rattle.mate_refusals.specs.declared.refusal.Refusal.{Refusal}
-
--- a report of the script's run, which is whole or was ended by a full log
-abbrev pub IsEndedReport : Description → NodeScript → List Program → Report → Type 0
-IsEndedReport d script ps r = IsReportOf d script ps Whole r ⊎ IsReportOf d script ps Full r
 
 -- the report of the script's run
 abbrev pub reported : Description → NodeScript → List Program → Result Report Refusal → Type 0
-reported d s ps = obtained (IsEndedReport d s ps)
+reported d s ps = report_of (IsReportOf d s ps)
 
--- what is written of the run: its report, event by event; with `--brief` the summary of its report, when it has ended
+-- what is written of the run
 abbrev pub run_output : Bool → Description → NodeScript → List Program → Result Output Refusal → Type 0
-run_output false d s ps = obtained (λ o. o ≡ output.Run d s ps)
-run_output true d s ps = reported d s ps ▸ λ r. obtained (λ o. o ≡ output.Document (document.Summary d r))
+run_output brief d s ps = output_of brief d (IsReportOf d s ps) (output.Run d s ps)
 
 -- what is written of the run of a script's file on a machine
 abbrev pub run_of_script : Folder → (fold brief : Bool) → Description → (name : List ℕ) → Result Output Refusal → Type 0

@@ -1,32 +1,27 @@
 -- The commands `sim` and `gen`: the run of a world with its programs, or the summary of its report.
-use Rattle.std.specs.Prelude.{◌≡◌, ◌⊎◌, ℕ, Bool, true, false, List, Result}
-use Rattle.mate_journal.specs.NodeScript.{Whole, Full}
+use Rattle.std.specs.Prelude.{ℕ, Bool, List, Result}
+use Rattle.mate_cli.specs.Runs.{report_of, output_of}
+use Rattle.mate_documents.specs.declared.output.Output.{Output}
+use Rattle.mate_documents.specs.declared.output.Output.TheVariants as output
 use Rattle.mate_journal.specs.declared.program.Program.{Program}
 use Rattle.mate_journal.specs.declared.report.Report.{Report}
+use Rattle.mate_refusals.specs.declared.refusal.Refusal.{Refusal}
+use Rattle.mate_steps.specs.Parts.{Folder, machine}
+use Rattle.mate_steps.specs.Steps.{◌▸◌}
 use Rattle.vm_desc.specs.declared.description.Description.{Description}
-use Rattle.world_script.specs.declared.world.World.{World}
-use Rattle.world_sim.specs.Promise.{IsReportOfWorld}
 use Rattle.world_programs.specs.Injected.{world_programs}
 use Rattle.world_programs.specs.Made.{made}
 use Rattle.world_programs.specs.WorldFiles.{world}
-use Rattle.mate_steps.specs.Parts.{Folder, machine}
-use Rattle.mate_steps.specs.Steps.{obtained, ◌▸◌}
-use Rattle.mate_documents.specs.declared.output.Output.{Output}
-use Rattle.mate_documents.specs.declared.output.Output.TheVariants as output
-use Rattle.mate_documents.specs.declared.document.Document.TheVariants as document
-use Rattle.mate_refusals.specs.declared.refusal.Refusal.{Refusal}
+use Rattle.world_script.specs.declared.world.World.{World}
+use Rattle.world_sim.specs.Promise.{IsReportOfWorld}
 
--- the report of a run that is whole, or was ended by a full log
-abbrev pub IsEndedWorldReport : Description → World → List Program → Report → Type 0
-IsEndedWorldReport d w ps r = IsReportOfWorld d w ps Whole r ⊎ IsReportOfWorld d w ps Full r
-
+-- the report of the world's run
 abbrev pub world_reported : Description → World → List Program → Result Report Refusal → Type 0
-world_reported d w ps = obtained (IsEndedWorldReport d w ps)
+world_reported d w ps = report_of (IsReportOfWorld d w ps)
 
--- what is written of the run: its report, event by event; with `--brief` the summary of its report, when it has ended
+-- what is written of the run
 abbrev pub world_output : Bool → Description → World → List Program → Result Output Refusal → Type 0
-world_output false d w ps = obtained (λ o. o ≡ output.World d w ps)
-world_output true d w ps = world_reported d w ps ▸ λ r. obtained (λ o. o ≡ output.Document (document.Summary d r))
+world_output brief d w ps = output_of brief d (IsReportOfWorld d w ps) (output.World d w ps)
 
 -- what is written of the run of the world of a script's file
 abbrev pub run_of_world : Folder → (fold brief : Bool) → Description → (name : List ℕ) → Result Output Refusal → Type 0

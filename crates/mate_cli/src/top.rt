@@ -6,10 +6,8 @@ ghost use Rattle.mate_cli.specs.Ends.{CallEnds, Owes, command};
 ghost use Rattle.mate_documents.specs.Outputs.{CanBeWritten};
 ghost use Rattle.mate_steps.specs.Parts.{ReadsFiles};
 
-use crate::made;
-use crate::node;
-use crate::sim;
 use crate::writing::write_output;
+use crate::{made, node, sim};
 use command_line::{Command, WordsFault, command_of};
 use mate_documents::{Output, check, compile, expand, table};
 use mate_files::{Files, Sink};

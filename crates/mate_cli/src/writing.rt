@@ -3,7 +3,7 @@
 ghost use Rattle.world_sim.specs.Promise.{IsReportOfWorld};
 ghost use Rattle.run_steps.specs.Running.{IsReportOf};
 ghost use Rattle.node_programs.specs.WorldPrograms.{AreProgramsOfWorld};
-ghost use Rattle.mate_cli.specs.Ends.{IsDocumentWritten, IsOutputWritten, IsRunWritten};
+ghost use Rattle.mate_cli.specs.Ends.{IsDocumentWritten, IsOutputWritten, IsRunWritten, TellsEnd};
 ghost use Rattle.mate_documents.specs.Outputs.{CanBeWritten};
 ghost use Rattle.mate_documents.specs.Documents.{HasText};
 ghost use Rattle.node_programs.specs.ScriptSteps.{AreProgramsOf};
@@ -12,7 +12,8 @@ use mate_documents::{Document, Output};
 use mate_files::{Sink, SinkFault};
 use mate_journal::Programs;
 use mate_refusals::{Refusal, Status};
-use run_steps::{WriteFault, write_steps};
+use run_steps::write_steps;
+use run_writing::WriteFault;
 use script_reader::Steps;
 use std::alloc::Global;
 use vm_desc::Description;
@@ -74,12 +75,8 @@ fn write_run<S: Sink, E: Sink>(
         (record { out = S.written out.old; out_faults = S.faults out.old; err = E.written err.old; err_faults = E.faults err.old })
         (record { out = S.written out.new; out_faults = S.faults out.new; err = E.written err.new; err_faults = E.faults err.new }) result }
 {
-    match write_steps(alloc, desc, script, programs, out) {
-        Ok(()) => Status::Ok,
-        Err(WriteFault::LogFull) => Refusal::LogFull.refuse(err),
-        Err(WriteFault::Sink) => Refusal::SinkFault.refuse(err),
-        Err(WriteFault::NoMemory) => Refusal::NoMemory.refuse(err),
-    }
+    let written = write_steps(alloc, desc, script, programs, out);
+    told(written, err)
 }
 
 /// Runs a world, and writes the lines of each event when it ends. After a fault of `out` no further event is run.
@@ -97,10 +94,18 @@ fn run_world<S: Sink, E: Sink>(
         (record { out = S.written out.old; out_faults = S.faults out.old; err = E.written err.old; err_faults = E.faults err.old })
         (record { out = S.written out.new; out_faults = S.faults out.new; err = E.written err.new; err_faults = E.faults err.new }) result }
 {
-    match write_world(alloc, desc, world, programs, out) {
+    let written = write_world(alloc, desc, world, programs, out);
+    told(written, err)
+}
+
+/// Tells how the writing of a run ended.
+fn told<E: Sink>(written: Result<(), WriteFault>, err: &mut E) -> Status
+    ensures { TellsEnd written (E.written err.old) (E.faults err.old) (E.written err.new) (E.faults err.new) result }
+{
+    match written {
         Ok(()) => Status::Ok,
-        Err(run_writing::WriteFault::LogFull) => Refusal::LogFull.refuse(err),
-        Err(run_writing::WriteFault::Sink) => Refusal::SinkFault.refuse(err),
-        Err(run_writing::WriteFault::NoMemory) => Refusal::NoMemory.refuse(err),
+        Err(WriteFault::LogFull) => Refusal::LogFull.refuse(err),
+        Err(WriteFault::Sink) => Refusal::SinkFault.refuse(err),
+        Err(WriteFault::NoMemory) => Refusal::NoMemory.refuse(err),
     }
 }

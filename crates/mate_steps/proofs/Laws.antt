@@ -31,7 +31,7 @@ fails_as e r fails (inr is) = inr is
 -- ---- what calls leave of files
 
 -- a refusal tells of a file that can't be read or doesn't, whatever was wanted
-unread-as : (A B : Type 0) (r : Refusal) → IsUnreadAnswer {A = A} (Err r) → IsUnreadAnswer {A = B} (Err r)
+pub unread-as : (A B : Type 0) (r : Refusal) → IsUnreadAnswer {A = A} (Err r) → IsUnreadAnswer {A = B} (Err r)
 unread-as A B Usage unread = unread
 unread-as A B (BadDescription why) unread = unread
 unread-as A B (BadScript line why) unread = unread

@@ -70,7 +70,7 @@ source_same a b c e is is' same = subst (λ (x : Option Checked). SameSource x b
 source_none : (a b : Option Checked) → a ≡ None → b ≡ None → SameSource a b
 source_none a b is is' = subst (λ (x : Option Checked). SameSource x b) (sym is) (subst (λ (x : Option Checked). SameSource None x) (sym is') tt)
 
-installed_same : (d : Description) (h : HandlerId) (version : ℕ) (c e : CompiledScript) → SameCompiled c e → (p q : Program) → IsInstalled d h version c p → IsInstalled d h version e q → SameProgram p q
+pub installed_same : (d : Description) (h : HandlerId) (version : ℕ) (c e : CompiledScript) → SameCompiled c e → (p q : Program) → IsInstalled d h version c p → IsInstalled d h version e q → SameProgram p q
 installed_same d h version c e same p q a b = record {
   handler = a.handler ∙ sym b.handler;
   version = a.version_is ∙ sym b.version_is;

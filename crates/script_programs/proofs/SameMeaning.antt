@@ -41,6 +41,10 @@ at-same (p ∷ ps) [] same k = absurd same
 at-same (p ∷ ps) (q ∷ qs) same zero = held-same p q same.0
 at-same (p ∷ ps) (q ∷ qs) same (suc k) = at-same ps qs same.1 k
 
+-- the programs at all places
+pub places-same : (ps qs : List Program) → SamePrograms ps qs → program_at ps ≡ program_at qs
+places-same ps qs same = same_at (program_at ps) (program_at qs) (at-same ps qs same)
+
 step-same : (ps qs : List Program) → SamePrograms ps qs → (x : Step) → step_of ps x ≡ step_of qs x
 step-same ps qs same (step.Install h version k) = ap node.Install (at-same ps qs same k)
 step-same ps qs same (step.Load k) = ap node.Install (at-same ps qs same k)

@@ -1,6 +1,6 @@
 -- The programs of a made world.
 use Rattle.std.proofs.Common.{◌≡◌, ℕ, zero, suc, ◌+◌, ◌*◌, ◌<◌, ◌≤◌, Bool, true, false, List, [], ◌∷◌, ◌++◌, length, map, replicate, Option, Some, None, Result, Ok, Err, refl, sym, ◌∙◌, ap, subst, arith, codes, inl, inr, length-append, append_assoc}
-use Rattle.std.specs.Prelude.{slice_get, slice_index_or, All, IsSomeAnd, IsErrAnd}
+use Rattle.std.specs.Prelude.{slice_get, slice_index_or, All, IsSomeAnd, IsErrAnd, ⊤}
 use Rattle.std.specs.List.{range_with_len}
 use Rattle.std.proofs.lemmas.Bool.{cases_lt}
 use Rattle.std.proofs.lemmas.List.{length-replicate, length_push}
@@ -45,7 +45,7 @@ use Rattle.world_script.specs.declared.world.What.{What}
 use Rattle.world_script.specs.declared.world.What.TheVariants as what
 use Rattle.world_script.specs.declared.world.World.{World}
 use Rattle.node_programs.specs.WorldPrograms.{IsProgramOfWhat, AreProgramsOfWorld}
-use Rattle.world_programs.specs.Made.{IsMadeOf, IsMadeFor, IsMade, AreOf, AreOfVersion, AreOfVersions}
+use Rattle.world_programs.specs.Made.{IsMadeOf, IsMade, AreOf, AreOfVersion, AreOfVersions}
 use Rattle.world_programs.specs.declared.made.MadeWorld.{MadeWorld}
 
 -- ---- the code of a sound source
@@ -104,13 +104,13 @@ pub AreOf-more : (d : Description) (fold : Bool) (version : ℕ) (bytes : List �
 AreOf-more d fold version bytes n ps p are made right = record {
   count = length_push ps p ∙ ap (λ k. k + 1) are.count;
   each = λ k low. elim (cases_lt k n) [
-      | inl less ↦ subst (λ (o : Option Program). IsSomeAnd o (IsMadeOf d fold (record { 0 = k }) version bytes)) (sym (slice_get-front ps (p ∷ []) k (let c = are.count in omega (arith, c, less)))) (are.each k less)
-      | inr high ↦
-          let same : k ≡ n = omega (arith, low, high) in
-          let at : slice_get (ps ++ p ∷ []) k ≡ Some p = ap (λ (i : ℕ). slice_get (ps ++ p ∷ []) i) (let c = are.count in let e : k ≡ length ps + 0 = omega (arith, c, same) in e) ∙ slice_get-behind ps (p ∷ []) 0 in
-          subst (λ (o : Option Program). IsSomeAnd o (IsMadeOf d fold (record { 0 = k }) version bytes)) (sym at)
-          (subst (λ (i : ℕ). IsMadeOf d fold (record { 0 = i }) version bytes p) (sym same) made)
-    ];
+    | inl less ↦ subst (λ (o : Option Program). IsSomeAnd o (IsMadeOf d fold (record { 0 = k }) version bytes)) (sym (slice_get-front ps (p ∷ []) k (let c = are.count in omega (arith, c, less)))) (are.each k less)
+    | inr high ↦
+        let same : k ≡ n = omega (arith, low, high) in
+        let at : slice_get (ps ++ p ∷ []) k ≡ Some p = ap (λ (i : ℕ). slice_get (ps ++ p ∷ []) i) (let c = are.count in let e : k ≡ length ps + 0 = omega (arith, c, same) in e) ∙ slice_get-behind ps (p ∷ []) 0 in
+        subst (λ (o : Option Program). IsSomeAnd o (IsMadeOf d fold (record { 0 = k }) version bytes)) (sym at)
+        (subst (λ (i : ℕ). IsMadeOf d fold (record { 0 = i }) version bytes p) (sym same) made)
+  ];
   right = All-append (IsRightProgram d) ps (p ∷ []) are.right (All-cons (IsRightProgram d) p [] right (All-nil (IsRightProgram d)));
 }
 
@@ -130,6 +130,14 @@ name-behind x ys zero h = let e : 0 + h ≡ h = omega arith in ap (λ (k : ℕ).
 name-behind x ys (suc n) h = let e : suc n + h ≡ suc (n + h) = omega arith in ap (λ (k : ℕ). slice_index_or (x ∷ replicate n x ++ ys) k []) e ∙ name-behind x ys n h
 
 -- ---- lines
+
+-- the program of an injection is that of its file's source, for its handler as its version
+abbrev IsMadeFor : Description → Bool → List (List ℕ) → List Program → What → Type 0
+IsMadeFor d fold sources ps (what.Inject program h version) = IsSomeAnd (slice_get ps program) (IsMadeOf d fold h version (slice_index_or sources program []))
+IsMadeFor d fold sources ps (what.Post h payload) = ⊤
+IsMadeFor d fold sources ps what.Show = ⊤
+IsMadeFor d fold sources ps what.Reset = ⊤
+IsMadeFor d fold sources ps (what.Noise bytes) = ⊤
 
 module _ (d : Description) (fold : Bool) (ps : List Program) (of : AreOfVersions d fold ps) where
   abbrev H : ℕ
@@ -187,12 +195,12 @@ module _ (d : Description) (fold : Bool) (ps : List Program) (of : AreOfVersions
   right = subst (All (IsRightProgram d)) (sym of.is) (All-append (IsRightProgram d) of.first of.second of.are_first.right of.are_second.right)
 
   pub is-made : (number : ℕ) (m : MadeWorld) → m.world ≡ maker.made_world d number → m.programs ≡ ps → IsMade d fold number m
-  is-made number m world_is programs_are = record {
-    world = world_is;
-    count = ap (λ (l : List Program). length l) programs_are ∙ count;
-    each = subst (λ (w : World). All (λ (p : Planned). IsMadeFor d fold sources m.programs p.what) w.events) (sym world_is)
-        (subst (λ (l : List Program). All (λ (p : Planned). IsMadeFor d fold sources l p.what) (maker.made_world d number).events) (sym programs_are) (lines number));
-  }
+  is-made number m world_is programs_are = record { world = world_is; programs = subst (AreOfVersions d fold) (sym programs_are) of }
+
+  lines-made : (number : ℕ) (m : MadeWorld) → m.world ≡ maker.made_world d number → m.programs ≡ ps → All (λ (p : Planned). IsMadeFor d fold sources m.programs p.what) m.world.events
+  lines-made number m world_is programs_are =
+      subst (λ (w : World). All (λ (p : Planned). IsMadeFor d fold sources m.programs p.what) w.events) (sym world_is)
+      (subst (λ (l : List Program). All (λ (p : Planned). IsMadeFor d fold sources l p.what) (maker.made_world d number).events) (sym programs_are) (lines number))
 
   -- and each is of its line
   pub programs-are : (number : ℕ) (m : MadeWorld) → IsRightWorld d m.world → m.world ≡ maker.made_world d number → m.programs ≡ ps → AreProgramsOfWorld d m.world m.programs
@@ -200,7 +208,7 @@ module _ (d : Description) (fold : Bool) (ps : List Program) (of : AreOfVersions
     world = right_world;
     programs = subst (AreRightPrograms d) (sym programs_are) right;
     count = ap (λ (l : List Program). length l) programs_are ∙ count ∙ sources-count ∙ sym (ap (λ (w : World). length w.files) world_is ∙ files-count);
-    each = of_lines m.world.events (is-made number m world_is programs_are).each;
+    each = of_lines m.world.events (lines-made number m world_is programs_are);
   } where
     sources-count : length sources ≡ 2 * H
     sources-count =

@@ -68,7 +68,14 @@ fn programs_of_sources(
     let handlers = desc.handlers.len();
     let texts = sources.as_slice();
     add_version(alloc, desc, fold, 1, texts[0].as_str(), &mut programs)?;
-    add_version(alloc, desc, fold, 2, texts[handlers].as_str(), &mut programs)?;
+    add_version(
+        alloc,
+        desc,
+        fold,
+        2,
+        texts[handlers].as_str(),
+        &mut programs,
+    )?;
     Ok(programs)
 }
 
@@ -88,14 +95,7 @@ fn add_version(
     ensures added { OnOk result (AreOfVersion desc.now fold version source.now (length desc.now.handlers.items) programs.old programs.new) }
 {
     for handler in 0..desc.handlers.len() {
-        let program = made_program(
-            alloc,
-            desc,
-            fold,
-            HandlerId(handler as u8),
-            version,
-            source,
-        )?;
+        let program = made_program(alloc, desc, fold, HandlerId(handler as u8), version, source)?;
         push(programs, program)?;
     }
     Ok(())

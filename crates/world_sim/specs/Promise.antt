@@ -10,16 +10,18 @@ use Rattle.mate_journal.specs.declared.report.RunFault.{RunFault}
 use Rattle.mate_journal.specs.declared.report.RunFault.TheVariants.{LogFull, NoMemory}
 use Rattle.journal_laws.specs.Apart.{EndAsPosted}
 use Rattle.journal_laws.specs.Progress.{IsNeverStuck}
+use Rattle.node_programs.specs.WorldPrograms.{AreProgramsOfWorld}
 use Rattle.report_text.specs.Tidy.{IsTidy}
 use Rattle.world_script.specs.declared.world.World.{World as Script}
 use Rattle.world_rules.specs.Report.{IsWorldReport}
 use Rattle.world_sources.specs.SourceWorld.{source_world}
 use Rattle.world_bound_laws.specs.Bound.{KeepsTheBound}
 
--- It is a report of a run, that ends so, of the world whose programs mean their sources. Its text is read back. Where suppression
+-- It is a report of a run, that ends so, of the world whose programs, which are right, mean their sources. Its text is read back. Where suppression
 -- is off and no link loses a packet, it keeps the hop bound. In each node's journal, wherever no start follows, some invocation
 -- is ready, or one waits for the outside, or none is live; and conflicting invocations end in the order of their posts.
 pub record IsReportOfWorld (d : Description) (script : Script) (ps : List Program) (how : RunEnd) (r : Report) : Type 0 where
+  pub right : AreProgramsOfWorld d script ps
   pub run : IsWorldReport (source_world d script ps) how r
   pub tidy : IsTidy d r
   pub bound : KeepsTheBound d script ps r

@@ -1,16 +1,6 @@
-use Rattle.std.proofs.Common.{refl}
-use Rattle.mate_cli.specs.Ends.{whole, stopped, unwritten, cut}
-use Rattle.mate_cli.proofs.WorldLemmas.{node-part, node-cut}
+use Rattle.run_steps.specs.Running.{IsReportOf}
+use Rattle.mate_cli.proofs.RunLemmas.{run-written}
 use Rattle.mate_cli.proofs.writing.write_run.Goals as goal
 
-pub returns-in-Ok : goal.returns-in-Ok
-returns-in-Ok g c = let w = c.in-Ok.ensures.gives in whole w.report w.gives.0 w.gives.1 refl refl
-
-pub returns-in-Err-LogFull : goal.returns-in-Err-LogFull
-returns-in-Err-LogFull g c = let w = rw c.in-Err-LogFull.field-0-is at c.in-Err-LogFull.ensures.gives in stopped w.report w.gives.0 w.gives.1 c.refuse.ensures
-
-pub returns-in-Err-Sink : goal.returns-in-Err-Sink
-returns-in-Err-Sink g c = let w = rw c.in-Err-Sink.field-0-is at c.in-Err-Sink.ensures.gives in unwritten w.report (node-part c.args.desc.now c.args.script.now c.args.programs.now _ _ w.report w.gives.0) w.gives.1 c.refuse-in-Err-Sink.ensures
-
-pub returns-in-Err-NoMemory : goal.returns-in-Err-NoMemory
-returns-in-Err-NoMemory g c = let w = rw c.in-Err-NoMemory.field-0-is at c.in-Err-NoMemory.ensures.gives in cut w.report (node-cut c.args.desc.now c.args.script.now c.args.programs.now _ _ w.report w.gives) c.refuse-in-Err-NoMemory.ensures
+pub returns : goal.returns
+returns g c = run-written c.args.desc.now (IsReportOf c.args.desc.now c.args.script.now c.args.programs.now) _ _ c.write_steps-written.result c.told.result c.write_steps-written.ensures.gives c.told.ensures

@@ -12,6 +12,7 @@ pub returns : goal.returns
 returns c = λ d script ps how r right of.
     let run = c.worlds_hold_by_their_sources.ensures d script ps how r right of in
     let m = (source_world d script ps).machine in record {
+      right = right;
       run = run;
       tidy = c.world_report_is_tidy.ensures d _ _ script (program_at ps) how r right.world of;
       bound = c.reports_keep_the_bound.ensures.shown d script ps how r right run;

@@ -1,0 +1,34 @@
+-- What is written of a run has one answer, where its reports have one summary.
+use Rattle.std.proofs.Common.{◌≡◌, inl, inr, Bool, true, false, sym, subst}
+use Rattle.command_laws.specs.SameText.{SameText}
+use Rattle.journal_answers.specs.Ending.{EndsByItself}
+use Rattle.mate_cli.specs.Runs.{report_of, output_of}
+use Rattle.mate_documents.specs.declared.document.Document.TheVariants as document
+use Rattle.mate_documents.specs.declared.output.Output.{Output}
+use Rattle.mate_documents.specs.declared.output.Output.TheVariants as output
+use Rattle.mate_journal.specs.NodeScript.{RunEnd, Whole, Full}
+use Rattle.mate_journal.specs.declared.report.Report.{Report}
+use Rattle.mate_steps.specs.OneAnswer.{AnswersAgree}
+use Rattle.mate_steps.proofs.OneAnswer.{then_agrees}
+use Rattle.report_text.specs.Brief.{brief}
+use Rattle.run_writing.specs.Writing.{OfRun, IsEnded}
+use Rattle.script_programs.proofs.OnePrograms.{obtained_agrees}
+use Rattle.vm_desc.specs.declared.description.Description.{Description}
+
+-- two outputs that are to be written are the same where these two are
+same_outputs : (a b o n : Output) → SameText a b → o ≡ a → n ≡ b → SameText o n
+same_outputs a b o n same is is' = subst (λ (x : Output). SameText x n) (sym is) (subst (λ (x : Output). SameText a x) (sym is') same)
+
+module _ (d : Description) (Is Has : OfRun) (run run' : Output) (once : (how how' : RunEnd) (r r' : Report) → EndsByItself how → EndsByItself how' → Is how r → Has how' r' → brief d r ≡ brief d r') (same : SameText run run') where
+  brief_ended : (r r' : Report) → IsEnded Is r → IsEnded Has r' → brief d r ≡ brief d r'
+  brief_ended r r' (inl a) (inl b) = once Whole Whole r r' tt tt a b
+  brief_ended r r' (inl a) (inr b) = once Whole Full r r' tt tt a b
+  brief_ended r r' (inr a) (inl b) = once Full Whole r r' tt tt a b
+  brief_ended r r' (inr a) (inr b) = once Full Full r r' tt tt a b
+
+  pub output_agrees : (short : Bool) → AnswersAgree SameText (output_of short d Is run) (output_of short d Has run')
+  output_agrees false = obtained_agrees SameText (λ o. o ≡ run) (λ o. o ≡ run') (λ o n is is'. same_outputs run run' o n same is is')
+  output_agrees true =
+      then_agrees (λ r r'. brief d r ≡ brief d r') SameText _ _ _ _ (obtained_agrees (λ r r'. brief d r ≡ brief d r') (IsEnded Is) (IsEnded Has) brief_ended)
+      (λ r r' told. obtained_agrees SameText (λ o. o ≡ output.Document (document.Summary d r)) (λ o. o ≡ output.Document (document.Summary d r'))
+      (λ o n is is'. same_outputs (output.Document (document.Summary d r)) (output.Document (document.Summary d r')) o n told is is'))
