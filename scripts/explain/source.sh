@@ -65,6 +65,7 @@ explain_habit() {
     *' / /') echo 'A comment begins with `!`.' ;;
     *' end for') echo 'A `for` ends with `next` and its variable.' ;;
     *' mod '*) echo 'The remainder is `%`.' ;;
+    'proc '*) [ "${words[0]}" = expand ] || echo 'A source with procedures is expanded first: `mate expand SOURCE` writes the plain one.' ;;
     'do '*) [ "${words[0]}" = expand ] || echo '`do` is a name here: behind the condition of a `while` stand its statements.' ;;
     esac
 }
