@@ -3,6 +3,7 @@
 #![tactic(auto)]
 
 pub mod bytes;
+pub mod checked;
 pub mod depths;
 pub mod openings;
 pub mod parses;

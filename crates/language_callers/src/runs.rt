@@ -11,14 +11,14 @@ ghost use Rattle.language_callers.specs.Scripts.{two_calls, without_end, false_a
 use mate_num::{BufId, FaultKind, FunId, NoMemory, Outcome, Payload, Store};
 use std::alloc::Global;
 use ts_meaning::apply;
-use ts_play::play;
+use ts_play::{Played, play};
 use ts_syntax::{BinOp, CVar, Checked};
 
 pub fn no_statement_changes_the_store(
     alloc: Global,
     script: &Checked,
     store: &Store,
-) -> Result<Outcome, NoMemory>
+) -> Result<Played, NoMemory>
     requires { tree_of script.now ≡ no_statements }
     ensures end { IfOk result (λ played. played.end ≡ Halt) }
     ensures store { IfOk result (λ played. played.store ≡ store.now) }

@@ -2,6 +2,7 @@
 #![tactic(auto)]
 
 mod command_lines;
+mod faults;
 mod logs;
 mod report_lines;
 mod report_texts;
@@ -12,13 +13,14 @@ use std::alloc::{AllocError, Global};
 use vm_desc::Description;
 
 /// The tables of cases. Each is named for the module that answers it.
-pub const TABLES: [&str; 6] = [
+pub const TABLES: [&str; 7] = [
     "scripts",
     "report_lines",
     "reports",
     "report_texts",
     "logs",
     "command_lines",
+    "faults",
 ];
 
 /// The answer to a case of a table, for a machine.
@@ -35,6 +37,7 @@ pub fn answer(
         "report_texts" => report_texts::answer(alloc, desc, case),
         "logs" => logs::answer(alloc, case),
         "command_lines" => command_lines::answer(alloc, case),
+        "faults" => faults::answer(alloc, case),
         _ => "no table".to_string(alloc),
     }
 }
