@@ -101,20 +101,32 @@ tell_end() { # STATE NODE INVOCATION HANDLER CONTEXT [FUNCTION]
     esac
 }
 
+# Whether all files of the run can be read again; puts the path of its script into $script.
+can_run_again() {
+    local file
+    script=/dev/null
+    has_machine || return 1
+    [ "${words[0]}" != gen ] || return 0
+    find_again "${words[2]}" && script=$path || return 1
+    while IFS= read -r file <&3; do
+        find_again "$file" || return 1
+    done 3< <(awk '$1 == "install" { print $4 } $1 == "load" { print $2 } $1 == "at" && $3 == "inject" { print $7 }' "$script" | tr -d '\r' | sort -u)
+}
+
 # Runs the command once more, as a whole report, and tells its faults, what was dropped and cut, and who is left.
 show_end() {
-    local parts told=0 whole=() word flags=yes script=/dev/null
+    local parts told=0 whole=() word flags=yes script
+    can_run_again || return 0
     for word in "$@"; do
         [ "$word" != -- ] || flags=''
         [ "$flags$word" = yes--brief ] || whole+=("$word")
     done
-    [ "${words[0]}" = gen ] || { find_again "${words[2]}" && script=$path; }
-    while read -ra parts; do
+    while read -ra parts <&3; do
         told=$((told + 1))
         [ $told -le 20 ] || { echo '..'; break; }
         case ${parts[0]} in
         fault | drop | cut) "tell_${parts[0]}" "${parts[@]:1}" ;;
         *) tell_end "${parts[@]}" ;;
         esac
-    done < <("$program" "${whole[@]}" 2>/dev/null | ends_of_report)
+    done 3< <("$program" "${whole[@]}" 2>/dev/null | ends_of_report)
 }
