@@ -181,6 +181,7 @@ ${kept##*/}
 "*) continue ;; esac
         [ -z "$(find "$kept" -maxdepth 0 -mmin "+$(($1 * 1440))")" ] || rm -rf "$kept"
     done 2>/dev/null
+    return 0
 }
 
 # Builds the program whose texts are those of the checkout by now; $cache/lock is held.

@@ -38,4 +38,4 @@ _mate() {
     # a machine: its file, or the built-in one
     [[ -z $machine ]] || mapfile -t COMPREPLY < <(compgen -W builtin -- "$word"; compgen -f -X '!*.toml' -- "$word"; compgen -d -- "$word")
 }
-complete -o filenames -F _mate mate ./mate explain ./explain
+complete -o filenames -F _mate mate ./mate explain ./explain mate-explain

@@ -45,6 +45,7 @@ fits_above() {
 # What the source of a compile command costs: bytes, need of stack, and its code with names.
 show_cost() {
     local low=0 high=17 middle size need=''
+    has_machine && find_again "${words[4]}" || return 0
     "$program" "$@" >"$room/image" 2>/dev/null && "$program" check -- "$vm" "$room/image" >"$room/listing" 2>/dev/null || return 0
     "$program" table -- "$vm" >"$room/table" 2>/dev/null || return 0
     read -r _ _ _ size <"$room/listing"
@@ -58,7 +59,7 @@ show_cost() {
     fi
     echo "$(shown_name "${words[4]}"): $(counted "$size" byte) of code of 1040$need"
     know_machine "$vm"
-    find_again "${words[4]}" && find_token 0
+    find_token 0
     show_listing
 }
 

@@ -18,28 +18,27 @@ fault_lines() {
         }' | uniq
 }
 
-# What a report tells of its faults and its end, a line each: `fault HANDLER VERSION KIND COUNT EVENT TIME NODE INVOCATION`, of the
-# first one of its kind, and `waits NODE INVOCATION HANDLER CONTEXT FUNCTION`, `ready ..` and `queued ..`.
+# What a report tells of its faults and its end, a line each: `fault HANDLER VERSION KIND COUNT EVENT TIME NODE INVOCATION`, `drop HANDLER
+# CAUSE COUNT EVENT TIME NODE` and `cut HANDLER BY COUNT EVENT TIME NODE` with the first of its kind and how many there were, and
+# `waits NODE INVOCATION HANDLER CONTEXT FUNCTION`, `ready ..` and `queued ..`.
 ends_of_report() {
     awk '
+        function tell(what, where) { if (!count[what]++) { order[++kinds] = what; first[what] = where } }
         { key = $3 " " $5 }
-        $4 == "post" { what[key] = $6 " " $7; state[key] = "queued" }
+        $4 == "post" { handler[key] = $6; context[key] = $7; state[key] = "queued" }
+        $4 == "drop" { tell("drop " $5 " " $6, $1 " " $2 " " $3) }
         $4 == "start" || $4 == "answer" { state[key] = "ready" }
         $4 == "ask" { state[key] = "waits"; asked[key] = $6 }
-        $4 == "halt" || $4 == "fault" {
-            if ($4 == "fault") {
-                split(what[key], part, " ")
-                fault = part[1] " " version[$3, part[1]] " " $6
-                if (!count[fault]++) { order[++faults] = fault; first[fault] = $1 " " $2 " " $3 " " $5 }
-            }
-            delete state[key]; delete what[key]
-        }
+        $4 == "fault" { tell("fault " handler[key] " " version[$3, handler[key]] " " $6, $1 " " $2 " " $3 " " $5) }
+        $4 == "halt" || $4 == "fault" { delete state[key] }
         # an era ends: what ran on this node is cut
+        $4 == "install" || $4 == "reset" {
+            for (k in state) if (index(k, $3 " ") == 1) { tell("cut " handler[k] " " $4, $1 " " $2 " " $3); delete state[k] }
+        }
         $4 == "install" { version[$3, $5] = $6 }
-        $4 == "install" || $4 == "reset" { for (k in state) if (index(k, $3 " ") == 1) { delete state[k]; delete what[k] } }
         END {
-            for (i = 1; i <= faults; i++) print "fault", order[i], count[order[i]], first[order[i]]
-            for (k in state) { print state[k], k, what[k], asked[k] | "sort -k2,2n -k3,3n" }
+            for (i = 1; i <= kinds; i++) print order[i], count[order[i]], first[order[i]]
+            for (k in state) print state[k], k, handler[k], context[k], asked[k] | "sort -k2,2n -k3,3n"
         }'
 }
 
@@ -77,6 +76,20 @@ tell_fault() { # HANDLER VERSION KIND COUNT EVENT TIME NODE INVOCATION
     echo "event $5: invocation $8 of \`$1\` version $2 on node $7 ended by a fault: $(fault_words "$3")$where.$times"
 }
 
+tell_drop() { # HANDLER CAUSE COUNT EVENT TIME NODE
+    local why="nothing was installed for it"
+    [ "$2" = nocode ] || why="all its contexts were taken (\`contexts\` in its machine gives it up to 4)"
+    echo "$(counted "$3" event) for \`$1\` $(was "$3") dropped, first in event $4 on node $6: $why."
+}
+
+tell_cut() { # HANDLER BY COUNT EVENT TIME NODE
+    echo "$(counted "$3" invocation) of \`$1\` $(was "$3") cut by $([ "$2" = reset ] && echo 'a reset' || echo 'an install'), first in event $4 on node $6."
+}
+
+was() {
+    if [ "$1" = 1 ]; then echo was; else echo were; fi
+}
+
 tell_end() { # STATE NODE INVOCATION HANDLER CONTEXT [FUNCTION]
     local who="at the end invocation $3 of \`$4\`, in context $5 of node $2,"
     case $1 in
@@ -88,17 +101,32 @@ tell_end() { # STATE NODE INVOCATION HANDLER CONTEXT [FUNCTION]
     esac
 }
 
-# Runs the command once more, as a whole report, and tells its faults and who is left.
+# Whether all files of the run can be read again; puts the path of its script into $script.
+can_run_again() {
+    local file
+    script=/dev/null
+    has_machine || return 1
+    [ "${words[0]}" != gen ] || return 0
+    find_again "${words[2]}" && script=$path || return 1
+    while IFS= read -r file <&3; do
+        find_again "$file" || return 1
+    done 3< <(awk '$1 == "install" { print $4 } $1 == "load" { print $2 } $1 == "at" && $3 == "inject" { print $7 }' "$script" | tr -d '\r' | sort -u)
+}
+
+# Runs the command once more, as a whole report, and tells its faults, what was dropped and cut, and who is left.
 show_end() {
-    local parts told=0 whole=() word flags=yes script=/dev/null
+    local parts told=0 whole=() word flags=yes script
+    can_run_again || return 0
     for word in "$@"; do
         [ "$word" != -- ] || flags=''
         [ "$flags$word" = yes--brief ] || whole+=("$word")
     done
-    [ "${words[0]}" = gen ] || { find_again "${words[2]}" && script=$path; }
-    while read -ra parts; do
+    while read -ra parts <&3; do
         told=$((told + 1))
         [ $told -le 20 ] || { echo '..'; break; }
-        if [ "${parts[0]}" = fault ]; then tell_fault "${parts[@]:1}"; else tell_end "${parts[@]}"; fi
-    done < <("$program" "${whole[@]}" 2>/dev/null | ends_of_report)
+        case ${parts[0]} in
+        fault | drop | cut) "tell_${parts[0]}" "${parts[@]:1}" ;;
+        *) tell_end "${parts[@]}" ;;
+        esac
+    done 3< <("$program" "${whole[@]}" 2>/dev/null | ends_of_report)
 }

@@ -10,6 +10,11 @@ find_again() {
     [ -f "$path" ] && [ -r "$path" ]
 }
 
+# Whether the machine can be read again.
+has_machine() {
+    [ "$vm" = builtin ] || find_again "$vm"
+}
+
 # What a terminal shows of standard input: signs that would act on it are `?`.
 visible() {
     tr '\000-\010\013-\037\177' '?'

@@ -65,6 +65,7 @@ explain_habit() {
     *' / /') echo 'A comment begins with `!`.' ;;
     *' end for') echo 'A `for` ends with `next` and its variable.' ;;
     *' mod '*) echo 'The remainder is `%`.' ;;
+    'proc '*) [ "${words[0]}" = expand ] || echo 'A source with procedures is expanded first: `mate expand SOURCE` writes the plain one.' ;;
     'do '*) [ "${words[0]}" = expand ] || echo '`do` is a name here: behind the condition of a `while` stand its statements.' ;;
     esac
 }
@@ -120,7 +121,9 @@ explain_undeclared() {
 
 # WORD: why the machine hasn't this name.
 explain_notinvm() {
-    know_machine "$vm" && find_token 0 || [ ${#texts[@]} -gt 0 ] || return 1
+    know_machine "$vm" || return 1
+    find_token 0
+    [ ${#texts[@]} -gt 0 ] || return 1
     case $(declared_as "$1") in
     shared)
         if is_among "$1" "${buffers[@]}"; then echo "\`$1\` is a buffer of the machine, and no shared variable."

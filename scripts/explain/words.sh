@@ -17,7 +17,7 @@ explain_usage() {
             return
         fi
     fi
-    if [ "$command" = gen ] && [ ${#words[@]} -eq 3 ] && [[ ! ${words[1]} =~ ^[0-9]+$ ]]; then
+    if [ "$command" = gen ] && [ ${#words[@]} -eq 3 ] && [[ ! ${words[1]} =~ ^[0-9]{1,20}$ || ${#words[1]} -eq 20 && ${words[1]} > 18446744073709551615 ]]; then
         echo 'NUMBER is a number from 0 to 18446744073709551615.'
         return
     fi
