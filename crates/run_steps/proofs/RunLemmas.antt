@@ -29,7 +29,7 @@ use Rattle.vm_desc.specs.Shapes.{shape_of}
 use Rattle.vm_desc.specs.Whole.{context_count}
 use Rattle.node_invariant.specs.Meaning.{machine_in, clock_of, meaning_of}
 use Rattle.node_invariant.specs.Keeps.{reading, event_at, IsTimely}
-use Rattle.open_node.specs.View.{NodeView, heard_of, HasPace, Tells, IsSameNode}
+use Rattle.open_node.specs.View.{NodeView, heard_of, HasPace, Tells}
 use Rattle.open_node.specs.Calls.{Pacing}
 use Rattle.open_node.specs.Journal.{KeepsJournal}
 use Rattle.node_programs.specs.Right.{AreRightPrograms}
