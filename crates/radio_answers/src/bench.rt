@@ -73,7 +73,7 @@ impl Bench {
 
     /// The node sends a packet in the last event.
     pub fn transmit(&mut self, node: u8, bytes: &PacketBytes) -> Result<Step, NoMemory> {
-        if self.time > 3_600_000 || self.radio.air().len() >= 1_000_000 {
+        if self.time > 3_600_000 || self.radio.aired() >= 1_000_000 {
             return Ok(Step::Refused);
         }
         let at = self.stamp();

@@ -1,7 +1,6 @@
 -- What is at hand of a log, and its lines.
-use Rattle.std.proofs.Common.{◌≡◌, ◌+◌, ℕ, zero, suc, List, [], ◌∷◌, ◌++◌, refl, sym, ◌∙◌, ap, arith, length, map, drop, length-drop, codes}
+use Rattle.std.proofs.Common.{◌≡◌, ◌+◌, ℕ, zero, suc, List, [], ◌∷◌, ◌++◌, refl, sym, ◌∙◌, ap, arith, map, drop, codes}
 use Rattle.std.specs.Prelude.{flat_map, slice_get}
-use Rattle.std.proofs.lemmas.List.{length-map, drop-map, drop-drop}
 use Rattle.arrayvec.specs.ArrayVec.{ArrayVec}
 use Rattle.mate_num.specs.declared.store.Store.{Store}
 use Rattle.vm_desc.specs.declared.description.Description.{Description}
@@ -11,6 +10,7 @@ use Rattle.mate_journal.specs.declared.entry.Entry.TheVariants as entry
 use Rattle.mate_journal.specs.declared.entry.Stamped.{Stamped}
 use Rattle.mate_journal.specs.OpenLog.{Gone, OpenView, entry_behind, stamped_behind, IsKept}
 use Rattle.open_node.specs.View.{NodeView, IsSameNode}
+use Rattle.open_node.proofs.KeptLemmas.{entries-kept}
 use Rattle.report_text.specs.Words.{stamp_words, handler_name, number, word, image_word, image_of, seen_words, entry_words}
 use Rattle.report_text.specs.Text.{entry_line, event_piece}
 use Rattle.run_steps.specs.Keeping.{StaysAsToldTo}
@@ -33,10 +33,11 @@ stays-back Forgotten old mid new g same = tt
 
 -- ---- the same node twice
 
-pub same-then : (a b c : NodeView) → IsSameNode a b → IsSameNode b c → IsSameNode a c
+pub same-then : (a b c : NodeView) → IsSameNode (record a { gone = b.gone }) b → IsSameNode b c → IsSameNode (record a { gone = c.gone }) c
 same-then a b c f g = record {
   description = g.description ∙ f.description;
   log = record { entries = g.log.entries ∙ f.log.entries; images = g.log.images ∙ f.log.images; stores = g.log.stores ∙ f.log.stores };
+  gone = refl;
   line = g.line ∙ f.line;
   counts = g.counts ∙ f.counts;
   room = let x = f.room in let y = g.room in omega (arith, x, y);
@@ -81,15 +82,4 @@ module _ (d : Description) (v : OpenView) (kept : Log) (is : IsKept v kept) wher
   -- the lines from a position on, of those that are at hand
   pub piece-kept : (from : ℕ) → event_piece d [] kept from 0 ≡ event_piece d [] v.all (v.gone.entries + from) 0
   piece-kept from =
-      let left : drop (v.gone.entries + from) v.all.entries ≡ map moved (drop from kept.entries) =
-      sym (drop-drop from v.gone.entries v.all.entries) ∙ ap (drop from) is.entries ∙ drop-map moved from kept.entries in
-      sym (ap (flat_map (entry_line d v.all 0)) left ∙ lines-same (drop from kept.entries))
-
--- how many are at hand
-pub count-kept : (v : OpenView) (kept : Log) → IsKept v kept → v.gone.entries + length kept.entries ≡ length v.all.entries
-count-kept v kept is =
-    let moves = length-map kept.entries (stamped_behind v.gone.images v.gone.stores) in
-    let left = length-drop v.gone.entries v.all.entries in
-    let same = ap (λ (es : List Stamped). length es) is.entries in
-    let within = is.within in
-    omega (arith, moves, left, same, within)
+      sym (ap (flat_map (entry_line d v.all 0)) (entries-kept v kept is from) ∙ lines-same (drop from kept.entries))

@@ -29,7 +29,7 @@ use Rattle.vm_desc.specs.Shapes.{shape_of}
 use Rattle.vm_desc.specs.Whole.{context_count}
 use Rattle.node_invariant.specs.Meaning.{machine_in, clock_of, meaning_of}
 use Rattle.node_invariant.specs.Keeps.{reading, event_at, IsTimely}
-use Rattle.open_node.specs.View.{NodeView, heard_of, HasPace, Tells, IsSameNode}
+use Rattle.open_node.specs.View.{NodeView, heard_of, HasPace, Tells}
 use Rattle.open_node.specs.Calls.{Pacing}
 use Rattle.open_node.specs.Journal.{KeepsJournal}
 use Rattle.node_programs.specs.Right.{AreRightPrograms}
@@ -73,16 +73,16 @@ HasRun-new d ps v is empty has =
     }
 
 -- it stays where nothing but room changes
-pub HasRun-same : (d : Description) (ps : List Program) (done : List Step) (old new : NodeView) → IsSameNode old new → ((p : Pace) → HasPace old p → HasPace new p) → HasRun d ps done old → HasRun d ps done new
-HasRun-same d ps done old new same paces h =
-    let journals : journal_of new.log ≡ journal_of old.log = journal_of-same old.log new.log same.log in
+pub HasRun-same : (d : Description) (ps : List Program) (done : List Step) (old new : NodeView) → new.description ≡ old.description → IsSameLog new.log old.log → ((p : Pace) → HasPace old p → HasPace new p) → HasRun d ps done old → HasRun d ps done new
+HasRun-same d ps done old new described same paces h =
+    let journals : journal_of new.log ≡ journal_of old.log = journal_of-same old.log new.log same in
     record {
-      description = same.description ∙ h.description;
+      description = described ∙ h.description;
       pace = h.pace;
       has = paces h.pace h.has;
       made =
           subst (λ (es : List Event). HaveMade (clock_of d) (machine_in d) 0 1 (nothing_heard (machine_in d)) no_pace (map (step_of ps) done) es h.pace) (sym journals) h.made;
-      timely = same-timely (at_event (length done)) new.log old.log same.log h.timely;
+      timely = same-timely (at_event (length done)) new.log old.log same h.timely;
     }
 
 map-append : {A B : Type 0} (f : A → B) (xs ys : List A) → map f (xs ++ ys) ≡ map f xs ++ map f ys

@@ -4,15 +4,15 @@ use Rattle.vm_desc.specs.declared.description.Description.{Description}
 use Rattle.mate_journal.specs.Log.{IsEmpty}
 use Rattle.mate_journal.specs.Pace.{no_pace}
 use Rattle.mate_journal.specs.OpenLog.{Gone, nothing_gone}
-use Rattle.open_node.specs.View.{OpenNodeView, HasPace}
+use Rattle.open_node.specs.View.{NodeView, HasPace}
 use Rattle.run_steps.specs.declared.heap_node.Written.{Written}
 use Rattle.run_steps.specs.declared.heap_node.Written.TheVariants.{Kept, Forgotten}
 
 -- a node on which nothing happened
-pub record IsNewNode (d : Description) (v : OpenNodeView) : Type 0 where
-  pub description : v.node.description ≡ d
-  pub empty : IsEmpty v.node.log
-  pub pace : HasPace v.node no_pace
+pub record IsNewNode (d : Description) (v : NodeView) : Type 0 where
+  pub description : v.description ≡ d
+  pub empty : IsEmpty v.log
+  pub pace : HasPace v no_pace
   pub whole : v.gone ≡ nothing_gone
 
 -- no more is gone than was, where what is written is kept

@@ -18,10 +18,9 @@ use script_reader::Step;
 
 /// The program is installed, or it is told that the node holds a version that isn't older.
 fn install(node: &mut OpenNode, program: &Program, at: Stamp)
-    requires ready { IsReadyFor node.old.node at }
-    requires right { IsRightProgram node.old.node.description program.now }
-    ensures tells { Tells node.old.node node.new.node at (MakesOn node.old.node (Install (held_as program.now))) }
-    ensures gone { node.new.gone ≡ node.old.gone }
+    requires ready { IsReadyFor node.old at }
+    requires right { IsRightProgram node.old.description program.now }
+    ensures { Tells node.old node.new at (MakesOn node.old (Install (held_as program.now))) }
 {
     match node.install(program.image.as_slice(), at) {
         Ok(()) => {}
@@ -33,11 +32,10 @@ fn install(node: &mut OpenNode, program: &Program, at: Stamp)
 
 /// The context has one turn, or it is told that nobody is ready there.
 fn take_turn(node: &mut OpenNode, ctx: ContextId, n: u32, at: Stamp)
-    requires ready { IsReadyFor node.old.node at }
-    requires right { IsRightTurn node.old.node.description ctx.0 n }
-    requires contexts { context_count node.old.node.description ≤ 16 }
-    ensures tells { Tells node.old.node node.new.node at (MakesOn node.old.node (StepIn ctx n)) }
-    ensures gone { node.new.gone ≡ node.old.gone }
+    requires ready { IsReadyFor node.old at }
+    requires right { IsRightTurn node.old.description ctx.0 n }
+    requires contexts { context_count node.old.description ≤ 16 }
+    ensures { Tells node.old node.new at (MakesOn node.old (StepIn ctx n)) }
 {
     match node.step(ctx, n, at) {
         Ok(_) => {}
@@ -47,10 +45,9 @@ fn take_turn(node: &mut OpenNode, ctx: ContextId, n: u32, at: Stamp)
 
 /// The call that the context waits with is answered, or it is told that nobody waits there.
 fn answer(node: &mut OpenNode, ctx: ContextId, value: i16, at: Stamp)
-    requires ready { IsReadyFor node.old.node at }
+    requires ready { IsReadyFor node.old at }
     requires context { ctx.0 < 16 }
-    ensures tells { Tells node.old.node node.new.node at (MakesOn node.old.node (AnswerStep ctx value)) }
-    ensures gone { node.new.gone ≡ node.old.gone }
+    ensures { Tells node.old node.new at (MakesOn node.old (AnswerStep ctx value)) }
 {
     match node.answer(ctx, value, at) {
         Ok(()) => {}
@@ -60,23 +57,21 @@ fn answer(node: &mut OpenNode, ctx: ContextId, value: i16, at: Stamp)
 
 /// The file's program is installed, or it is told that the node holds a version that isn't older.
 fn install_file(node: &mut OpenNode, programs: &Programs, file: u32, at: Stamp)
-    requires ready { IsReadyFor node.old.node at }
+    requires ready { IsReadyFor node.old at }
     requires below { file < length programs.now }
-    requires programs { AreRightPrograms node.old.node.description programs.now }
-    ensures tells { Tells node.old.node node.new.node at (MakesOn node.old.node (Install (program_at programs.now file))) }
-    ensures gone { node.new.gone ≡ node.old.gone }
+    requires programs { AreRightPrograms node.old.description programs.now }
+    ensures { Tells node.old node.new at (MakesOn node.old (Install (program_at programs.now file))) }
 {
     install(node, &programs.as_slice()[file as usize], at);
 }
 
 /// The step is one event, with this stamp.
 pub(crate) fn make_step(node: &mut OpenNode, step: &Step, programs: &Programs, at: Stamp)
-    requires ready { IsReadyFor node.old.node at }
-    requires right { IsRightStep node.old.node.description (length programs.now) step.now }
-    requires programs { AreRightPrograms node.old.node.description programs.now }
-    requires contexts { context_count node.old.node.description ≤ 16 }
-    ensures tells { Tells node.old.node node.new.node at (MakesOn node.old.node (step_of programs.now step.now)) }
-    ensures gone { node.new.gone ≡ node.old.gone }
+    requires ready { IsReadyFor node.old at }
+    requires right { IsRightStep node.old.description (length programs.now) step.now }
+    requires programs { AreRightPrograms node.old.description programs.now }
+    requires contexts { context_count node.old.description ≤ 16 }
+    ensures { Tells node.old node.new at (MakesOn node.old (step_of programs.now step.now)) }
 {
     match step {
         Step::Install { program, .. } => install_file(node, programs, *program, at),

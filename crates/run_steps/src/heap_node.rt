@@ -39,9 +39,9 @@ pub(crate) struct HeapNode {
 }
 
 impl Model for HeapNode {
-    ghost use Rattle.open_node.specs.View.{OpenNodeView};
+    ghost use Rattle.open_node.specs.View.{NodeView};
 
-    ghost Value = { OpenNodeView };
+    ghost Value = { NodeView };
 
     ghost view = { λ held. held.node.value };
 }
@@ -63,43 +63,40 @@ impl HeapNode {
 
     /// Makes room for n more entries.
     pub(crate) fn reserve(&mut self, n: usize) -> Result<(), NoMemory>
-        ensures same { IsSameNode self.old.node self.new.node }
-        ensures pace { (p : Pace) → HasPace self.old.node p → HasPace self.new.node p }
-        ensures room { OnOk result (n ≤ self.new.node.log.spare) }
-        ensures gone { self.new.gone ≡ self.old.gone }
+        ensures same { IsSameNode self.old self.new }
+        ensures pace { (p : Pace) → HasPace self.old p → HasPace self.new p }
+        ensures room { OnOk result (n ≤ self.new.log.spare) }
     {
         self.node.reserve(n)
     }
 
     /// The step is one event, with this stamp.
     pub(crate) fn make(&mut self, step: &Step, programs: &Programs, at: Stamp)
-        requires ready { IsReadyFor self.old.node at }
-        requires right { IsRightStep self.old.node.description (length programs.now) step.now }
-        requires programs { AreRightPrograms self.old.node.description programs.now }
-        requires contexts { context_count self.old.node.description ≤ 16 }
-        ensures tells { Tells self.old.node self.new.node at (MakesOn self.old.node (step_of programs.now step.now)) }
-        ensures gone { self.new.gone ≡ self.old.gone }
+        requires ready { IsReadyFor self.old at }
+        requires right { IsRightStep self.old.description (length programs.now) step.now }
+        requires programs { AreRightPrograms self.old.description programs.now }
+        requires contexts { context_count self.old.description ≤ 16 }
+        ensures { Tells self.old self.new at (MakesOn self.old (step_of programs.now step.now)) }
     {
         make_step(&mut self.node, step, programs, at);
     }
 
     /// The stores are shown as they are.
     pub(crate) fn seen(&mut self, at: Stamp)
-        requires timely { IsTimely at self.old.node.log }
-        requires few { length self.old.node.log.entries < 4000000000 }
-        requires room { 1 ≤ self.old.node.log.spare }
-        ensures tells { Tells self.old.node self.new.node at (Pacing (ShowsOnce (clock_of self.old.node.description) (machine_in self.old.node.description) (heard_of self.old.node))) }
-        ensures gone { self.new.gone ≡ self.old.gone }
+        requires timely { IsTimely at self.old.log }
+        requires few { length self.old.log.entries < 4000000000 }
+        requires room { 1 ≤ self.old.log.spare }
+        ensures { Tells self.old self.new at (Pacing (ShowsOnce (clock_of self.old.description) (machine_in self.old.description) (heard_of self.old))) }
     {
         self.node.seen(at);
     }
 
     /// Lets go of what was told, where that is to be forgotten, and makes room for n more entries.
     pub(crate) fn make_room(&mut self, written: Written, n: usize) -> Result<(), NoMemory>
-        requires { length self.old.node.log.entries < 4000000000 }
-        ensures same { IsSameNode self.old.node self.new.node }
-        ensures pace { (p : Pace) → HasPace self.old.node p → HasPace self.new.node p }
-        ensures room { OnOk result (n ≤ self.new.node.log.spare) }
+        requires { length self.old.log.entries < 4000000000 }
+        ensures same { IsSameNode (record self.old { gone = self.new.gone }) self.new }
+        ensures pace { (p : Pace) → HasPace self.old p → HasPace self.new p }
+        ensures room { OnOk result (n ≤ self.new.log.spare) }
         ensures gone { StaysAsToldTo written self.old.gone self.new.gone }
     {
         self.let_go(written);
@@ -108,9 +105,9 @@ impl HeapNode {
 
     /// Forgets what was told, where that is to be forgotten.
     fn let_go(&mut self, written: Written)
-        requires { length self.old.node.log.entries < 4000000000 }
-        ensures same { IsSameNode self.old.node self.new.node }
-        ensures pace { (p : Pace) → HasPace self.old.node p → HasPace self.new.node p }
+        requires { length self.old.log.entries < 4000000000 }
+        ensures same { IsSameNode (record self.old { gone = self.new.gone }) self.new }
+        ensures pace { (p : Pace) → HasPace self.old p → HasPace self.new p }
         ensures gone { StaysAsToldTo written self.old.gone self.new.gone }
     {
         match written {
@@ -121,8 +118,8 @@ impl HeapNode {
 
     /// How many entries were told.
     pub(crate) fn told(&self) -> usize
-        ensures count { result ≡ length self.now.node.log.entries }
-        ensures keeps { KeepsJournal self.now.node.description (machine_in self.now.node.description) self.now.node.log }
+        ensures count { result ≡ length self.now.log.entries }
+        ensures keeps { KeepsJournal self.now.description (machine_in self.now.description) self.now.log }
     {
         let _kept = self.node.kept();
         self.node.told()
@@ -130,8 +127,8 @@ impl HeapNode {
 
     /// What was told since the last entries were forgotten.
     pub(crate) fn kept(&self) -> &NodeLog
-        ensures kept { IsKept (record { all = self.now.node.log; gone = self.now.gone }) result.now }
-        ensures keeps { KeepsJournal self.now.node.description (machine_in self.now.node.description) self.now.node.log }
+        ensures kept { IsKept (record { all = self.now.log; gone = self.now.gone }) result.now }
+        ensures keeps { KeepsJournal self.now.description (machine_in self.now.description) self.now.log }
     {
         self.node.kept()
     }
@@ -140,8 +137,8 @@ impl HeapNode {
     #[inline(never)]
     pub(crate) fn into_log(self) -> NodeLog
         requires { self.gone ≡ nothing_gone }
-        ensures same { result ≡ self.node.log }
-        ensures keeps { KeepsJournal self.node.description (machine_in self.node.description) self.node.log }
+        ensures same { result ≡ self.log }
+        ensures keeps { KeepsJournal self.description (machine_in self.description) self.log }
     {
         let HeapNode { node } = self;
         Box::into_inner(node).into_log()

@@ -17,8 +17,8 @@ use vm_desc::Description;
 
 /// No further event is begun on the node.
 pub(crate) fn is_full(node: &HeapNode) -> bool
-    ensures full { result ≡ nat_le records_max (length node.now.node.log.entries) }
-    ensures keeps { KeepsJournal node.now.node.description (machine_in node.now.node.description) node.now.node.log }
+    ensures full { result ≡ nat_le records_max (length node.now.log.entries) }
+    ensures keeps { KeepsJournal node.now.description (machine_in node.now.description) node.now.log }
 {
     node.told() >= RECORDS_MAX
 }
@@ -33,8 +33,8 @@ pub(crate) fn report_of(
 ) -> Report
     requires one { length logs ≡ 1 }
     requires all { node.gone ≡ nothing_gone }
-    ensures is { result ≡ report_with node.node.log events whole }
-    ensures keeps { KeepsJournal node.node.description (machine_in node.node.description) node.node.log }
+    ensures is { result ≡ report_with node.log events whole }
+    ensures keeps { KeepsJournal node.description (machine_in node.description) node.log }
 {
     let mut logs = logs;
     logs.put(0, node.into_log());

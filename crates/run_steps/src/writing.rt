@@ -75,7 +75,7 @@ fn stopped(fault: SinkFault) -> WriteFault
 /// Memory was refused before an event.
 fn no_room(node: &HeapNode, events: u64) -> Pass
     ensures is { result ≡ record { events = events; whole = false; result = Err OutOfMemory } }
-    ensures keeps { KeepsJournal node.now.node.description (machine_in node.now.node.description) node.now.node.log }
+    ensures keeps { KeepsJournal node.now.description (machine_in node.now.description) node.now.log }
 {
     let _told = node.told();
     Pass {
@@ -87,8 +87,8 @@ fn no_room(node: &HeapNode, events: u64) -> Pass
 
 /// How many entries of the node are at hand: the next one has this position among them.
 fn next_position(node: &HeapNode) -> usize
-    ensures position { node.now.gone.entries + result ≡ length node.now.node.log.entries }
-    ensures keeps { KeepsJournal node.now.node.description (machine_in node.now.node.description) node.now.node.log }
+    ensures position { node.now.gone.entries + result ≡ length node.now.log.entries }
+    ensures keeps { KeepsJournal node.now.description (machine_in node.now.description) node.now.log }
 {
     node.kept().entries().len()
 }
@@ -100,17 +100,17 @@ fn write_new<S: Sink>(
     from: usize,
     out: &mut S,
 ) -> Result<(), SinkFault>
-    requires { node.now.gone.entries + from ≤ length node.now.node.log.entries }
-    ensures writes { Puts (S.written out.old) (S.faults out.old) (S.written out.new) (S.faults out.new) result (event_piece desc.now [] node.now.node.log (node.now.gone.entries + from) 0) }
-    ensures keeps { KeepsJournal node.now.node.description (machine_in node.now.node.description) node.now.node.log }
+    requires { node.now.gone.entries + from ≤ length node.now.log.entries }
+    ensures writes { Puts (S.written out.old) (S.faults out.old) (S.written out.new) (S.faults out.new) result (event_piece desc.now [] node.now.log (node.now.gone.entries + from) 0) }
+    ensures keeps { KeepsJournal node.now.description (machine_in node.now.description) node.now.log }
 {
     write_event(desc, &[], node.kept(), from, 0, out)
 }
 
 /// Writes the last line of the report of a run on a node, behind its other lines.
 fn write_last<S: Sink>(node: &HeapNode, events: u64, whole: bool, out: &mut S) -> Pass
-    ensures { EndsInto (report_with node.now.node.log events whole) (S.written out.old) (S.faults out.old) (S.written out.new) (S.faults out.new)
-        (with_report result.result (report_with node.now.node.log result.events result.whole)) }
+    ensures { EndsInto (report_with node.now.log events whole) (S.written out.old) (S.faults out.old) (S.written out.new) (S.faults out.new)
+        (with_report result.result (report_with node.now.log result.events result.whole)) }
 {
     if let Err(fault) = write_end(node.told() as u64, events, 1, whole, out) {
         return Pass {
@@ -146,7 +146,7 @@ fn write_run<S: Sink>(
 ) -> Pass
     requires programs { AreProgramsOf desc.now steps.now programs.now }
     requires fresh { IsNewNode desc.now node.old }
-    ensures gives { PassWrites desc.now steps.now programs.now (S.written out.old) (S.written out.new) (S.faults out.old) (S.faults out.new) node.new.node.log result }
+    ensures gives { PassWrites desc.now steps.now programs.now (S.written out.old) (S.written out.new) (S.faults out.old) (S.faults out.new) node.new.log result }
     ensures later { S.faults out.old ≤ S.faults out.new }
     ensures gone { StaysAsToldTo written node.old.gone node.new.gone }
 {

@@ -7,7 +7,6 @@ use Rattle.event_queue.specs.declared.queue.Timed.{Timed}
 use Rattle.radio_sim.specs.declared.event.Event.{Event}
 use Rattle.radio_sim.specs.declared.event.Event.TheVariants as radio
 use Rattle.mate_journal.specs.Machine.{HeldProgram}
-use Rattle.world_rules.specs.Cause as event
 use Rattle.world_rules.specs.World.{World, line_planned}
 use Rattle.world_rules.specs.State.{lines_from}
 use Rattle.world_air.specs.Air.{timed_events}

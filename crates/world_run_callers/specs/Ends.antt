@@ -20,6 +20,7 @@ use Rattle.world_step.specs.declared.mote.Mote.{Mote}
 pub record MayFinish (d : Description) (script : Script) (radio : Ether) (x : Mote) (number : ℕ) (r : Effect) (from time : ℕ) : Type 0 where
   pub world : IsRightWorld d script
   pub machine : x.node.description ≡ d
+  pub kept : x.node.gone.entries ≤ from
   pub low : from ≤ length x.node.log.entries
   pub short : length x.node.log.entries ≤ from + 32
   pub ahead : radio.agenda.now ≤ time

@@ -11,32 +11,32 @@ use Rattle.open_node.proofs.CallLemmas.{Tells-by}
 use Rattle.run_steps.proofs.EventLemmas.{Tells-void, not-bad_capsule, not-bad_code, Makes-installed, Makes-not_newer}
 use Rattle.run_steps.proofs.events.install.Goals as goal
 
-pub returns-in-Ok-clause-tells : goal.returns-in-Ok-clause-tells
-returns-in-Ok-clause-tells c =
-    let v = c.args.node.now.node in
+pub returns-in-Ok : goal.returns-in-Ok
+returns-in-Ok c =
+    let v = c.args.node.now in
     let p = c.args.program.now in
-    Tells-by v c.install.new.self.node c.args.at (Pacing (InstallsBytes v.description (heard_of v) p.image.items)) (MakesOn v (Install (held_as p)))
+    Tells-by v c.install.new.self c.args.at (Pacing (InstallsBytes v.description (heard_of v) p.image.items)) (MakesOn v (Install (held_as p)))
     (λ pace told q x. Makes-installed v.description p c.requires.right (heard_of v) pace told q x)
-    (let P : List ℕ → Type 0 = λ bs. Tells v c.install.new.self.node c.args.at (Pacing (InstallsBytes v.description (heard_of v) bs)) in subst P c.as_slice.ensures.value c.in-Ok.ensures.tells)
+    (let P : List ℕ → Type 0 = λ bs. Tells v c.install.new.self c.args.at (Pacing (InstallsBytes v.description (heard_of v) bs)) in subst P c.as_slice.ensures.value c.in-Ok.ensures)
 
-pub returns-in-Err-NotNewer-clause-tells : goal.returns-in-Err-NotNewer-clause-tells
-returns-in-Err-NotNewer-clause-tells c =
-    let v = c.args.node.now.node in
+pub returns-in-Err-NotNewer : goal.returns-in-Err-NotNewer
+returns-in-Err-NotNewer c =
+    let v = c.args.node.now in
     let p = c.args.program.now in
     let h = c.in-Err-NotNewer.held in
-    Tells-void v c.install.new.self.node c.void.new.self.node c.args.at (void.NotNewer h) (MakesOn v (Install (held_as p))) c.in-Err-NotNewer.ensures.tells.1
+    Tells-void v c.install.new.self c.void.new.self c.args.at (void.NotNewer h) (MakesOn v (Install (held_as p))) c.in-Err-NotNewer.ensures.1
     (λ pace. Makes-not_newer v.description p c.requires.right (heard_of v) pace h
     (let P : List ℕ → Type 0 = λ bs. IsNoNewer v.description (heard_of v) bs h in
     let Q : InstallFault → Type 0 = λ fault. Refuses v.description (heard_of v) c.as_slice.result.now fault in
-    subst P c.as_slice.ensures.value (subst Q c.in-Err-NotNewer.field-0-is c.in-Err-NotNewer.ensures.tells.0)))
-    c.void.ensures.tells
+    subst P c.as_slice.ensures.value (subst Q c.in-Err-NotNewer.field-0-is c.in-Err-NotNewer.ensures.0)))
+    c.void.ensures
 
 pub unreachable-requires : goal.unreachable-requires
 unreachable-requires c =
-    let d = c.args.node.now.node.description in
-    not-bad_capsule d c.args.program.now c.requires.right (heard_of c.args.node.now.node) c.as_slice.result.now _ _ c.as_slice.ensures.value c.in-Err-Capsule.field-0-is c.in-Err-Capsule.ensures.tells.0
+    let d = c.args.node.now.description in
+    not-bad_capsule d c.args.program.now c.requires.right (heard_of c.args.node.now) c.as_slice.result.now _ _ c.as_slice.ensures.value c.in-Err-Capsule.field-0-is c.in-Err-Capsule.ensures.0
 
 pub unreachable-requires-in-Err-Code : goal.unreachable-requires-in-Err-Code
 unreachable-requires-in-Err-Code c =
-    let d = c.args.node.now.node.description in
-    not-bad_code d c.args.program.now c.requires.right (heard_of c.args.node.now.node) c.as_slice.result.now _ _ c.as_slice.ensures.value c.in-Err-Code.field-0-is c.in-Err-Code.ensures.tells.0
+    let d = c.args.node.now.description in
+    not-bad_code d c.args.program.now c.requires.right (heard_of c.args.node.now) c.as_slice.result.now _ _ c.as_slice.ensures.value c.in-Err-Code.field-0-is c.in-Err-Code.ensures.0

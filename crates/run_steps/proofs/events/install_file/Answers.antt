@@ -9,13 +9,10 @@ use Rattle.run_steps.proofs.events.install_file.Goals as goal
 
 pub install-requires-clause-right : goal.install-requires-clause-right
 install-requires-clause-right c =
-    right-program c.args.programs.now c.as_slice.result.now c.args.file c.index-as_slice-file.result c.as_slice.ensures c.requires.below c.index-as_slice-file.is c.args.node.now.node.description c.requires.programs
+    right-program c.args.programs.now c.as_slice.result.now c.args.file c.index-as_slice-file.result c.as_slice.ensures c.requires.below c.index-as_slice-file.is c.args.node.now.description c.requires.programs
 
-pub returns-clause-tells : goal.returns-clause-tells
-returns-clause-tells c =
-    let v = c.args.node.now.node in
-    let P : HeldProgram → Type 0 = λ h. Tells v c.install.new.node.node c.args.at (MakesOn v (Install h)) in
-    subst P (program-is c.args.programs.now c.as_slice.result.now c.args.file c.index-as_slice-file.result c.as_slice.ensures c.requires.below c.index-as_slice-file.is) c.install.ensures.tells
-
-pub returns-clause-gone : goal.returns-clause-gone
-returns-clause-gone c = c.install.ensures.gone
+pub returns : goal.returns
+returns c =
+    let v = c.args.node.now in
+    let P : HeldProgram → Type 0 = λ h. Tells v c.install.new.node c.args.at (MakesOn v (Install h)) in
+    subst P (program-is c.args.programs.now c.as_slice.result.now c.args.file c.index-as_slice-file.result c.as_slice.ensures c.requires.below c.index-as_slice-file.is) c.install.ensures

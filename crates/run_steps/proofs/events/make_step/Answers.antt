@@ -17,16 +17,16 @@ use Rattle.run_steps.proofs.events.make_step.Goals as goal
 
 pub install_file-requires-clause-below : goal.install_file-requires-clause-below
 install_file-requires-clause-below c =
-    let right = subst (λ (s : Step). IsRightStep c.args.node.now.node.description (length c.args.programs.now) s) c.in-Install.is c.requires.right in
+    let right = subst (λ (s : Step). IsRightStep c.args.node.now.description (length c.args.programs.now) s) c.in-Install.is c.requires.right in
     right.program_high
 
 pub install_file-requires-in-Load-clause-below : goal.install_file-requires-in-Load-clause-below
 install_file-requires-in-Load-clause-below c =
-    subst (λ (s : Step). IsRightStep c.args.node.now.node.description (length c.args.programs.now) s) c.in-Load.is c.requires.right
+    subst (λ (s : Step). IsRightStep c.args.node.now.description (length c.args.programs.now) s) c.in-Load.is c.requires.right
 
 pub post-requires-clause-handler : goal.post-requires-clause-handler
 post-requires-clause-handler c =
-    let right = subst (λ (s : Step). IsRightStep c.args.node.now.node.description (length c.args.programs.now) s) c.in-Post.is c.requires.right in
+    let right = subst (λ (s : Step). IsRightStep c.args.node.now.description (length c.args.programs.now) s) c.in-Post.is c.requires.right in
     right.handler_high
 
 pub post-requires-clause-few : goal.post-requires-clause-few
@@ -37,11 +37,11 @@ post-requires-clause-room c = let room = c.requires.ready.room in omega (arith, 
 
 pub take_turn-requires-clause-right : goal.take_turn-requires-clause-right
 take_turn-requires-clause-right c =
-    subst (λ (s : Step). IsRightStep c.args.node.now.node.description (length c.args.programs.now) s) c.in-Step.is c.requires.right
+    subst (λ (s : Step). IsRightStep c.args.node.now.description (length c.args.programs.now) s) c.in-Step.is c.requires.right
 
 pub answer-requires-clause-context : goal.answer-requires-clause-context
 answer-requires-clause-context c =
-    let right = subst (λ (s : Step). IsRightStep c.args.node.now.node.description (length c.args.programs.now) s) c.in-Answer.is c.requires.right in
+    let right = subst (λ (s : Step). IsRightStep c.args.node.now.description (length c.args.programs.now) s) c.in-Answer.is c.requires.right in
     let contexts = c.requires.contexts in
     omega (arith, right, contexts)
 
@@ -57,75 +57,51 @@ reset-requires-clause-few c = let few = c.requires.ready.few in omega (arith, fe
 pub reset-requires-clause-room : goal.reset-requires-clause-room
 reset-requires-clause-room c = let room = c.requires.ready.room in omega (arith, room)
 
-pub returns-in-Install-clause-tells : goal.returns-in-Install-clause-tells
-returns-in-Install-clause-tells c =
-    let v = c.args.node.now.node in
-    let P : Step → Type 0 = λ s. Tells v c.install_file.new.node.node c.args.at (MakesOn v (step_of c.args.programs.now s)) in
-    subst P (sym c.in-Install.is) c.install_file.ensures.tells
+pub returns-in-Install : goal.returns-in-Install
+returns-in-Install c =
+    let v = c.args.node.now in
+    let P : Step → Type 0 = λ s. Tells v c.install_file.new.node c.args.at (MakesOn v (step_of c.args.programs.now s)) in
+    subst P (sym c.in-Install.is) c.install_file.ensures
 
-pub returns-in-Load-clause-tells : goal.returns-in-Load-clause-tells
-returns-in-Load-clause-tells c =
-    let v = c.args.node.now.node in
-    let P : Step → Type 0 = λ s. Tells v c.install_file-in-Load.new.node.node c.args.at (MakesOn v (step_of c.args.programs.now s)) in
-    subst P (sym c.in-Load.is) c.install_file-in-Load.ensures.tells
+pub returns-in-Load : goal.returns-in-Load
+returns-in-Load c =
+    let v = c.args.node.now in
+    let P : Step → Type 0 = λ s. Tells v c.install_file-in-Load.new.node c.args.at (MakesOn v (step_of c.args.programs.now s)) in
+    subst P (sym c.in-Load.is) c.install_file-in-Load.ensures
 
-pub returns-in-Step-clause-tells : goal.returns-in-Step-clause-tells
-returns-in-Step-clause-tells c =
-    let v = c.args.node.now.node in
-    let P : Step → Type 0 = λ s. Tells v c.take_turn.new.node.node c.args.at (MakesOn v (step_of c.args.programs.now s)) in
-    subst P (sym c.in-Step.is) c.take_turn.ensures.tells
+pub returns-in-Step : goal.returns-in-Step
+returns-in-Step c =
+    let v = c.args.node.now in
+    let P : Step → Type 0 = λ s. Tells v c.take_turn.new.node c.args.at (MakesOn v (step_of c.args.programs.now s)) in
+    subst P (sym c.in-Step.is) c.take_turn.ensures
 
-pub returns-in-Install-clause-gone : goal.returns-in-Install-clause-gone
-returns-in-Install-clause-gone c = c.install_file.ensures.gone
-
-pub returns-in-Load-clause-gone : goal.returns-in-Load-clause-gone
-returns-in-Load-clause-gone c = c.install_file-in-Load.ensures.gone
-
-pub returns-in-Post-clause-gone : goal.returns-in-Post-clause-gone
-returns-in-Post-clause-gone c = c.post.ensures.gone
-
-pub returns-in-Step-clause-gone : goal.returns-in-Step-clause-gone
-returns-in-Step-clause-gone c = c.take_turn.ensures.gone
-
-pub returns-in-Run-clause-gone : goal.returns-in-Run-clause-gone
-returns-in-Run-clause-gone c = c.settle.ensures.gone
-
-pub returns-in-Answer-clause-gone : goal.returns-in-Answer-clause-gone
-returns-in-Answer-clause-gone c = c.answer.ensures.gone
-
-pub returns-in-Show-clause-gone : goal.returns-in-Show-clause-gone
-returns-in-Show-clause-gone c = c.seen.ensures.gone
-
-pub returns-in-Reset-clause-gone : goal.returns-in-Reset-clause-gone
-returns-in-Reset-clause-gone c = c.reset.ensures.gone
-
-pub returns-in-Post-clause-tells : goal.returns-in-Post-clause-tells
-returns-in-Post-clause-tells c =
-    let v = c.args.node.now.node in
-    let P : Step → Type 0 = λ s. Tells v c.post.new.self.node c.args.at (MakesOn v (step_of c.args.programs.now s)) in
-    let Q : ArrayVec ℤ → Type 0 = λ payload. Tells v c.post.new.self.node c.args.at (Pacing (λ _. PostGives (machine_in v.description) (heard_of v) c.in-Post.handler payload c.post.result)) in
+pub returns-in-Post : goal.returns-in-Post
+returns-in-Post c =
+    let v = c.args.node.now in
+    let P : Step → Type 0 = λ s. Tells v c.post.new.self c.args.at (MakesOn v (step_of c.args.programs.now s)) in
+    let Q : ArrayVec ℤ → Type 0 = λ payload. Tells v c.post.new.self c.args.at (Pacing (λ _. PostGives (machine_in v.description) (heard_of v) c.in-Post.handler payload c.post.result)) in
     subst P (sym c.in-Post.is)
-    (Tells-by v c.post.new.self.node c.args.at (Pacing (λ _. PostGives (machine_in v.description) (heard_of v) c.in-Post.handler c.in-Post.payload c.post.result)) (MakesOn v (Post c.in-Post.handler c.in-Post.payload))
-    (λ p told q x. (Occasion-given (machine_in v.description) (heard_of v) c.in-Post.handler c.in-Post.payload c.post.result told x.0, x.1)) (subst Q c.payload.ensures c.post.ensures.tells))
+    (Tells-by v c.post.new.self c.args.at (Pacing (λ _. PostGives (machine_in v.description) (heard_of v) c.in-Post.handler c.in-Post.payload c.post.result)) (MakesOn v (Post c.in-Post.handler c.in-Post.payload))
+    (λ p told q x. (Occasion-given (machine_in v.description) (heard_of v) c.in-Post.handler c.in-Post.payload c.post.result told x.0, x.1)) (subst Q c.payload.ensures c.post.ensures))
 
-pub returns-in-Run-clause-tells : goal.returns-in-Run-clause-tells
-returns-in-Run-clause-tells c =
-    let v = c.args.node.now.node in
-    let P : Step → Type 0 = λ s. Tells v c.settle.new.self.node c.args.at (MakesOn v (step_of c.args.programs.now s)) in
+pub returns-in-Run : goal.returns-in-Run
+returns-in-Run c =
+    let v = c.args.node.now in
+    let P : Step → Type 0 = λ s. Tells v c.settle.new.self c.args.at (MakesOn v (step_of c.args.programs.now s)) in
     subst P (sym c.in-Run.is)
-    (Tells-by v c.settle.new.self.node c.args.at (SettlesWithin (clock_of v.description) (machine_in v.description) ((v.description.turns + 1) * CODE_MAX) (heard_of v)) (MakesOn v Run)
-    (λ p told q x. x.settles) c.settle.ensures.settles)
+    (Tells-by v c.settle.new.self c.args.at (SettlesWithin (clock_of v.description) (machine_in v.description) ((v.description.turns + 1) * CODE_MAX) (heard_of v)) (MakesOn v Run)
+    (λ p told q x. x.settles) c.settle.ensures)
 
-pub returns-in-Show-clause-tells : goal.returns-in-Show-clause-tells
-returns-in-Show-clause-tells c =
-    let v = c.args.node.now.node in
-    let P : Step → Type 0 = λ s. Tells v c.seen.new.self.node c.args.at (MakesOn v (step_of c.args.programs.now s)) in
+pub returns-in-Show : goal.returns-in-Show
+returns-in-Show c =
+    let v = c.args.node.now in
+    let P : Step → Type 0 = λ s. Tells v c.seen.new.self c.args.at (MakesOn v (step_of c.args.programs.now s)) in
     subst P (sym c.in-Show.is)
-    (Tells-by v c.seen.new.self.node c.args.at (Pacing (ShowsOnce (clock_of v.description) (machine_in v.description) (heard_of v))) (MakesOn v Show) (λ p told q x. (x.0, x.1)) c.seen.ensures.tells)
+    (Tells-by v c.seen.new.self c.args.at (Pacing (ShowsOnce (clock_of v.description) (machine_in v.description) (heard_of v))) (MakesOn v Show) (λ p told q x. (x.0, x.1)) c.seen.ensures)
 
-pub returns-in-Reset-clause-tells : goal.returns-in-Reset-clause-tells
-returns-in-Reset-clause-tells c =
-    let v = c.args.node.now.node in
-    let P : Step → Type 0 = λ s. Tells v c.reset.new.self.node c.args.at (MakesOn v (step_of c.args.programs.now s)) in
+pub returns-in-Reset : goal.returns-in-Reset
+returns-in-Reset c =
+    let v = c.args.node.now in
+    let P : Step → Type 0 = λ s. Tells v c.reset.new.self c.args.at (MakesOn v (step_of c.args.programs.now s)) in
     subst P (sym c.in-Reset.is)
-    (Tells-by v c.reset.new.self.node c.args.at (Pacing (Resets (clock_of v.description) (machine_in v.description) (heard_of v))) (MakesOn v ResetNode) (λ p told q x. (x.0, x.1)) c.reset.ensures.tells)
+    (Tells-by v c.reset.new.self c.args.at (Pacing (Resets (clock_of v.description) (machine_in v.description) (heard_of v))) (MakesOn v ResetNode) (λ p told q x. (x.0, x.1)) c.reset.ensures)

@@ -9,13 +9,13 @@ use Rattle.open_node.proofs.CallLemmas.{Tells-by}
 use Rattle.run_steps.proofs.EventLemmas.{Tells-void}
 use Rattle.run_steps.proofs.events.take_turn.Goals as goal
 
-pub returns-in-Ok-clause-tells : goal.returns-in-Ok-clause-tells
-returns-in-Ok-clause-tells c =
-    let v = c.args.node.now.node in
-    Tells-by v c.step.new.self.node c.args.at (HasStepped (clock_of v.description) (machine_in v.description) (heard_of v) c.args.ctx c.args.n c.in-Ok.field-0) (MakesOn v (StepIn c.args.ctx c.args.n))
-    (λ p told q x. inl x.turn) c.in-Ok.ensures.steps
+pub returns-in-Ok : goal.returns-in-Ok
+returns-in-Ok c =
+    let v = c.args.node.now in
+    Tells-by v c.step.new.self c.args.at (HasStepped (clock_of v.description) (machine_in v.description) (heard_of v) c.args.ctx c.args.n c.in-Ok.field-0) (MakesOn v (StepIn c.args.ctx c.args.n))
+    (λ p told q x. inl x.turn) c.in-Ok.ensures
 
-pub returns-in-Err-clause-tells : goal.returns-in-Err-clause-tells
-returns-in-Err-clause-tells c =
-    Tells-void c.args.node.now.node c.step.new.self.node c.void.new.self.node c.args.at void.NotReady (MakesOn c.args.node.now.node (StepIn c.args.ctx c.args.n)) c.in-Err.ensures.steps.1
-    (λ p. inr (record { none = c.in-Err.ensures.steps.0; made = refl }, refl)) c.void.ensures.tells
+pub returns-in-Err : goal.returns-in-Err
+returns-in-Err c =
+    Tells-void c.args.node.now c.step.new.self c.void.new.self c.args.at void.NotReady (MakesOn c.args.node.now (StepIn c.args.ctx c.args.n)) c.in-Err.ensures.1
+    (λ p. inr (record { none = c.in-Err.ensures.0; made = refl }, refl)) c.void.ensures

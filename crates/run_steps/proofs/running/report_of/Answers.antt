@@ -10,4 +10,4 @@ returns-clause-is c =
     let R : List Log → List Aired → Report = λ nodes air. record { nodes = nodes; air = air; events = c.args.events; whole = c.args.whole } in
     c.new-2.ensures
     ∙ ap (λ (nodes : List Log). R nodes c.new.result) (c.put.ensures ∙ set-one c.args.logs c.into_log.result c.requires.one ∙ ap (λ (l : Log). l ∷ []) c.into_log.ensures.same)
-    ∙ ap (λ (air : List Aired). R (c.args.node.node.log ∷ []) air) c.new.ensures
+    ∙ ap (λ (air : List Aired). R (c.args.node.log ∷ []) air) c.new.ensures

@@ -5,7 +5,7 @@ use Rattle.run_steps.proofs.running.run_steps.Given as goal
 
 abbrev pub invariant-loop-step : goal.invariant-loop-step
 invariant-loop-step l = record {
-  run : HasRun l.desc l.programs (take l.step-index l.list) l.node.node;
+  run : HasRun l.desc l.programs (take l.step-index l.list) l.node;
   count : l.events ≡ l.step-index;
   gone : l.node.gone ≡ nothing_gone;
   one : length l.logs ≡ 1;

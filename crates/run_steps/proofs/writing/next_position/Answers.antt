@@ -1,6 +1,6 @@
 use Rattle.std.proofs.Common.{List, length, ap, arith}
 use Rattle.mate_journal.specs.declared.entry.Stamped.{Stamped}
-use Rattle.run_steps.proofs.KeptLemmas.{count-kept}
+use Rattle.open_node.proofs.KeptLemmas.{count-kept}
 use Rattle.run_steps.proofs.writing.next_position.Goals as goal
 
 pub returns-clause-position : goal.returns-clause-position

@@ -18,7 +18,7 @@ report_of-report-requires-clause-all g c = c.write_run-pass.ensures.gone ∙ c.i
 pub returns-in-Ok-result-clause-gives : goal.returns-in-Ok-result-clause-gives
 returns-in-Ok-result-clause-gives g c =
     given-whole c.args.desc.now c.args.steps.now c.args.programs.now (g.S.Sink.written c.args.out.now) (g.S.Sink.written c.write_run-pass.new.out) (g.S.Sink.faults c.args.out.now) (g.S.Sink.faults c.write_run-pass.new.out) c.write_run-pass.result.result
-    (report_with c.write_run-pass.new.node.node.log c.write_run-pass.result.events c.write_run-pass.result.whole) c.report_of-report.result c.write_run-pass.ensures.gives c.in-Ok-result.is c.report_of-report.ensures.is
+    (report_with c.write_run-pass.new.node.log c.write_run-pass.result.events c.write_run-pass.result.whole) c.report_of-report.result c.write_run-pass.ensures.gives c.in-Ok-result.is c.report_of-report.ensures.is
 
 pub returns-in-Ok-result-clause-later : goal.returns-in-Ok-result-clause-later
 returns-in-Ok-result-clause-later g c = c.write_run-pass.ensures.later
@@ -26,7 +26,7 @@ returns-in-Ok-result-clause-later g c = c.write_run-pass.ensures.later
 pub returns-in-Err-clause-gives : goal.returns-in-Err-clause-gives
 returns-in-Err-clause-gives g c =
     given-fault c.args.desc.now c.args.steps.now c.args.programs.now (g.S.Sink.written c.args.out.now) (g.S.Sink.written c.write_run-pass.new.out) (g.S.Sink.faults c.args.out.now) (g.S.Sink.faults c.write_run-pass.new.out) c.write_run-pass.result.result
-    (report_with c.write_run-pass.new.node.node.log c.write_run-pass.result.events c.write_run-pass.result.whole) c.report_of-report.result c.in-Err.fault c.with_report.result c.write_run-pass.ensures.gives c.in-Err.is c.report_of-report.ensures.is
+    (report_with c.write_run-pass.new.node.log c.write_run-pass.result.events c.write_run-pass.result.whole) c.report_of-report.result c.in-Err.fault c.with_report.result c.write_run-pass.ensures.gives c.in-Err.is c.report_of-report.ensures.is
     c.with_report.ensures
 
 pub returns-in-Err-clause-later : goal.returns-in-Err-clause-later

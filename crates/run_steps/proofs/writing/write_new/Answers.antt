@@ -1,6 +1,7 @@
 use Rattle.std.proofs.Common.{ℕ, List, subst, arith}
 use Rattle.mate_files.specs.Sink.{Puts}
-use Rattle.run_steps.proofs.KeptLemmas.{piece-kept, count-kept}
+use Rattle.open_node.proofs.KeptLemmas.{count-kept}
+use Rattle.run_steps.proofs.KeptLemmas.{piece-kept}
 use Rattle.run_steps.proofs.writing.write_new.Goals as goal
 
 pub write_event-requires : goal.write_event-requires

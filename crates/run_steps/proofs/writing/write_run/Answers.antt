@@ -20,9 +20,9 @@ pub loop-step-init : goal.loop-step-init
 loop-step-init g c =
     let fresh = c.requires.fresh in
     record {
-      run = HasRun-new c.args.desc.now c.args.programs.now c.args.node.now.node fresh.description fresh.empty fresh.pace;
+      run = HasRun-new c.args.desc.now c.args.programs.now c.args.node.now fresh.description fresh.empty fresh.pace;
       count = refl;
-      sent = subst (λ (bs : List ℕ). Sent (g.S.Sink.written c.args.out.now) (g.S.Sink.written c.args.out.now) bs) (sym (lines-none c.args.desc.now c.args.node.now.node.log fresh.empty.entries)) Sent-nil;
+      sent = subst (λ (bs : List ℕ). Sent (g.S.Sink.written c.args.out.now) (g.S.Sink.written c.args.out.now) bs) (sym (lines-none c.args.desc.now c.args.node.now.log fresh.empty.entries)) Sent-nil;
       later = omega arith;
       gone = stays-first c.args.written c.args.node.now.gone;
     }
@@ -32,14 +32,14 @@ returns-then-is_full-clause-gives g c =
     let i = c.loop-step.invariant in
     let d = c.args.desc.now in
     let below = c.loop-step-test.true in
-    let run = run-full d c.args.programs.now c.steps-list.result.now c.loop-step.step-index c.loop-step.events c.loop-step.node.node i.run c.loop-step-test.true i.count
-    (leb-true RECORDS_MAX (length c.loop-step.node.node.log.entries) (sym c.is_full.ensures.full ∙ c.if-is_full.true)) in
-    let keeps = keeps-by d c.loop-step.node.node i.run.description c.is_full.ensures.keeps in
-    let timely = timely-at d c.args.programs.now c.steps-list.result.now c.loop-step.step-index c.loop-step.events c.loop-step.node.node i.run (omega (arith, below)) i.count in
+    let run = run-full d c.args.programs.now c.steps-list.result.now c.loop-step.step-index c.loop-step.events c.loop-step.node i.run c.loop-step-test.true i.count
+    (leb-true RECORDS_MAX (length c.loop-step.node.log.entries) (sym c.is_full.ensures.full ∙ c.if-is_full.true)) in
+    let keeps = keeps-by d c.loop-step.node i.run.description c.is_full.ensures.keeps in
+    let timely = timely-at d c.args.programs.now c.steps-list.result.now c.loop-step.step-index c.loop-step.events c.loop-step.node i.run (omega (arith, below)) i.count in
     ended-full d c.args.steps.now c.args.programs.now (g.S.Sink.written c.args.out.now) (g.S.Sink.written c.loop-step.out) (g.S.Sink.written c.write_last.new.out) (g.S.Sink.faults c.args.out.now)
-    (g.S.Sink.faults c.loop-step.out) (g.S.Sink.faults c.write_last.new.out) c.loop-step.node.node.log c.loop-step.events c.loop-step.events (with_report c.write_last.result.result (report_with c.loop-step.node.node.log c.write_last.result.events c.write_last.result.whole))
-    (reported d c.args.steps.now c.args.programs.now Full c.steps-list.result.now c.loop-step.node.node c.loop-step.events c.steps-list.ensures c.requires.programs.programs i.run.description c.is_full.ensures.keeps run _ refl)
-    refl (lines-last d c.loop-step.node.node.log c.loop-step.events keeps timely) i.sent i.later c.write_last.ensures
+    (g.S.Sink.faults c.loop-step.out) (g.S.Sink.faults c.write_last.new.out) c.loop-step.node.log c.loop-step.events c.loop-step.events (with_report c.write_last.result.result (report_with c.loop-step.node.log c.write_last.result.events c.write_last.result.whole))
+    (reported d c.args.steps.now c.args.programs.now Full c.steps-list.result.now c.loop-step.node c.loop-step.events c.steps-list.ensures c.requires.programs.programs i.run.description c.is_full.ensures.keeps run _ refl)
+    refl (lines-last d c.loop-step.node.log c.loop-step.events keeps timely) i.sent i.later c.write_last.ensures
 
 -- memory was refused before a step
 pub returns-then-is_err-clause-gives : goal.returns-then-is_err-clause-gives
@@ -48,12 +48,12 @@ returns-then-is_err-clause-gives g c =
     let d = c.args.desc.now in
     let ps = c.args.programs.now in
     let list = c.steps-list.result.now in
-    let mid = c.make_room.new.self.node in
+    let mid = c.make_room.new.self in
     let below = c.loop-step-test.true in
-    let mid_run = HasRun-same d ps (take c.loop-step.step-index list) c.loop-step.node.node mid c.make_room.ensures.same c.make_room.ensures.pace i.run in
+    let mid_run = HasRun-same d ps (take c.loop-step.step-index list) c.loop-step.node mid c.make_room.ensures.same.description c.make_room.ensures.same.log c.make_room.ensures.pace i.run in
     let within : c.loop-step.step-index ≤ length list = omega (arith, below) in
     let keeps = keeps-by d mid mid_run.description c.no_room.ensures.keeps in
-    let sent = subst (λ (bs : List ℕ). Sent (g.S.Sink.written c.args.out.now) (g.S.Sink.written c.loop-step.out) bs) (sym (lines-room d mid.log c.loop-step.node.node.log c.make_room.ensures.same.log)) i.sent in
+    let sent = subst (λ (bs : List ℕ). Sent (g.S.Sink.written c.args.out.now) (g.S.Sink.written c.loop-step.out) bs) (sym (lines-room d mid.log c.loop-step.node.log c.make_room.ensures.same.log)) i.sent in
     let report = reported d c.args.steps.now ps Cut list mid c.loop-step.events c.steps-list.ensures c.requires.programs.programs mid_run.description c.no_room.ensures.keeps
     (run-cut d ps list c.loop-step.step-index c.loop-step.events mid mid_run within i.count) (report_with mid.log c.loop-step.events false) refl in
     let P : Pass → Type 0 = λ x. PassWrites d c.args.steps.now ps (g.S.Sink.written c.args.out.now) (g.S.Sink.written c.loop-step.out) (g.S.Sink.faults c.args.out.now) (g.S.Sink.faults c.loop-step.out) mid.log x in
@@ -65,24 +65,24 @@ pub make-requires-clause-ready : goal.make-requires-clause-ready
 make-requires-clause-ready g c =
     let i = c.loop-step.invariant in
     let same = c.make_room.ensures.same in
-    let run = HasRun-same c.args.desc.now c.args.programs.now (take c.loop-step.step-index c.steps-list.result.now) c.loop-step.node.node c.make_room.new.self.node same c.make_room.ensures.pace i.run in
+    let run = HasRun-same c.args.desc.now c.args.programs.now (take c.loop-step.step-index c.steps-list.result.now) c.loop-step.node c.make_room.new.self same.description same.log c.make_room.ensures.pace i.run in
     let below = c.loop-step-test.true in
-    let few = leb-false RECORDS_MAX (length c.loop-step.node.node.log.entries) (sym c.is_full.ensures.full ∙ c.if-is_full.false) in
+    let few = leb-false RECORDS_MAX (length c.loop-step.node.log.entries) (sym c.is_full.ensures.full ∙ c.if-is_full.false) in
     let entries = ap (λ es. length {A = Stamped} es) same.log.entries in
     record {
-      timely = timely-next c.args.desc.now c.args.programs.now c.steps-list.result.now c.loop-step.step-index c.loop-step.events c.make_room.new.self.node run (omega (arith, below)) i.count;
+      timely = timely-next c.args.desc.now c.args.programs.now c.steps-list.result.now c.loop-step.step-index c.loop-step.events c.make_room.new.self run (omega (arith, below)) i.count;
       few = omega (arith, few, entries);
       room = ok-room c.make_room.result _ (sym c.is_err.ensures.value ∙ c.if-is_err.false) c.make_room.ensures.room;
     }
 
 pub make-requires-clause-right : goal.make-requires-clause-right
 make-requires-clause-right g c =
-    right-step c.args.desc.now c.make_room.new.self.node.description c.args.steps.now c.args.programs.now c.steps-list.result.now c.loop-step.step-index c.step-item.result c.requires.programs c.steps-list.ensures c.loop-step-test.true c.step-item.is
+    right-step c.args.desc.now c.make_room.new.self.description c.args.steps.now c.args.programs.now c.steps-list.result.now c.loop-step.step-index c.step-item.result c.requires.programs c.steps-list.ensures c.loop-step-test.true c.step-item.is
     (c.make_room.ensures.same.description ∙ c.loop-step.invariant.run.description)
 
 pub make-requires-clause-contexts : goal.make-requires-clause-contexts
 make-requires-clause-contexts g c =
-    few-contexts c.args.desc.now c.make_room.new.self.node.description c.contexts-contexts.result c.contexts-contexts.ensures.value c.contexts-contexts.ensures.high (c.make_room.ensures.same.description ∙ c.loop-step.invariant.run.description)
+    few-contexts c.args.desc.now c.make_room.new.self.description c.contexts-contexts.result c.contexts-contexts.ensures.value c.contexts-contexts.ensures.high (c.make_room.ensures.same.description ∙ c.loop-step.invariant.run.description)
 
 pub make-requires-clause-programs : goal.make-requires-clause-programs
 make-requires-clause-programs g c =
@@ -92,7 +92,7 @@ pub write_new-requires : goal.write_new-requires
 write_new-requires g c =
     let position = c.next_position-from.ensures.position in
     let gone = ap (λ (x : Gone). x.entries) c.make.ensures.gone in
-    let count = c.make.ensures.tells.grows.count in
+    let count = c.make.ensures.grows.count in
     omega (arith, position, gone, count)
 
 -- the sink failed within an event's lines
@@ -102,20 +102,20 @@ returns-in-Err-clause-gives g c =
     let d = c.args.desc.now in
     let ps = c.args.programs.now in
     let list = c.steps-list.result.now in
-    let mid = c.make_room.new.self.node in
-    let new = c.make.new.self.node in
+    let mid = c.make_room.new.self in
+    let new = c.make.new.self in
     let same = c.make_room.ensures.same in
     let below = c.loop-step-test.true in
     let count = i.count in
     let position = c.next_position-from.ensures.position in
     let gone = ap (λ (x : Gone). x.entries) c.make.ensures.gone in
-    let few = leb-false RECORDS_MAX (length c.loop-step.node.node.log.entries) (sym c.is_full.ensures.full ∙ c.if-is_full.false) in
+    let few = leb-false RECORDS_MAX (length c.loop-step.node.log.entries) (sym c.is_full.ensures.full ∙ c.if-is_full.false) in
     let entries = ap (λ es. length {A = Stamped} es) same.log.entries in
-    let mid_run = HasRun-same d ps (take c.loop-step.step-index list) c.loop-step.node.node mid same c.make_room.ensures.pace i.run in
-    let new_run = HasRun-step d ps list c.loop-step.step-index c.loop-step.events c.step-item.result mid new mid_run c.loop-step-test.true count c.step-item.is (omega (arith, few, entries)) c.make.ensures.tells in
+    let mid_run = HasRun-same d ps (take c.loop-step.step-index list) c.loop-step.node mid same.description same.log c.make_room.ensures.pace i.run in
+    let new_run = HasRun-step d ps list c.loop-step.step-index c.loop-step.events c.step-item.result mid new mid_run c.loop-step-test.true count c.step-item.is (omega (arith, few, entries)) c.make.ensures in
     let written = event-written d ps list c.loop-step.step-index c.loop-step.events (c.make.new.self.gone.entries + c.next_position-from.result) mid new _ mid_run (omega (arith, below)) count (keeps-by d mid mid_run.description c.next_position-from.ensures.keeps)
-    (keeps-by d new new_run.description c.write_new.ensures.keeps) c.make.ensures.tells (omega (arith, position, gone)) in
-    let sent = subst (λ (bs : List ℕ). Sent (g.S.Sink.written c.args.out.now) (g.S.Sink.written c.loop-step.out) bs) (sym (lines-room d mid.log c.loop-step.node.node.log same.log)) i.sent in
+    (keeps-by d new new_run.description c.write_new.ensures.keeps) c.make.ensures (omega (arith, position, gone)) in
+    let sent = subst (λ (bs : List ℕ). Sent (g.S.Sink.written c.args.out.now) (g.S.Sink.written c.loop-step.out) bs) (sym (lines-room d mid.log c.loop-step.node.log same.log)) i.sent in
     let report = reported d c.args.steps.now ps Cut list new (c.loop-step.events + 1) c.steps-list.ensures c.requires.programs.programs new_run.description c.write_new.ensures.keeps
     (run-cut d ps list (c.loop-step.step-index + 1) (c.loop-step.events + 1) new new_run (omega (arith, below)) (omega (arith, count))) (report_with new.log (c.loop-step.events + 1) false) refl in
     stopped-with d c.args.steps.now ps (g.S.Sink.written c.args.out.now) (g.S.Sink.written c.loop-step.out) (g.S.Sink.written c.write_new.new.out) (g.S.Sink.faults c.args.out.now) (g.S.Sink.faults c.loop-step.out)
@@ -130,20 +130,20 @@ loop-step-preserved g c =
     let d = c.args.desc.now in
     let ps = c.args.programs.now in
     let list = c.steps-list.result.now in
-    let mid = c.make_room.new.self.node in
-    let new = c.make.new.self.node in
+    let mid = c.make_room.new.self in
+    let new = c.make.new.self in
     let same = c.make_room.ensures.same in
     let below = c.loop-step-test.true in
     let count = i.count in
     let position = c.next_position-from.ensures.position in
     let gone = ap (λ (x : Gone). x.entries) c.make.ensures.gone in
-    let few = leb-false RECORDS_MAX (length c.loop-step.node.node.log.entries) (sym c.is_full.ensures.full ∙ c.if-is_full.false) in
+    let few = leb-false RECORDS_MAX (length c.loop-step.node.log.entries) (sym c.is_full.ensures.full ∙ c.if-is_full.false) in
     let entries = ap (λ es. length {A = Stamped} es) same.log.entries in
-    let mid_run = HasRun-same d ps (take c.loop-step.step-index list) c.loop-step.node.node mid same c.make_room.ensures.pace i.run in
-    let new_run = HasRun-step d ps list c.loop-step.step-index c.loop-step.events c.step-item.result mid new mid_run c.loop-step-test.true count c.step-item.is (omega (arith, few, entries)) c.make.ensures.tells in
+    let mid_run = HasRun-same d ps (take c.loop-step.step-index list) c.loop-step.node mid same.description same.log c.make_room.ensures.pace i.run in
+    let new_run = HasRun-step d ps list c.loop-step.step-index c.loop-step.events c.step-item.result mid new mid_run c.loop-step-test.true count c.step-item.is (omega (arith, few, entries)) c.make.ensures in
     let written = event-written d ps list c.loop-step.step-index c.loop-step.events (c.make.new.self.gone.entries + c.next_position-from.result) mid new _ mid_run (omega (arith, below)) count (keeps-by d mid mid_run.description c.next_position-from.ensures.keeps)
-    (keeps-by d new new_run.description c.write_new.ensures.keeps) c.make.ensures.tells (omega (arith, position, gone)) in
-    let sent = subst (λ (bs : List ℕ). Sent (g.S.Sink.written c.args.out.now) (g.S.Sink.written c.loop-step.out) bs) (sym (lines-room d mid.log c.loop-step.node.node.log same.log)) i.sent in
+    (keeps-by d new new_run.description c.write_new.ensures.keeps) c.make.ensures (omega (arith, position, gone)) in
+    let sent = subst (λ (bs : List ℕ). Sent (g.S.Sink.written c.args.out.now) (g.S.Sink.written c.loop-step.out) bs) (sym (lines-room d mid.log c.loop-step.node.log same.log)) i.sent in
     let later = i.later in
     let rose = c.in_default.ensures.writes.later in
     record {
@@ -161,10 +161,10 @@ returns-then-is_err-2-clause-gives g c =
     let d = c.args.desc.now in
     let ps = c.args.programs.now in
     let list = c.steps-list.result.now in
-    let mid = c.reserve.new.self.node in
-    let mid_run = HasRun-same d ps (take c.loop-step.step-index list) c.loop-step.node.node mid c.reserve.ensures.same c.reserve.ensures.pace i.run in
+    let mid = c.reserve.new.self in
+    let mid_run = HasRun-same d ps (take c.loop-step.step-index list) c.loop-step.node mid c.reserve.ensures.same.description c.reserve.ensures.same.log c.reserve.ensures.pace i.run in
     let keeps = keeps-by d mid mid_run.description c.no_room-then-is_err-2.ensures.keeps in
-    let sent = subst (λ (bs : List ℕ). Sent (g.S.Sink.written c.args.out.now) (g.S.Sink.written c.loop-step.out) bs) (sym (lines-room d mid.log c.loop-step.node.node.log c.reserve.ensures.same.log)) i.sent in
+    let sent = subst (λ (bs : List ℕ). Sent (g.S.Sink.written c.args.out.now) (g.S.Sink.written c.loop-step.out) bs) (sym (lines-room d mid.log c.loop-step.node.log c.reserve.ensures.same.log)) i.sent in
     let report = reported d c.args.steps.now ps Cut list mid c.loop-step.events c.steps-list.ensures c.requires.programs.programs mid_run.description c.no_room-then-is_err-2.ensures.keeps
     (run-cut d ps list c.loop-step.step-index c.loop-step.events mid mid_run c.loop-step.auto.step-index-end i.count) (report_with mid.log c.loop-step.events false) refl in
     let P : Pass → Type 0 = λ x. PassWrites d c.args.steps.now ps (g.S.Sink.written c.args.out.now) (g.S.Sink.written c.loop-step.out) (g.S.Sink.faults c.args.out.now) (g.S.Sink.faults c.loop-step.out) mid.log x in
@@ -175,14 +175,14 @@ returns-then-is_err-2-clause-gives g c =
 pub seen-requires-clause-timely : goal.seen-requires-clause-timely
 seen-requires-clause-timely g c =
     let i = c.loop-step.invariant in
-    let run = HasRun-same c.args.desc.now c.args.programs.now (take c.loop-step.step-index c.steps-list.result.now) c.loop-step.node.node c.reserve.new.self.node c.reserve.ensures.same c.reserve.ensures.pace i.run in
-    timely-next c.args.desc.now c.args.programs.now c.steps-list.result.now c.loop-step.step-index c.loop-step.events c.reserve.new.self.node run c.loop-step.auto.step-index-end i.count
+    let run = HasRun-same c.args.desc.now c.args.programs.now (take c.loop-step.step-index c.steps-list.result.now) c.loop-step.node c.reserve.new.self c.reserve.ensures.same.description c.reserve.ensures.same.log c.reserve.ensures.pace i.run in
+    timely-next c.args.desc.now c.args.programs.now c.steps-list.result.now c.loop-step.step-index c.loop-step.events c.reserve.new.self run c.loop-step.auto.step-index-end i.count
 
 pub seen-requires-clause-few : goal.seen-requires-clause-few
 seen-requires-clause-few g c =
     let i = c.loop-step.invariant in
-    let run = HasRun-same c.args.desc.now c.args.programs.now (take c.loop-step.step-index c.steps-list.result.now) c.loop-step.node.node c.reserve.new.self.node c.reserve.ensures.same c.reserve.ensures.pace i.run in
-    few-entries c.args.desc.now c.args.programs.now (take c.loop-step.step-index c.steps-list.result.now) c.reserve.new.self.node run c.next_position-from-2.ensures.keeps
+    let run = HasRun-same c.args.desc.now c.args.programs.now (take c.loop-step.step-index c.steps-list.result.now) c.loop-step.node c.reserve.new.self c.reserve.ensures.same.description c.reserve.ensures.same.log c.reserve.ensures.pace i.run in
+    few-entries c.args.desc.now c.args.programs.now (take c.loop-step.step-index c.steps-list.result.now) c.reserve.new.self run c.next_position-from-2.ensures.keeps
 
 pub seen-requires-clause-room : goal.seen-requires-clause-room
 seen-requires-clause-room g c = ok-room c.reserve.result _ (sym c.is_err-2.ensures.value ∙ c.if-is_err-2.false) c.reserve.ensures.room
@@ -191,7 +191,7 @@ pub write_new-requires-2 : goal.write_new-requires-2
 write_new-requires-2 g c =
     let position = c.next_position-from-2.ensures.position in
     let gone = ap (λ (x : Gone). x.entries) c.seen.ensures.gone in
-    let count = c.seen.ensures.tells.grows.count in
+    let count = c.seen.ensures.grows.count in
     omega (arith, position, gone, count)
 
 -- the sink failed within the lines of the stores that are shown at the end
@@ -201,19 +201,19 @@ returns-in-Err-write_new-clause-gives g c =
     let d = c.args.desc.now in
     let ps = c.args.programs.now in
     let list = c.steps-list.result.now in
-    let mid = c.reserve.new.self.node in
-    let new = c.seen.new.self.node in
+    let mid = c.reserve.new.self in
+    let new = c.seen.new.self in
     let same = c.reserve.ensures.same in
     let past = c.loop-step-test.false in
     let position = c.next_position-from-2.ensures.position in
     let gone = ap (λ (x : Gone). x.entries) c.seen.ensures.gone in
     let entries = ap (λ es. length {A = Stamped} es) same.log.entries in
-    let mid_run = HasRun-same d ps (take c.loop-step.step-index list) c.loop-step.node.node mid same c.reserve.ensures.pace i.run in
-    let is = c.seen.ensures.tells.description ∙ mid_run.description in
+    let mid_run = HasRun-same d ps (take c.loop-step.step-index list) c.loop-step.node mid same.description same.log c.reserve.ensures.pace i.run in
+    let is = c.seen.ensures.description ∙ mid_run.description in
     let written = event-written d ps list c.loop-step.step-index c.loop-step.events (c.seen.new.self.gone.entries + c.next_position-from-2.result) mid new _ mid_run c.loop-step.auto.step-index-end i.count (keeps-by d mid mid_run.description c.next_position-from-2.ensures.keeps)
-    (keeps-by d new is c.write_new-2.ensures.keeps) c.seen.ensures.tells (omega (arith, position, gone)) in
-    let sent = subst (λ (bs : List ℕ). Sent (g.S.Sink.written c.args.out.now) (g.S.Sink.written c.loop-step.out) bs) (sym (lines-room d mid.log c.loop-step.node.node.log same.log)) i.sent in
-    let run = run-whole d ps list c.loop-step.step-index c.loop-step.events mid new mid_run c.loop-step.auto.step-index-end (omega (arith, past)) i.count c.seen.ensures.tells in
+    (keeps-by d new is c.write_new-2.ensures.keeps) c.seen.ensures (omega (arith, position, gone)) in
+    let sent = subst (λ (bs : List ℕ). Sent (g.S.Sink.written c.args.out.now) (g.S.Sink.written c.loop-step.out) bs) (sym (lines-room d mid.log c.loop-step.node.log same.log)) i.sent in
+    let run = run-whole d ps list c.loop-step.step-index c.loop-step.events mid new mid_run c.loop-step.auto.step-index-end (omega (arith, past)) i.count c.seen.ensures in
     let report = reported d c.args.steps.now ps Whole list new c.loop-step.events c.steps-list.ensures c.requires.programs.programs is c.write_new-2.ensures.keeps run (report_with new.log c.loop-step.events true) refl in
     let last : suc c.loop-step.events ≡ c.loop-step.events + 1 = omega arith in
     stopped-with d c.args.steps.now ps (g.S.Sink.written c.args.out.now) (g.S.Sink.written c.loop-step.out) (g.S.Sink.written c.write_new-2.new.out) (g.S.Sink.faults c.args.out.now) (g.S.Sink.faults c.loop-step.out)
@@ -229,36 +229,36 @@ returns-clause-gives g c =
     let d = c.args.desc.now in
     let ps = c.args.programs.now in
     let list = c.steps-list.result.now in
-    let mid = c.reserve.new.self.node in
-    let new = c.seen.new.self.node in
+    let mid = c.reserve.new.self in
+    let new = c.seen.new.self in
     let same = c.reserve.ensures.same in
     let past = c.loop-step-test.false in
     let position = c.next_position-from-2.ensures.position in
     let gone = ap (λ (x : Gone). x.entries) c.seen.ensures.gone in
     let entries = ap (λ es. length {A = Stamped} es) same.log.entries in
-    let mid_run = HasRun-same d ps (take c.loop-step.step-index list) c.loop-step.node.node mid same c.reserve.ensures.pace i.run in
-    let is = c.seen.ensures.tells.description ∙ mid_run.description in
+    let mid_run = HasRun-same d ps (take c.loop-step.step-index list) c.loop-step.node mid same.description same.log c.reserve.ensures.pace i.run in
+    let is = c.seen.ensures.description ∙ mid_run.description in
     let keeps = keeps-by d new is c.write_new-2.ensures.keeps in
     let written = event-written d ps list c.loop-step.step-index c.loop-step.events (c.seen.new.self.gone.entries + c.next_position-from-2.result) mid new _ mid_run c.loop-step.auto.step-index-end i.count (keeps-by d mid mid_run.description c.next_position-from-2.ensures.keeps)
-    keeps c.seen.ensures.tells (omega (arith, position, gone)) in
-    let sent = subst (λ (bs : List ℕ). Sent (g.S.Sink.written c.args.out.now) (g.S.Sink.written c.loop-step.out) bs) (sym (lines-room d mid.log c.loop-step.node.node.log same.log)) i.sent in
+    keeps c.seen.ensures (omega (arith, position, gone)) in
+    let sent = subst (λ (bs : List ℕ). Sent (g.S.Sink.written c.args.out.now) (g.S.Sink.written c.loop-step.out) bs) (sym (lines-room d mid.log c.loop-step.node.log same.log)) i.sent in
     let all = subst (λ (bs : List ℕ). Sent (g.S.Sink.written c.args.out.now) (g.S.Sink.written c.write_new-2.new.out) bs) (sym written.0) (Sent-trans sent c.in_default-write_new.ensures.writes.writes) in
-    let run = run-whole d ps list c.loop-step.step-index c.loop-step.events mid new mid_run c.loop-step.auto.step-index-end (omega (arith, past)) i.count c.seen.ensures.tells in
+    let run = run-whole d ps list c.loop-step.step-index c.loop-step.events mid new mid_run c.loop-step.auto.step-index-end (omega (arith, past)) i.count c.seen.ensures in
     let report = reported d c.args.steps.now ps Whole list new c.loop-step.events c.steps-list.ensures c.requires.programs.programs is c.write_new-2.ensures.keeps run (report_with new.log c.loop-step.events true) refl in
     let last : suc c.loop-step.events ≡ c.loop-step.events + 1 = omega arith in
     let later = i.later in
     let rose = c.in_default-write_new.ensures.writes.later in
     ended-whole d c.args.steps.now ps (g.S.Sink.written c.args.out.now) (g.S.Sink.written c.write_new-2.new.out) (g.S.Sink.written c.write_last-2.new.out) (g.S.Sink.faults c.args.out.now) (g.S.Sink.faults c.write_new-2.new.out)
     (g.S.Sink.faults c.write_last-2.new.out) new.log c.loop-step.events (c.loop-step.events + 1) (with_report c.write_last-2.result.result (report_with new.log c.write_last-2.result.events c.write_last-2.result.whole)) report last
-    (lines-last d new.log (c.loop-step.events + 1) keeps c.seen.ensures.tells.grows.timely) all (omega (arith, later, rose)) c.write_last-2.ensures
+    (lines-last d new.log (c.loop-step.events + 1) keeps c.seen.ensures.grows.timely) all (omega (arith, later, rose)) c.write_last-2.ensures
 
 -- ---- the sink's faults, and what is gone
 
 pub returns-then-is_full-clause-later : goal.returns-then-is_full-clause-later
 returns-then-is_full-clause-later g c =
     let later = c.loop-step.invariant.later in
-    let rose = ended-later (report_with c.loop-step.node.node.log c.loop-step.events false) (g.S.Sink.written c.loop-step.out) (g.S.Sink.written c.write_last.new.out) (g.S.Sink.faults c.loop-step.out) (g.S.Sink.faults c.write_last.new.out)
-    (with_report c.write_last.result.result (report_with c.loop-step.node.node.log c.write_last.result.events c.write_last.result.whole)) c.write_last.ensures in
+    let rose = ended-later (report_with c.loop-step.node.log c.loop-step.events false) (g.S.Sink.written c.loop-step.out) (g.S.Sink.written c.write_last.new.out) (g.S.Sink.faults c.loop-step.out) (g.S.Sink.faults c.write_last.new.out)
+    (with_report c.write_last.result.result (report_with c.loop-step.node.log c.write_last.result.events c.write_last.result.whole)) c.write_last.ensures in
     omega (arith, later, rose)
 
 pub returns-then-is_full-clause-gone : goal.returns-then-is_full-clause-gone
@@ -266,7 +266,7 @@ returns-then-is_full-clause-gone g c = c.loop-step.invariant.gone
 
 pub make_room-requires : goal.make_room-requires
 make_room-requires g c =
-    let few = leb-false RECORDS_MAX (length c.loop-step.node.node.log.entries) (sym c.is_full.ensures.full ∙ c.if-is_full.false) in
+    let few = leb-false RECORDS_MAX (length c.loop-step.node.log.entries) (sym c.is_full.ensures.full ∙ c.if-is_full.false) in
     omega (arith, few)
 
 pub returns-then-is_err-clause-later : goal.returns-then-is_err-clause-later
@@ -288,23 +288,23 @@ returns-then-is_err-2-clause-later g c = c.loop-step.invariant.later
 
 pub returns-then-is_err-2-clause-gone : goal.returns-then-is_err-2-clause-gone
 returns-then-is_err-2-clause-gone g c =
-    stays-back c.args.written c.args.node.now.gone c.loop-step.node.gone c.reserve.new.self.gone c.loop-step.invariant.gone c.reserve.ensures.gone
+    stays-back c.args.written c.args.node.now.gone c.loop-step.node.gone c.reserve.new.self.gone c.loop-step.invariant.gone c.reserve.ensures.same.gone
 
 pub returns-in-Err-write_new-clause-later : goal.returns-in-Err-write_new-clause-later
 returns-in-Err-write_new-clause-later g c = let later = c.loop-step.invariant.later in let rose = c.in-Err-write_new.ensures.writes.later in omega (arith, later, rose)
 
 pub returns-in-Err-write_new-clause-gone : goal.returns-in-Err-write_new-clause-gone
 returns-in-Err-write_new-clause-gone g c =
-    stays-back c.args.written c.args.node.now.gone c.loop-step.node.gone c.seen.new.self.gone c.loop-step.invariant.gone (c.seen.ensures.gone ∙ c.reserve.ensures.gone)
+    stays-back c.args.written c.args.node.now.gone c.loop-step.node.gone c.seen.new.self.gone c.loop-step.invariant.gone (c.seen.ensures.gone ∙ c.reserve.ensures.same.gone)
 
 pub returns-clause-later : goal.returns-clause-later
 returns-clause-later g c =
     let later = c.loop-step.invariant.later in
     let wrote = c.in_default-write_new.ensures.writes.later in
-    let rose = ended-later (report_with c.seen.new.self.node.log c.loop-step.events true) (g.S.Sink.written c.write_new-2.new.out) (g.S.Sink.written c.write_last-2.new.out) (g.S.Sink.faults c.write_new-2.new.out)
-    (g.S.Sink.faults c.write_last-2.new.out) (with_report c.write_last-2.result.result (report_with c.seen.new.self.node.log c.write_last-2.result.events c.write_last-2.result.whole)) c.write_last-2.ensures in
+    let rose = ended-later (report_with c.seen.new.self.log c.loop-step.events true) (g.S.Sink.written c.write_new-2.new.out) (g.S.Sink.written c.write_last-2.new.out) (g.S.Sink.faults c.write_new-2.new.out)
+    (g.S.Sink.faults c.write_last-2.new.out) (with_report c.write_last-2.result.result (report_with c.seen.new.self.log c.write_last-2.result.events c.write_last-2.result.whole)) c.write_last-2.ensures in
     omega (arith, later, wrote, rose)
 
 pub returns-clause-gone : goal.returns-clause-gone
 returns-clause-gone g c =
-    stays-back c.args.written c.args.node.now.gone c.loop-step.node.gone c.seen.new.self.gone c.loop-step.invariant.gone (c.seen.ensures.gone ∙ c.reserve.ensures.gone)
+    stays-back c.args.written c.args.node.now.gone c.loop-step.node.gone c.seen.new.self.gone c.loop-step.invariant.gone (c.seen.ensures.gone ∙ c.reserve.ensures.same.gone)

@@ -8,9 +8,9 @@ use Rattle.run_steps.proofs.writing.write_run.Given as goal
 
 abbrev pub invariant-loop-step : goal.invariant-loop-step
 invariant-loop-step g l = record {
-  run : HasRun l.desc l.programs (take l.step-index l.list) l.node.node;
+  run : HasRun l.desc l.programs (take l.step-index l.list) l.node;
   count : l.events ≡ l.step-index;
-  sent : Sent (g.S.Sink.written l.fn.out) (g.S.Sink.written l.out) (lines l.desc (one l.node.node.log));
+  sent : Sent (g.S.Sink.written l.fn.out) (g.S.Sink.written l.out) (lines l.desc (one l.node.log));
   later : g.S.Sink.faults l.fn.out ≤ g.S.Sink.faults l.out;
   gone : StaysAsToldTo l.written l.fn.node.gone l.node.gone;
 }

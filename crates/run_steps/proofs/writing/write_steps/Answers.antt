@@ -10,6 +10,6 @@ returns-in_default-clause-gives g c = record {
 
 pub returns-clause-gives : goal.returns-clause-gives
 returns-clause-gives g c = record {
-  report = report_with c.write_run.new.node.node.log c.write_run.result.events c.write_run.result.whole;
+  report = report_with c.write_run.new.node.log c.write_run.result.events c.write_run.result.whole;
   gives = c.write_run.ensures.gives;
 }

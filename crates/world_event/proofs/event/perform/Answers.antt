@@ -1,4 +1,4 @@
-use Rattle.std.proofs.Common.{◌≡◌, ◌<◌, ℕ, length, refl, sym, ◌∙◌, ap, subst, arith, rules}
+use Rattle.std.proofs.Common.{◌<◌, ℕ, refl, sym, ◌∙◌, subst, arith, rules}
 use Rattle.world_rules.specs.State.{state}
 use Rattle.world_states.specs.Coming.{code_world}
 use Rattle.world_step.specs.declared.mote.Mote.{Mote}

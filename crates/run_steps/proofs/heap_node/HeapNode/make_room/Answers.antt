@@ -2,10 +2,10 @@ use Rattle.run_steps.proofs.KeptLemmas.{same-then, stays-back}
 use Rattle.run_steps.proofs.heap_node.HeapNode.make_room.Goals as goal
 
 pub returns-clause-same : goal.returns-clause-same
-returns-clause-same c = same-then c.args.self.now.node c.let_go.new.self.node c.reserve.new.self.node c.let_go.ensures.same c.reserve.ensures.same
+returns-clause-same c = same-then c.args.self.now c.let_go.new.self c.reserve.new.self c.let_go.ensures.same c.reserve.ensures.same
 
 pub returns-clause-pace : goal.returns-clause-pace
 returns-clause-pace c = λ p h. c.reserve.ensures.pace p (c.let_go.ensures.pace p h)
 
 pub returns-clause-gone : goal.returns-clause-gone
-returns-clause-gone c = stays-back c.args.written c.args.self.now.gone c.let_go.new.self.gone c.reserve.new.self.gone c.let_go.ensures.gone c.reserve.ensures.gone
+returns-clause-gone c = stays-back c.args.written c.args.self.now.gone c.let_go.new.self.gone c.reserve.new.self.gone c.let_go.ensures.gone c.reserve.ensures.same.gone
