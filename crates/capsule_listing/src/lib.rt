@@ -4,4 +4,4 @@
 pub mod lock_line;
 pub mod printing;
 
-pub use printing::print_capsule;
+pub use printing::{handler_name, print_capsule};

@@ -57,7 +57,8 @@ fn print_head<S: Sink>(pen: &mut Pen, out: &mut S, desc: &Description, capsule: 
     pen.text(out, "\n");
 }
 
-fn handler_name(desc: &Description, handler: HandlerId) -> &Name
+/// The name of a handler of the machine.
+pub fn handler_name(desc: &Description, handler: HandlerId) -> &Name
     requires { handler.0 < length desc.now.handlers.items }
     ensures { result.now ≡ handler_name_at desc.now handler.0 }
 {

@@ -2,7 +2,7 @@
 use Rattle.std.specs.Prelude.{ℕ, List, codes}
 use Rattle.proc_names.specs.declared.fault.ProcFault.{ProcFault}
 use Rattle.proc_names.specs.declared.fault.ProcFault.TheVariants as fault
-use Rattle.mate_refusals.specs.LineEnds.{number_line, placed_name_line}
+use Rattle.mate_refusals.specs.LineEnds.{number_line, numbered_name_line}
 use Rattle.mate_refusals.specs.SpellingCauses.{spelling_words}
 use Rattle.mate_refusals.specs.declared.spelling_cause.SpellingCause.{SpellingCause}
 use Rattle.mate_refusals.specs.declared.spelling_cause.SpellingCause.TheVariants as spelling
@@ -27,9 +27,9 @@ expansion_fault (TooNested depth) = fault.TooNested depth
 
 abbrev pub expansion_words : ExpansionCause → List ℕ
 expansion_words (Spelling why) = spelling_words why
-expansion_words (NoProc name place) = placed_name_line (codes "noproc ") name place
+expansion_words (NoProc name place) = numbered_name_line (codes "noproc ") name place
 expansion_words (Params place) = number_line (codes "params ") place
-expansion_words (Again name place) = placed_name_line (codes "again ") name place
+expansion_words (Again name place) = numbered_name_line (codes "again ") name place
 expansion_words (Reserved place) = number_line (codes "reserved ") place
 expansion_words (TooLarge count) = number_line (codes "large ") count
 expansion_words (TooNested depth) = number_line (codes "nested ") depth

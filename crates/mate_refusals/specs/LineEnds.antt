@@ -9,6 +9,6 @@ number_line word n = word ++ decimal n ++ codes "\n"
 abbrev pub name_line : List ℕ → List ℕ → List ℕ
 name_line word name = word ++ name ++ codes "\n"
 
--- a word, a name, its place and a line feed
-abbrev pub placed_name_line : List ℕ → List ℕ → ℕ → List ℕ
-placed_name_line word name place = word ++ name ++ number_line (codes " ") place
+-- a word, a name, a number and a line feed
+abbrev pub numbered_name_line : List ℕ → List ℕ → ℕ → List ℕ
+numbered_name_line word name n = word ++ name ++ number_line (codes " ") n

@@ -6,7 +6,7 @@ use Rattle.ts_checker.specs.Accepted.{TextRefusal, IsRefusedBy, by_bytes, unexpe
 use Rattle.ts_scope.specs.declared.fault.CheckFault.TheVariants as check
 use Rattle.ts_compiler.specs.declared.fault.CompileFault.{CompileFault}
 use Rattle.ts_compiler.specs.declared.fault.CompileFault.TheVariants.{StackDepth, TooLong}
-use Rattle.mate_refusals.specs.LineEnds.{number_line, name_line, placed_name_line}
+use Rattle.mate_refusals.specs.LineEnds.{number_line, name_line, numbered_name_line}
 use Rattle.mate_refusals.specs.SpellingCauses.{spelling_words}
 use Rattle.mate_refusals.specs.declared.spelling_cause.SpellingCause.{SpellingCause}
 use Rattle.mate_refusals.specs.declared.spelling_cause.SpellingCause.TheVariants as spelling
@@ -35,7 +35,7 @@ IsBadSource d bytes why = IsRefusedBy d bytes (refusal_told why)
 
 abbrev pub source_words : SourceCause → List ℕ
 source_words (cause.Spelling why) = spelling_words why
-source_words (cause.Undeclared name place) = placed_name_line (codes "undeclared ") name place
+source_words (cause.Undeclared name place) = numbered_name_line (codes "undeclared ") name place
 source_words (cause.NotInVm name) = name_line (codes "notinvm ") name
 source_words (cause.Twice name) = name_line (codes "twice ") name
 source_words (cause.Kind place) = number_line (codes "kind ") place

@@ -5,7 +5,7 @@ ghost use Rattle.mate_files.specs.Pen.{Prints};
 ghost use Rattle.proc_names.specs.declared.fault.ProcFault.TheVariants.{NoMemory};
 ghost use Rattle.mate_refusals.specs.ExpansionCauses.{expansion_fault, expansion_words};
 
-use crate::line_ends::{print_numbered, print_placed_name};
+use crate::line_ends::{print_numbered, print_numbered_name};
 use crate::spelling_cause::SpellingCause;
 use mate_files::{Pen, Sink};
 use mate_num::Name;
@@ -65,11 +65,11 @@ impl ExpansionCause {
     {
         match self {
             ExpansionCause::Spelling(cause) => cause.print(pen, err),
-            ExpansionCause::NoProc { name, place } => print_placed_name(
+            ExpansionCause::NoProc { name, place } => print_numbered_name(
                 pen, err, "noproc ", name, *place,
             ),
             ExpansionCause::Params { place } => print_numbered(pen, err, "params ", *place),
-            ExpansionCause::Again { name, place } => print_placed_name(
+            ExpansionCause::Again { name, place } => print_numbered_name(
                 pen, err, "again ", name, *place,
             ),
             ExpansionCause::Reserved { place } => print_numbered(pen, err, "reserved ", *place),

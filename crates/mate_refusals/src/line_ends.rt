@@ -2,7 +2,7 @@
 
 ghost use Rattle.std.specs.Prelude.{◌++◌, codes};
 ghost use Rattle.mate_files.specs.Pen.{Prints};
-ghost use Rattle.mate_refusals.specs.LineEnds.{number_line, name_line, placed_name_line};
+ghost use Rattle.mate_refusals.specs.LineEnds.{number_line, name_line, numbered_name_line};
 
 use mate_files::{Pen, Sink};
 use mate_num::Name;
@@ -25,11 +25,17 @@ pub fn print_about<E: Sink>(pen: &mut Pen, err: &mut E, word: &str, name: &str)
     pen.text(err, "\n");
 }
 
-/// A word, a name, its place and a line feed.
-pub fn print_placed_name<E: Sink>(pen: &mut Pen, err: &mut E, word: &str, name: &Name, place: u32)
-    ensures { Prints (E.written err.old) (E.faults err.old) pen.old.result (E.written err.new) (E.faults err.new) pen.new.result (placed_name_line word.now name.now place) }
+/// A word, a name, a number and a line feed.
+pub fn print_numbered_name<E: Sink>(
+    pen: &mut Pen,
+    err: &mut E,
+    word: &str,
+    name: &Name,
+    number: u32,
+)
+    ensures { Prints (E.written err.old) (E.faults err.old) pen.old.result (E.written err.new) (E.faults err.new) pen.new.result (numbered_name_line word.now name.now number) }
 {
     pen.text(err, word);
     pen.text(err, name.as_str());
-    print_numbered(pen, err, " ", place);
+    print_numbered(pen, err, " ", number);
 }

@@ -9,6 +9,7 @@ ghost use Rattle.mate_refusals.specs.declared.refusal.Refusal.TheVariants.{InFil
 
 use crate::cause::Cause;
 use crate::description_cause::DescriptionCause;
+use crate::line_ends::print_numbered;
 use crate::script_cause::print_line;
 use crate::status::Status;
 use mate_files::{Pen, Sink, SinkFault};
@@ -28,6 +29,10 @@ pub enum Refusal {
     },
     /// The file of this name is refused, for this cause.
     InFile(Text, Cause),
+    /// The stream doesn't end where a frame ends: the place, in bytes, of what stands behind its last END.
+    BadStream {
+        place: u32,
+    },
     /// The run met the limit of records before its end.
     LogFull,
     SinkFault,
@@ -45,6 +50,7 @@ impl Refusal {
             Refusal::BadDescription(_) => Status::BadDescription,
             Refusal::BadScript { .. } => Status::BadScript,
             Refusal::InFile(_, cause) => cause.status(),
+            Refusal::BadStream { .. } => Status::BadStream,
             Refusal::LogFull => Status::LogFull,
             Refusal::SinkFault => Status::SinkFault,
             Refusal::NoMemory => Status::NoMemory,
@@ -59,6 +65,7 @@ impl Refusal {
             Refusal::BadDescription(cause) => bad_description(pen, err, cause),
             Refusal::BadScript { line, cause } => bad_script(pen, err, *line, *cause),
             Refusal::InFile(name, cause) => cause.print(pen, err, name.as_str()),
+            Refusal::BadStream { place } => print_numbered(pen, err, "bad stream ", *place),
             Refusal::LogFull => pen.text(err, "log full\n"),
             Refusal::SinkFault => pen.text(err, "sink fault\n"),
             Refusal::NoMemory => pen.text(err, "no memory\n"),

@@ -3,7 +3,7 @@
 ghost use Rattle.mate_files.specs.Pen.{Prints};
 ghost use Rattle.mate_refusals.specs.SourceCauses.{source_words};
 
-use crate::line_ends::{print_about, print_numbered, print_placed_name};
+use crate::line_ends::{print_about, print_numbered, print_numbered_name};
 use crate::spelling_cause::SpellingCause;
 use mate_files::{Pen, Sink};
 use mate_num::Name;
@@ -31,7 +31,7 @@ impl SourceCause {
     {
         match self {
             SourceCause::Spelling(cause) => cause.print(pen, err),
-            SourceCause::Undeclared { name, place } => print_placed_name(
+            SourceCause::Undeclared { name, place } => print_numbered_name(
                 pen,
                 err,
                 "undeclared ",

@@ -1,6 +1,6 @@
 -- The reader keeps what it needs of the bytes of a frame.
 use Rattle.std.proofs.Common.{◌≡◌, ◌≢◌, ℕ, ◌+◌, ◌<◌, ◌≤◌, Bool, true, false, List, [], ◌∷◌, ◌++◌, length, take, drop, get_or, Option, Some, None, refl, ap, sym, ◌∙◌, subst, arith, append_assoc, suc, add-one, not}
-use Rattle.std.specs.Prelude.{◌==◌, nat_le, if◌then◌else◌, option_to_list, count_by, cond, IsTrue, ◌↔◌}
+use Rattle.std.specs.Prelude.{◌==◌, if◌then◌else◌, option_to_list, count_by, cond, IsTrue, ◌↔◌}
 use Rattle.std.specs.List.{flat_map}
 use Rattle.std.proofs.lemmas.Bool.{eqb-true, lt-leb, le-leb, eq-eqb, ne_eqb}
 use Rattle.std.proofs.lemmas.List.Concat.{flat_map-cons}
@@ -11,7 +11,7 @@ use Rattle.std.proofs.lemmas.List.{length-append}
 use Rattle.arrayvec.specs.ArrayVec.{ArrayVec}
 use Rattle.mate_num.specs.declared.bounds.TheConstants.{IMAGE_MAX}
 use Rattle.slip_gateway.specs.Stream.{is_end_byte, with_byte, unescaped, whole_frame, framed, frame_of, rest_behind, unfinished, frames_behind, frames}
-use Rattle.slip_gateway.specs.Fed.{fresh_slip, is_nil, is_fresh_in, is_fresh, added, replaced, pushed_in, pushed, frame_given, frame_left, unescaped_in, framed_behind, IsBehind, HasFed}
+use Rattle.slip_gateway.specs.Fed.{fresh_slip, is_nil, is_fresh, added, replaced, pushed, frame_given, frame_left, unescaped_in, framed_behind, IsBehind, HasFed}
 use Rattle.slip_gateway.proofs.StreamLemmas.{rest_behind-append, frames_behind-append, rest-append, frames-append}
 use Rattle.slip_gateway.specs.declared.frames.Frame.{Frame}
 use Rattle.slip_gateway.specs.declared.frames.Frame.TheVariants as frame
@@ -231,3 +231,13 @@ begun_iff (b ∷ bs) t e = (λ h. λ f. absurd (cc), λ ne. e)
 
 pub unfinished_iff : (s : Slip) (fed : List ℕ) (t : Bool) → t ≡ not (is_fresh s) → HasFed s fed → IsTrue t ↔ (unfinished fed ≢ [])
 unfinished_iff s fed t e h = begun_iff (unfinished fed) t (e ∙ ap not h.behind.starts)
+
+-- ---- a byte at a time
+
+-- behind the bytes of the stream, what a byte gives
+pub fed_byte : (old new : Slip) (fed : List ℕ) (byte : ℕ) → ((begun : List ℕ) → IsBehind old begun → IsBehind new (rest_behind begun (byte ∷ []))) → HasFed old fed → HasFed new (fed ++ byte ∷ [])
+fed_byte old new fed byte reads h = record { behind = subst (λ (p : List ℕ). IsBehind new p) (sym (rest-append fed (byte ∷ []))) (reads (unfinished fed) h.behind) }
+
+pub frame_of_byte : (old : Slip) (closed : List Frame) (fed : List ℕ) (byte : ℕ) → ((begun : List ℕ) → IsBehind old begun → closed ≡ frames_behind begun (byte ∷ [])) → HasFed old fed
+    → frames (fed ++ byte ∷ []) ≡ frames fed ++ closed
+frame_of_byte old closed fed byte reads h = frames-append fed (byte ∷ []) ∙ ap (λ (xs : List Frame). frames fed ++ xs) (sym (reads (unfinished fed) h.behind))

@@ -3,7 +3,6 @@ use Rattle.std.proofs.Common.{◌≡◌, ℕ, Bool, true, false, List, [], ◌�
 use Rattle.std.specs.Prelude.{if◌then◌else◌}
 use Rattle.std.specs.List.{flat_map}
 use Rattle.std.proofs.lemmas.Grind.{flat_map-append}
-use Rattle.slip_gateway.specs.declared.frames.Frame.{Frame}
 use Rattle.slip_gateway.specs.Stream.{is_end_byte, closed_pieces, rest_behind, frame_of, frames_behind, frames, unfinished}
 
 closed-append : (begun xs ys : List ℕ) → closed_pieces begun (xs ++ ys) ≡ closed_pieces begun xs ++ closed_pieces (rest_behind begun xs) ys

@@ -1,5 +1,5 @@
 -- What the reader keeps of the bytes that it was given.
-use Rattle.std.specs.Prelude.{◌≡◌, ℕ, Bool, true, false, ◌==◌, nat_le, if◌then◌else◌, List, [], ◌∷◌, ◌++◌, length, Option, Some, None}
+use Rattle.std.specs.Prelude.{◌≡◌, ℕ, Bool, true, false, ◌==◌, if◌then◌else◌, List, [], ◌∷◌, ◌++◌, length, Option, Some, None}
 use Rattle.mate_num.specs.declared.bounds.TheConstants.{IMAGE_MAX}
 use Rattle.slip_gateway.specs.Stream.{unescaped, whole_frame, framed, unfinished}
 use Rattle.slip_gateway.specs.declared.frames.Frame.{Frame}

@@ -1,9 +1,9 @@
 //! Frames, in the order in which they were closed.
 
-ghost use Rattle.std.specs.Prelude.{◌≡◌, [], length, slice_get};
+ghost use Rattle.std.specs.Prelude.{◌≡◌, [], ◌∷◌, ◌++◌, length, slice_get, MatchResult};
 ghost use Rattle.std.specs.Option.{option_copied};
 
-use mate_num::Image;
+use mate_num::{Image, NoMemory};
 use std::alloc::Global;
 use std::marker::Model;
 
@@ -41,6 +41,21 @@ impl Frames {
         Frames {
             frames: Vec::new(alloc),
         }
+    }
+
+    /// Appends a frame. `NoMemory` leaves the frames as they were.
+    pub fn push(&mut self, frame: Frame) -> Result<(), NoMemory>
+        ensures { MatchResult result (λ _. self.new ≡ self.old ++ frame ∷ []) (λ _. self.new ≡ self.old) }
+    {
+        self.frames.push(frame)?;
+        Ok(())
+    }
+
+    /// Drops the frames, and keeps the room that they took.
+    pub fn clear(&mut self)
+        ensures { self.new ≡ [] }
+    {
+        self.frames.clear();
     }
 
     pub fn len(&self) -> usize

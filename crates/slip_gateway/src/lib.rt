@@ -5,4 +5,4 @@ pub mod frames;
 pub mod slip;
 
 pub use frames::{Frame, Frames};
-pub use slip::{Slip, frames_compose};
+pub use slip::{Slip, frames_are_few, frames_compose, rest_of};

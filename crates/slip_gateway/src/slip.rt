@@ -1,6 +1,6 @@
 //! The reader of a stream: it is given the bytes in pieces, and keeps what the pieces so far leave open.
 
-ghost use Rattle.std.specs.Prelude.{◌≡◌, ◌≢◌, ◌+◌, ◌≤◌, List, ℕ, [], ◌∷◌, ◌++◌, OnOk, OnErr, IsTrue, ◌↔◌, count_by, vec_len, vec_capacity, length};
+ghost use Rattle.std.specs.Prelude.{◌≡◌, ◌≢◌, ◌+◌, ◌≤◌, List, ℕ, [], ◌∷◌, ◌++◌, OnOk, OnErr, IsTrue, ◌↔◌, count_by, vec_len, vec_capacity, option_to_list, length};
 ghost use Rattle.mate_num.specs.declared.bounds.TheConstants.{IMAGE_MAX};
 ghost use Rattle.slip_gateway.specs.Fed.{fresh_slip, is_fresh, added, replaced, pushed, frame_left, IsBehind, HasFed};
 ghost use Rattle.slip_gateway.specs.Stream.{is_end_byte, rest_behind, unfinished, frames_behind, frames};
@@ -49,6 +49,25 @@ pub fn frames_compose()
     ensures rest { (first second : List ℕ) → unfinished (first ++ second) ≡ rest_behind (unfinished first) second }
 {}
 
+/// A stream has at most as many frames as bytes.
+pub fn frames_are_few()
+    ensures { (stream : List ℕ) → length (frames stream) ≤ length stream }
+{}
+
+/// The bytes behind the last `END` of a stream; all of them where it has none.
+pub fn rest_of(stream: &[u8]) -> &[u8]
+    ensures rest { result.now ≡ unfinished stream.now }
+    ensures within { length result.now ≤ length stream.now }
+{
+    let mut start = 0;
+    for (place, byte) in stream.iter().enumerate() {
+        if *byte == END {
+            start = place + 1;
+        }
+    }
+    &stream[start..]
+}
+
 // How many frames a piece closes at most.
 fn ends_in(piece: &[u8]) -> usize
     ensures { result ≡ count_by is_end_byte piece.now }
@@ -85,6 +104,23 @@ impl Slip {
         Ok(())
     }
 
+    /// Reads the next byte of the stream, and gives the frame that it closes. It takes no memory.
+    pub fn read_byte(&mut self, byte: u8) -> Option<Frame>
+        ensures fed { (fed : List ℕ) → HasFed self.old fed → HasFed self.new (fed ++ byte ∷ []) }
+        ensures frame { (fed : List ℕ) → HasFed self.old fed → frames (fed ++ byte ∷ []) ≡ frames fed ++ option_to_list result }
+
+        // So behind the bytes of a frame, and a frame comes only at an `END`.
+        ensures reads { (begun : List ℕ) → IsBehind self.old begun →
+            IsBehind self.new (rest_behind begun (byte ∷ [])) × (option_to_list result ≡ frames_behind begun (byte ∷ [])) }
+        ensures few { length (option_to_list result) ≤ count_by is_end_byte (byte ∷ []) }
+    {
+        if byte != END {
+            self.push(byte);
+            return None;
+        }
+        self.close()
+    }
+
     /// Whether bytes stand behind the last `END`.
     pub fn unfinished(&self) -> bool
         ensures { (fed : List ℕ) → HasFed self.now fed → (IsTrue result ↔ (unfinished fed ≢ [])) }
@@ -106,22 +142,19 @@ impl Slip {
             IsBehind self.new (rest_behind begun piece.now) × (into.new.items ≡ into.old.items ++ frames_behind begun piece.now) }
     {
         for byte in piece {
-            self.read_byte(*byte, into);
+            self.take_byte(*byte, into);
         }
     }
 
-    fn read_byte(&mut self, byte: u8, into: &mut Vec<Frame>)
+    // Reads a byte; there is room for the frame that it closes.
+    fn take_byte(&mut self, byte: u8, into: &mut Vec<Frame>)
         requires { vec_len into.old + count_by is_end_byte (byte ∷ []) ≤ vec_capacity into.old }
         ensures reads { (begun : List ℕ) → IsBehind self.old begun →
             IsBehind self.new (rest_behind begun (byte ∷ [])) × (into.new.items ≡ into.old.items ++ frames_behind begun (byte ∷ [])) }
         ensures len { vec_len into.new ≤ vec_len into.old + count_by is_end_byte (byte ∷ []) }
         ensures capacity { vec_capacity into.new ≡ vec_capacity into.old }
     {
-        if byte != END {
-            self.push(byte);
-            return;
-        }
-        if let Some(frame) = self.close() {
+        if let Some(frame) = self.read_byte(byte) {
             into.push_reserved(frame);
         }
     }

@@ -4,7 +4,7 @@ use Rattle.mate_refusals.specs.ExpansionCauses.{expansion_words}
 use Rattle.mate_refusals.proofs.expansion_cause.ExpansionCause.print.Goals as goal
 
 pub returns-in-NoProc : goal.returns-in-NoProc
-returns-in-NoProc g c = Prints-by (ap expansion_words (sym c.in-NoProc.is)) c.print_placed_name.ensures
+returns-in-NoProc g c = Prints-by (ap expansion_words (sym c.in-NoProc.is)) c.print_numbered_name.ensures
 
 pub returns-in-Again : goal.returns-in-Again
-returns-in-Again g c = Prints-by (ap expansion_words (sym c.in-Again.is)) c.print_placed_name-in-Again.ensures
+returns-in-Again g c = Prints-by (ap expansion_words (sym c.in-Again.is)) c.print_numbered_name-in-Again.ensures

@@ -1,0 +1,68 @@
+-- Answers by the versions that are held.
+use Rattle.std.proofs.Common.{◌≡◌, ap, refl, ℕ, List, [], ◌∷◌, ◌++◌}
+use Rattle.std.specs.Prelude.{◌==◌, nat_lt, if◌then◌else◌, Result, Ok, Err}
+use Rattle.capsule_codec.specs.Image.{CapsuleParts}
+use Rattle.capsule_codec.specs.Reading.{capsule_in}
+use Rattle.capsule_codec.specs.declared.decoding.CapsuleFault.{CapsuleFault}
+use Rattle.code_verifier.specs.Faults.{refusal_of}
+use Rattle.code_verifier.specs.declared.fault.VerifyFault.{VerifyFault}
+use Rattle.code_verifier.specs.declared.fault.VerifyFault.TheVariants as fault
+use Rattle.mate_code.specs.BytesVerification.{bytes_verification}
+use Rattle.mate_code.specs.Run.{Code}
+use Rattle.mate_code.specs.Verification.{Refusal, Marks}
+use Rattle.slip_gateway.specs.declared.frames.Frame.{Frame}
+use Rattle.slip_gateway.specs.declared.frames.Frame.TheVariants.{Whole, TooLong, BadEscape}
+use Rattle.vm_desc.specs.Shapes.{shape_of}
+use Rattle.vm_desc.specs.declared.description.Description.{Description}
+use Rattle.capsule_feed.specs.Answers.{Held, if_newer, fault_of, verified_answer, decoded_answer, answer_to, held_after, answers_from}
+use Rattle.capsule_feed.specs.Reading.{held_behind}
+use Rattle.capsule_feed.specs.declared.answer.Answer.{Answer}
+use Rattle.capsule_feed.specs.declared.answer.Answer.TheVariants.{Installed, NotNewer, NoCapsule, BadCode, Long, Broken}
+
+-- the verifier's fault of its own refusal
+pub fault_of-refusal_of : (why : VerifyFault) → fault_of (refusal_of why) ≡ why
+fault_of-refusal_of (fault.Decode place) = refl
+fault_of-refusal_of (fault.BadTarget place) = refl
+fault_of-refusal_of (fault.BackJump place) = refl
+fault_of-refusal_of (fault.Underflow place) = refl
+fault_of-refusal_of (fault.Overflow place) = refl
+fault_of-refusal_of (fault.DepthDiffers place) = refl
+fault_of-refusal_of (fault.BadIndex place) = refl
+fault_of-refusal_of fault.NoHalt = refl
+fault_of-refusal_of (fault.TooLong len) = refl
+
+-- what is held for each handler decides the answer
+pub same-answer : (d : Description) (f g : Held) (x : Frame) → ((h : ℕ) → f h ≡ g h) → answer_to d f x ≡ answer_to d g x
+same-answer d f g (Whole image) same = by_capsule (capsule_in d image.items) where
+  by_newer : (c : CapsuleParts) → if_newer f c ≡ if_newer g c
+  by_newer c = ap (λ (v : ℕ). if nat_lt v c.version then Installed (record { 0 = c.handler }) c.version else NotNewer v) (same c.handler)
+
+  by_code : (c : CapsuleParts) (v : Result (Code × Marks) Refusal) → verified_answer f c v ≡ verified_answer g c v
+  by_code c (Ok code) = by_newer c
+  by_code c (Err why) = refl
+
+  by_capsule : (c : Result CapsuleParts CapsuleFault) → decoded_answer d f c ≡ decoded_answer d g c
+  by_capsule (Ok c) = by_code c (bytes_verification (shape_of d) c.code)
+  by_capsule (Err why) = refl
+same-answer d f g TooLong same = refl
+same-answer d f g BadEscape same = refl
+
+pub after-same : (f g : Held) (a : Answer) → ((h : ℕ) → f h ≡ g h) → (h : ℕ) → held_after f a h ≡ held_after g a h
+after-same f g (Installed k v) same h = ap (λ (x : ℕ). if h == k.0 then v else x) (same h)
+after-same f g (NotNewer v) same h = same h
+after-same f g (NoCapsule why) same h = same h
+after-same f g (BadCode why) same h = same h
+after-same f g Long same h = same h
+after-same f g Broken same h = same h
+
+-- ---- one more frame
+
+pub behind-push : (d : Description) (held : Held) (fs : List Frame) (f : Frame) (h : ℕ)
+    → held_behind d held (fs ++ f ∷ []) h ≡ held_after (held_behind d held fs) (answer_to d (held_behind d held fs) f) h
+behind-push d held [] f h = refl
+behind-push d held (x ∷ fs) f h = behind-push d (held_after held (answer_to d held x)) fs f h
+
+pub answers-push : (d : Description) (held : Held) (fs : List Frame) (f : Frame)
+    → answers_from d held (fs ++ f ∷ []) ≡ answers_from d held fs ++ answer_to d (held_behind d held fs) f ∷ []
+answers-push d held [] f = refl
+answers-push d held (x ∷ fs) f = ap (λ (more : List Answer). answer_to d held x ∷ more) (answers-push d (held_after held (answer_to d held x)) fs f)

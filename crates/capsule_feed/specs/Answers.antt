@@ -1,0 +1,65 @@
+-- What a new node answers to the frames of a byte stream, each of which should be a capsule that it installs.
+use Rattle.std.specs.Prelude.{ℕ, ◌==◌, nat_lt, if◌then◌else◌, List, [], ◌∷◌, Result, Ok, Err}
+use Rattle.capsule_codec.specs.Image.{CapsuleParts}
+use Rattle.capsule_codec.specs.Reading.{capsule_in}
+use Rattle.capsule_codec.specs.declared.decoding.CapsuleFault.{CapsuleFault}
+use Rattle.code_verifier.specs.declared.fault.VerifyFault.{VerifyFault}
+use Rattle.code_verifier.specs.declared.fault.VerifyFault.TheVariants as fault
+use Rattle.mate_code.specs.BytesVerification.{bytes_verification}
+use Rattle.mate_code.specs.Run.{Code}
+use Rattle.mate_code.specs.Verification.{Refusal, Decode, BadTarget, BackJump, Underflow, Overflow, DepthDiffers, BadIndex, NoHalt, TooLong, Marks}
+use Rattle.slip_gateway.specs.Stream.{frames}
+use Rattle.slip_gateway.specs.declared.frames.Frame.{Frame}
+use Rattle.slip_gateway.specs.declared.frames.Frame.TheVariants as frame
+use Rattle.vm_desc.specs.Shapes.{shape_of}
+use Rattle.vm_desc.specs.declared.description.Description.{Description}
+use Rattle.capsule_feed.specs.declared.answer.Answer.{Answer}
+use Rattle.capsule_feed.specs.declared.answer.Answer.TheVariants.{Installed, NotNewer, NoCapsule, BadCode, Long, Broken}
+
+-- the version that is held for each handler, 0 for none
+abbrev pub Held : Type 0
+Held = ℕ → ℕ
+
+abbrev pub no_versions : Held
+no_versions = λ h. 0
+
+abbrev pub if_newer : Held → CapsuleParts → Answer
+if_newer held c = if nat_lt (held c.handler) c.version then Installed (record { 0 = c.handler }) c.version else NotNewer (held c.handler)
+
+-- the refusal of code, as the verifier tells it
+abbrev pub fault_of : Refusal → VerifyFault
+fault_of (Decode place) = fault.Decode place
+fault_of (BadTarget place) = fault.BadTarget place
+fault_of (BackJump place) = fault.BackJump place
+fault_of (Underflow place) = fault.Underflow place
+fault_of (Overflow place) = fault.Overflow place
+fault_of (DepthDiffers place) = fault.DepthDiffers place
+fault_of (BadIndex place) = fault.BadIndex place
+fault_of NoHalt = fault.NoHalt
+fault_of (TooLong len) = fault.TooLong len
+
+abbrev pub verified_answer : Held → CapsuleParts → Result (Code × Marks) Refusal → Answer
+verified_answer held c (Ok code) = if_newer held c
+verified_answer held c (Err why) = BadCode (fault_of why)
+
+abbrev pub decoded_answer : Description → Held → Result CapsuleParts CapsuleFault → Answer
+decoded_answer d held (Ok c) = verified_answer held c (bytes_verification (shape_of d) c.code)
+decoded_answer d held (Err why) = NoCapsule why
+
+abbrev pub answer_to : Description → Held → Frame → Answer
+answer_to d held (frame.Whole image) = decoded_answer d held (capsule_in d image.items)
+answer_to d held frame.TooLong = Long
+answer_to d held frame.BadEscape = Broken
+
+abbrev pub held_after : Held → Answer → Held
+held_after held (Installed h version) = λ q. if q == h.0 then version else held q
+held_after held _ = held
+
+-- the answers to frames, one after another
+abbrev pub answers_from : Description → Held → List Frame → List Answer
+answers_from d held [] = []
+answers_from d held (f ∷ fs) = answer_to d held f ∷ answers_from d (held_after held (answer_to d held f)) fs
+
+-- a new node's answers to the frames of a stream
+abbrev pub answers_to : Description → List ℕ → List Answer
+answers_to d bytes = answers_from d no_versions (frames bytes)

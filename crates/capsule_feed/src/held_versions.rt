@@ -1,0 +1,83 @@
+//! The versions that a node holds for its handlers, as capsules come in.
+
+ghost use Rattle.std.specs.Prelude.{◌≡◌, ◌<◌, ℕ};
+ghost use Rattle.capsule_codec.specs.Image.{capsule_parts};
+ghost use Rattle.capsule_codec.specs.Reading.{capsule_in};
+ghost use Rattle.capsule_feed.specs.Answers.{answer_to, decoded_answer, held_after, if_newer};
+ghost use Rattle.capsule_feed.specs.Lines.{HasHandler};
+
+use crate::answer::Answer;
+use capsule_codec::{Capsule, decode};
+use code_verifier::verify;
+use mate_code::Table;
+use mate_num::HANDLERS_MAX;
+use slip_gateway::Frame;
+use vm_desc::{Description, shape};
+
+/// The version that is held for each handler, 0 for none.
+#[derive(Drop)]
+pub(crate) struct HeldVersions {
+    versions: [u32; HANDLERS_MAX],
+}
+
+impl HeldVersions {
+    ghost use Rattle.capsule_feed.specs.Reading.{held_by};
+
+    /// Nothing is held.
+    pub(crate) fn new() -> HeldVersions
+        ensures { (h : ℕ) → held_by result h ≡ 0 }
+    {
+        HeldVersions {
+            versions: [0; HANDLERS_MAX],
+        }
+    }
+
+    /// The answer to a frame; a capsule that it installs is held from then on.
+    pub(crate) fn answer(&mut self, desc: &Description, frame: &Frame) -> Answer
+        ensures answer { result ≡ answer_to desc.now (held_by self.old) frame.now }
+        ensures held { (h : ℕ) → held_by self.new h ≡ held_after (held_by self.old) result h }
+        ensures handler { HasHandler desc.now result }
+    {
+        match frame {
+            Frame::Whole(image) => self.answer_image(desc, image.as_slice()),
+            Frame::TooLong => Answer::Long,
+            Frame::BadEscape => Answer::Broken,
+        }
+    }
+
+    /// The answer to the bytes of a frame.
+    #[inline(never)]
+    fn answer_image(&mut self, desc: &Description, image: &[u8]) -> Answer
+        ensures answer { result ≡ decoded_answer desc.now (held_by self.old) (capsule_in desc.now image.now) }
+        ensures held { (h : ℕ) → held_by self.new h ≡ held_after (held_by self.old) result h }
+        ensures handler { HasHandler desc.now result }
+    {
+        let decoded = decode(desc, image);
+        let capsule = match &decoded {
+            Ok(capsule) => capsule,
+            Err(fault) => return Answer::NoCapsule(*fault),
+        };
+        let table = Table::of(&shape(desc));
+        match verify(&table, desc, capsule.code.as_slice()) {
+            Ok(_code) => self.take(capsule),
+            Err(fault) => Answer::BadCode(fault),
+        }
+    }
+
+    /// The answer to a capsule with right code.
+    fn take(&mut self, capsule: &Capsule) -> Answer
+        requires { capsule.now.handler.0 < HANDLERS_MAX }
+        ensures answer { result ≡ if_newer (held_by self.old) (capsule_parts capsule.now) }
+        ensures held { (h : ℕ) → held_by self.new h ≡ held_after (held_by self.old) result h }
+    {
+        let held = &mut self.versions[usize::from(capsule.handler.0)];
+        if capsule.version <= *held {
+            return Answer::NotNewer { held: *held };
+        }
+        *held = capsule.version;
+        Answer::Installed {
+            handler: capsule.handler,
+            version: capsule.version,
+        }
+    }
+}

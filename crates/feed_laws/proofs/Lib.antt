@@ -1,0 +1,2 @@
+mod NoInstalls
+mod AnswerLemmas

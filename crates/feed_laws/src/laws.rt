@@ -1,0 +1,15 @@
+//! The answers to the frames of a stream are those of a node's `install`, frame by frame.
+
+ghost use Rattle.std.specs.Prelude.{◌≡◌, ℕ, List};
+ghost use Rattle.vm_desc.specs.declared.description.Description.{Description};
+ghost use Rattle.mate_journal.specs.Journal.{nothing_heard};
+ghost use Rattle.node_invariant.specs.Meaning.{machine_in};
+ghost use Rattle.slip_gateway.specs.Stream.{frames};
+ghost use Rattle.capsule_feed.specs.Answers.{answers_to};
+ghost use Rattle.capsule_feed.specs.declared.answer.Answer.{Answer};
+ghost use Rattle.feed_laws.specs.Installing.{AreAnswered};
+
+/// What the calls of a new node's `install` answer to the frames of a stream, one after another, are the stream's answers.
+pub fn answers_are_of_install()
+    ensures { (d : Description) (bytes : List ℕ) (told : List Answer) → AreAnswered d (nothing_heard (machine_in d)) (frames bytes) told → told ≡ answers_to d bytes }
+{}
