@@ -109,5 +109,5 @@ run_refusal fault.Sink = SinkFault
 
 -- how the writing of a run ended is told, and the status comes
 abbrev pub TellsEnd : Result (Unit {0}) WriteFault → Option (List ℕ) → ℕ → Option (List ℕ) → ℕ → Status → Type 0
-TellsEnd (Ok all) written faults written' faults' status = (written' ≡ written) × (status ≡ AllDone)
-TellsEnd (Err fault) written faults written' faults' status = TellsRefusal written faults written' faults' (run_refusal fault) status
+TellsEnd (Ok all) err faults err' faults' status = (err' ≡ err) × (status ≡ AllDone)
+TellsEnd (Err why) err faults err' faults' status = TellsRefusal err faults err' faults' (run_refusal why) status
