@@ -90,21 +90,28 @@ agree : (f g : ℕ → List ℕ) (xs : List ℕ) → ((k : ℕ) → f k ≡ g k)
 agree f g [] h = refl
 agree f g (x ∷ xs) h = ap (λ (w : List ℕ). w ++ flat_map f xs) (h x) ∙ ap (λ (w : List ℕ). g x ++ w) (agree f g xs h)
 
-pub text_same : (d : Description) (a b : Report) → IsSameReport a b → text d a ≡ text d b
-text_same d a b s =
-    let air_events : List Aired → ℕ = λ airs. fold max 0 (map (λ x. x.stamp.event) airs) in
-    let log_events : List Log → ℕ = λ logs. fold max 0 (flat_map (λ l. map (λ e. e.stamp.event) l.entries) logs) in
-    let ends : events_end a ≡ events_end b =
-    ap (λ (airs : List Aired). suc (max (air_events airs) (log_events a.nodes))) s.air
-    ∙ ap (λ (es : List ℕ). suc (max (air_events b.air) (fold max 0 es))) (events-same a.nodes b.nodes s.nodes) in
-    let here : (k : ℕ) → event_lines d a k ≡ event_lines d b k =
-    λ k. ap (λ (airs : List Aired). flat_map air_line (filter (λ x. x.stamp.event == k) airs) ++ entry_lines d k 0 a.nodes) s.air
-    ∙ ap (λ (w : List ℕ). flat_map air_line (filter (λ x. x.stamp.event == k) b.air) ++ w) (node_lines-same d k 0 a.nodes b.nodes s.nodes) in
-    let all : lines d a ≡ lines d b = ap (λ (n : ℕ). flat_map (event_lines d a) (below n)) ends ∙ agree (event_lines d a) (event_lines d b) (below (events_end b)) here in
-    let count : records a ≡ records b =
-    ap (λ (airs : List Aired). length airs + sum_by (λ l. length l.entries) a.nodes) s.air ∙ ap (λ (n : ℕ). length b.air + n) (counts-same 0 a.nodes b.nodes s.nodes) in
-    let last : end_line (records a) a.events (length a.nodes) a.whole ≡ end_line (records b) b.events (length b.nodes) b.whole = cc (count, s.events, nodes-same a.nodes b.nodes s.nodes, s.whole) in
-    ap (λ (w : List ℕ). w ++ end_line (records a) a.events (length a.nodes) a.whole) all ∙ ap (λ (w : List ℕ). lines d b ++ w) last
+module _ (d : Description) (a b : Report) (s : IsSameReport a b) where
+  ends_same : events_end a ≡ events_end b
+  ends_same =
+      let air_events : List Aired → ℕ = λ airs. fold max 0 (map (λ x. x.stamp.event) airs) in
+      let log_events : List Log → ℕ = λ logs. fold max 0 (flat_map (λ l. map (λ e. e.stamp.event) l.entries) logs) in
+      ap (λ (airs : List Aired). suc (max (air_events airs) (log_events a.nodes))) s.air
+      ∙ ap (λ (es : List ℕ). suc (max (air_events b.air) (fold max 0 es))) (events-same a.nodes b.nodes s.nodes)
+
+  event_same : (k : ℕ) → event_lines d a k ≡ event_lines d b k
+  event_same k =
+      ap (λ (airs : List Aired). flat_map air_line (filter (λ x. x.stamp.event == k) airs) ++ entry_lines d k 0 a.nodes) s.air
+      ∙ ap (λ (w : List ℕ). flat_map air_line (filter (λ x. x.stamp.event == k) b.air) ++ w) (node_lines-same d k 0 a.nodes b.nodes s.nodes)
+
+  pub all_lines_same : lines d a ≡ lines d b
+  all_lines_same = ap (λ (n : ℕ). flat_map (event_lines d a) (below n)) ends_same ∙ agree (event_lines d a) (event_lines d b) (below (events_end b)) event_same
+
+  pub text_same : text d a ≡ text d b
+  text_same =
+      let count : records a ≡ records b =
+      ap (λ (airs : List Aired). length airs + sum_by (λ l. length l.entries) a.nodes) s.air ∙ ap (λ (n : ℕ). length b.air + n) (counts-same 0 a.nodes b.nodes s.nodes) in
+      let last : end_line (records a) a.events (length a.nodes) a.whole ≡ end_line (records b) b.events (length b.nodes) b.whole = cc (count, s.events, nodes-same a.nodes b.nodes s.nodes, s.whole) in
+      ap (λ (w : List ℕ). w ++ end_line (records a) a.events (length a.nodes) a.whole) all_lines_same ∙ ap (λ (w : List ℕ). lines d b ++ w) last
 
 -- ---- one node's log changes
 

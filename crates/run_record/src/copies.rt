@@ -1,0 +1,153 @@
+//! Copies of what was told.
+
+ghost use Rattle.std.specs.Prelude.{◌≡◌, ◌≤◌, ◌<◌, ◌+◌, ◌++◌, map, length, All};
+ghost use Rattle.mate_journal.specs.Log.{IsSameLog};
+ghost use Rattle.mate_journal.specs.OpenLog.{entry_behind, stamped_behind, joined};
+ghost use Rattle.mate_journal.specs.declared.entry.Stamped.{Stamped as StampedEntry};
+ghost use Rattle.run_record.specs.Records.{NumberFits, FitsBehind};
+
+use mate_journal::{Air, Aired, Entry, NodeLog, Stamped};
+use mate_num::{Image, Store, copy_of};
+
+/// The entry again, where so many images and stores stand before those of its own log.
+#[inline(never)]
+fn entry_again(entry: &Entry, images: u32, stores: u32) -> Entry
+    requires { NumberFits images stores entry.now }
+    ensures { result ≡ entry_behind images stores entry.now }
+{
+    match entry {
+        Entry::Post {
+            inv,
+            handler,
+            ctx,
+            payload,
+        } => Entry::Post {
+            inv: *inv,
+            handler: *handler,
+            ctx: *ctx,
+            payload: copy_of(payload),
+        },
+        Entry::Dropped { handler, cause } => Entry::Dropped {
+            handler: *handler,
+            cause: *cause,
+        },
+        Entry::Start { inv } => Entry::Start { inv: *inv },
+        Entry::Ask { inv, fun, args } => Entry::Ask {
+            inv: *inv,
+            fun: *fun,
+            args: copy_of(args),
+        },
+        Entry::Answer { inv, value } => Entry::Answer {
+            inv: *inv,
+            value: *value,
+        },
+        Entry::Halt { inv } => Entry::Halt { inv: *inv },
+        Entry::Fault { inv, kind } => Entry::Fault {
+            inv: *inv,
+            kind: *kind,
+        },
+        Entry::Install {
+            handler,
+            version,
+            image,
+        } => Entry::Install {
+            handler: *handler,
+            version: *version,
+            image: images + *image,
+        },
+        Entry::Reset => Entry::Reset,
+        Entry::Seen { store } => Entry::Seen {
+            store: stores + *store,
+        },
+        Entry::Void { cause } => Entry::Void { cause: *cause },
+    }
+}
+
+/// Appends a log behind another, its images and stores numbered anew.
+pub(crate) fn append(own: &mut NodeLog, told: &NodeLog)
+    requires room { length told.now.entries + length told.now.images + length told.now.stores ≤ own.old.spare }
+    requires fits { FitsBehind own.old told.now }
+    ensures { IsSameLog own.new (joined own.old told.now) }
+{
+    let images = own.images().len() as u32;
+    let stores = own.stores().len() as u32;
+    copy_images(own, told.images());
+    copy_stores(own, told.stores());
+    copy_entries(own, told.entries(), images, stores);
+}
+
+fn copy_images(own: &mut NodeLog, images: &[Image])
+    requires room { length images.now ≤ own.old.spare }
+    requires few { length own.old.images + length images.now < 4000000000 }
+    ensures entries { own.new.entries ≡ own.old.entries }
+    ensures images { own.new.images ≡ own.old.images ++ images.now }
+    ensures stores { own.new.stores ≡ own.old.stores }
+    ensures spare { own.old.spare ≤ own.new.spare + length images.now }
+{
+    for image in images {
+        own.add_image(image);
+    }
+}
+
+fn copy_stores(own: &mut NodeLog, stores: &[Store])
+    requires room { length stores.now ≤ own.old.spare }
+    requires few { length own.old.stores + length stores.now < 4000000000 }
+    ensures entries { own.new.entries ≡ own.old.entries }
+    ensures images { own.new.images ≡ own.old.images }
+    ensures stores { own.new.stores ≡ own.old.stores ++ stores.now }
+    ensures spare { own.old.spare ≤ own.new.spare + length stores.now }
+{
+    for store in stores {
+        own.add_store(store);
+    }
+}
+
+fn copy_entries(own: &mut NodeLog, entries: &[Stamped], images: u32, stores: u32)
+    requires room { length entries.now ≤ own.old.spare }
+    requires names { All (λ (s : StampedEntry). NumberFits images stores s.entry) entries.now }
+    ensures entries { own.new.entries ≡ own.old.entries ++ map (stamped_behind images stores) entries.now }
+    ensures images { own.new.images ≡ own.old.images }
+    ensures stores { own.new.stores ≡ own.old.stores }
+{
+    for stamped in entries {
+        own.push(Stamped {
+            stamp: stamped.stamp,
+            entry: entry_again(&stamped.entry, images, stores),
+        });
+    }
+}
+
+/// The same again.
+pub(crate) fn aired_again(aired: &Aired) -> Aired
+    ensures { result ≡ aired.now }
+{
+    Aired {
+        stamp: aired.stamp,
+        node: aired.node,
+        air: air_again(&aired.air),
+    }
+}
+
+fn air_again(air: &Air) -> Air
+    ensures { result ≡ air.now }
+{
+    match air {
+        Air::Interval { length } => Air::Interval { length: *length },
+        Air::Keep => Air::Keep,
+        Air::Sent { number, bytes } => Air::Sent {
+            number: *number,
+            bytes: radio_sim::wire::copy_of(bytes),
+        },
+        Air::Lost { number, to } => Air::Lost {
+            number: *number,
+            to: *to,
+        },
+        Air::Got { number, from } => Air::Got {
+            number: *number,
+            from: *from,
+        },
+        Air::Noise { bytes } => Air::Noise {
+            bytes: radio_sim::wire::copy_of(bytes),
+        },
+    }
+}
