@@ -16,7 +16,9 @@ use Rattle.event_queue.specs.Agenda.{Agenda, due_at}
 use Rattle.radio_sim.specs.Radio.{Ether, StartsRadio}
 use Rattle.radio_sim.specs.declared.event.Event.{Event}
 use Rattle.trickle_timer.specs.Timer.{Timer}
+use Rattle.std.proofs.lemmas.List.Elements.{All-append, All-cons, All-nil}
 use Rattle.mate_journal.specs.Log.{Log, IsEmpty}
+use Rattle.mate_journal.specs.OpenLog.{nothing_gone}
 use Rattle.mate_journal.specs.Journal.{journal_of, nothing_heard, heard_all, told_of}
 use Rattle.mate_journal.specs.Journal.{Event as Entered}
 use Rattle.mate_journal.specs.declared.entry.Stamped.{Stamped}
@@ -137,6 +139,7 @@ begun-more d script ps n old mid new motes m before begins adds =
             subst (λ (o : Option Mote). IsSomeAnd o (IsMoteAfter (code_world d script ps) [] k)) (sym (ap (slice_get (motes ++ m ∷ [])) same ∙ get-last motes m))
             (subst (λ (j : ℕ). IsMoteAfter (code_world d script ps) [] j m) (sym own) (mote-first d script ps n m begins))
       ];
+      whole = All-append (λ (x : Mote). x.node.gone ≡ nothing_gone) motes (m ∷ []) before.whole (All-cons (λ (x : Mote). x.node.gone ≡ nothing_gone) m [] begins.gone (All-nil (λ (x : Mote). x.node.gone ≡ nothing_gone)));
     }
 
 -- ---- before the first event

@@ -10,6 +10,7 @@ use Rattle.mate_journal.specs.Log.{Log}
 use Rattle.mate_journal.specs.Journal.{Told, Seen, told_of, journal_of}
 use Rattle.mate_journal.specs.Journal.{Event as Entered}
 use Rattle.mate_journal.specs.NodeScript.{Whole, Cut}
+use Rattle.mate_journal.specs.OpenLog.{Gone, nothing_gone}
 use Rattle.mate_journal.specs.Tidy.{NumbersInOrder, below}
 use Rattle.mate_files.specs.Sink.{Puts}
 use Rattle.mate_files.specs.declared.sink.SinkFault.{SinkFault}
@@ -21,6 +22,7 @@ use Rattle.mate_journal.specs.declared.report.Report.{Report}
 use Rattle.mate_journal.specs.declared.program.Program.{Program}
 use Rattle.report_text.specs.Text.{lines, event_lines, event_piece, text}
 use Rattle.vm_desc.specs.declared.description.Description.{Description}
+use Rattle.world_laws.proofs.Among.{all-at}
 use Rattle.world_rules.specs.World.{World}
 use Rattle.world_rules.specs.State.{Moment}
 use Rattle.world_rules.specs.Run.{journal, airs, IsJournalOf}
@@ -32,7 +34,8 @@ use Rattle.world_states.specs.Coming.{code_world}
 use Rattle.world_event.specs.Performing.{IsMoteAfter}
 use Rattle.world_step.specs.declared.mote.Mote.{Mote}
 use Rattle.world_sim.specs.Running.{StandsAfter}
-use Rattle.world_sim.specs.Writing.{report_now, AreKept, HasWrittenNow, StandsAtEnd}
+use Rattle.world_sim.specs.Keeping.{IsWhole}
+use Rattle.world_sim.specs.Writing.{report_now, AreKept, AreAtHand, HasWrittenNow, StandsAtEnd}
 use Rattle.world_sim.specs.declared.simulation.Simulation.{Simulation}
 use Rattle.world_sim.proofs.WorldLemmas.{some-at, of-machine, shown-machine, whole-log, whole-report}
 use Rattle.world_sim.proofs.WritingLemmas.{log-at, long-logs, first-mote, tell, keeps-all, cut-report}
@@ -76,13 +79,11 @@ module _ (w : World) (d : Description) (law : StoresAddTheirLines w) (ms : List 
       subst P (sym (same ∙ air)) (subst Q (sym air) (subst N (sym number) (law ms (mote_logs s.motes.items) (mote_logs new.motes.items) shows d).1))
 
   -- their lines were written, and the last line was put
-  pub ends-whole : (put : Result (Unit {0}) SinkFault) → (out f mid fm out' f' out0 f0 : _) → HasWrittenNow d s out0 f0 out f → Puts {T = Unit {0}} out f mid fm (Ok tt) Stores → Puts mid fm out' f' put (last_line R)
+  pub ends-whole : (put : Result (Unit {0}) SinkFault) (out f mid fm out' f' out0 f0 : _) → HasWrittenNow d s out0 f0 out f → Puts {T = Unit {0}} out f mid fm (Ok tt) Stores → Puts mid fm out' f' put (last_line R)
       → WritesRun d (IsWorldReport w) out0 out' f0 f' (ended_by true put)
   ends-whole put out f mid fm out' f' out0 f0 written stores last = record {
     report = R;
-    gives =
-        ended-whole d (IsWorldReport w) out0 mid out' f0 fm f' R Stores (written-more Stores (lines d (report_now new)) written stores stored) whole
-        (stored ∙ ap (λ (bs : List ℕ). bs ++ Stores) front) put last;
+    gives = ended-whole d (IsWorldReport w) out0 mid out' f0 fm f' R Stores (written-more Stores (lines d (report_now new)) written stores stored) whole (stored ∙ ap (λ (bs : List ℕ). bs ++ Stores) front) put last;
   }
 
   -- the sink failed in the stores' lines
@@ -122,15 +123,25 @@ module _ (d : Description) (script : Script) (ps : List Program) (law : StartsWi
   start-lines : lines d (report_now s) ≡ event_piece d s.radio.air m.node.log 0 0
   start-lines = start-of (code_world d script ps) law d s b.moments b.count b.radio.air b.nodes b.motes m found
 
-  pub start-goes : (out f out' f' : _) → Puts {T = Unit {0}} out f out' f' (Ok tt) (event_piece d s.radio.air m.node.log 0 0) → HasWrittenNow d s out f out' f'
-  start-goes out f out' f' puts = written-more (event_piece d s.radio.air m.node.log 0 0) (lines d (report_now s)) written-nothing puts start-lines
+  -- what is at hand before any event is all that was told
+  pub at-start : IsWhole s → event_piece d (drop s.radio.gone s.radio.air) m.node.log m.node.gone.entries 0 ≡ lines d (report_now s)
+  at-start whole =
+      let gone : m.node.gone ≡ nothing_gone = all-at (λ (y : Mote). y.node.gone ≡ nothing_gone) s.motes.items 0 m whole.nodes found in
+      ap (λ (n : ℕ). event_piece d (drop n s.radio.air) m.node.log m.node.gone.entries 0) whole.air
+      ∙ ap (λ (g : Gone). event_piece d s.radio.air m.node.log g.entries 0) gone
+      ∙ sym start-lines
 
-  pub start-fails : (kept : AreKept s.motes.items) (fault : SinkFault) (answer : WriteFault) (out f out' f' : _) → Puts {T = Unit {0}} out f out' f' (Err fault) (event_piece d s.radio.air m.node.log 0 0) → answer ≡ write_fault_of fault
+  pub start-goes : (out f out' f' : _) → IsWhole s → Puts {T = Unit {0}} out f out' f' (Ok tt) (event_piece d (drop s.radio.gone s.radio.air) m.node.log m.node.gone.entries 0) → HasWrittenNow d s out f out' f'
+  start-goes out f out' f' whole puts = written-more (event_piece d (drop s.radio.gone s.radio.air) m.node.log m.node.gone.entries 0) (lines d (report_now s)) written-nothing puts (sym (at-start whole))
+
+  pub start-fails : (kept : AreKept s.motes.items) (fault : SinkFault) (answer : WriteFault) (out f out' f' : _) → IsWhole s
+      → Puts {T = Unit {0}} out f out' f' (Err fault) (event_piece d (drop s.radio.gone s.radio.air) m.node.log m.node.gone.entries 0) → answer ≡ write_fault_of fault
       → WritesRun d (IsWorldReport (code_world d script ps)) out out' f f' (Err answer)
-  start-fails kept fault answer out f out' f' puts is =
+  start-fails kept fault answer out f out' f' whole puts is =
       let r : Report = told_report s 0 false in
+      let piece : List ℕ = event_piece d (drop s.radio.gone s.radio.air) m.node.log m.node.gone.entries 0 in
       fails-within d (IsWorldReport (code_world d script ps)) out out out' f f f' Cut r (cut-report d script ps b.moments 0 s b.come b.radio.air b.nodes b.motes (sym b.count) kept) [] [] written-nothing refl fault answer
-      (event_piece d s.radio.air m.node.log 0 0) [] (append-nil (event_piece d s.radio.air m.node.log 0 0) ∙ sym start-lines) puts is
+      piece [] (append-nil piece ∙ at-start whole) puts is
 
 -- ---- the radio waits for less
 
@@ -146,18 +157,27 @@ written-air d s new air motes out0 f0 out f written =
 length-told : (l : Log) → length (journal_of l) ≡ length l.entries
 length-told l = length-map l.entries (λ (e : _). record { stamp = e.stamp; told = told_of l e.entry })
 
-pub some-told : (w : World) (ms : List Moment) (news : List Mote) → ((k : ℕ) (l : Log) → k < length (mote_logs news) → IsJournalOf w Whole ms k (journal_of (get_or (mote_logs news) k l)))
-    → All (λ (m : Mote). 1 ≤ length m.node.log.entries) news
-some-told w ms news journals k m low =
+-- each node told something behind what is gone
+pub some-told : (w : World) (ms : List Moment) (at : Stamp) (olds news : List Mote) (nodes : ℕ) → length olds ≡ nodes → ((k : ℕ) → k < nodes → IsSomeAnd (slice_get olds k) (IsMoteAfter w ms k)) → AreAtHand olds → ShowStores at (length olds) olds news
+    → ((k : ℕ) (l : Log) → k < length (mote_logs news) → IsJournalOf w Whole ms k (journal_of (get_or (mote_logs news) k l))) → All (λ (m : Mote). m.node.gone.entries < length m.node.log.entries) news
+some-told w ms at olds news nodes count each hand shows journals k m low =
     let long = long-logs news in
+    let same_long = shows.count in
+    let old_low : k < length olds = omega (arith, low, same_long) in
+    let x = first-mote olds k old_low in
     let l = (get_or news k m).node.log in
     let last = seen-last w ms k (journal_of (get_or (mote_logs news) k l)) (journals k l (omega (arith, low, long))) in
     let more : length (journal_of (get_or (mote_logs news) k l)) ≡ length (journal w k ms ++ last.0 ∷ []) = ap length last.1 in
     let sum = length-append (journal w k ms) (last.0 ∷ []) in
     let one : length (last.0 ∷ []) ≡ 1 = refl in
     let told = length-told (get_or (mote_logs news) k l) in
-    let same : length (get_or (mote_logs news) k l).entries ≡ length l.entries = ap (λ (x : Log). length x.entries) (log-at news k l m low) in
-    omega (arith, more, sum, one, told, same)
+    let same : length (get_or (mote_logs news) k l).entries ≡ length l.entries = ap (λ (y : Log). length y.entries) (log-at news k l m low) in
+    let before = ap length (some-at (IsMoteAfter w ms k) olds k x old_low (each k (omega (arith, old_low, count)))).journal in
+    let old_told = length-told (get_or olds k x).node.log in
+    let within = hand k x old_low in
+    let gone : (get_or news k m).node.gone.entries ≡ (get_or olds k x).node.gone.entries
+    = ap (λ (g : Gone). g.entries) (shows.shown k (get_or olds k x) (get_or news k m) old_low (slice_get-get_or olds k x old_low) (slice_get-get_or news k m low)).tells.gone in
+    omega (arith, more, sum, one, told, same, before, old_told, within, gone)
 
 pub all-numbered : (motes : List Mote) → AreKept motes → All NumbersInOrder (mote_logs motes)
 all-numbered [] kept = All-nil NumbersInOrder
@@ -183,12 +203,12 @@ ended-journals d script ps ms at olds news stamp nodes each shows k l below =
 pub record EndsWhole (d : Description) (script : Script) (ps : List Program) (ms : List Moment) (s new : Simulation) (events : ℕ) : Type 0 where
   pub whole : IsWorldReport (code_world d script ps) Whole (told_report new events true)
   pub shows : ShowTheirStores (code_world d script ps) ms (mote_logs s.motes.items) (mote_logs new.motes.items)
-  pub some : All (λ (m : Mote). 1 ≤ length m.node.log.entries) new.motes.items
+  pub some : All (λ (m : Mote). m.node.gone.entries < length m.node.log.entries) new.motes.items
 
 pub ends-whole-of : (d : Description) (script : Script) (ps : List Program) (events : ℕ) (at : Stamp) (s new : Simulation) (b : StandsAtEnd (code_world d script ps) Whole events s)
-    → at ≡ record { event = suc (length b.moments); time = script.until } → ShowStores at (length s.motes.items) s.motes.items new.motes.items → new.radio.air ≡ s.radio.air → AreKept new.motes.items
+    → at ≡ record { event = suc (length b.moments); time = script.until } → ShowStores at (length s.motes.items) s.motes.items new.motes.items → new.radio.air ≡ s.radio.air → AreKept new.motes.items → AreAtHand s.motes.items
     → EndsWhole d script ps b.moments s new events
-ends-whole-of d script ps events at s new b stamp shows air kept =
+ends-whole-of d script ps events at s new b stamp shows air kept hand =
     let w = code_world d script ps in
     let is = of-machine d script ps b.moments s.motes.items b.nodes b.each in
     let new_is = shown-machine d at s.motes.items new.motes.items shows is in
@@ -199,5 +219,5 @@ ends-whole-of d script ps events at s new b stamp shows air kept =
       whole = whole-report d script ps b.moments events at s.motes.items new (told_report new events true) b.come b.ends (air ∙ b.air) b.nodes b.each (sym b.count) stamp shows keeps refl;
       shows = shows-stores w b.moments (mote_logs s.motes.items) (mote_logs new.motes.items) (new_long ∙ shows.count ∙ sym long) (tell w b.moments s.motes.items script.nodes b.nodes b.each) (all-numbered s.motes.items b.kept)
           (all-numbered new.motes.items kept) (ended-journals d script ps b.moments at s.motes.items new.motes.items stamp b.nodes b.each shows);
-      some = some-told w b.moments new.motes.items (ended-journals d script ps b.moments at s.motes.items new.motes.items stamp b.nodes b.each shows);
+      some = some-told w b.moments at s.motes.items new.motes.items script.nodes b.nodes b.each hand shows (ended-journals d script ps b.moments at s.motes.items new.motes.items stamp b.nodes b.each shows);
     }

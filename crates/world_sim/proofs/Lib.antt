@@ -5,4 +5,5 @@ pub mod RunLemmas
 pub mod WorldLemmas
 pub mod WritingLemmas
 pub mod EndingLemmas
+pub mod KeepingLemmas
 pub mod PromiseLemmas

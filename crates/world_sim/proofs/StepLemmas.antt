@@ -138,7 +138,7 @@ pub record HasMore (w : World) (ms : List Moment) (m : Moment) (told aired : ℕ
   pub aired_more : length f.air ≡ length e.air + aired
   pub records : (state w (m ∷ ms)).records ≡ (state w ms).records + (told + aired)
 
-pub has-more : (w : World) (ms : List Moment) (c : Cause) (number : ℕ) (event : Event) (at : Stamp) (e f : Ether) (old new : Mote) → MayPerform w ms c number event at e old → (p : Performed w ms c number at f new)
+pub has-more : (w : World) (ms : List Moment) (c : Cause) (number : ℕ) (event : Event) (at : Stamp) (e f : Ether) (old new : Mote) → MayPerform w ms c number event at e old → (p : Performed w ms c number at e f old new)
     → HasMore w ms p.moment (length p.moment.told) (length (air_made w (state w ms) p.moment)) old new e f
 has-more w ms c number event at e f old new may p = record {
   told_more =
@@ -171,7 +171,7 @@ some-other w m ms k None other was = absurd was
 some-other w m ms k (Some x) other was = other-mote w m ms k x other was
 
 pub stands-after : (d : Description) (script : Script) (ps : List Program) (e : Event) (at : Stamp) (s new : Simulation) (number : ℕ) (x y : Mote) (b : StandsAtNext (code_world d script ps) e at s) → number < script.nodes
-    → MayPerform (code_world d script ps) b.moments b.cause number e at s.radio x → (p : Performed (code_world d script ps) b.moments b.cause number at new.radio y)
+    → MayPerform (code_world d script ps) b.moments b.cause number e at s.radio x → (p : Performed (code_world d script ps) b.moments b.cause number at s.radio new.radio x y)
     → HasWellFormed (code_world d script ps) number (p.moment ∷ b.moments)
     → new.motes.items ≡ set s.motes.items number y → new.records ≡ (state (code_world d script ps) (p.moment ∷ b.moments)).records → StandsAfter (code_world d script ps) at.event new
 stands-after d script ps e at s new number x y b low may p well motes records =

@@ -29,10 +29,8 @@ use Rattle.report_text.specs.Text.{lines, event_lines, event_piece, text}
 use Rattle.vm_desc.specs.declared.description.Description.{Description}
 use Rattle.world_rules.specs.World.{World}
 use Rattle.world_rules.specs.Effect.{event_node}
-use Rattle.world_rules.specs.State.{Moment, state, air_made}
+use Rattle.world_rules.specs.State.{Moment, state}
 use Rattle.radio_sim.specs.Radio.{Ether}
-use Rattle.event_queue.proofs.WheelLemmas.{slice_get_set_same}
-use Rattle.world_sim.proofs.StepLemmas.{HasMore}
 use Rattle.world_rules.specs.Run.{HaveCome, IsAtEnd, airs, journal, IsJournalOf}
 use Rattle.world_rules.specs.Report.{IsLogOf, IsWorldReport}
 use Rattle.world_script.specs.declared.world.World.{World as Script}
@@ -43,7 +41,6 @@ use Rattle.world_text.specs.EventText.{so_far, TellJournals, AddsLines, EventsAd
 use Rattle.world_sim.specs.Reporting.{mote_logs, told_report, AreOfMachine}
 use Rattle.world_sim.specs.Running.{StandsAfter, StandsAtNext}
 use Rattle.world_sim.specs.Writing.{report_now, AreKept, AddsEvent, HasWrittenNow, StandsAtEnd}
-use Rattle.world_sim.specs.declared.simulation.Piece.{Piece}
 use Rattle.world_sim.specs.declared.simulation.Simulation.{Simulation}
 use Rattle.world_sim.proofs.WorldLemmas.{some-at, of-machine, full-report}
 
@@ -108,25 +105,22 @@ module _ (w : World) (law : EventsAddTheirLines w) (ms : List Moment) (m : Momen
 
 -- an event's lines, on the node that it came to
 pub piece-adds : (w : World) (law : EventsAddTheirLines w) (d : Description) (script : Script) (ps : List Program) (e : Event) (at : Stamp) (s : Simulation) (number : ℕ) (x y : Mote) (radio : Ether)
-    (b : StandsAtNext w e at s) → (may : MayPerform w b.moments b.cause number e at s.radio x) → (p : Performed w b.moments b.cause number at radio y) → number < length s.motes.items → NumbersInOrder x.node.log → NumbersInOrder y.node.log
-    → get_or s.motes.items number x ≡ x → (new : Simulation) (piece : Piece) → new.radio ≡ radio → new.motes.items ≡ set s.motes.items number y → piece.node ≡ number → piece.air ≡ length s.radio.air → piece.entries ≡ length x.node.log.entries
-    → HasMore w b.moments p.moment (length p.moment.told) (length (air_made w (state w b.moments) p.moment)) x y s.radio radio → AddsEvent at.event s new piece
-piece-adds w law d script ps e at s number x y radio b may p low xn yn found new piece radio_is motes_is node_is air_is entries_is more =
+    (b : StandsAtNext w e at s) → (may : MayPerform w b.moments b.cause number e at s.radio x) → (p : Performed w b.moments b.cause number at s.radio radio x y) → number < length s.motes.items → NumbersInOrder x.node.log → NumbersInOrder y.node.log
+    → get_or s.motes.items number x ≡ x → (new : Simulation) → new.radio ≡ radio → new.motes.items ≡ set s.motes.items number y → AddsEvent at.event s new number
+piece-adds w law d script ps e at s number x y radio b may p low xn yn found new radio_is motes_is =
     let own : event_node w p.moment.cause ≡ number = ap (event_node w) p.cause ∙ may.node in
     let adds = event-adds w law b.moments p.moment s.motes.items s.radio.air radio.air number at.event x y (tell w b.moments s.motes.items w.nodes b.nodes b.motes) low found own xn yn p.mote.journal may.air p.radio.air may.stamp in
-    let told = more.told_more in
-    let aired = more.aired_more in
-    let P : ℕ → Type 0 = λ n. AddsLines (report_now s) (so_far (mote_logs (set s.motes.items number y)) radio.air) at.event (drop n radio.air) y.node.log (length x.node.log.entries) number in
-    let Q : ℕ → Type 0 = λ n. AddsLines (report_now s) (so_far (mote_logs (set s.motes.items number y)) radio.air) at.event (drop piece.air radio.air) y.node.log n number in
-    let R : ℕ → Type 0 = λ n. AddsLines (report_now s) (so_far (mote_logs (set s.motes.items number y)) radio.air) at.event (drop piece.air radio.air) y.node.log piece.entries n in
-    let S : List Mote → Type 0 = λ ms. AddsLines (report_now s) (so_far (mote_logs ms) radio.air) at.event (drop piece.air radio.air) y.node.log piece.entries piece.node in
-    let T : Ether → Type 0 = λ r. AddsLines (report_now s) (so_far (mote_logs new.motes.items) r.air) at.event (drop piece.air r.air) y.node.log piece.entries piece.node in
+    let S : List Mote → Type 0 = λ ms. AddsLines (report_now s) (so_far (mote_logs ms) radio.air) at.event (drop (length s.radio.air) radio.air) y.node.log (length x.node.log.entries) number in
+    let T : Ether → Type 0 = λ r. AddsLines (report_now s) (so_far (mote_logs new.motes.items) r.air) at.event (drop (length s.radio.air) r.air) y.node.log (length x.node.log.entries) number in
     record {
-      mote = y;
-      found = ap (λ (ms : List Mote). slice_get ms piece.node) motes_is ∙ ap (slice_get (set s.motes.items number y)) node_is ∙ slice_get_set_same s.motes.items number y low;
-      air = let a = ap (λ (r : Ether). length r.air) radio_is in omega (arith, a, air_is, aired);
-      entries = omega (arith, entries_is, told);
-      adds = subst T (sym radio_is) (subst S (sym motes_is) (subst R (sym node_is) (subst Q (sym entries_is) (subst P (sym air_is) adds))));
+      before = x;
+      after = y;
+      found = slice_get-get_or s.motes.items number x low ∙ ap (λ (m : Mote). Some m) found;
+      low = low;
+      motes = motes_is;
+      log_gone = p.log_gone;
+      air_gone = ap (λ (r : Ether). r.gone) radio_is ∙ p.air_gone;
+      adds = subst T (sym radio_is) (subst S (sym motes_is) adds);
     }
 
 -- the other nodes keep their logs
@@ -217,28 +211,27 @@ module _ (d : Description) (script : Script) (ps : List Program) where
       (event_lines d (report_now s) events) written (append-nil (lines d (report_now s))) (covered W d ms s events false (tell W ms s.motes.items script.nodes count each) air number)
 
   -- the log is full, and the last line was put
-  pub full-ends : (s : Simulation) (events : ℕ) (b : StandsAtEnd W Full events s) (put : Result (Unit {0}) SinkFault) → (out f out' f' out0 f0 : _) → HasWrittenNow d s out0 f0 out f → Puts out f out' f' put (last_line (told_report s events false))
+  pub full-ends : (s : Simulation) (events : ℕ) (b : StandsAtEnd W Full events s) → (put : Result (Unit {0}) SinkFault) → (out f out' f' out0 f0 : _) → HasWrittenNow d s out0 f0 out f → Puts out f out' f' put (last_line (told_report s events false))
       → WritesRun d Is out0 out' f0 f' (ended_by false put)
   full-ends s events b put out f out' f' out0 f0 written puts =
       let r : Report = told_report s events false in record {
         report = r;
-        gives =
-            ended-full d Is out0 out out' f0 f f' r (event_lines d (report_now s) events) written (full-report-now d script ps b.moments events s b.come b.air b.nodes b.each (sym b.count) b.kept b.ends)
+        gives = ended-full d Is out0 out out' f0 f f' r (event_lines d (report_now s) events) written (full-report-now d script ps b.moments events s b.come b.air b.nodes b.each (sym b.count) b.kept b.ends)
             (covered W d b.moments s events false (tell W b.moments s.motes.items script.nodes b.nodes b.each) b.air (sym b.count)) put puts;
       }
 
   -- an event's lines were written
-  pub step-goes : (number : ℕ) (s new : Simulation) (p : Piece) (adds : AddsEvent number s new p) → (out f out' f' out0 f0 : _) → HasWrittenNow d s out0 f0 out f
-      → Puts {T = Unit {0}} out f out' f' (Ok tt) (event_piece d (drop p.air new.radio.air) adds.mote.node.log p.entries p.node) → HasWrittenNow d new out0 f0 out' f'
-  step-goes number s new p adds out f out' f' out0 f0 written puts =
-      written-more (event_piece d (drop p.air new.radio.air) adds.mote.node.log p.entries p.node) (lines d (report_now new)) written puts (adds.adds.lines_are d)
+  pub step-goes : (number node : ℕ) (s new : Simulation) (adds : AddsEvent number s new node) → (out f out' f' out0 f0 : _) → HasWrittenNow d s out0 f0 out f
+      → Puts {T = Unit {0}} out f out' f' (Ok tt) (event_piece d (drop (length s.radio.air) new.radio.air) adds.after.node.log (length adds.before.node.log.entries) node) → HasWrittenNow d new out0 f0 out' f'
+  step-goes number node s new adds out f out' f' out0 f0 written puts =
+      written-more (event_piece d (drop (length s.radio.air) new.radio.air) adds.after.node.log (length adds.before.node.log.entries) node) (lines d (report_now new)) written puts (adds.adds.lines_are d)
 
-  pub step-fails : (number : ℕ) (s new : Simulation) (p : Piece) (adds : AddsEvent number s new p) (b : StandsAfter W number new) → AreKept new.motes.items → (fault : SinkFault) (answer : WriteFault) → (out f out' f' out0 f0 : _)
-      → HasWrittenNow d s out0 f0 out f → Puts {T = Unit {0}} out f out' f' (Err fault) (event_piece d (drop p.air new.radio.air) adds.mote.node.log p.entries p.node) → answer ≡ write_fault_of fault
+  pub step-fails : (number node : ℕ) (s new : Simulation) (adds : AddsEvent number s new node) (b : StandsAfter W number new) → AreKept new.motes.items → (fault : SinkFault) (answer : WriteFault) → (out f out' f' out0 f0 : _)
+      → HasWrittenNow d s out0 f0 out f → Puts {T = Unit {0}} out f out' f' (Err fault) (event_piece d (drop (length s.radio.air) new.radio.air) adds.after.node.log (length adds.before.node.log.entries) node) → answer ≡ write_fault_of fault
       → WritesRun d Is out0 out' f0 f' (Err answer)
-  step-fails number s new p adds b kept fault answer out f out' f' out0 f0 written puts is =
+  step-fails number node s new adds b kept fault answer out f out' f' out0 f0 written puts is =
       let r : Report = told_report new number false in
-      let piece : List ℕ = event_piece d (drop p.air new.radio.air) adds.mote.node.log p.entries p.node in
+      let piece : List ℕ = event_piece d (drop (length s.radio.air) new.radio.air) adds.after.node.log (length adds.before.node.log.entries) node in
       fails-within d Is out0 out out' f0 f f' Cut r (cut-report d script ps b.moments number new b.come b.radio.air b.nodes b.motes (sym b.count) kept) (lines d (report_now s)) [] written
       (adds.adds.before d ∙ sym (append-nil (lines_before d r number))) fault answer piece []
       (ap (λ (bs : List ℕ). lines d (report_now s) ++ bs) (append-nil piece) ∙ sym (adds.adds.lines_are d)) puts is

@@ -3,3 +3,4 @@ pub mod Running
 pub mod Starting
 pub mod Reporting
 pub mod Writing
+pub mod Keeping

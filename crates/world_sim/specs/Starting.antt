@@ -1,7 +1,8 @@
 -- The nodes of a world before its first event.
-use Rattle.std.specs.Prelude.{◌≡◌, ℕ, ◌<◌, List, [], length, map, slice_get, IsSomeAnd}
+use Rattle.std.specs.Prelude.{◌≡◌, ℕ, ◌<◌, List, [], length, map, slice_get, IsSomeAnd, All}
 use Rattle.std.specs.List.{flat_map, range_with_len}
 use Rattle.mate_journal.specs.declared.air.Air.TheVariants as air
+use Rattle.mate_journal.specs.OpenLog.{nothing_gone}
 use Rattle.mate_journal.specs.declared.air.Aired.{Aired}
 use Rattle.radio_sim.specs.Radio.{Ether}
 use Rattle.world_rules.specs.World.{World}
@@ -21,3 +22,4 @@ pub record HaveBegun (w : World) (n : ℕ) (old new : Ether) (motes : List Mote)
   pub adds : AddsToAir old new (map (first_air w) (range_with_len 0 n)) (timed_events w (flat_map (first_of w) (range_with_len 0 n)))
   pub count : length motes ≡ n
   pub each : (k : ℕ) → k < n → IsSomeAnd (slice_get motes k) (IsMoteAfter w [] k)
+  pub whole : All (λ (m : Mote). m.node.gone ≡ nothing_gone) motes

@@ -1,5 +1,5 @@
 -- The run of a world whose lines are written as its events end.
-use Rattle.std.specs.Prelude.{◌≡◌, ℕ, ◌<◌, ◌≤◌, List, length, drop, slice_get, Some, All, IsSomeAnd, Option, Result, Ok, Err}
+use Rattle.std.specs.Prelude.{◌≡◌, ℕ, ◌<◌, ◌≤◌, List, length, drop, slice_get, slice_set, Some, All, IsSomeAnd, Option, Result, Ok, Err}
 use Rattle.mate_journal.specs.Log.{Log}
 use Rattle.mate_journal.specs.declared.report.Report.{Report}
 use Rattle.mate_journal.specs.NodeScript.{RunEnd}
@@ -18,7 +18,8 @@ use Rattle.world_step.specs.declared.mote.Mote.{Mote}
 use Rattle.world_text.specs.EventText.{so_far, AddsLines}
 use Rattle.world_sim.specs.Reporting.{mote_logs}
 use Rattle.world_sim.specs.Running.{StandsAfter}
-use Rattle.world_sim.specs.declared.simulation.Piece.{Piece}
+use Rattle.world_sim.specs.Keeping.{LetsGoAsTold}
+use Rattle.world_sim.specs.declared.simulation.Written.{Written}
 use Rattle.world_sim.specs.declared.simulation.Simulation.{Simulation}
 
 -- the report of what stands
@@ -29,20 +30,26 @@ report_now s = so_far (mote_logs s.motes.items) s.radio.air
 abbrev pub AreKept : List Mote → Type 0
 AreKept motes = All (λ (m : Mote). KeepsJournal m.node.description (machine_in m.node.description) m.node.log) motes
 
--- an event's lines begin there, and stand behind those of all events before it
-pub record AddsEvent (number : ℕ) (old new : Simulation) (p : Piece) : Type 0 where
-  pub mote : Mote
-  pub found : slice_get new.motes.items p.node ≡ Some mote
-  pub air : p.air ≤ length new.radio.air
-  pub entries : p.entries ≤ length mote.node.log.entries
-  pub adds : AddsLines (report_now old) (report_now new) number (drop p.air new.radio.air) mote.node.log p.entries p.node
+-- no more of it is gone than was told
+abbrev pub AreAtHand : List Mote → Type 0
+AreAtHand motes = All (λ (m : Mote). m.node.gone.entries ≤ length m.node.log.entries) motes
 
--- there is such a piece
-pub record IsPieceOf (s : Simulation) (p : Piece) : Type 0 where
-  pub mote : Mote
-  pub found : slice_get s.motes.items p.node ≡ Some mote
-  pub air : p.air ≤ length s.radio.air
-  pub entries : p.entries ≤ length mote.node.log.entries
+-- what a node and the radio tell in an event are its lines, behind those of all events before it; and nothing is forgotten in it
+pub record AddsEvent (number : ℕ) (old new : Simulation) (node : ℕ) : Type 0 where
+  pub before : Mote
+  pub after : Mote
+  pub found : slice_get old.motes.items node ≡ Some before
+  pub low : node < length old.motes.items
+  pub motes : new.motes.items ≡ slice_set old.motes.items node after
+  pub log_gone : after.node.gone ≡ before.node.gone
+  pub air_gone : new.radio.gone ≡ old.radio.gone
+  pub adds : AddsLines (report_now old) (report_now new) number (drop (length old.radio.air) new.radio.air) after.node.log (length before.node.log.entries) node
+
+-- the event came where what was told before it was let go, or kept
+pub record HasStepped (written : Written) (number : ℕ) (old new : Simulation) (node : ℕ) : Type 0 where
+  pub mid : Simulation
+  pub lets_go : LetsGoAsTold written old mid node
+  pub adds : AddsEvent number mid new node
 
 -- ---- what a part of a run writes
 

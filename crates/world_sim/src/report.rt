@@ -6,6 +6,8 @@ ghost use Rattle.node_invariant.specs.Meaning.{machine_in};
 ghost use Rattle.open_node.specs.Journal.{KeepsJournal};
 ghost use Rattle.node_invariant.specs.Keeps.{IsTimely};
 ghost use Rattle.world_step.specs.declared.mote.Mote.{Mote as MoteState};
+ghost use Rattle.mate_journal.specs.OpenLog.{nothing_gone};
+ghost use Rattle.world_sim.specs.Keeping.{IsWhole};
 ghost use Rattle.world_sim.specs.Reporting.{ShowsOneStore, ShowStores, told_report, mote_logs, AreOfMachine};
 
 use crate::simulation::Simulation;
@@ -32,7 +34,7 @@ fn see_store(mote: &mut Mote, at: Stamp) -> Result<(), NoMemory>
     requires { IsTimely at mote.old.node.log }
     ensures { OnOk result (ShowsOneStore at mote.old mote.new) }
 {
-    if mote.node.log().entries().len() >= ENTRIES_MAX {
+    if mote.node.told() >= ENTRIES_MAX {
         return Err(NoMemory);
     }
     mote.show(at)
@@ -42,6 +44,7 @@ fn see_store(mote: &mut Mote, at: Stamp) -> Result<(), NoMemory>
 pub(crate) fn report_of(logs: NodeLogs, sim: Simulation, events: u64, whole: bool) -> Report
     requires count { length logs ≡ length sim.motes.items }
     requires few { length sim.motes.items ≤ 64 }
+    requires whole { IsWhole sim }
     ensures is { result ≡ told_report sim events whole }
     ensures keeps { (d : Description) → AreOfMachine d sim.motes.items → All (KeepsJournal d (machine_in d)) result.nodes }
 {
@@ -54,6 +57,7 @@ pub(crate) fn report_of(logs: NodeLogs, sim: Simulation, events: u64, whole: boo
 fn logs_in(logs: NodeLogs, motes: Vec<Mote>) -> NodeLogs
     requires count { length logs ≡ length motes.items }
     requires few { length motes.items ≤ 64 }
+    requires whole { All (λ (m : MoteState). m.node.gone ≡ nothing_gone) motes.items }
     ensures is { result ≡ mote_logs motes.items }
     ensures keeps { (d : Description) → AreOfMachine d motes.items → All (KeepsJournal d (machine_in d)) result }
 {

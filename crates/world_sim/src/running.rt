@@ -5,13 +5,14 @@ ghost use Rattle.world_sim.specs.Promise.{WorldRunGives};
 
 use crate::promise::reports_keep_the_promise;
 use crate::report::{report_of, see_stores};
-use crate::simulation::Simulation;
+use crate::simulation::{Simulation, Written};
 use mate_journal::{NodeLogs, Programs, RECORDS_MAX, Report, RunFault};
 use mate_num::Stamp;
 use std::alloc::Global;
 use vm_desc::Description;
 use world_script::World;
 use world_states::states_are_sound;
+use world_step::Effect;
 
 /// Runs a world on nodes of this machine, with the programs of its files: each event is the next that is due, and at the end
 /// each node's store is seen. `LogFull` comes exactly where 1,000,000 records stand or more and an event is left, with the
@@ -29,6 +30,7 @@ pub fn run(
     states_are_sound();
     let logs = NodeLogs::empty(alloc, world.nodes)?;
     let mut sim = Simulation::start(alloc, desc, world)?;
+    let mut effect = Effect::none();
     for events in 0..u64::MAX {
         let Some((time, event)) = sim.radio.next() else {
             let at = Stamp {
@@ -45,7 +47,15 @@ pub fn run(
             event: events + 1,
             time,
         };
-        sim.step(desc, world, programs, &event, at)?;
+        sim.step(
+            desc,
+            world,
+            programs,
+            &event,
+            at,
+            Written::Kept,
+            &mut effect,
+        )?;
     }
     // (more events than 64 bits count)
     Err(RunFault::NoMemory)

@@ -1,18 +1,20 @@
 //! A world between its events: the radio, the nodes, and how many records stand.
 
-ghost use Rattle.std.specs.Prelude.{◌≡◌, ◌<◌, ◌≤◌, ◌∷◌, [], List, IfOk, OnOk};
+ghost use Rattle.std.specs.Prelude.{◌≡◌, ◌<◌, ◌≤◌, ◌∷◌, [], List, length, slice_get, Some, IfOk, OnOk};
 ghost use Rattle.world_script.specs.World.{IsRightWorld};
 ghost use Rattle.mate_journal.specs.declared.program.Program.{Program as ProgramOfFile};
 ghost use Rattle.mate_journal.specs.declared.air.Air.TheVariants as air;
 ghost use Rattle.world_air.specs.Air.{aired_at};
 ghost use Rattle.world_air.specs.Changes.{AddsToAir};
 ghost use Rattle.world_air.specs.Starting.{beginning, first_items};
-ghost use Rattle.world_step.specs.Motes.{BeginsMote};
+ghost use Rattle.world_step.specs.Motes.{BeginsMote, plain_effect};
+ghost use Rattle.world_step.specs.declared.mote.Mote.{Mote as MoteState};
 ghost use Rattle.world_states.specs.Coming.{code_world};
 ghost use Rattle.node_programs.specs.WorldPrograms.{AreProgramsOfWorld};
 ghost use Rattle.world_sim.specs.Starting.{HaveBegun};
 ghost use Rattle.world_sim.specs.Running.{StandsAfter, StandsAtNext, NamesPart, named_node};
-ghost use Rattle.world_sim.specs.Writing.{AddsEvent, AreKept};
+ghost use Rattle.world_sim.specs.Keeping.{IsWhole, LetsGoAsTold};
+ghost use Rattle.world_sim.specs.Writing.{HasStepped, AreKept};
 
 use mate_journal::Programs;
 use mate_num::{NoMemory, Stamp};
@@ -23,15 +25,14 @@ use world_air::{begin_node, schedule_lines};
 use world_event::perform;
 use world_script::World;
 use world_states::states_are_sound;
-use world_step::Mote;
+use world_step::{Effect, Mote};
 use world_text::text_grows_by_events;
 
-/// Where an event's lines begin: at a position of what happened on the air, and at one of its node's entries.
+/// What becomes of what was told once it is written.
 #[derive(Clone, Copy)]
-pub(crate) struct Piece {
-    pub(crate) node: u8,
-    pub(crate) air: usize,
-    pub(crate) entries: usize,
+pub(crate) enum Written {
+    Kept,
+    Forgotten,
 }
 
 /// A world between two of its events.
@@ -52,7 +53,8 @@ impl Simulation {
         world: &World,
     ) -> Result<Simulation, NoMemory>
         requires { IsRightWorld desc.now world.now }
-        ensures { IfOk result (λ sim. (ps : List ProgramOfFile) → StandsAfter (code_world desc.now world.now ps) 0 sim) }
+        ensures stands { IfOk result (λ sim. (ps : List ProgramOfFile) → StandsAfter (code_world desc.now world.now ps) 0 sim) }
+        ensures whole { IfOk result IsWhole }
     {
         let mut radio = Radio::new(alloc, world, desc)?;
         schedule_lines(&mut radio, world)?;
@@ -64,7 +66,8 @@ impl Simulation {
         })
     }
 
-    /// The event comes, with this stamp. It answers where its lines begin.
+    /// The event comes, with this stamp. What its node and the radio told before it is forgotten, where that is to be forgotten. It
+    /// answers its node. The effect is nothing before it and after it.
     pub(crate) fn step(
         &mut self,
         desc: &Description,
@@ -72,19 +75,25 @@ impl Simulation {
         programs: &Programs,
         event: &Event,
         at: Stamp,
-    ) -> Result<Piece, NoMemory>
+        written: Written,
+        effect: &mut Effect,
+    ) -> Result<u8, NoMemory>
         requires right { AreProgramsOfWorld desc.now world.now programs.now }
         requires stands { StandsAtNext (code_world desc.now world.now programs.now) event.now at self.old }
+        requires plain { effect.old ≡ plain_effect }
         ensures stands { OnOk result (StandsAfter (code_world desc.now world.now programs.now) at.event self.new) }
-        ensures adds { IfOk result (AddsEvent at.event self.old self.new) }
+        ensures adds { IfOk result (HasStepped written at.event self.old self.new) }
         ensures kept { OnOk result (AreKept self.old.motes.items → AreKept self.new.motes.items) }
+        ensures plain { OnOk result (effect.new ≡ plain_effect) }
     {
         states_are_sound();
         text_grows_by_events();
         let number = node_of(world, event);
+        self.let_go(number, written);
         let mote = &mut self.motes[usize::from(number)];
-        let entries = mote.node.log().entries().len();
-        let air = self.radio.air().len();
+        let _before = mote.node.kept();
+        let entries = mote.node.told();
+        let air = self.radio.aired();
         perform(
             &mut self.radio,
             mote,
@@ -94,15 +103,29 @@ impl Simulation {
             number,
             event,
             at,
+            effect,
         )?;
-        let told = mote.node.log().entries().len() - entries;
-        let aired = self.radio.air().len() - air;
+        let _after = mote.node.kept();
+        let told = mote.node.told() - entries;
+        let aired = self.radio.aired() - air;
         self.records += told + aired;
-        Ok(Piece {
-            node: number,
-            air,
-            entries,
-        })
+        Ok(number)
+    }
+
+    /// Forgets what a node and the radio told, where that is to be forgotten.
+    fn let_go(&mut self, number: u8, written: Written)
+        requires node { number < length self.old.motes.items }
+        requires log { (mote : MoteState) → slice_get self.old.motes.items number ≡ Some mote → length mote.node.log.entries < 4000000000 }
+        requires air { length self.old.radio.air < 4000000000 }
+        ensures { LetsGoAsTold written self.old self.new number }
+    {
+        match written {
+            Written::Kept => {}
+            Written::Forgotten => {
+                self.motes[usize::from(number)].node.forget();
+                self.radio.forget();
+            }
+        }
     }
 }
 

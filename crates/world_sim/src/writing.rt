@@ -1,22 +1,24 @@
 //! The run of a world whose lines are written as its events end.
 
-ghost use Rattle.std.specs.Prelude.{◌≡◌, ◌≤◌, ◌<◌, ◌*◌, ◌^◌, length, drop, sum_by, slice_get, All, Some};
+ghost use Rattle.std.specs.Prelude.{◌≡◌, ◌≤◌, ◌<◌, ◌*◌, ◌^◌, length, drop, sum_by, slice_get, All, Some, OnOk};
 ghost use Rattle.mate_files.specs.Sink.{Puts};
 ghost use Rattle.mate_journal.specs.NodeScript.{Whole, Full};
 ghost use Rattle.report_text.specs.Text.{event_piece};
 ghost use Rattle.run_writing.specs.Writing.{WritesRun, last_line};
 ghost use Rattle.world_states.specs.Coming.{code_world};
 ghost use Rattle.node_programs.specs.WorldPrograms.{AreProgramsOfWorld};
+ghost use Rattle.world_step.specs.Motes.{plain_effect};
 ghost use Rattle.world_step.specs.declared.mote.Mote.{Mote as MoteState};
+ghost use Rattle.world_sim.specs.Keeping.{IsWhole};
 ghost use Rattle.world_sim.specs.Promise.{IsReportOfWorld};
 ghost use Rattle.world_sim.specs.Reporting.{mote_logs, told_report};
 ghost use Rattle.world_sim.specs.Running.{StandsAfter, StandsAtNext};
-ghost use Rattle.world_sim.specs.Writing.{AreKept, EndsSo, IsStartWritten, IsStepWritten, IsPieceOf, StandsAtEnd};
+ghost use Rattle.world_sim.specs.Writing.{AreAtHand, AreKept, EndsSo, IsStartWritten, IsStepWritten, StandsAtEnd};
 ghost use Rattle.world_text.specs.EventText.{store_lines};
 
 use crate::promise::reports_keep_the_promise;
 use crate::report::see_stores;
-use crate::simulation::{Piece, Simulation};
+use crate::simulation::{Simulation, Written};
 use mate_files::{Sink, SinkFault};
 use mate_journal::{Programs, RECORDS_MAX};
 use mate_num::Stamp;
@@ -27,11 +29,12 @@ use std::alloc::Global;
 use vm_desc::Description;
 use world_script::World;
 use world_states::states_are_sound;
-use world_step::Mote;
+use world_step::{Effect, Mote};
 use world_text::text_grows_by_events;
 
 /// Runs a world as `run` does, and writes each event's lines when it ends, and then the last line. After a fault of the sink no
-/// further event is begun.
+/// further event is begun. What a node told in an event, and what happened on the air in it, is forgotten before the next one, so
+/// that a long run takes no more memory than its nodes and their longest events.
 pub fn write_world<S: Sink>(
     alloc: Global,
     desc: &Description,
@@ -51,6 +54,7 @@ pub fn write_world<S: Sink>(
     if let Err(fault) = write_start(desc, world, programs, &sim, out) {
         return Err(fault);
     }
+    let mut effect = Effect::none();
     for events in 0..u64::MAX {
         let Some((time, event)) = sim.radio.next() else {
             return write_ending(desc, world, programs, &mut sim, events, out);
@@ -62,7 +66,16 @@ pub fn write_world<S: Sink>(
             event: events + 1,
             time,
         };
-        if let Err(fault) = write_step(desc, world, programs, &mut sim, &event, at, out) {
+        if let Err(fault) = write_step(
+            desc,
+            world,
+            programs,
+            &mut sim,
+            &event,
+            at,
+            &mut effect,
+            out,
+        ) {
             return Err(fault);
         }
     }
@@ -81,17 +94,13 @@ fn write_start<S: Sink>(
 ) -> Result<(), WriteFault>
     requires right { AreProgramsOfWorld desc.now world.now programs.now }
     requires stands { StandsAfter (code_world desc.now world.now programs.now) 0 sim.now }
+    requires whole { IsWhole sim.now }
     ensures writes { IsStartWritten desc.now (code_world desc.now world.now programs.now) sim.now (S.written out.old) (S.faults out.old) (S.written out.new) (S.faults out.new) result }
     ensures later { S.faults out.old ≤ S.faults out.new }
 {
     text_grows_by_events();
     logs_are_kept(sim.motes.as_slice());
-    let start = Piece {
-        node: 0,
-        air: 0,
-        entries: 0,
-    };
-    match write_piece(desc, sim, start, out) {
+    match write_piece(desc, sim, 0, out) {
         Ok(()) => Ok(()),
         Err(fault) => Err(stopped(fault)),
     }
@@ -106,18 +115,21 @@ fn write_step<S: Sink>(
     sim: &mut Simulation,
     event: &Event,
     at: Stamp,
+    effect: &mut Effect,
     out: &mut S,
 ) -> Result<(), WriteFault>
     requires right { AreProgramsOfWorld desc.now world.now programs.now }
     requires stands { StandsAtNext (code_world desc.now world.now programs.now) event.now at sim.old }
     requires kept { AreKept sim.old.motes.items }
+    requires plain { effect.old ≡ plain_effect }
     ensures writes { IsStepWritten desc.now (code_world desc.now world.now programs.now) at.event sim.old sim.new (S.written out.old) (S.faults out.old) (S.written out.new) (S.faults out.new) result }
+    ensures plain { OnOk result (effect.new ≡ plain_effect) }
     ensures later { S.faults out.old ≤ S.faults out.new }
 {
-    let Ok(piece) = sim.step(desc, world, programs, event, at) else {
+    let Ok(node) = sim.step(desc, world, programs, event, at, Written::Forgotten, effect) else {
         return Err(WriteFault::NoMemory);
     };
-    match write_piece(desc, sim, piece, out) {
+    match write_piece(desc, sim, node, out) {
         Ok(()) => Ok(()),
         Err(fault) => Err(stopped(fault)),
     }
@@ -158,6 +170,7 @@ fn write_ending<S: Sink>(
     ensures later { S.faults out.old ≤ S.faults out.new }
 {
     text_grows_by_events();
+    are_at_hand(sim.motes.as_slice());
     let at = Stamp {
         event: events + 1,
         time: world.until,
@@ -172,33 +185,32 @@ fn write_ending<S: Sink>(
     ended(true, write_last(sim, events, true, out))
 }
 
-/// Writes an event's lines.
+/// Writes what a node and the radio have at hand.
 #[inline(never)]
 fn write_piece<S: Sink>(
     desc: &Description,
     sim: &Simulation,
-    piece: Piece,
+    node: u8,
     out: &mut S,
 ) -> Result<(), SinkFault>
-    requires { IsPieceOf sim.now piece }
-    ensures { (mote : MoteState) → slice_get sim.now.motes.items piece.node ≡ Some mote → Puts (S.written out.old) (S.faults out.old) (S.written out.new) (S.faults out.new) result
-        (event_piece desc.now (drop piece.air sim.now.radio.air) mote.node.log piece.entries piece.node) }
+    requires { node < length sim.now.motes.items }
+    ensures { (mote : MoteState) → slice_get sim.now.motes.items node ≡ Some mote → Puts (S.written out.old) (S.faults out.old) (S.written out.new) (S.faults out.new) result
+        (event_piece desc.now (drop sim.now.radio.gone sim.now.radio.air) mote.node.log mote.node.gone.entries node) }
 {
-    let mote = &sim.motes[usize::from(piece.node)];
-    let aired = &sim.radio.air()[piece.air..];
-    write_event(desc, aired, mote.node.log(), piece.entries, piece.node, out)
+    let mote = &sim.motes[usize::from(node)];
+    write_event(desc, sim.radio.air(), mote.node.kept(), 0, node, out)
 }
 
 /// Writes the line of the last entry of each node.
 #[inline(never)]
 fn write_stores<S: Sink>(desc: &Description, motes: &[Mote], out: &mut S) -> Result<(), SinkFault>
-    requires some { All (λ (m : MoteState). 1 ≤ length m.node.log.entries) motes.now }
+    requires some { All (λ (m : MoteState). m.node.gone.entries < length m.node.log.entries) motes.now }
     requires few { length motes.now ≤ 64 }
     ensures { Puts (S.written out.old) (S.faults out.old) (S.written out.new) (S.faults out.new) result (store_lines desc.now 0 (mote_logs motes.now)) }
 {
     let mut node: u8 = 0;
     for mote in motes {
-        let log = mote.node.log();
+        let log = mote.node.kept();
         let last = log.entries().len() - 1;
         if let Err(fault) = write_event(desc, &[], log, last, node, out) {
             return Err(fault);
@@ -218,7 +230,7 @@ fn write_last<S: Sink>(
     requires { length sim.now.motes.items ≤ 64 }
     ensures { Puts (S.written out.old) (S.faults out.old) (S.written out.new) (S.faults out.new) result (last_line (told_report sim.now events whole)) }
 {
-    let aired = sim.radio.air().len() as u64;
+    let aired = sim.radio.aired() as u64;
     let told = entries_in(sim.motes.as_slice());
     write_end(aired + told, events, sim.motes.len() as u8, whole, out)
 }
@@ -231,7 +243,7 @@ fn entries_in(motes: &[Mote]) -> u64
 {
     let mut count = 0;
     for mote in motes {
-        count += mote.node.log().entries().len() as u64;
+        count += mote.node.told() as u64;
     }
     count
 }
@@ -241,6 +253,15 @@ fn logs_are_kept(motes: &[Mote])
     ensures { AreKept motes.now }
 {
     for mote in motes {
-        let _log = mote.node.log();
+        let _kept = mote.node.kept();
+    }
+}
+
+/// No more of a node's log is gone than was told.
+fn are_at_hand(motes: &[Mote])
+    ensures { AreAtHand motes.now }
+{
+    for mote in motes {
+        let _kept = mote.node.kept();
     }
 }

@@ -4,6 +4,7 @@ use Rattle.std.proofs.lemmas.List.Elements.{All-append}
 use Rattle.std.proofs.lemmas.Iterator.Consumers.{YieldsList-end, YieldsList-turn}
 use Rattle.std.proofs.lemmas.Iterator.Adapters.{YieldsList-from_vec}
 use Rattle.mate_journal.specs.Log.{Log}
+use Rattle.mate_journal.specs.OpenLog.{nothing_gone}
 use Rattle.node_invariant.specs.Meaning.{machine_in}
 use Rattle.open_node.specs.Journal.{KeepsJournal}
 use Rattle.world_step.specs.declared.mote.Mote.{Mote}
@@ -36,3 +37,9 @@ returns-clause-keeps c = λ d are.
     let is : c.loop-mote.logs ≡ mote_logs c.args.motes.items = logs-all c.loop-mote.yielded c.args.motes.items c.args.logs c.loop-mote.logs all c.requires.count c.loop-mote.invariant.put in
     subst (λ (ls : List Log). All (KeepsJournal d (machine_in d)) ls) (sym is)
     (subst (λ (ms : List Mote). AreOfMachine d ms → All (KeepsJournal d (machine_in d)) (mote_logs ms)) all (c.loop-mote.invariant.keeps d) are)
+
+pub into_log-requires : goal.into_log-requires
+into_log-requires c =
+    let from = YieldsList-from_vec {s = c.into_iter-mote-iterator.result} c.args.motes.items (cc) (cc) in
+    let turn = YieldsList-turn from c.loop-mote.yielded c.loop-mote.mote-iterator c.loop-mote.yielded_by c.next.result c.next.new.self c.in-Some.mote c.in-Some.is c.next.ensures.steps in
+    subst (λ (m : Mote). m.node.gone ≡ nothing_gone) (sym turn.1) (c.requires.whole (length c.loop-mote.yielded) c.in-Some.mote turn.0)

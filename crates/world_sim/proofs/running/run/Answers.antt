@@ -3,8 +3,10 @@ use Rattle.mate_num.specs.declared.call.Stamp.{Stamp}
 use Rattle.mate_journal.specs.NodeScript.{Whole, Full}
 use Rattle.radio_sim.specs.Radio.{Ether}
 use Rattle.world_states.specs.Coming.{code_world}
+use Rattle.world_sim.proofs.KeepingLemmas.{whole-still, whole-shown}
 use Rattle.world_sim.proofs.RunLemmas.{behind, is-done}
 use Rattle.world_sim.proofs.WorldLemmas.{all-timely, of-machine, shown-machine, full-report, whole-report}
+use Rattle.world_sim.specs.Keeping.{IsWhole}
 use Rattle.world_sim.proofs.running.run.Goals as goal
 
 pub see_stores-requires : goal.see_stores-requires
@@ -67,4 +69,23 @@ step-requires-clause-stands c =
       records = c.loop-events.invariant.stands.records;
       fit = c.loop-events.invariant.stands.radio.fit;
       well_formed = c.loop-events.invariant.stands.well_formed;
+    }
+
+pub report_of-requires-clause-whole : goal.report_of-requires-clause-whole
+report_of-requires-clause-whole c = record {
+  nodes = whole-shown _ c.loop-events.sim.motes.items c.see_stores.new.motes.items c.in_ok-see_stores.ensures c.loop-events.invariant.whole.nodes;
+  air = ap (λ (e : Ether). e.gone) c.next.ensures.others ∙ c.loop-events.invariant.whole.air;
+}
+
+pub report_of-requires-then-sim-ge-RECORDS_MAX-clause-whole : goal.report_of-requires-then-sim-ge-RECORDS_MAX-clause-whole
+report_of-requires-then-sim-ge-RECORDS_MAX-clause-whole c =
+    record { nodes = c.loop-events.invariant.whole.nodes; air = ap (λ (e : Ether). e.gone) c.next.ensures.others ∙ c.loop-events.invariant.whole.air }
+
+pub loop-events-preserved : goal.loop-events-preserved
+loop-events-preserved c =
+    let a = c.in_ok-step.ensures.adds in record {
+      stands = c.in_ok-step.ensures.stands;
+      logs = c.loop-events.invariant.logs;
+      whole = whole-still (c.loop-events.events + 1) c.in_ok-step.field-0 a.mid c.step.new.self a.adds
+          (subst IsWhole (sym a.lets_go) (record { nodes = c.loop-events.invariant.whole.nodes; air = ap (λ (e : Ether). e.gone) c.next.ensures.others ∙ c.loop-events.invariant.whole.air }));
     }

@@ -1,10 +1,14 @@
 use Rattle.std.proofs.Common.{◌≡◌, length}
 use Rattle.world_states.specs.Coming.{code_world}
+use Rattle.world_step.specs.Motes.{plain_effect}
+use Rattle.world_sim.specs.Keeping.{IsWhole}
 use Rattle.world_sim.specs.Running.{StandsAfter}
 use Rattle.world_sim.proofs.running.run.Given as goal
 
 abbrev pub invariant-loop-events : goal.invariant-loop-events
 invariant-loop-events l = record {
   stands : StandsAfter (code_world l.desc l.world l.programs) l.events l.sim;
+  plain : l.effect ≡ plain_effect;
   logs : length l.logs ≡ l.world.nodes;
+  whole : IsWhole l.sim;
 }

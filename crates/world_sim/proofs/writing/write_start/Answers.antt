@@ -10,7 +10,7 @@ write_piece-requires g c =
     let count = c.requires.stands.nodes in
     let some = c.requires.right.world.nodes_low in
     let low : 0 < length c.args.sim.now.motes.items = omega (arith, count, some) in
-    record { mote = first-mote c.args.sim.now.motes.items 0 low; found = at-mote c.args.sim.now.motes.items 0 low; air = omega arith; entries = omega arith }
+    low
 
 pub returns-in-Ok-clause-writes : goal.returns-in-Ok-clause-writes
 returns-in-Ok-clause-writes g c =
@@ -21,7 +21,7 @@ returns-in-Ok-clause-writes g c =
     let found = at-mote c.args.sim.now.motes.items 0 low in (
       subst AreKept c.as_slice.ensures.value c.logs_are_kept.ensures,
       start-goes c.args.desc.now c.args.world.now c.args.programs.now (c.text_grows_by_events.ensures.starts (code_world c.args.desc.now c.args.world.now c.args.programs.now)) c.args.sim.now c.requires.stands m found _ _ _ _
-          (c.in-Ok.ensures m found),
+          c.requires.whole (c.in-Ok.ensures m found),
     )
 
 pub returns-in-Err-clause-writes : goal.returns-in-Err-clause-writes
@@ -32,7 +32,7 @@ returns-in-Err-clause-writes g c =
     let m = first-mote c.args.sim.now.motes.items 0 low in
     let found = at-mote c.args.sim.now.motes.items 0 low in
     start-fails c.args.desc.now c.args.world.now c.args.programs.now (c.text_grows_by_events.ensures.starts (code_world c.args.desc.now c.args.world.now c.args.programs.now)) c.args.sim.now c.requires.stands m found
-    (subst AreKept c.as_slice.ensures.value c.logs_are_kept.ensures) c.in-Err.fault c.stopped.result _ _ _ _ (c.in-Err.ensures m found) c.stopped.ensures
+    (subst AreKept c.as_slice.ensures.value c.logs_are_kept.ensures) c.in-Err.fault c.stopped.result _ _ _ _ c.requires.whole (c.in-Err.ensures m found) c.stopped.ensures
 
 pub returns-in-Ok-clause-later : goal.returns-in-Ok-clause-later
 returns-in-Ok-clause-later g c =

@@ -14,6 +14,9 @@ returns-in_default-clause-gives g c = record {
   gives = inl (record { report = refl; same = refl });
 }
 
+pub write_start-requires-clause-whole : goal.write_start-requires-clause-whole
+write_start-requires-clause-whole g c = c.in-Ok.ensures.whole
+
 pub returns-in-Err-clause-gives : goal.returns-in-Err-clause-gives
 returns-in-Err-clause-gives g c =
     promised c.args.desc.now c.args.world.now c.args.programs.now _ _ _ _ _ c.reports_keep_the_promise.ensures c.requires c.in-Err.ensures.writes
@@ -81,6 +84,7 @@ pub loop-events-preserved : goal.loop-events-preserved
 loop-events-preserved g c = record {
   stands = c.in_default-write_step.ensures.writes.0;
   kept = c.in_default-write_step.ensures.writes.1;
+  plain = c.in_default-write_step.ensures.plain;
   written =
       c.in_default-write_step.ensures.writes.2 _ _
       (written-air c.args.desc.now c.loop-events.sim (record { radio = c.next.new.self; motes = c.loop-events.sim.motes; records = c.loop-events.sim.records }) (ap (λ (e : Ether). e.air) c.next.ensures.others) refl _ _ _ _

@@ -1,9 +1,9 @@
-use Rattle.std.proofs.Common.{[], refl}
+use Rattle.std.proofs.Common.{[], refl, ◌∙◌}
 use Rattle.world_sim.proofs.BeginLemmas.{radio-first}
 use Rattle.world_sim.proofs.simulation.Simulation.start.Goals as goal
 
-pub returns : goal.returns
-returns c = λ ps.
+pub returns-clause-stands : goal.returns-clause-stands
+returns-clause-stands c = λ ps.
     let begun = c.in_ok-motes.ensures ps in
     record {
       moments = [];
@@ -15,3 +15,8 @@ returns c = λ ps.
       records = c.from.ensures;
       well_formed = λ k below. record { in_time = tt; follow = tt };
     }
+
+pub returns-clause-whole : goal.returns-clause-whole
+returns-clause-whole c =
+    let begun = c.in_ok-motes.ensures [] in
+    record { nodes = begun.whole; air = begun.adds.grows.gone ∙ c.in_ok-schedule_lines.ensures.grows.gone ∙ c.in_ok-radio.ensures.gone }

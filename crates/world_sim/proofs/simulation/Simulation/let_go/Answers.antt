@@ -1,0 +1,29 @@
+use Rattle.std.proofs.Common.{◌≡◌, ◌<◌, length, refl, sym, ◌∙◌, ap, subst, rules}
+use Rattle.std.specs.Prelude.{Some, slice_get, slice_set}
+use Rattle.std.proofs.lemmas.Option.{slice_get-get_or}
+use Rattle.world_step.specs.declared.mote.Mote.{Mote}
+use Rattle.world_sim.proofs.simulation.Simulation.let_go.Goals as goal
+
+pub returns-in-Forgotten : goal.returns-in-Forgotten
+returns-in-Forgotten c =
+    let motes = c.args.self.now.motes.items in
+    let x = c.index_mut.result.now in
+    let low : c.from.result < length motes = search rules in
+    let after : Mote = record x { node = c.forget.new.self } in record {
+      before = x;
+      after = after;
+      found = ap (slice_get motes) (sym c.from.ensures) ∙ slice_get-get_or motes c.from.result x low ∙ ap (λ (m : Mote). Some m) (sym c.index_mut.ensures.value);
+      motes = ap (λ n. slice_set motes n after) c.from.ensures;
+      same = c.forget.ensures.same;
+      pace = c.forget.ensures.pace;
+      rest = refl;
+      radio = c.forget-2.ensures;
+      records = refl;
+    }
+
+pub forget-requires : goal.forget-requires
+forget-requires c =
+    let motes = c.args.self.now.motes.items in
+    let x = c.index_mut.result.now in
+    let low : c.from.result < length motes = search rules in
+    c.requires.log x (ap (slice_get motes) (sym c.from.ensures) ∙ slice_get-get_or motes c.from.result x low ∙ ap (λ (m : Mote). Some m) (sym c.index_mut.ensures.value))
