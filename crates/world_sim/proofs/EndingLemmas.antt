@@ -1,5 +1,5 @@
 -- A world's whole run, as its last lines are written.
-use Rattle.std.proofs.Common.{◌≡◌, ℕ, suc, ◌+◌, ◌<◌, ◌≤◌, List, [], ◌∷◌, ◌++◌, length, map, get_or, Option, Some, None, Result, Ok, Err, true, false, refl, sym, ◌∙◌, ap, subst, arith, append-nil, append_assoc, All}
+use Rattle.std.proofs.Common.{◌≡◌, ℕ, suc, ◌<◌, List, [], ◌∷◌, ◌++◌, length, map, drop, get_or, Option, Some, None, Result, Ok, Err, true, false, refl, sym, ◌∙◌, ap, subst, arith, append-nil, append_assoc, All}
 use Rattle.std.specs.Prelude.{slice_get, IsSomeAnd, flat_map, unwrap_or}
 use Rattle.std.specs.Global.{Vec}
 use Rattle.std.proofs.lemmas.Option.{slice_get-get_or}
@@ -20,7 +20,7 @@ use Rattle.run_writing.proofs.WritingLemmas.{written-nothing, written-more, fail
 use Rattle.mate_journal.specs.declared.air.Aired.{Aired}
 use Rattle.mate_journal.specs.declared.report.Report.{Report}
 use Rattle.mate_journal.specs.declared.program.Program.{Program}
-use Rattle.report_text.specs.Text.{lines, event_lines, event_piece, text}
+use Rattle.report_text.specs.Text.{lines, event_lines, event_piece}
 use Rattle.vm_desc.specs.declared.description.Description.{Description}
 use Rattle.world_laws.proofs.Among.{all-at}
 use Rattle.world_rules.specs.World.{World}

@@ -1,11 +1,11 @@
 -- What is at hand of a world, and what it lets go.
-use Rattle.std.proofs.Common.{◌≡◌, ◌≢◌, ◌<◌, ◌≤◌, ◌+◌, ◌-◌, ℕ, zero, suc, List, [], ◌∷◌, ◌++◌, length, map, set, drop, get_or, Option, Some, None, Result, refl, sym, ◌∙◌, ap, subst, arith, inl, inr, All}
+use Rattle.std.proofs.Common.{◌≡◌, ◌<◌, ◌+◌, ◌-◌, ℕ, zero, suc, List, [], ◌∷◌, ◌++◌, length, map, set, drop, get_or, Option, Some, None, Result, refl, sym, ◌∙◌, ap, subst, arith, inl, inr, All}
 use Rattle.std.specs.Prelude.{slice_get, IsSomeAnd, flat_map, unwrap_or, codes}
 use Rattle.std.specs.List.{AllZip}
 use Rattle.std.proofs.lemmas.Bool.{cases_eq}
 use Rattle.std.proofs.lemmas.Option.{slice_get-get_or}
 use Rattle.std.proofs.lemmas.List.{length-map, length-set, drop-map, drop-drop}
-use Rattle.std.proofs.lemmas.List.Elements.{All-cons, All-nil}
+use Rattle.std.proofs.lemmas.List.Elements.{All-cons}
 use Rattle.event_queue.proofs.WheelLemmas.{slice_get_set_same, slice_get_set_other}
 use Rattle.arrayvec.specs.ArrayVec.{ArrayVec}
 use Rattle.mate_num.specs.declared.call.Stamp.{Stamp}
@@ -17,18 +17,16 @@ use Rattle.mate_journal.specs.Log.{Log, IsSameLog}
 use Rattle.mate_journal.specs.Journal.{journal_of, told_of}
 use Rattle.mate_journal.specs.Journal.{Event as Entered}
 use Rattle.mate_journal.specs.NodeScript.{records_max}
-use Rattle.mate_journal.specs.Pace.{Pace}
 use Rattle.mate_journal.specs.OpenLog.{Gone, OpenView, nothing_gone, entry_behind, stamped_behind, IsKept}
 use Rattle.mate_journal.specs.declared.air.Aired.{Aired}
 use Rattle.mate_journal.specs.declared.entry.Entry.{Entry}
 use Rattle.mate_journal.specs.declared.entry.Entry.TheVariants as entry
 use Rattle.mate_journal.specs.declared.entry.Stamped.{Stamped}
-use Rattle.mate_journal.specs.declared.report.Report.{Report}
 use Rattle.node_invariant.specs.Meaning.{machine_in}
 use Rattle.node_invariant.specs.Keeps.{reading}
 use Rattle.open_node.proofs.KeptLemmas.{count-kept}
 use Rattle.open_node.specs.Journal.{KeepsJournal}
-use Rattle.open_node.specs.View.{NodeView, heard_of, HasPace}
+use Rattle.open_node.specs.View.{heard_of}
 use Rattle.radio_sim.specs.Radio.{Ether}
 use Rattle.radio_sim.specs.declared.event.Event.{Event}
 use Rattle.report_reading.specs.Parts.{IsSameReport}
@@ -39,16 +37,11 @@ use Rattle.run_writing.proofs.WritingLemmas.{written-as}
 use Rattle.world_laws.proofs.Among.{all-at}
 use Rattle.world_calls.specs.Calls.{AreCallsOf}
 use Rattle.world_rules.specs.World.{World}
-use Rattle.world_rules.specs.Effect.{Node}
 use Rattle.world_rules.specs.State.{Moment, WorldState, state}
-use Rattle.world_rules.specs.Run.{journal}
-use Rattle.world_air.specs.Air.{IsAirOf}
 use Rattle.world_event.specs.Finishing.{IsTakenFrom}
 use Rattle.world_event.specs.Performing.{IsMoteAfter, coming}
 use Rattle.world_event.proofs.RoomLemmas.{records-high}
-use Rattle.world_handling.specs.Handling.{IsMoteOf}
 use Rattle.world_step.specs.declared.mote.Mote.{Mote}
-use Rattle.world_text.specs.EventText.{so_far}
 use Rattle.world_sim.specs.Keeping.{IsWhole, LetsGo, LetsGoAsTold}
 use Rattle.world_sim.specs.Reporting.{ShowStores, mote_logs}
 use Rattle.world_sim.specs.Running.{StandsAtNext}
@@ -155,6 +148,7 @@ module _ (old mid : Simulation) (node : ℕ) (go : LetsGo old mid node) where
   go-written d out0 f0 out f written = written-as (lines d (report_now mid)) written (all_lines_same d (report_now mid) (report_now old) same-now)
 
   heard-same : heard_of go.after.node ≡ heard_of go.before.node
+  unfolding reading
   heard-same = ap (λ (d : Description). reading d go.after.node.log) go.same.description ∙ ap (reading go.before.node.description) (alike go.after.node.log go.before.node.log go.same.log)
 
   go-mote : (w : World) (ms : List Moment) → IsMoteAfter w ms node go.before → IsMoteAfter w ms node go.after

@@ -1,5 +1,5 @@
 -- What is promised of a report holds of each of the world whose nodes run their code.
-use Rattle.std.proofs.Common.{ℕ, List, Option, Result, length, arith, All, get_or}
+use Rattle.std.proofs.Common.{ℕ, List, Option, Result, arith, All, get_or}
 use Rattle.vm_desc.specs.declared.description.Description.{Description}
 use Rattle.mate_journal.specs.Log.{Log}
 use Rattle.mate_journal.specs.Journal.{nothing_heard, journal_of}

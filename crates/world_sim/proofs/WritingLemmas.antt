@@ -1,16 +1,14 @@
 -- A world's report, as it is written event by event.
-use Rattle.std.proofs.Common.{◌≡◌, ℕ, zero, suc, ◌+◌, ◌-◌, ◌<◌, ◌≤◌, List, [], ◌∷◌, ◌++◌, length, map, take, drop, get_or, set, Option, Some, None, Result, Ok, Err, true, false, refl, sym, ◌∙◌, ap, subst, arith, append-nil, append_assoc, All, Bool}
+use Rattle.std.proofs.Common.{◌≡◌, ℕ, zero, suc, ◌+◌, ◌-◌, ◌<◌, ◌≤◌, List, [], ◌∷◌, ◌++◌, length, take, drop, get_or, set, Option, Some, Result, Ok, Err, false, refl, sym, ◌∙◌, ap, subst, arith, append-nil, All, Bool}
 use Rattle.std.specs.Prelude.{slice_get, IsSomeAnd, flat_map}
 use Rattle.std.specs.Global.{Vec}
 use Rattle.std.proofs.lemmas.Option.{slice_get-get_or}
 use Rattle.std.proofs.lemmas.List.{length-map, take-append-drop}
-use Rattle.std.proofs.lemmas.List.Elements.{All-nil, All-cons, All-head, All-tail}
+use Rattle.std.proofs.lemmas.List.Elements.{All-nil, All-cons}
 use Rattle.mate_num.specs.declared.call.Stamp.{Stamp}
 use Rattle.mate_journal.specs.Log.{Log}
 use Rattle.mate_journal.specs.Journal.{journal_of}
-use Rattle.mate_journal.specs.Journal.{Event as Entered}
-use Rattle.mate_journal.specs.NodeScript.{RunEnd, Whole, Full, Cut}
-use Rattle.mate_journal.specs.NodeReport.{is_whole}
+use Rattle.mate_journal.specs.NodeScript.{RunEnd, Full, Cut}
 use Rattle.mate_journal.specs.Tidy.{NumbersInOrder, below}
 use Rattle.mate_files.specs.Sink.{Puts}
 use Rattle.mate_files.specs.declared.sink.SinkFault.{SinkFault}
@@ -25,13 +23,13 @@ use Rattle.mate_journal.specs.declared.report.Report.{Report}
 use Rattle.node_invariant.specs.Meaning.{machine_in}
 use Rattle.open_node.specs.Journal.{KeepsJournal}
 use Rattle.radio_sim.specs.declared.event.Event.{Event}
-use Rattle.report_text.specs.Text.{lines, event_lines, event_piece, text}
+use Rattle.report_text.specs.Text.{lines, event_lines, event_piece}
 use Rattle.vm_desc.specs.declared.description.Description.{Description}
 use Rattle.world_rules.specs.World.{World}
 use Rattle.world_rules.specs.Effect.{event_node}
 use Rattle.world_rules.specs.State.{Moment, state}
 use Rattle.radio_sim.specs.Radio.{Ether}
-use Rattle.world_rules.specs.Run.{HaveCome, IsAtEnd, airs, journal, IsJournalOf}
+use Rattle.world_rules.specs.Run.{HaveCome, IsAtEnd, airs, journal}
 use Rattle.world_rules.specs.Report.{IsLogOf, IsWorldReport}
 use Rattle.world_script.specs.declared.world.World.{World as Script}
 use Rattle.world_states.specs.Coming.{code_world}

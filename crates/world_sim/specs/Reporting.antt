@@ -8,7 +8,6 @@ use Rattle.mate_journal.specs.declared.report.Report.{Report}
 use Rattle.node_invariant.specs.Meaning.{machine_in, clock_of}
 use Rattle.open_node.specs.View.{heard_of}
 use Rattle.open_node.specs.Calls.{Pacing}
-use Rattle.open_node.specs.Journal.{KeepsJournal}
 use Rattle.world_step.specs.Motes.{TellsAlone}
 use Rattle.world_step.specs.declared.mote.Mote.{Mote}
 use Rattle.world_sim.specs.declared.simulation.Simulation.{Simulation}

@@ -1,6 +1,5 @@
 -- The run of a world whose lines are written as its events end.
 use Rattle.std.specs.Prelude.{◌≡◌, ℕ, ◌<◌, ◌≤◌, List, length, drop, slice_get, slice_set, Some, All, IsSomeAnd, Option, Result, Ok, Err}
-use Rattle.mate_journal.specs.Log.{Log}
 use Rattle.mate_journal.specs.declared.report.Report.{Report}
 use Rattle.mate_journal.specs.NodeScript.{RunEnd}
 use Rattle.node_invariant.specs.Meaning.{machine_in}

@@ -1,6 +1,6 @@
 //! A world between its events: the radio, the nodes, and how many records stand.
 
-ghost use Rattle.std.specs.Prelude.{◌≡◌, ◌<◌, ◌≤◌, ◌∷◌, [], List, length, slice_get, Some, IfOk, OnOk};
+ghost use Rattle.std.specs.Prelude.{◌≡◌, ◌+◌, ◌<◌, ◌≤◌, ◌∷◌, [], List, length, slice_get, Some, IfOk, OnOk};
 ghost use Rattle.world_script.specs.World.{IsRightWorld};
 ghost use Rattle.mate_journal.specs.declared.program.Program.{Program as ProgramOfFile};
 ghost use Rattle.mate_journal.specs.declared.air.Air.TheVariants as air;
@@ -108,7 +108,7 @@ impl Simulation {
         let _after = mote.node.kept();
         let told = mote.node.told() - entries;
         let aired = self.radio.aired() - air;
-        self.records += told + aired;
+        self.records = counted(self.records, told, aired)?;
         Ok(number)
     }
 
@@ -126,6 +126,19 @@ impl Simulation {
                 self.radio.forget();
             }
         }
+    }
+}
+
+/// So many records, with those of one event more. `NoMemory` comes where a machine word doesn't count them.
+fn counted(records: usize, told: usize, aired: usize) -> Result<usize, NoMemory>
+    ensures { IfOk result (λ n. n ≡ records + told + aired) }
+{
+    let Some(before) = records.checked_add(told) else {
+        return Err(NoMemory);
+    };
+    match before.checked_add(aired) {
+        Some(count) => Ok(count),
+        None => Err(NoMemory),
     }
 }
 

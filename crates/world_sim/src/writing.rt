@@ -1,6 +1,6 @@
 //! The run of a world whose lines are written as its events end.
 
-ghost use Rattle.std.specs.Prelude.{◌≡◌, ◌≤◌, ◌<◌, ◌*◌, ◌^◌, length, drop, sum_by, slice_get, All, Some, OnOk};
+ghost use Rattle.std.specs.Prelude.{◌≡◌, ◌≤◌, ◌<◌, ◌+◌, length, drop, sum_by, slice_get, All, Some, IfSome, OnOk};
 ghost use Rattle.mate_files.specs.Sink.{Puts};
 ghost use Rattle.mate_journal.specs.NodeScript.{Whole, Full};
 ghost use Rattle.report_text.specs.Text.{event_piece};
@@ -220,7 +220,7 @@ fn write_stores<S: Sink>(desc: &Description, motes: &[Mote], out: &mut S) -> Res
     Ok(())
 }
 
-/// Writes the last line of the report of what stands.
+/// Writes the last line of the report of what stands. (`NoMemory` comes also where 64 bits don't count its records.)
 fn write_last<S: Sink>(
     sim: &Simulation,
     events: u64,
@@ -230,22 +230,29 @@ fn write_last<S: Sink>(
     requires { length sim.now.motes.items ≤ 64 }
     ensures { Puts (S.written out.old) (S.faults out.old) (S.written out.new) (S.faults out.new) result (last_line (told_report sim.now events whole)) }
 {
-    let aired = sim.radio.aired() as u64;
-    let told = entries_in(sim.motes.as_slice());
-    write_end(aired + told, events, sim.motes.len() as u8, whole, out)
+    match records_in(sim) {
+        Some(records) => write_end(records, events, sim.motes.len() as u8, whole, out),
+        None => Err(SinkFault::NoMemory),
+    }
 }
 
-/// How many entries the nodes told.
-fn entries_in(motes: &[Mote]) -> u64
-    requires { length motes.now ≤ 64 }
-    ensures value { result ≡ sum_by (λ l. length l.entries) (mote_logs motes.now) }
-    ensures fits { result ≤ length motes.now * 2 ^ 57 }
+/// How many records stand; None where 64 bits don't count them.
+fn records_in(sim: &Simulation) -> Option<u64>
+    ensures { IfSome result (λ n. n ≡ length sim.now.radio.air + sum_by (λ l. length l.entries) (mote_logs sim.now.motes.items)) }
 {
-    let mut count = 0;
+    let told = entries_in(sim.motes.as_slice())?;
+    (sim.radio.aired() as u64).checked_add(told)
+}
+
+/// How many entries the nodes told; None where 64 bits don't count them.
+fn entries_in(motes: &[Mote]) -> Option<u64>
+    ensures { IfSome result (λ n. n ≡ sum_by (λ l. length l.entries) (mote_logs motes.now)) }
+{
+    let mut count: u64 = 0;
     for mote in motes {
-        count += mote.node.told() as u64;
+        count = count.checked_add(mote.node.told() as u64)?;
     }
-    count
+    Some(count)
 }
 
 /// What each node keeps of its log.

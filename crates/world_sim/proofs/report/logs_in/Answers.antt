@@ -1,6 +1,5 @@
-use Rattle.std.proofs.Common.{◌≡◌, ◌<◌, ℕ, List, [], ◌∷◌, ◌++◌, length, sym, ◌∙◌, ap, subst, arith, rules, All}
+use Rattle.std.proofs.Common.{◌≡◌, ◌<◌, List, length, sym, subst, arith, All}
 use Rattle.std.proofs.lemmas.List.{length_push}
-use Rattle.std.proofs.lemmas.List.Elements.{All-append}
 use Rattle.std.proofs.lemmas.Iterator.Consumers.{YieldsList-end, YieldsList-turn}
 use Rattle.std.proofs.lemmas.Iterator.Adapters.{YieldsList-from_vec}
 use Rattle.mate_journal.specs.Log.{Log}
@@ -9,7 +8,7 @@ use Rattle.node_invariant.specs.Meaning.{machine_in}
 use Rattle.open_node.specs.Journal.{KeepsJournal}
 use Rattle.world_step.specs.declared.mote.Mote.{Mote}
 use Rattle.world_sim.specs.Reporting.{mote_logs, AreOfMachine}
-use Rattle.world_sim.proofs.ReportLemmas.{logs-behind, put-next, logs-all, all-of, keeps-more}
+use Rattle.world_sim.proofs.ReportLemmas.{put-next, logs-all, all-of, keeps-more}
 use Rattle.world_sim.proofs.report.logs_in.Goals as goal
 
 pub loop-mote-preserved : goal.loop-mote-preserved

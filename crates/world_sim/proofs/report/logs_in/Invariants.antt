@@ -1,8 +1,7 @@
-use Rattle.std.proofs.Common.{◌≡◌, ◌++◌, ◌≤◌, List, length, drop, All}
+use Rattle.std.proofs.Common.{◌≡◌, ◌++◌, length, drop, All}
 use Rattle.vm_desc.specs.declared.description.Description.{Description}
 use Rattle.node_invariant.specs.Meaning.{machine_in}
 use Rattle.open_node.specs.Journal.{KeepsJournal}
-use Rattle.world_step.specs.declared.mote.Mote.{Mote}
 use Rattle.world_sim.specs.Reporting.{mote_logs, AreOfMachine}
 use Rattle.world_sim.proofs.report.logs_in.Given as goal
 

@@ -1,5 +1,4 @@
 use Rattle.std.proofs.Common.{◌≡◌, ℕ, suc, ◌+◌, ◌≤◌, length, refl, sym, ◌∙◌, ap, subst, arith}
-use Rattle.mate_num.specs.declared.call.Stamp.{Stamp}
 use Rattle.mate_journal.specs.NodeScript.{Whole, Full}
 use Rattle.radio_sim.specs.Radio.{Ether}
 use Rattle.world_states.specs.Coming.{code_world}
@@ -81,10 +80,14 @@ pub report_of-requires-then-sim-ge-RECORDS_MAX-clause-whole : goal.report_of-req
 report_of-requires-then-sim-ge-RECORDS_MAX-clause-whole c =
     record { nodes = c.loop-events.invariant.whole.nodes; air = ap (λ (e : Ether). e.gone) c.next.ensures.others ∙ c.loop-events.invariant.whole.air }
 
+pub loop-events-init : goal.loop-events-init
+loop-events-init c = record { stands = c.in_ok-sim.ensures.stands c.args.programs.now; plain = c.none-effect.ensures; logs = c.in_ok-logs.ensures.count; whole = c.in_ok-sim.ensures.whole }
+
 pub loop-events-preserved : goal.loop-events-preserved
 loop-events-preserved c =
     let a = c.in_ok-step.ensures.adds in record {
       stands = c.in_ok-step.ensures.stands;
+      plain = c.in_ok-step.ensures.plain;
       logs = c.loop-events.invariant.logs;
       whole = whole-still (c.loop-events.events + 1) c.in_ok-step.field-0 a.mid c.step.new.self a.adds
           (subst IsWhole (sym a.lets_go) (record { nodes = c.loop-events.invariant.whole.nodes; air = ap (λ (e : Ether). e.gone) c.next.ensures.others ∙ c.loop-events.invariant.whole.air }));

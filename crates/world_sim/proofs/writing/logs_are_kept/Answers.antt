@@ -10,7 +10,7 @@ use Rattle.world_sim.proofs.writing.logs_are_kept.Goals as goal
 pub loop-mote-preserved : goal.loop-mote-preserved
 loop-mote-preserved c =
     let Own : Mote → Type 0 = λ m. KeepsJournal m.node.description (machine_in m.node.description) m.node.log in
-    All-more Own c.args.motes.now c.loop-mote.mote-index c.mote-item.result c.loop-mote-test.true c.loop-mote.invariant (subst Own c.mote-item.is c.kept-_kept.ensures.keeps)
+    All-more Own c.args.motes.now c.loop-mote.mote-index c.mote-item.result c.loop-mote-test.true c.loop-mote.invariant (subst Own c.mote-item.is c.kept-kept.ensures.keeps)
 
 pub returns : goal.returns
 returns c = subst LogsAreKept (take_all c.loop-mote.mote-index c.args.motes.now c.loop-mote-test.false) c.loop-mote.invariant

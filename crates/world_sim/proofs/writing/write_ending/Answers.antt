@@ -1,4 +1,4 @@
-use Rattle.std.proofs.Common.{◌≡◌, ◌≤◌, ℕ, suc, ◌+◌, List, length, Ok, Err, refl, sym, ap, subst, arith, All}
+use Rattle.std.proofs.Common.{◌≡◌, ◌<◌, ℕ, suc, ◌+◌, List, length, Ok, Err, refl, sym, ap, subst, arith, All}
 use Rattle.mate_files.specs.Sink.{Puts}
 use Rattle.run_writing.specs.Writing.{WritesRun}
 use Rattle.world_rules.specs.Report.{IsWorldReport}

@@ -1,10 +1,5 @@
-use Rattle.std.proofs.Common.{◌≡◌, ◌<◌, ℕ, List, Option, Some, length, refl, sym, ◌∙◌, ap, arith}
-use Rattle.std.specs.Prelude.{slice_get, drop}
-use Rattle.std.proofs.lemmas.List.{length-set}
-use Rattle.event_queue.proofs.WheelLemmas.{slice_get_set_same}
-use Rattle.mate_journal.specs.OpenLog.{Gone}
-use Rattle.world_step.specs.declared.mote.Mote.{Mote}
-use Rattle.world_sim.proofs.KeepingLemmas.{written-still, AtHandNow, at-hand-now, put-now}
+use Rattle.std.proofs.Common.{length, refl}
+use Rattle.world_sim.proofs.KeepingLemmas.{written-still, at-hand-now, put-now}
 use Rattle.world_sim.proofs.WritingLemmas.{memory-ends, step-goes, step-fails}
 use Rattle.world_sim.proofs.writing.write_step.Goals as goal
 

@@ -1,4 +1,4 @@
-use Rattle.std.proofs.Common.{◌≡◌, ◌+◌, ◌-◌, ◌<◌, ◌≤◌, ℕ, suc, List, [], ◌++◌, Ok, Err, sym, ◌∙◌, ap, subst, arith, drop, take, length}
+use Rattle.std.proofs.Common.{◌≡◌, ◌-◌, ◌<◌, ℕ, suc, List, [], ◌++◌, Ok, Err, sym, ◌∙◌, ap, subst, arith, drop, take, length}
 use Rattle.mate_files.specs.Sink.{Puts}
 use Rattle.mate_files.proofs.SinkLemmas.{Puts-trans, Puts-stop}
 use Rattle.mate_journal.specs.declared.entry.Stamped.{Stamped}

@@ -1,4 +1,4 @@
-use Rattle.std.proofs.Common.{◌≡◌, ℕ, suc, ◌≤◌, [], length, false, refl, sym, ◌∙◌, ap, subst, arith, inl}
+use Rattle.std.proofs.Common.{ℕ, ◌≤◌, [], length, false, refl, ◌∙◌, ap, subst, arith, inl}
 use Rattle.mate_journal.specs.NodeScript.{Whole, Full}
 use Rattle.radio_sim.specs.Radio.{Ether}
 use Rattle.world_states.specs.Coming.{code_world}
@@ -13,6 +13,9 @@ returns-in_default-clause-gives g c = record {
   report = record { nodes = []; air = []; events = 0; whole = false };
   gives = inl (record { report = refl; same = refl });
 }
+
+pub write_start-requires-clause-stands : goal.write_start-requires-clause-stands
+write_start-requires-clause-stands g c = c.in-Ok.ensures.stands c.args.programs.now
 
 pub write_start-requires-clause-whole : goal.write_start-requires-clause-whole
 write_start-requires-clause-whole g c = c.in-Ok.ensures.whole

@@ -1,11 +1,8 @@
-use Rattle.std.proofs.Common.{◌≡◌, ℕ, ◌+◌, ◌<◌, ◌≤◌, List, length, get_or, set, refl, sym, ◌∙◌, ap, subst, arith, rules}
+use Rattle.std.proofs.Common.{◌≡◌, ℕ, ◌<◌, length, get_or, set, refl, sym, ◌∙◌, ap, arith, rules}
 use Rattle.std.specs.Prelude.{Some, slice_get}
 use Rattle.std.proofs.lemmas.Option.{slice_get-get_or}
-use Rattle.world_rules.specs.State.{state}
 use Rattle.world_step.specs.declared.mote.Mote.{Mote}
 use Rattle.world_states.specs.Coming.{code_world}
-use Rattle.world_event.specs.Performing.{MayPerform, Performed}
-use Rattle.world_sim.specs.declared.simulation.Simulation.{Simulation}
 use Rattle.world_sim.proofs.KeepingLemmas.{few-stand, stands-still, kept-still}
 use Rattle.world_sim.proofs.WritingLemmas.{piece-adds, kept-set, first-mote, at-mote}
 use Rattle.world_sim.proofs.StepLemmas.{placed, of-mote, has-more, stands-after, well-of}
@@ -146,10 +143,11 @@ returns-clause-stands c =
     let new = c.told.ensures in
     let air_old = c.aired-air.ensures in
     let air_new = c.aired.ensures in
+    let sum = c.in_ok-self.ensures in
     stands-after c.args.desc.now c.args.world.now c.args.programs.now c.args.event.now c.args.at s _ c.node_of-number.result x y b own.low own.may p
-    (well-of c.args.desc.now y.node _ p.mote.is.description c.kept-_after.ensures.keeps p.mote.journal)
+    (well-of c.args.desc.now y.node _ p.mote.is.description c.kept-after.ensures.keeps p.mote.journal)
     (ap (λ (n : ℕ). set s.motes.items n y) c.from.ensures)
-    (omega (arith, told, aired, records, before, old, new, air_old, air_new))
+    (omega (arith, told, aired, records, before, old, new, air_old, air_new, sum))
 
 pub returns-clause-adds : goal.returns-clause-adds
 returns-clause-adds c =
@@ -172,8 +170,8 @@ returns-clause-adds c =
       mid = s;
       lets_go = c.let_go.ensures;
       adds =
-          piece-adds w (c.text_grows_by_events.ensures.events w) c.args.desc.now c.args.world.now c.args.programs.now c.args.event.now c.args.at s c.node_of-number.result x y c.perform.new.radio b own.may p high c.kept-_before.ensures.keeps.tidy.numbered
-          c.kept-_after.ensures.keeps.tidy.numbered (ap (λ (n : ℕ). get_or s.motes.items n x) (sym c.from.ensures) ∙ sym c.index_mut-mote.ensures.value) _ refl (ap (λ (n : ℕ). set s.motes.items n y) c.from.ensures);
+          piece-adds w (c.text_grows_by_events.ensures.events w) c.args.desc.now c.args.world.now c.args.programs.now c.args.event.now c.args.at s c.node_of-number.result x y c.perform.new.radio b own.may p high c.kept-before.ensures.keeps.tidy.numbered
+          c.kept-after.ensures.keeps.tidy.numbered (ap (λ (n : ℕ). get_or s.motes.items n x) (sym c.from.ensures) ∙ sym c.index_mut-mote.ensures.value) _ refl (ap (λ (n : ℕ). set s.motes.items n y) c.from.ensures);
     }
 
 pub returns-clause-kept : goal.returns-clause-kept
@@ -193,4 +191,4 @@ returns-clause-kept c = λ kept.
     let high : c.from.result < length s.motes.items = omega (arith, within, nodes, from) in
     let found : slice_get s.motes.items c.node_of-number.result ≡ Some x =
     ap (slice_get s.motes.items) (sym from) ∙ slice_get-get_or s.motes.items c.from.result x high ∙ ap (λ (m : Mote). Some m) (sym c.index_mut-mote.ensures.value) in
-    kept-set s.motes.items c.from.result c.perform.new.mote (kept-still c.args.written c.args.self.now s c.node_of-number.result x c.let_go.ensures found low c.kept-_before.ensures.keeps kept) c.kept-_after.ensures.keeps
+    kept-set s.motes.items c.from.result c.perform.new.mote (kept-still c.args.written c.args.self.now s c.node_of-number.result x c.let_go.ensures found low c.kept-before.ensures.keeps kept) c.kept-after.ensures.keeps
