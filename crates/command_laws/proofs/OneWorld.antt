@@ -77,7 +77,10 @@ world_text_agrees d bytes = judged_agrees ◌≡◌ _ _ _ one not same where
   not a e p q = cc
 
   same : (e h : ℕ × Cause) → IsBadWorld d bytes e → IsBadWorld d bytes h → e ≡ h
-  same e h p q = cc
+  same e h p q =
+      let line : e.0 ≡ h.0 = cc in
+      let cause : e.1 ≡ h.1 = cc in
+      ap (λ (n : ℕ). let x : ℕ × Cause = (n, e.1) in x) line ∙ ap (λ (c : Cause). let x : ℕ × Cause = (h.0, c) in x) cause
 
 world_agrees : (names : Names) (d : Description) (name : List ℕ) → AnswersAgree ◌≡◌ (world (steady names) d name) (world (steady names) d name)
 world_agrees names d name =
