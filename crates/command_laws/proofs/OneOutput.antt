@@ -2,7 +2,7 @@
 use Rattle.std.proofs.Common.{◌≡◌, inl, inr, Bool, true, false, sym, subst}
 use Rattle.command_laws.specs.SameText.{SameText}
 use Rattle.journal_answers.specs.Ending.{EndsByItself}
-use Rattle.mate_cli.specs.Runs.{report_of, output_of}
+use Rattle.mate_cli.specs.Runs.{output_of}
 use Rattle.mate_documents.specs.declared.document.Document.TheVariants as document
 use Rattle.mate_documents.specs.declared.output.Output.{Output}
 use Rattle.mate_documents.specs.declared.output.Output.TheVariants as output

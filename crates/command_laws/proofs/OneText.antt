@@ -12,7 +12,7 @@ use Rattle.mate_journal.specs.NodeScript.{Step, RunEnd}
 use Rattle.mate_journal.specs.declared.program.Program.{Program}
 use Rattle.mate_journal.specs.declared.report.Report.{Report}
 use Rattle.node_invariant.specs.Meaning.{clock_of}
-use Rattle.node_programs.specs.ScriptSteps.{program_at, steps_of}
+use Rattle.node_programs.specs.ScriptSteps.{steps_of}
 use Rattle.node_programs.specs.Sources.{meaning_by}
 use Rattle.report_text.specs.Text.{text}
 use Rattle.run_steps.specs.Running.{IsReportOf}

@@ -1,5 +1,5 @@
 -- The commands `sim` and `gen` have one answer.
-use Rattle.std.proofs.Common.{◌≡◌, ℕ, zero, suc, ◌<◌, Bool, List, [], ◌∷◌, ◌++◌, length, Option, Some, Ok, Err, Result, refl, sym, ◌∙◌, ap, subst, arith}
+use Rattle.std.proofs.Common.{◌≡◌, ℕ, suc, ◌<◌, Bool, List, [], ◌∷◌, ◌++◌, length, Option, Some, Ok, Result, refl, sym, ◌∙◌, ap, subst, arith}
 use Rattle.std.specs.Prelude.{slice_get, IsSomeAnd}
 use Rattle.std.specs.Global.{Vec}
 use Rattle.arrayvec.specs.ArrayVec.{ArrayVec}
@@ -8,7 +8,7 @@ use Rattle.command_laws.proofs.OneOutput.{output_agrees}
 use Rattle.command_laws.proofs.OneText.{WorldsHaveOneReport}
 use Rattle.generated_source.specs.Source.{source_of}
 use Rattle.journal_answers.specs.Ending.{EndsByItself}
-use Rattle.mate_cli.specs.Worlds.{world_output, run_of_world, sim, run_of_number, made_run}
+use Rattle.mate_cli.specs.Worlds.{world_output, sim, run_of_number, made_run}
 use Rattle.mate_documents.specs.declared.output.Output.{Output}
 use Rattle.mate_documents.specs.declared.output.Output.TheVariants as output
 use Rattle.mate_files.specs.Files.{Names}
@@ -19,9 +19,8 @@ use Rattle.mate_journal.specs.declared.report.Report.{Report}
 use Rattle.mate_num.specs.declared.id.HandlerId.{HandlerId}
 use Rattle.mate_refusals.specs.declared.refusal.Refusal.{Refusal}
 use Rattle.mate_steps.specs.OneAnswer.{AnswersAgree, steady}
-use Rattle.mate_steps.specs.SourceCode.{IsCompiledOf, compiled_tree}
+use Rattle.mate_steps.specs.SourceCode.{IsCompiledOf}
 use Rattle.mate_steps.specs.Steps.{◌▸◌}
-use Rattle.mate_steps.specs.declared.code.CompiledScript.{CompiledScript}
 use Rattle.mate_steps.proofs.AcceptanceLemmas.{one_tree}
 use Rattle.mate_steps.proofs.OneAnswer.{then_agrees, judged_agrees, machine_agrees, SameBytes, file_agrees}
 use Rattle.mate_steps.proofs.OneSource.{SameCompiled}
@@ -77,7 +76,10 @@ world_text_agrees d bytes = judged_agrees ◌≡◌ _ _ _ one not same where
   not a e p q = cc
 
   same : (e h : ℕ × Cause) → IsBadWorld d bytes e → IsBadWorld d bytes h → e ≡ h
-  same e h p q = cc
+  same e h p q =
+      let line : e.0 ≡ h.0 = cc in
+      let cause : e.1 ≡ h.1 = cc in
+      ap (λ (n : ℕ). let x : ℕ × Cause = (n, e.1) in x) line ∙ ap (λ (c : Cause). let x : ℕ × Cause = (h.0, c) in x) cause
 
 world_agrees : (names : Names) (d : Description) (name : List ℕ) → AnswersAgree ◌≡◌ (world (steady names) d name) (world (steady names) d name)
 world_agrees names d name =

@@ -1,21 +1,19 @@
 -- What is owed of files that tell their bytes is owed of steady ones, but where a file could not be read.
-use Rattle.std.proofs.Common.{◌≡◌, ◌⊎◌, inl, inr, ℕ, Bool, true, List, [], ◌∷◌, ◌++◌, Option, Some, None, option_to_list, Result, Ok, Err, sym, subst}
+use Rattle.std.proofs.Common.{◌≡◌, ◌⊎◌, inl, inr, ℕ, Bool, List, [], ◌∷◌, ◌++◌, Option, Some, None, option_to_list, Result, Ok, Err, sym, subst}
 use Rattle.std.specs.Prelude.{IsTrue}
 use Rattle.std.specs.Global.{Vec}
 use Rattle.command_line.specs.Commands.{Task, Node, Sim, Gen, Table, Compile, Check, Expand}
 use Rattle.mate_cli.specs.Ends.{command, task, Owes}
-use Rattle.mate_cli.specs.Node.{node, run_output}
-use Rattle.mate_cli.specs.Worlds.{sim, made_run, run_of_number, world_output}
+use Rattle.mate_cli.specs.Node.{node}
+use Rattle.mate_cli.specs.Worlds.{sim, made_run}
 use Rattle.mate_documents.specs.Check.{check}
 use Rattle.mate_documents.specs.Compile.{compile}
 use Rattle.mate_documents.specs.Expand.{expand}
-use Rattle.mate_documents.specs.Table.{opcode_table}
 use Rattle.mate_documents.specs.declared.output.Output.{Output}
 use Rattle.mate_files.specs.Counts.{Rose}
 use Rattle.mate_files.specs.Files.{Names, WhereTold}
 use Rattle.mate_refusals.specs.declared.refusal.Refusal.{Refusal}
 use Rattle.mate_steps.specs.CapsuleFiles.{capsule}
-use Rattle.mate_steps.specs.Expansions.{expanded_source}
 use Rattle.mate_steps.specs.OneAnswer.{steady}
 use Rattle.mate_steps.specs.Parts.{Folder, file, IsUnreadAnswer, machine, machine_file}
 use Rattle.mate_steps.specs.Sources.{source}
@@ -23,11 +21,8 @@ use Rattle.mate_steps.specs.Steps.{Then, goes_on, stops}
 use Rattle.mate_steps.proofs.Laws.{unread-as}
 use Rattle.mate_journal.specs.declared.program.Program.{Program}
 use Rattle.mate_num.specs.declared.id.HandlerId.{HandlerId}
-use Rattle.mate_refusals.specs.declared.cause.Cause.TheVariants as cause
-use Rattle.mate_refusals.specs.declared.cause.Unread.TheVariants.{Failed, Large}
-use Rattle.script_programs.specs.Programs.{installed, loaded, name_at, gives_program, step_program, programs_after, script_programs}
+use Rattle.script_programs.specs.Programs.{installed, loaded, name_at, gives_program, step_program, programs_after}
 use Rattle.script_programs.specs.Scripts.{script}
-use Rattle.script_reader.specs.Steps.{NodeScript}
 use Rattle.script_reader.specs.declared.steps.Step.{Step}
 use Rattle.script_reader.specs.declared.steps.Step.TheVariants as step
 use Rattle.vm_desc.specs.declared.description.Description.{Description}
