@@ -1,4 +1,4 @@
-use Rattle.std.proofs.Common.{◌<◌, ◌≡◌, ℕ, length, refl, sym, ◌∙◌, ap, subst, rules, append-nil}
+use Rattle.std.proofs.Common.{◌<◌, ℕ, length, refl, sym, ◌∙◌, ap, subst, rules, append-nil}
 use Rattle.std.specs.Prelude.{slice_get, slice_set}
 use Rattle.mate_journal.specs.Log.{Log, IsSameLog}
 use Rattle.mate_journal.specs.OpenLog.{joined}
