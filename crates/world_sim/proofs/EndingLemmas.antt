@@ -35,7 +35,7 @@ use Rattle.world_event.specs.Performing.{IsMoteAfter}
 use Rattle.world_step.specs.declared.mote.Mote.{Mote}
 use Rattle.world_sim.specs.Running.{StandsAfter}
 use Rattle.world_sim.specs.Keeping.{IsWhole}
-use Rattle.world_sim.specs.Writing.{report_now, AreKept, AreAtHand, HasWrittenNow, StandsAtEnd}
+use Rattle.world_sim.specs.Writing.{report_now, LogsAreKept, AreAtHand, HasWrittenNow, StandsAtEnd}
 use Rattle.world_sim.specs.declared.simulation.Simulation.{Simulation}
 use Rattle.world_sim.proofs.WorldLemmas.{some-at, of-machine, shown-machine, whole-log, whole-report}
 use Rattle.world_sim.proofs.WritingLemmas.{log-at, long-logs, first-mote, tell, keeps-all, cut-report}
@@ -134,7 +134,7 @@ module _ (d : Description) (script : Script) (ps : List Program) (law : StartsWi
   pub start-goes : (out f out' f' : _) → IsWhole s → Puts {T = Unit {0}} out f out' f' (Ok tt) (event_piece d (drop s.radio.gone s.radio.air) m.node.log m.node.gone.entries 0) → HasWrittenNow d s out f out' f'
   start-goes out f out' f' whole puts = written-more (event_piece d (drop s.radio.gone s.radio.air) m.node.log m.node.gone.entries 0) (lines d (report_now s)) written-nothing puts (sym (at-start whole))
 
-  pub start-fails : (kept : AreKept s.motes.items) (fault : SinkFault) (answer : WriteFault) (out f out' f' : _) → IsWhole s
+  pub start-fails : (kept : LogsAreKept s.motes.items) (fault : SinkFault) (answer : WriteFault) (out f out' f' : _) → IsWhole s
       → Puts {T = Unit {0}} out f out' f' (Err fault) (event_piece d (drop s.radio.gone s.radio.air) m.node.log m.node.gone.entries 0) → answer ≡ write_fault_of fault
       → WritesRun d (IsWorldReport (code_world d script ps)) out out' f f' (Err answer)
   start-fails kept fault answer out f out' f' whole puts is =
@@ -179,7 +179,7 @@ some-told w ms at olds news nodes count each hand shows journals k m low =
     = ap (λ (g : Gone). g.entries) (shows.shown k (get_or olds k x) (get_or news k m) old_low (slice_get-get_or olds k x old_low) (slice_get-get_or news k m low)).tells.gone in
     omega (arith, more, sum, one, told, same, before, old_told, within, gone)
 
-pub all-numbered : (motes : List Mote) → AreKept motes → All NumbersInOrder (mote_logs motes)
+pub all-numbered : (motes : List Mote) → LogsAreKept motes → All NumbersInOrder (mote_logs motes)
 all-numbered [] kept = All-nil NumbersInOrder
 all-numbered (m ∷ motes) kept = All-cons NumbersInOrder m.node.log (mote_logs motes) (kept 0 m (omega arith)).tidy.numbered (all-numbered motes (λ i x low. kept (suc i) x (omega (arith, low))))
 
@@ -206,7 +206,7 @@ pub record EndsWhole (d : Description) (script : Script) (ps : List Program) (ms
   pub some : All (λ (m : Mote). m.node.gone.entries < length m.node.log.entries) new.motes.items
 
 pub ends-whole-of : (d : Description) (script : Script) (ps : List Program) (events : ℕ) (at : Stamp) (s new : Simulation) (b : StandsAtEnd (code_world d script ps) Whole events s)
-    → at ≡ record { event = suc (length b.moments); time = script.until } → ShowStores at (length s.motes.items) s.motes.items new.motes.items → new.radio.air ≡ s.radio.air → AreKept new.motes.items → AreAtHand s.motes.items
+    → at ≡ record { event = suc (length b.moments); time = script.until } → ShowStores at (length s.motes.items) s.motes.items new.motes.items → new.radio.air ≡ s.radio.air → LogsAreKept new.motes.items → AreAtHand s.motes.items
     → EndsWhole d script ps b.moments s new events
 ends-whole-of d script ps events at s new b stamp shows air kept hand =
     let w = code_world d script ps in

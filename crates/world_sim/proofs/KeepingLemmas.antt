@@ -52,7 +52,7 @@ use Rattle.world_text.specs.EventText.{so_far}
 use Rattle.world_sim.specs.Keeping.{IsWhole, LetsGo, LetsGoAsTold}
 use Rattle.world_sim.specs.Reporting.{ShowStores, mote_logs}
 use Rattle.world_sim.specs.Running.{StandsAtNext}
-use Rattle.world_sim.specs.Writing.{report_now, AreKept, AddsEvent, HasWrittenNow}
+use Rattle.world_sim.specs.Writing.{report_now, LogsAreKept, AddsEvent, HasWrittenNow}
 use Rattle.world_sim.specs.declared.simulation.Simulation.{Simulation}
 use Rattle.world_sim.specs.declared.simulation.Written.{Written}
 use Rattle.world_sim.specs.declared.simulation.Written.TheVariants.{Kept, Forgotten}
@@ -220,9 +220,9 @@ pub written-still : (old mid : Simulation) (node : ℕ) (go : LetsGo old mid nod
 written-still old mid node go d out0 f0 out f written = go-written old mid node go d out0 f0 out f written
 
 pub kept-still : (written : Written) (old mid : Simulation) (node : ℕ) (m : Mote) → LetsGoAsTold written old mid node → slice_get mid.motes.items node ≡ Some m → node < length old.motes.items
-    → KeepsJournal m.node.description (machine_in m.node.description) m.node.log → AreKept old.motes.items → AreKept mid.motes.items
-kept-still Kept old mid node m go found low own kept = subst (λ (s : Simulation). AreKept s.motes.items) (sym go) kept
-kept-still Forgotten old mid node m go found low own kept = subst AreKept (sym go.motes) (kept-set old.motes.items node go.after kept mine) where
+    → KeepsJournal m.node.description (machine_in m.node.description) m.node.log → LogsAreKept old.motes.items → LogsAreKept mid.motes.items
+kept-still Kept old mid node m go found low own kept = subst (λ (s : Simulation). LogsAreKept s.motes.items) (sym go) kept
+kept-still Forgotten old mid node m go found low own kept = subst LogsAreKept (sym go.motes) (kept-set old.motes.items node go.after kept mine) where
   is : m ≡ go.after
   is = ap (λ (o : Option Mote). unwrap_or o m) (sym found ∙ ap (λ (xs : List Mote). slice_get xs node) go.motes ∙ slice_get_set_same old.motes.items node go.after low)
 

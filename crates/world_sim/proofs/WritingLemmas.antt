@@ -40,7 +40,7 @@ use Rattle.world_step.specs.declared.mote.Mote.{Mote}
 use Rattle.world_text.specs.EventText.{so_far, TellJournals, AddsLines, EventsAddTheirLines, store_lines}
 use Rattle.world_sim.specs.Reporting.{mote_logs, told_report, AreOfMachine}
 use Rattle.world_sim.specs.Running.{StandsAfter, StandsAtNext}
-use Rattle.world_sim.specs.Writing.{report_now, AreKept, AddsEvent, HasWrittenNow, StandsAtEnd}
+use Rattle.world_sim.specs.Writing.{report_now, LogsAreKept, AddsEvent, HasWrittenNow, StandsAtEnd}
 use Rattle.world_sim.specs.declared.simulation.Simulation.{Simulation}
 use Rattle.world_sim.proofs.WorldLemmas.{some-at, of-machine, full-report}
 
@@ -80,7 +80,7 @@ tell w ms motes nodes count each k l below =
     ap journal_of (log-at motes k l m low) ∙ (some-at (IsMoteAfter w ms k) motes k m low (each k (omega (arith, low, count)))).journal
 
 -- each log is kept
-pub keeps-all : (d : Description) (motes : List Mote) → AreKept motes → AreOfMachine d motes → All (KeepsJournal d (machine_in d)) (mote_logs motes)
+pub keeps-all : (d : Description) (motes : List Mote) → LogsAreKept motes → AreOfMachine d motes → All (KeepsJournal d (machine_in d)) (mote_logs motes)
 keeps-all d [] kept are = All-nil (KeepsJournal d (machine_in d))
 keeps-all d (m ∷ motes) kept are =
     let own = kept 0 m (omega arith) in
@@ -124,7 +124,7 @@ piece-adds w law d script ps e at s number x y radio b may p low xn yn found new
     }
 
 -- the other nodes keep their logs
-pub kept-set : (motes : List Mote) (k : ℕ) (y : Mote) → AreKept motes → KeepsJournal y.node.description (machine_in y.node.description) y.node.log → AreKept (set motes k y)
+pub kept-set : (motes : List Mote) (k : ℕ) (y : Mote) → LogsAreKept motes → KeepsJournal y.node.description (machine_in y.node.description) y.node.log → LogsAreKept (set motes k y)
 kept-set [] k y kept own = kept
 kept-set (x ∷ motes) zero y kept own =
     All-cons (λ (m : Mote). KeepsJournal m.node.description (machine_in m.node.description) m.node.log) y motes own (λ i z low. kept (suc i) z (omega (arith, low)))
@@ -135,7 +135,7 @@ kept-set (x ∷ motes) (suc k) y kept own =
 
 module _ (d : Description) (script : Script) (ps : List Program) (ms : List Moment) (events : ℕ) (s : Simulation) (come : HaveCome (code_world d script ps) ms) (air : s.radio.air ≡ airs (code_world d script ps) ms)
     (count : length s.motes.items ≡ script.nodes) (each : (k : ℕ) → k < script.nodes → IsSomeAnd (slice_get s.motes.items k) (IsMoteAfter (code_world d script ps) ms k)) (number : events ≡ length ms)
-    (kept : AreKept s.motes.items) where
+    (kept : LogsAreKept s.motes.items) where
   cut-log : (k : ℕ) → k < script.nodes → IsSomeAnd (slice_get (mote_logs s.motes.items) k) (IsLogOf (code_world d script ps) Cut ms k)
   cut-log k below =
       let w = code_world d script ps in
@@ -173,7 +173,7 @@ module _ (d : Description) (script : Script) (ps : List Program) (ms : List Mome
 -- ---- where a run stands
 
 -- the same world, whose radio waits for less
-pub at-end : (w : World) (how : RunEnd) (events : ℕ) (s new : Simulation) (b : StandsAfter w events s) → IsAtEnd w how (state w b.moments) → AreKept s.motes.items → new.radio.air ≡ s.radio.air → new.motes ≡ s.motes → StandsAtEnd w how events new
+pub at-end : (w : World) (how : RunEnd) (events : ℕ) (s new : Simulation) (b : StandsAfter w events s) → IsAtEnd w how (state w b.moments) → LogsAreKept s.motes.items → new.radio.air ≡ s.radio.air → new.motes ≡ s.motes → StandsAtEnd w how events new
 at-end w how events s new b ends kept air motes = record {
   moments = b.moments;
   come = b.come;
@@ -182,7 +182,7 @@ at-end w how events s new b ends kept air motes = record {
   air = air ∙ b.radio.air;
   nodes = ap (λ (v : Vec Mote). length v.items) motes ∙ b.nodes;
   each = λ k below. subst (λ (v : Vec Mote). IsSomeAnd (slice_get v.items k) (IsMoteAfter w b.moments k)) (sym motes) (b.motes k below);
-  kept = subst (λ (v : Vec Mote). AreKept v.items) (sym motes) kept;
+  kept = subst (λ (v : Vec Mote). LogsAreKept v.items) (sym motes) kept;
 }
 
 -- ---- what was written, where a run ends
@@ -204,7 +204,7 @@ module _ (d : Description) (script : Script) (ps : List Program) where
 
   -- memory was refused: the report is of what stood before
   pub memory-ends : (ms : List Moment) (s : Simulation) (events : ℕ) → HaveCome W ms → s.radio.air ≡ airs W ms → (count : length s.motes.items ≡ script.nodes)
-      → (each : (k : ℕ) → k < script.nodes → IsSomeAnd (slice_get s.motes.items k) (IsMoteAfter W ms k)) → events ≡ length ms → AreKept s.motes.items
+      → (each : (k : ℕ) → k < script.nodes → IsSomeAnd (slice_get s.motes.items k) (IsMoteAfter W ms k)) → events ≡ length ms → LogsAreKept s.motes.items
       → (out f out0 f0 : _) → HasWrittenNow d s out0 f0 out f → WritesRun d Is out0 out f0 f (Err NoMemory)
   memory-ends ms s events come air count each number kept out f out0 f0 written =
       wants-memory d Is out0 out f0 f Cut (told_report s events false) (cut-report d script ps ms events s come air count each number kept) (lines d (report_now s)) []
@@ -226,7 +226,7 @@ module _ (d : Description) (script : Script) (ps : List Program) where
   step-goes number node s new adds out f out' f' out0 f0 written puts =
       written-more (event_piece d (drop (length s.radio.air) new.radio.air) adds.after.node.log (length adds.before.node.log.entries) node) (lines d (report_now new)) written puts (adds.adds.lines_are d)
 
-  pub step-fails : (number node : ℕ) (s new : Simulation) (adds : AddsEvent number s new node) (b : StandsAfter W number new) → AreKept new.motes.items → (fault : SinkFault) (answer : WriteFault) → (out f out' f' out0 f0 : _)
+  pub step-fails : (number node : ℕ) (s new : Simulation) (adds : AddsEvent number s new node) (b : StandsAfter W number new) → LogsAreKept new.motes.items → (fault : SinkFault) (answer : WriteFault) → (out f out' f' out0 f0 : _)
       → HasWrittenNow d s out0 f0 out f → Puts {T = Unit {0}} out f out' f' (Err fault) (event_piece d (drop (length s.radio.air) new.radio.air) adds.after.node.log (length adds.before.node.log.entries) node) → answer ≡ write_fault_of fault
       → WritesRun d Is out0 out' f0 f' (Err answer)
   step-fails number node s new adds b kept fault answer out f out' f' out0 f0 written puts is =

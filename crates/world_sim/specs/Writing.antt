@@ -27,8 +27,8 @@ abbrev pub report_now : Simulation → Report
 report_now s = so_far (mote_logs s.motes.items) s.radio.air
 
 -- each node keeps its log
-abbrev pub AreKept : List Mote → Type 0
-AreKept motes = All (λ (m : Mote). KeepsJournal m.node.description (machine_in m.node.description) m.node.log) motes
+abbrev pub LogsAreKept : List Mote → Type 0
+LogsAreKept motes = All (λ (m : Mote). KeepsJournal m.node.description (machine_in m.node.description) m.node.log) motes
 
 -- no more of it is gone than was told
 abbrev pub AreAtHand : List Mote → Type 0
@@ -46,7 +46,7 @@ pub record AddsEvent (number : ℕ) (old new : Simulation) (node : ℕ) : Type 0
   pub adds : AddsLines (report_now old) (report_now new) number (drop (length old.radio.air) new.radio.air) after.node.log (length before.node.log.entries) node
 
 -- the event came where what was told before it was let go, or kept
-pub record HasStepped (written : Written) (number : ℕ) (old new : Simulation) (node : ℕ) : Type 0 where
+pub record HasComeOn (written : Written) (number : ℕ) (old new : Simulation) (node : ℕ) : Type 0 where
   pub mid : Simulation
   pub lets_go : LetsGoAsTold written old mid node
   pub adds : AddsEvent number mid new node
@@ -63,13 +63,13 @@ EndsSo d w s out f out' f' result = (out0 : Option (List ℕ)) (f0 : ℕ) → Ha
 
 -- the start was written, or the run ended there
 abbrev pub IsStartWritten : Description → World → Simulation → Option (List ℕ) → ℕ → Option (List ℕ) → ℕ → Result (Unit {0}) WriteFault → Type 0
-IsStartWritten d w s out f out' f' (Ok all) = AreKept s.motes.items × HasWrittenNow d s out f out' f'
+IsStartWritten d w s out f out' f' (Ok all) = LogsAreKept s.motes.items × HasWrittenNow d s out f out' f'
 IsStartWritten d w s out f out' f' (Err fault) = WritesRun d (IsWorldReport w) out out' f f' (Err fault)
 
 -- one event came and was written, or the run ended there
 abbrev pub IsStepWritten : Description → World → ℕ → (old new : Simulation) → Option (List ℕ) → ℕ → Option (List ℕ) → ℕ → Result (Unit {0}) WriteFault → Type 0
 IsStepWritten d w number old new out f out' f' (Ok all) =
-    StandsAfter w number new × AreKept new.motes.items × ((out0 : Option (List ℕ)) (f0 : ℕ) → HasWrittenNow d old out0 f0 out f → HasWrittenNow d new out0 f0 out' f')
+    StandsAfter w number new × LogsAreKept new.motes.items × ((out0 : Option (List ℕ)) (f0 : ℕ) → HasWrittenNow d old out0 f0 out f → HasWrittenNow d new out0 f0 out' f')
 IsStepWritten d w number old new out f out' f' (Err fault) = EndsSo d w old out f out' f' (Err fault)
 
 -- ---- the end
@@ -83,4 +83,4 @@ pub record StandsAtEnd (w : World) (how : RunEnd) (events : ℕ) (s : Simulation
   pub air : s.radio.air ≡ airs w moments
   pub nodes : length s.motes.items ≡ w.nodes
   pub each : (k : ℕ) → k < w.nodes → IsSomeAnd (slice_get s.motes.items k) (IsMoteAfter w moments k)
-  pub kept : AreKept s.motes.items
+  pub kept : LogsAreKept s.motes.items

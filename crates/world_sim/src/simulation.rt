@@ -14,7 +14,7 @@ ghost use Rattle.node_programs.specs.WorldPrograms.{AreProgramsOfWorld};
 ghost use Rattle.world_sim.specs.Starting.{HaveBegun};
 ghost use Rattle.world_sim.specs.Running.{StandsAfter, StandsAtNext, NamesPart, named_node};
 ghost use Rattle.world_sim.specs.Keeping.{IsWhole, LetsGoAsTold};
-ghost use Rattle.world_sim.specs.Writing.{HasStepped, AreKept};
+ghost use Rattle.world_sim.specs.Writing.{HasComeOn, LogsAreKept};
 
 use mate_journal::Programs;
 use mate_num::{NoMemory, Stamp};
@@ -82,8 +82,8 @@ impl Simulation {
         requires stands { StandsAtNext (code_world desc.now world.now programs.now) event.now at self.old }
         requires plain { effect.old ≡ plain_effect }
         ensures stands { OnOk result (StandsAfter (code_world desc.now world.now programs.now) at.event self.new) }
-        ensures adds { IfOk result (HasStepped written at.event self.old self.new) }
-        ensures kept { OnOk result (AreKept self.old.motes.items → AreKept self.new.motes.items) }
+        ensures adds { IfOk result (HasComeOn written at.event self.old self.new) }
+        ensures kept { OnOk result (LogsAreKept self.old.motes.items → LogsAreKept self.new.motes.items) }
         ensures plain { OnOk result (effect.new ≡ plain_effect) }
     {
         states_are_sound();

@@ -13,7 +13,7 @@ ghost use Rattle.world_sim.specs.Keeping.{IsWhole};
 ghost use Rattle.world_sim.specs.Promise.{IsReportOfWorld};
 ghost use Rattle.world_sim.specs.Reporting.{mote_logs, told_report};
 ghost use Rattle.world_sim.specs.Running.{StandsAfter, StandsAtNext};
-ghost use Rattle.world_sim.specs.Writing.{AreAtHand, AreKept, EndsSo, IsStartWritten, IsStepWritten, StandsAtEnd};
+ghost use Rattle.world_sim.specs.Writing.{AreAtHand, LogsAreKept, EndsSo, IsStartWritten, IsStepWritten, StandsAtEnd};
 ghost use Rattle.world_text.specs.EventText.{store_lines};
 
 use crate::promise::reports_keep_the_promise;
@@ -120,7 +120,7 @@ fn write_step<S: Sink>(
 ) -> Result<(), WriteFault>
     requires right { AreProgramsOfWorld desc.now world.now programs.now }
     requires stands { StandsAtNext (code_world desc.now world.now programs.now) event.now at sim.old }
-    requires kept { AreKept sim.old.motes.items }
+    requires kept { LogsAreKept sim.old.motes.items }
     requires plain { effect.old ≡ plain_effect }
     ensures writes { IsStepWritten desc.now (code_world desc.now world.now programs.now) at.event sim.old sim.new (S.written out.old) (S.faults out.old) (S.written out.new) (S.faults out.new) result }
     ensures plain { OnOk result (effect.new ≡ plain_effect) }
@@ -250,7 +250,7 @@ fn entries_in(motes: &[Mote]) -> u64
 
 /// What each node keeps of its log.
 fn logs_are_kept(motes: &[Mote])
-    ensures { AreKept motes.now }
+    ensures { LogsAreKept motes.now }
 {
     for mote in motes {
         let _kept = mote.node.kept();

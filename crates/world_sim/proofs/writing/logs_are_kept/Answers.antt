@@ -4,7 +4,7 @@ use Rattle.std.proofs.lemmas.List.Elements.{All-more}
 use Rattle.node_invariant.specs.Meaning.{machine_in}
 use Rattle.open_node.specs.Journal.{KeepsJournal}
 use Rattle.world_step.specs.declared.mote.Mote.{Mote}
-use Rattle.world_sim.specs.Writing.{AreKept}
+use Rattle.world_sim.specs.Writing.{LogsAreKept}
 use Rattle.world_sim.proofs.writing.logs_are_kept.Goals as goal
 
 pub loop-mote-preserved : goal.loop-mote-preserved
@@ -13,4 +13,4 @@ loop-mote-preserved c =
     All-more Own c.args.motes.now c.loop-mote.mote-index c.mote-item.result c.loop-mote-test.true c.loop-mote.invariant (subst Own c.mote-item.is c.kept-_kept.ensures.keeps)
 
 pub returns : goal.returns
-returns c = subst AreKept (take_all c.loop-mote.mote-index c.args.motes.now c.loop-mote-test.false) c.loop-mote.invariant
+returns c = subst LogsAreKept (take_all c.loop-mote.mote-index c.args.motes.now c.loop-mote-test.false) c.loop-mote.invariant

@@ -5,7 +5,7 @@ use Rattle.world_rules.specs.Report.{IsWorldReport}
 use Rattle.world_step.specs.declared.mote.Mote.{Mote}
 use Rattle.world_text.specs.EventText.{store_lines}
 use Rattle.world_sim.specs.Reporting.{mote_logs}
-use Rattle.world_sim.specs.Writing.{AreKept, AreAtHand}
+use Rattle.world_sim.specs.Writing.{LogsAreKept, AreAtHand}
 use Rattle.world_sim.specs.declared.simulation.Simulation.{Simulation}
 use Rattle.world_states.specs.Coming.{code_world}
 use Rattle.world_sim.proofs.WorldLemmas.{all-timely}
@@ -29,7 +29,7 @@ write_stores-requires-clause-some g c =
     let b = c.requires.ends in
     let count = b.count in
     let next : c.args.events + 1 ≡ suc (length b.moments) = omega (arith, count) in
-    let kept = subst AreKept c.as_slice-2.ensures.value c.logs_are_kept.ensures in
+    let kept = subst LogsAreKept c.as_slice-2.ensures.value c.logs_are_kept.ensures in
     let new : Simulation = record { radio = c.args.sim.now.radio; motes = c.see_stores.new.motes; records = c.args.sim.now.records } in
     let e = ends-whole-of c.args.desc.now c.args.world.now c.args.programs.now c.args.events (record { event = c.args.events + 1; time = c.args.world.now.until }) c.args.sim.now new b
     (ap (λ (n : ℕ). record { event = n; time = c.args.world.now.until }) next) c.in-Ok.ensures refl kept (subst AreAtHand c.as_slice.ensures.value c.are_at_hand.ensures) in
@@ -40,7 +40,7 @@ returns-in-Err-clause-writes g c =
     let b = c.requires.ends in
     let count = b.count in
     let next : c.args.events + 1 ≡ suc (length b.moments) = omega (arith, count) in
-    let kept = subst AreKept c.as_slice-2.ensures.value c.logs_are_kept.ensures in
+    let kept = subst LogsAreKept c.as_slice-2.ensures.value c.logs_are_kept.ensures in
     let w = code_world c.args.desc.now c.args.world.now c.args.programs.now in
     let new : Simulation = record { radio = c.args.sim.now.radio; motes = c.see_stores.new.motes; records = c.args.sim.now.records } in
     let e = ends-whole-of c.args.desc.now c.args.world.now c.args.programs.now c.args.events (record { event = c.args.events + 1; time = c.args.world.now.until }) c.args.sim.now new b
@@ -53,7 +53,7 @@ returns-clause-writes g c =
     let b = c.requires.ends in
     let count = b.count in
     let next : c.args.events + 1 ≡ suc (length b.moments) = omega (arith, count) in
-    let kept = subst AreKept c.as_slice-2.ensures.value c.logs_are_kept.ensures in
+    let kept = subst LogsAreKept c.as_slice-2.ensures.value c.logs_are_kept.ensures in
     let w = code_world c.args.desc.now c.args.world.now c.args.programs.now in
     let new : Simulation = record { radio = c.args.sim.now.radio; motes = c.see_stores.new.motes; records = c.args.sim.now.records } in
     let e = ends-whole-of c.args.desc.now c.args.world.now c.args.programs.now c.args.events (record { event = c.args.events + 1; time = c.args.world.now.until }) c.args.sim.now new b

@@ -1,6 +1,6 @@
 use Rattle.std.proofs.Common.{◌<◌, length, subst, arith}
 use Rattle.world_states.specs.Coming.{code_world}
-use Rattle.world_sim.specs.Writing.{AreKept}
+use Rattle.world_sim.specs.Writing.{LogsAreKept}
 use Rattle.world_sim.proofs.WritingLemmas.{first-mote, at-mote}
 use Rattle.world_sim.proofs.EndingLemmas.{start-goes, start-fails}
 use Rattle.world_sim.proofs.writing.write_start.Goals as goal
@@ -19,7 +19,7 @@ returns-in-Ok-clause-writes g c =
     let low : 0 < length c.args.sim.now.motes.items = omega (arith, count, some) in
     let m = first-mote c.args.sim.now.motes.items 0 low in
     let found = at-mote c.args.sim.now.motes.items 0 low in (
-      subst AreKept c.as_slice.ensures.value c.logs_are_kept.ensures,
+      subst LogsAreKept c.as_slice.ensures.value c.logs_are_kept.ensures,
       start-goes c.args.desc.now c.args.world.now c.args.programs.now (c.text_grows_by_events.ensures.starts (code_world c.args.desc.now c.args.world.now c.args.programs.now)) c.args.sim.now c.requires.stands m found _ _ _ _
           c.requires.whole (c.in-Ok.ensures m found),
     )
@@ -32,7 +32,7 @@ returns-in-Err-clause-writes g c =
     let m = first-mote c.args.sim.now.motes.items 0 low in
     let found = at-mote c.args.sim.now.motes.items 0 low in
     start-fails c.args.desc.now c.args.world.now c.args.programs.now (c.text_grows_by_events.ensures.starts (code_world c.args.desc.now c.args.world.now c.args.programs.now)) c.args.sim.now c.requires.stands m found
-    (subst AreKept c.as_slice.ensures.value c.logs_are_kept.ensures) c.in-Err.fault c.stopped.result _ _ _ _ c.requires.whole (c.in-Err.ensures m found) c.stopped.ensures
+    (subst LogsAreKept c.as_slice.ensures.value c.logs_are_kept.ensures) c.in-Err.fault c.stopped.result _ _ _ _ c.requires.whole (c.in-Err.ensures m found) c.stopped.ensures
 
 pub returns-in-Ok-clause-later : goal.returns-in-Ok-clause-later
 returns-in-Ok-clause-later g c =

@@ -2,13 +2,13 @@ use Rattle.std.proofs.Common.{◌≡◌}
 use Rattle.world_states.specs.Coming.{code_world}
 use Rattle.world_step.specs.Motes.{plain_effect}
 use Rattle.world_sim.specs.Running.{StandsAfter}
-use Rattle.world_sim.specs.Writing.{AreKept, HasWrittenNow}
+use Rattle.world_sim.specs.Writing.{LogsAreKept, HasWrittenNow}
 use Rattle.world_sim.proofs.writing.write_world.Given as goal
 
 abbrev pub invariant-loop-events : goal.invariant-loop-events
 invariant-loop-events g l = record {
   stands : StandsAfter (code_world l.desc l.world l.programs) l.events l.sim;
-  kept : AreKept l.sim.motes.items;
+  kept : LogsAreKept l.sim.motes.items;
   plain : l.effect ≡ plain_effect;
   written : HasWrittenNow l.desc l.sim (g.S.Sink.written l.fn.out) (g.S.Sink.faults l.fn.out) (g.S.Sink.written l.out) (g.S.Sink.faults l.out);
 }

@@ -1,0 +1,3 @@
+! counts in steps of one
+shared total;
+total = total + 1;

@@ -1,0 +1,3 @@
+! counts in steps of ten
+shared total;
+total = total + 10;
