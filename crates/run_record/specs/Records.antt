@@ -1,5 +1,5 @@
 -- What is kept of a run apart from its nodes.
-use Rattle.std.specs.Prelude.{◌≡◌, ◌≤◌, ◌<◌, ◌+◌, ◌^◌, ℕ, List, [], ◌++◌, length, slice_get, slice_set, Some, All, ⊤}
+use Rattle.std.specs.Prelude.{◌≡◌, ◌≢◌, ◌≤◌, ◌<◌, ◌+◌, ◌^◌, ℕ, List, [], ◌++◌, length, slice_get, slice_set, Some, All, ⊤}
 use Rattle.std.specs.List.{AllZip}
 use Rattle.mate_journal.specs.Log.{Log, IsSameLog, IsEmpty}
 use Rattle.mate_journal.specs.OpenLog.{joined}
@@ -56,3 +56,7 @@ HaveRoom room r = All (λ (l : Log). room ≤ l.spare) r.logs.items
 -- the node's log has room for this
 abbrev pub HasRoomFor : Record → ℕ → Log → Type 0
 HasRoomFor r node told = (own : Log) → HasLog r node own → length told.entries + length told.images + length told.stores ≤ own.spare
+
+-- the logs of the other nodes are as they were, with their room
+abbrev pub OthersStay : Record → Record → ℕ → Type 0
+OthersStay old new node = (k : ℕ) → k ≢ node → slice_get new.logs.items k ≡ slice_get old.logs.items k

@@ -1,7 +1,7 @@
 //! The record of a run.
 
 ghost use Rattle.std.specs.Prelude.{◌≡◌, ◌≤◌, ◌<◌, ◌++◌, [], length, IfOk, OnOk, MatchResult};
-ghost use Rattle.run_record.specs.Records.{IsEmptyRecord, IsSameRecord, MayAdd, HasAdded, HaveRoom, HasRoomFor};
+ghost use Rattle.run_record.specs.Records.{IsEmptyRecord, IsSameRecord, MayAdd, HasAdded, HaveRoom, HasRoomFor, OthersStay};
 
 use crate::copies::{aired_again, append};
 use mate_journal::{Aired, Airs, NodeLog, NodeLogs, Report};
@@ -59,12 +59,13 @@ impl Record {
         Ok(())
     }
 
-    /// Appends what a node told since, within the room that there is.
+    /// Appends what a node told since, within the room that there is. The other nodes keep their room.
     pub fn add_within(&mut self, node: u8, told: &NodeLog)
         requires node { node < length self.old.logs.items }
         requires told { MayAdd self.old node told.now }
         requires room { HasRoomFor self.old node told.now }
-        ensures { HasAdded self.old self.new node told.now [] }
+        ensures added { HasAdded self.old self.new node told.now [] }
+        ensures others { OthersStay self.old self.new node }
     {
         append(&mut self.logs[usize::from(node)], told);
     }
