@@ -26,6 +26,8 @@ pub data Task : Type 0 where
   Check : (machine file : List ℕ) → Task
   -- write the plain script that a source with procedures stands for
   Expand : (source : List ℕ) → Task
+  -- write what a new node of a machine answers to the capsules in a file, the bytes of a serial line
+  Feed : (machine stream : List ℕ) → Task
 
 -- the word for the built-in machine, in place of a description's file
 abbrev pub builtin_word : List ℕ
@@ -74,6 +76,10 @@ abbrev pub expand_task : List (List ℕ) → Option Task
 expand_task (source ∷ []) = Some (Expand source)
 expand_task words = None
 
+abbrev pub feed_task : List (List ℕ) → Option Task
+feed_task (machine ∷ stream ∷ []) = Some (Feed machine stream)
+feed_task words = None
+
 -- the task of a line; `node`, `sim` and `gen` take both flags, `compile` takes `--fold`, and no other command takes a flag
 abbrev pub task_of : Line → Option Task
 task_of l =
@@ -84,7 +90,8 @@ task_of l =
     if l.brief || l.fold then None else
     if bytes_eq l.command (codes "table") then table_task l.args else
     if bytes_eq l.command (codes "check") then check_task l.args else
-    if bytes_eq l.command (codes "expand") then expand_task l.args else None
+    if bytes_eq l.command (codes "expand") then expand_task l.args else
+    if bytes_eq l.command (codes "feed") then feed_task l.args else None
 
 -- the words say the task
 pub record Says (words : List (List ℕ)) (task : Task) : Type 0 where
@@ -109,3 +116,4 @@ task_held (command.Table machine) = Table machine.now
 task_held (command.Compile c) = Compile c.fold c.machine.now c.handler.now c.version c.source.now
 task_held (command.Check machine file) = Check machine.now file.now
 task_held (command.Expand source) = Expand source.now
+task_held (command.Feed machine stream) = Feed machine.now stream.now

@@ -3,7 +3,7 @@
 ghost use Rattle.std.specs.Prelude.{◌≡◌, ◌≤◌, map, option_map, IfSome};
 ghost use Rattle.std.specs.Char.{is_ascii_digit};
 ghost use Rattle.std.specs.List.{list_all};
-ghost use Rattle.command_line.specs.Commands.{task_held, line_said, task_of, node_task, sim_task, gen_task, table_task, compile_task, check_task, expand_task, version_said, number_said, is_counting};
+ghost use Rattle.command_line.specs.Commands.{task_held, line_said, task_of, node_task, sim_task, gen_task, table_task, compile_task, check_task, expand_task, feed_task, version_said, number_said, is_counting};
 
 use crate::CommandLine;
 use crate::compilation::Compilation;
@@ -27,6 +27,8 @@ pub enum Command<'a> {
     Check { machine: &'a str, capsule: &'a str },
     /// Writes the plain script that the source with procedures in a file stands for.
     Expand { source: &'a str },
+    /// Writes what a new node of a machine answers to the capsules in the file `stream`, which has the bytes of a serial line.
+    Feed { machine: &'a str, stream: &'a str },
 }
 
 /// The command of a line; None where its word is unknown, or has other words or flags than the command takes.
@@ -56,6 +58,9 @@ pub fn command_of<'a>(line: &CommandLine<'a>) -> Option<Command<'a>>
     }
     if line.command == "expand" {
         return expand(line.args.as_slice());
+    }
+    if line.command == "feed" {
+        return feed(line.args.as_slice());
     }
     None
 }
@@ -144,6 +149,15 @@ fn expand<'a>(args: &[&'a str]) -> Option<Command<'a>>
         return None;
     };
     Some(Command::Expand { source })
+}
+
+fn feed<'a>(args: &[&'a str]) -> Option<Command<'a>>
+    ensures { option_map task_held result ≡ feed_task (map (λ w. w.now) args.now) }
+{
+    let [machine, stream] = args else {
+        return None;
+    };
+    Some(Command::Feed { machine, stream })
 }
 
 /// A version in decimal digits, from 1 to 4294967295, with no sign and no 0 before it.

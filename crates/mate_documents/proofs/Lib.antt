@@ -1,2 +1,3 @@
 pub mod MachineLemmas
 pub mod ReadsLemmas
+pub mod StreamLemmas

@@ -1,10 +1,11 @@
--- The texts that commands write when they were made whole.
+-- The texts that commands write when all their parts are at hand.
 use Rattle.std.specs.Prelude.{ℕ, Bool, false, not, List, ◌++◌, codes, ⊤}
 use Rattle.report_text.specs.Brief.{brief}
 use Rattle.report_text.specs.Tidy.{IsTidy}
 use Rattle.opcode_gen.specs.TableText.{table_text}
 use Rattle.hex.specs.Hex.{encode_lower}
 use Rattle.capsule_codec.specs.Image.{capsule_parts}
+use Rattle.capsule_feed.specs.Lines.{feed_text}
 use Rattle.capsule_listing.specs.CapsuleText.{capsule_text, IsVerifiedFor}
 use Rattle.ts_syntax.specs.Seen.{source_of}
 use Rattle.ts_syntax.specs.Spelling.{source_spelled}
@@ -23,6 +24,7 @@ document_text (document.OpcodeTable d) = table_text d
 document_text (document.Capsule image) = encode_lower image.value.items ++ codes "\n"
 document_text (document.Listing d l) = capsule_text d (capsule_parts l.value.capsule) l.value.code.code
 document_text (document.Expansion s) = script_line (source_of s)
+document_text (document.Answers d stream) = feed_text d stream.items
 
 -- it tells of a run that a full log ended
 abbrev pub is_full : Document → Bool
@@ -36,3 +38,4 @@ HasText (document.OpcodeTable d) = ⊤
 HasText (document.Capsule image) = ⊤
 HasText (document.Listing d l) = IsVerifiedFor d (capsule_parts l.value.capsule) l.value.code
 HasText (document.Expansion s) = ⊤
+HasText (document.Answers d stream) = ⊤

@@ -1,4 +1,4 @@
--- What a command writes: a text that was made whole, or a run, which is written as its events end.
+-- What a command writes: a text all of whose parts are at hand, or a run, which is written as its events end.
 use Rattle.std.specs.Prelude.{◌≡◌, ℕ, List, Result, Ok, Err}
 use Rattle.node_programs.specs.ScriptSteps.{AreProgramsOf}
 use Rattle.node_programs.specs.WorldPrograms.{AreProgramsOfWorld}

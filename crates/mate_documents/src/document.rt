@@ -1,4 +1,4 @@
-//! A text that a command writes when it was made whole.
+//! A text that a command writes when all its parts are at hand.
 
 ghost use Rattle.std.specs.Prelude.{◌++◌, codes};
 ghost use Rattle.hex.specs.Hex.{encode_lower};
@@ -7,6 +7,7 @@ ghost use Rattle.mate_files.specs.Sink.{Puts};
 ghost use Rattle.ts_syntax.specs.Seen.{source_of};
 
 use crate::boxed_machine::BoxedMachine;
+use capsule_feed::write_answers;
 use capsule_listing::print_capsule;
 use mate_files::{Pen, Sink, SinkFault};
 use mate_journal::Report;
@@ -28,6 +29,8 @@ pub enum Document {
     Listing(BoxedMachine, Box<VerifiedCapsule>),
     /// The tokens of a plain script, in one line.
     Expansion(Script),
+    /// What a new node of this machine answers to the frames of this stream, a line each.
+    Answers(BoxedMachine, Vec<u8>),
 }
 
 impl Document {
@@ -49,6 +52,9 @@ impl Document {
                 print_capsule(machine.description(), &held.capsule, &held.code, out)
             }
             Document::Expansion(script) => write_script(script, out),
+            Document::Answers(machine, stream) => {
+                write_answers(machine.description(), stream.as_slice(), out)
+            }
         }
     }
 
@@ -62,6 +68,7 @@ impl Document {
             Document::Capsule(_) => false,
             Document::Listing(_, _) => false,
             Document::Expansion(_) => false,
+            Document::Answers(_, _) => false,
         }
     }
 }

@@ -6,6 +6,7 @@ pub mod check;
 pub mod compile;
 pub mod document;
 pub mod expand;
+pub mod feed;
 pub mod output;
 pub mod table;
 

@@ -8,7 +8,7 @@ use world_script::World;
 
 /// What a command is to write to standard output, when all that it needs was read and found right.
 pub enum Output {
-    /// A text that was made whole.
+    /// A text all of whose parts are at hand.
     Document(Document),
     /// The report of the run of a script on this machine, with the programs of its files: it is run and written, event by
     /// event.
