@@ -1,0 +1,3 @@
+pub mod RightLemmas
+pub mod TestLemmas
+pub mod VerdictLemmas
