@@ -1,5 +1,5 @@
 -- The tests of how entries follow one another tell it.
-use Rattle.std.proofs.Common.{◌≡◌, ◌≤◌, ℕ, suc, ◌+◌, Bool, true, false, true≢false, List, [], ◌∷◌, refl, sym, ◌∙◌, ap, subst, arith, inl, inr, eqb, leb, Option}
+use Rattle.std.proofs.Common.{◌≡◌, ℕ, suc, ◌+◌, Bool, true, false, true≢false, List, [], ◌∷◌, refl, sym, ◌∙◌, ap, subst, eqb, leb, Option}
 use Rattle.std.specs.Prelude.{Decides, IsSome, is_some, ◌&&◌, ◌||◌, ◌==◌, not, nat_le, nat_lt}
 use Rattle.std.proofs.lemmas.Bool.Decides.{Decides-eqb, Decides-and, Decides-ltb, Decides-like}
 use Rattle.mate_num.specs.declared.call.End.{End}

@@ -1,5 +1,5 @@
 -- Whoever is live has the program that is installed for its handler.
-use Rattle.std.proofs.Common.{◌≡◌, ℕ, Bool, true, true≢false, [], ◌∷◌, ◌++◌, refl, sym, subst, inl, inr, Option, Some, None}
+use Rattle.std.proofs.Common.{◌≡◌, ℕ, true, true≢false, [], refl, sym, subst, inl, inr, Option, Some, None}
 use Rattle.std.specs.Prelude.{ℤ, suc, Contains, IsTrue, ◌&&◌, ◌==◌, not, is_some, unwrap_or}
 use Rattle.std.proofs.lemmas.Bool.{and_parts}
 use Rattle.std.proofs.lemmas.Bool.Decides.{eqb_tells}

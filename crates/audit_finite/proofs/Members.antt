@@ -1,6 +1,6 @@
 -- Elements of a list, and tests of a list.
 use Rattle.std.proofs.Common.{◌≡◌, ◌<◌, ◌⊎◌, ℕ, zero, suc, Bool, true, false, true≢false, List, [], ◌∷◌, length, map, cond, refl, sym, ◌∙◌, ap, arith, inl, inr}
-use Rattle.std.specs.Prelude.{Contains, filter, slice_index_or, ◌&&◌, ◌||◌}
+use Rattle.std.specs.Prelude.{Contains, filter, slice_index_or, ◌||◌}
 use Rattle.std.specs.List.{list_any, list_all}
 use Rattle.std.proofs.lemmas.Bool.{and_from, and_parts, or_left, or_right}
 

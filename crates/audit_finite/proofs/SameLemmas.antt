@@ -1,5 +1,5 @@
 -- The tests whether ends, calls and values are the same.
-use Rattle.std.proofs.Common.{◌≡◌, ℕ, zero, suc, ℤ, pos, negsuc, false, true≢false, List, [], ◌∷◌, refl, sym, ◌∙◌, ap, inl, inr, eqb}
+use Rattle.std.proofs.Common.{◌≡◌, ℕ, zero, suc, ℤ, pos, negsuc, List, [], ◌∷◌, refl, sym, ◌∙◌, ap, eqb}
 use Rattle.std.specs.Prelude.{Decides, ◌&&◌, ◌==◌}
 use Rattle.std.proofs.lemmas.Bool.Decides.{Decides-eqb, Decides-and, Decides-like}
 use Rattle.arrayvec.specs.ArrayVec.{ArrayVec}

@@ -4,5 +4,6 @@
 pub mod laws;
 
 pub use laws::{
-    ends_are_enough, following_is_told, grants_are_told, programs_are_installed, replay_is_told, stores_are_told,
+    ends_are_enough, following_is_told, grants_are_told, programs_are_installed, replay_is_told,
+    stores_are_told,
 };

@@ -1,3 +1,3 @@
 pub mod RightLemmas
-pub mod TestLemmas
 pub mod VerdictLemmas
+pub mod TestLemmas

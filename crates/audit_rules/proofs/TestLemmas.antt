@@ -1,7 +1,8 @@
 -- The tests tell the first law that a log fails.
-use Rattle.std.proofs.Common.{◌≡◌, ◌<◌, ℕ, Bool, true, false, true≢false, List, [], ◌∷◌, refl, sym, ◌∙◌, ap, subst, arith, Option, Some, None, if◌then◌else◌}
+use Rattle.std.proofs.Common.{◌≡◌, ◌<◌, ℕ, suc, Bool, true, false, List, [], ◌∷◌, refl, ap, subst, arith, inl, inr, Option, Some, None, if◌then◌else◌}
 use Rattle.std.specs.Prelude.{Decides, MatchOption, nat_lt}
 use Rattle.std.specs.List.{list_any}
+use Rattle.std.proofs.lemmas.Bool.{cases_lt}
 use Rattle.std.proofs.lemmas.Bool.Decides.{not_from_Decides, Decides-and, Decides-ltb}
 use Rattle.vm_desc.specs.declared.description.Description.{Description}
 use Rattle.mate_journal.specs.Journal.{Told, Posted, Dropped, Started, Asked, Answered, Ended, Installed, Reset, Seen, Void, Event, Reading, nothing_heard, held, heard, journal_of, AtEachEntry}
@@ -24,11 +25,12 @@ use Rattle.audit_finite.proofs.RerunLemmas.{replay_told}
 use Rattle.audit_finite.proofs.RollLemmas.{nobody-IsRoll, IsRoll-step}
 use Rattle.audit_finite.proofs.FollowingLemmas.{nothing_heard-numbered, following-Decides}
 use Rattle.audit_finite.proofs.ShownLemmas.{stores_told}
-use Rattle.audit_rules.specs.Laws.{InstallsProgram, machine_by, KeepsLaw, rank_of}
+use Rattle.audit_rules.specs.Laws.{InstallsProgram, machine_by, rank_of}
 use Rattle.audit_rules.specs.Tests.{version_installed, installs_right, images_right, conflict_of, failed_by}
-use Rattle.audit_rules.specs.Verdicts.{LogKeepsAll, LogFails}
+use Rattle.audit_rules.specs.Verdicts.{LogKeeps, LogKeepsAll, LogFails}
 use Rattle.audit_rules.specs.declared.law.Law.{Law}
 use Rattle.audit_rules.specs.declared.law.Law.TheVariants as law
+use Rattle.audit_rules.proofs.VerdictLemmas.{same_rank}
 use Rattle.audit_rules.proofs.RightLemmas.{parts, conflicts, lengths, devices, seen_lengths}
 
 -- ---- what is installed
@@ -58,117 +60,93 @@ images-Decides ps m r x (e ∷ es) numbered right follow =
 
 -- ---- the first that fails
 
-abbrev Told_by : Machine → List Program → List Event → Option Law → Type 0
-Told_by m ps es None = (law : Law) → KeepsLaw m ps es law
-Told_by m ps es (Some law) = (KeepsLaw m ps es law → ⊥) × ((earlier : Law) → rank_of earlier < rank_of law → KeepsLaw m ps es earlier)
+-- the log keeps the laws before this place
+abbrev KeptBelow : Description → List Program → Log → ℕ → Type 0
+KeptBelow d ps l n = (earlier : Law) → rank_of earlier < n → LogKeeps d ps l earlier
 
-module _ (m : Machine) (ps : List Program) (es : List Event) where
-  at_following : (KeepsLaw m ps es law.Following → ⊥) → Told_by m ps es (Some law.Following)
-  at_following fails = (fails, before) where
-    before : (earlier : Law) → rank_of earlier < 0 → KeepsLaw m ps es earlier
-    before earlier low = absurd (omega (arith, low))
+none-below : (d : Description) (ps : List Program) (l : Log) → KeptBelow d ps l 0
+none-below d ps l earlier low = absurd (omega (arith, low))
 
-  at_image : KeepsLaw m ps es law.Following → (KeepsLaw m ps es law.Images → ⊥) → Told_by m ps es (Some law.Images)
-  at_image follow fails = (fails, before) where
-    before : (earlier : Law) → rank_of earlier < 1 → KeepsLaw m ps es earlier
-    before law.Following low = follow
-    before law.Images low = absurd (omega (arith, low))
-    before law.SerialReplay low = absurd (omega (arith, low))
-    before law.StoresSeen low = absurd (omega (arith, low))
-    before law.GrantRule low = absurd (omega (arith, low))
-    before law.DeviceOrder low = absurd (omega (arith, low))
+one-more : (d : Description) (ps : List Program) (l : Log) (law : Law) → KeptBelow d ps l (rank_of law) → LogKeeps d ps l law → KeptBelow d ps l (suc (rank_of law))
+one-more d ps l law kept keeps earlier low = elim (cases_lt (rank_of earlier) (rank_of law)) [
+  | inl less ↦ kept earlier less
+  | inr high ↦ subst (LogKeeps d ps l) (same_rank law earlier (omega (arith, low, high))) keeps
+]
 
-  at_serial : KeepsLaw m ps es law.Following → KeepsLaw m ps es law.Images → (KeepsLaw m ps es law.SerialReplay → ⊥) → Told_by m ps es (Some law.SerialReplay)
-  at_serial follow image fails = (fails, before) where
-    before : (earlier : Law) → rank_of earlier < 2 → KeepsLaw m ps es earlier
-    before law.Following low = follow
-    before law.Images low = image
-    before law.SerialReplay low = absurd (omega (arith, low))
-    before law.StoresSeen low = absurd (omega (arith, low))
-    before law.GrantRule low = absurd (omega (arith, low))
-    before law.DeviceOrder low = absurd (omega (arith, low))
+all-kept : (d : Description) (ps : List Program) (l : Log) → KeptBelow d ps l 6 → LogKeepsAll d ps l
+all-kept d ps l kept law = kept law (low law) where
+  low : (law : Law) → rank_of law < 6
+  low law.Following = omega arith
+  low law.Images = omega arith
+  low law.SerialReplay = omega arith
+  low law.StoresSeen = omega arith
+  low law.GrantRule = omega arith
+  low law.DeviceOrder = omega arith
 
-  at_stores : KeepsLaw m ps es law.Following → KeepsLaw m ps es law.Images → KeepsLaw m ps es law.SerialReplay → (KeepsLaw m ps es law.StoresSeen → ⊥) → Told_by m ps es (Some law.StoresSeen)
-  at_stores follow image serial fails = (fails, before) where
-    before : (earlier : Law) → rank_of earlier < 3 → KeepsLaw m ps es earlier
-    before law.Following low = follow
-    before law.Images low = image
-    before law.SerialReplay low = serial
-    before law.StoresSeen low = absurd (omega (arith, low))
-    before law.GrantRule low = absurd (omega (arith, low))
-    before law.DeviceOrder low = absurd (omega (arith, low))
+-- what is told of a log
+abbrev Tells : Description → List Program → Log → Option Law → Type 0
+Tells d ps l o = MatchOption o (LogKeepsAll d ps l) (LogFails d ps l)
 
-  at_grants : KeepsLaw m ps es law.Following → KeepsLaw m ps es law.Images → KeepsLaw m ps es law.SerialReplay → KeepsLaw m ps es law.StoresSeen → (KeepsLaw m ps es law.GrantRule → ⊥) → Told_by m ps es (Some law.GrantRule)
-  at_grants follow image serial stores fails = (fails, before) where
-    before : (earlier : Law) → rank_of earlier < 4 → KeepsLaw m ps es earlier
-    before law.Following low = follow
-    before law.Images low = image
-    before law.SerialReplay low = serial
-    before law.StoresSeen low = stores
-    before law.GrantRule low = absurd (omega (arith, low))
-    before law.DeviceOrder low = absurd (omega (arith, low))
+fails-at : (d : Description) (ps : List Program) (l : Log) (law : Law) → KeptBelow d ps l (rank_of law) → (LogKeeps d ps l law → ⊥) → LogFails d ps l law
+fails-at d ps l law kept fails = record { fails = fails; before = kept }
 
-  at_end : KeepsLaw m ps es law.Following → KeepsLaw m ps es law.Images → KeepsLaw m ps es law.SerialReplay → KeepsLaw m ps es law.StoresSeen → KeepsLaw m ps es law.GrantRule → KeepsLaw m ps es law.DeviceOrder → Told_by m ps es None
-  at_end follow image serial stores grants devices law.Following = follow
-  at_end follow image serial stores grants devices law.Images = image
-  at_end follow image serial stores grants devices law.SerialReplay = serial
-  at_end follow image serial stores grants devices law.StoresSeen = stores
-  at_end follow image serial stores grants devices law.GrantRule = grants
-  at_end follow image serial stores grants devices law.DeviceOrder = devices
+follows-in : (d : Description) (ps : List Program) (l : Log) (n : ℕ) → KeptBelow d ps l (suc n) → EntriesFollow (machine_by d ps) (journal_of l)
+follows-in d ps l n kept = kept law.Following (omega arith)
+
+-- ---- each test in its turn
+
+abbrev from_grants : Description → List Program → Log → Option Law
+from_grants d ps l = if grants_in_order (conflict_of d) nobody 0 (journal_of l) then None else Some law.GrantRule
+
+abbrev from_stores : Description → List Program → Log → Option Law
+from_stores d ps l = if stores_right (machine_by d ps) nobody (machine_by d ps).zero_store (journal_of l) then from_grants d ps l else Some law.StoresSeen
+
+abbrev from_replay : Description → List Program → Log → Option Law
+from_replay d ps l = if replays_right (machine_by d ps) (conflict_of d) nobody (machine_by d ps).zero_store (journal_of l) then from_stores d ps l else Some law.SerialReplay
+
+abbrev from_images : Description → List Program → Log → Option Law
+from_images d ps l = if images_right ps nobody (journal_of l) then from_replay d ps l else Some law.Images
 
 module _ (d : Description) (ps : List Program) (l : Log) (right : AreRightPrograms d ps) (tidy : IsTidyLog d l) where
-  by_grants : (b : Bool) → grants_in_order (conflict_of d) nobody 0 (journal_of l) ≡ b → KeepsLaw (machine_by d ps) ps (journal_of l) law.Following → KeepsLaw (machine_by d ps) ps (journal_of l) law.Images
-      → KeepsLaw (machine_by d ps) ps (journal_of l) law.SerialReplay → KeepsLaw (machine_by d ps) ps (journal_of l) law.StoresSeen → Told_by (machine_by d ps) ps (journal_of l) (if b then None else Some law.GrantRule)
-  by_grants true is follow image serial stores =
-      let m = machine_by d ps in
-      let granted = (grants_told m (conflict_of d) (journal_of l) (conflicts d ps right) follow).0 is in
-      at_end m ps (journal_of l) follow image serial stores granted (devices d ps (journal_of l) right follow serial granted)
-  by_grants false is follow image serial stores =
-      at_grants (machine_by d ps) ps (journal_of l) follow image serial stores (not_from_Decides (grants_in_order (conflict_of d) nobody 0 (journal_of l)) (grants_told (machine_by d ps) (conflict_of d) (journal_of l) (conflicts d ps right) follow) is)
+  by_grants : (b : Bool) → grants_in_order (conflict_of d) nobody 0 (journal_of l) ≡ b → KeptBelow d ps l 4 → Tells d ps l (if b then None else Some law.GrantRule)
+  by_grants true is kept =
+      let granted = (grants_told (machine_by d ps) (conflict_of d) (journal_of l) (conflicts d ps right) (follows-in d ps l 3 kept)).0 is in
+      let in_order = devices d ps (journal_of l) right (follows-in d ps l 3 kept) (kept law.SerialReplay (omega arith)) granted in
+      all-kept d ps l (one-more d ps l law.DeviceOrder (one-more d ps l law.GrantRule kept granted) in_order)
+  by_grants false is kept =
+      let tells = grants_told (machine_by d ps) (conflict_of d) (journal_of l) (conflicts d ps right) (follows-in d ps l 3 kept) in
+      fails-at d ps l law.GrantRule kept (not_from_Decides (grants_in_order (conflict_of d) nobody 0 (journal_of l)) tells is)
 
-  by_stores : (b : Bool) → stores_right (machine_by d ps) nobody (machine_by d ps).zero_store (journal_of l) ≡ b → KeepsLaw (machine_by d ps) ps (journal_of l) law.Following → KeepsLaw (machine_by d ps) ps (journal_of l) law.Images
-      → KeepsLaw (machine_by d ps) ps (journal_of l) law.SerialReplay
-      → Told_by (machine_by d ps) ps (journal_of l) (if b then (if grants_in_order (conflict_of d) nobody 0 (journal_of l) then None else Some law.GrantRule) else Some law.StoresSeen)
-  by_stores true is follow image serial =
-      by_grants (grants_in_order (conflict_of d) nobody 0 (journal_of l)) refl follow image serial ((stores_told (machine_by d ps) (journal_of l) (lengths d ps right) (seen_lengths d ps l tidy) follow).0 is)
-  by_stores false is follow image serial =
-      at_stores (machine_by d ps) ps (journal_of l) follow image serial
-      (not_from_Decides (stores_right (machine_by d ps) nobody (machine_by d ps).zero_store (journal_of l)) (stores_told (machine_by d ps) (journal_of l) (lengths d ps right) (seen_lengths d ps l tidy) follow) is)
+  by_stores : (b : Bool) → stores_right (machine_by d ps) nobody (machine_by d ps).zero_store (journal_of l) ≡ b → KeptBelow d ps l 3 → Tells d ps l (if b then from_grants d ps l else Some law.StoresSeen)
+  by_stores true is kept =
+      let tells = stores_told (machine_by d ps) (journal_of l) (lengths d ps right) (seen_lengths d ps l tidy) (follows-in d ps l 2 kept) in
+      by_grants (grants_in_order (conflict_of d) nobody 0 (journal_of l)) refl (one-more d ps l law.StoresSeen kept (tells.0 is))
+  by_stores false is kept =
+      let tells = stores_told (machine_by d ps) (journal_of l) (lengths d ps right) (seen_lengths d ps l tidy) (follows-in d ps l 2 kept) in
+      fails-at d ps l law.StoresSeen kept (not_from_Decides (stores_right (machine_by d ps) nobody (machine_by d ps).zero_store (journal_of l)) tells is)
 
-  by_replay : (b : Bool) → replays_right (machine_by d ps) (conflict_of d) nobody (machine_by d ps).zero_store (journal_of l) ≡ b → KeepsLaw (machine_by d ps) ps (journal_of l) law.Following → KeepsLaw (machine_by d ps) ps (journal_of l) law.Images
-      → Told_by (machine_by d ps) ps (journal_of l)
-      (if b then (if stores_right (machine_by d ps) nobody (machine_by d ps).zero_store (journal_of l) then (if grants_in_order (conflict_of d) nobody 0 (journal_of l) then None else Some law.GrantRule) else Some law.StoresSeen) else Some law.SerialReplay)
-  by_replay true is follow image =
-      by_stores (stores_right (machine_by d ps) nobody (machine_by d ps).zero_store (journal_of l)) refl follow image ((replay_told (machine_by d ps) (conflict_of d) (journal_of l) (parts d ps right) (conflicts d ps right) follow).0 is)
-  by_replay false is follow image =
-      at_serial (machine_by d ps) ps (journal_of l) follow image
-      (not_from_Decides (replays_right (machine_by d ps) (conflict_of d) nobody (machine_by d ps).zero_store (journal_of l)) (replay_told (machine_by d ps) (conflict_of d) (journal_of l) (parts d ps right) (conflicts d ps right) follow) is)
+  by_replay : (b : Bool) → replays_right (machine_by d ps) (conflict_of d) nobody (machine_by d ps).zero_store (journal_of l) ≡ b → KeptBelow d ps l 2 → Tells d ps l (if b then from_stores d ps l else Some law.SerialReplay)
+  by_replay true is kept =
+      let tells = replay_told (machine_by d ps) (conflict_of d) (journal_of l) (parts d ps right) (conflicts d ps right) (follows-in d ps l 1 kept) in
+      by_stores (stores_right (machine_by d ps) nobody (machine_by d ps).zero_store (journal_of l)) refl (one-more d ps l law.SerialReplay kept (tells.0 is))
+  by_replay false is kept =
+      let tells = replay_told (machine_by d ps) (conflict_of d) (journal_of l) (parts d ps right) (conflicts d ps right) (follows-in d ps l 1 kept) in
+      fails-at d ps l law.SerialReplay kept (not_from_Decides (replays_right (machine_by d ps) (conflict_of d) nobody (machine_by d ps).zero_store (journal_of l)) tells is)
 
-  images_told : EntriesFollow (machine_by d ps) (journal_of l) → Decides (images_right ps nobody (journal_of l)) (KeepsLaw (machine_by d ps) ps (journal_of l) law.Images)
+  images_told : EntriesFollow (machine_by d ps) (journal_of l) → Decides (images_right ps nobody (journal_of l)) (LogKeeps d ps l law.Images)
   images_told follow =
       images-Decides ps (machine_by d ps) (nothing_heard (machine_by d ps)) nobody (journal_of l) (nothing_heard-numbered (machine_by d ps)) (nobody-IsRoll (machine_by d ps)) follow.follow
 
-  by_images : (b : Bool) → images_right ps nobody (journal_of l) ≡ b → KeepsLaw (machine_by d ps) ps (journal_of l) law.Following
-      → Told_by (machine_by d ps) ps (journal_of l)
-      (if b then (if replays_right (machine_by d ps) (conflict_of d) nobody (machine_by d ps).zero_store (journal_of l) then
-      (if stores_right (machine_by d ps) nobody (machine_by d ps).zero_store (journal_of l) then (if grants_in_order (conflict_of d) nobody 0 (journal_of l) then None else Some law.GrantRule) else Some law.StoresSeen) else Some law.SerialReplay) else Some law.Images)
-  by_images true is follow = by_replay (replays_right (machine_by d ps) (conflict_of d) nobody (machine_by d ps).zero_store (journal_of l)) refl follow ((images_told follow).0 is)
-  by_images false is follow = at_image (machine_by d ps) ps (journal_of l) follow (not_from_Decides (images_right ps nobody (journal_of l)) (images_told follow) is)
+  by_images : (b : Bool) → images_right ps nobody (journal_of l) ≡ b → KeptBelow d ps l 1 → Tells d ps l (if b then from_replay d ps l else Some law.Images)
+  by_images true is kept =
+      by_replay (replays_right (machine_by d ps) (conflict_of d) nobody (machine_by d ps).zero_store (journal_of l)) refl (one-more d ps l law.Images kept ((images_told (follows-in d ps l 0 kept)).0 is))
+  by_images false is kept = fails-at d ps l law.Images kept (not_from_Decides (images_right ps nobody (journal_of l)) (images_told (follows-in d ps l 0 kept)) is)
 
-  by_following : (b : Bool) → entries_follow (machine_by d ps) (journal_of l) ≡ b
-      → Told_by (machine_by d ps) ps (journal_of l)
-      (if b then (if images_right ps nobody (journal_of l) then (if replays_right (machine_by d ps) (conflict_of d) nobody (machine_by d ps).zero_store (journal_of l) then
-      (if stores_right (machine_by d ps) nobody (machine_by d ps).zero_store (journal_of l) then (if grants_in_order (conflict_of d) nobody 0 (journal_of l) then None else Some law.GrantRule) else Some law.StoresSeen) else Some law.SerialReplay)
-      else Some law.Images) else Some law.Following)
-  by_following true is = by_images (images_right ps nobody (journal_of l)) refl ((following-Decides (machine_by d ps) (journal_of l)).0 is)
-  by_following false is = at_following (machine_by d ps) ps (journal_of l) (not_from_Decides (entries_follow (machine_by d ps) (journal_of l)) (following-Decides (machine_by d ps) (journal_of l)) is)
-
-  pub told : Told_by (machine_by d ps) ps (journal_of l) (failed_by d ps l)
-  told = by_following (entries_follow (machine_by d ps) (journal_of l)) refl
-
-as_match : (d : Description) (ps : List Program) (l : Log) (o : Option Law) → Told_by (machine_by d ps) ps (journal_of l) o → MatchOption o (LogKeepsAll d ps l) (LogFails d ps l)
-as_match d ps l None h = h
-as_match d ps l (Some law) h = record { fails = h.0; before = h.1 }
+  by_following : (b : Bool) → entries_follow (machine_by d ps) (journal_of l) ≡ b → Tells d ps l (if b then from_images d ps l else Some law.Following)
+  by_following true is =
+      by_images (images_right ps nobody (journal_of l)) refl (one-more d ps l law.Following (none-below d ps l) ((following-Decides (machine_by d ps) (journal_of l)).0 is))
+  by_following false is =
+      fails-at d ps l law.Following (none-below d ps l) (not_from_Decides (entries_follow (machine_by d ps) (journal_of l)) (following-Decides (machine_by d ps) (journal_of l)) is)
 
 pub failed-told : (d : Description) (ps : List Program) (l : Log) → AreRightPrograms d ps → IsTidyLog d l → MatchOption (failed_by d ps l) (LogKeepsAll d ps l) (LogFails d ps l)
-failed-told d ps l right tidy = as_match d ps l (failed_by d ps l) (told d ps l right tidy)
+failed-told d ps l right tidy = by_following d ps l right tidy (entries_follow (machine_by d ps) (journal_of l)) refl

@@ -37,7 +37,7 @@ law-again law.StoresSeen = refl
 law-again law.GrantRule = refl
 law-again law.DeviceOrder = refl
 
-same_rank : (a b : Law) → rank_of a ≡ rank_of b → a ≡ b
+pub same_rank : (a b : Law) → rank_of a ≡ rank_of b → a ≡ b
 same_rank a b e = sym (law-again a) ∙ ap law_at e ∙ law-again b
 
 -- a log keeps what it keeps, and fails at one law first
