@@ -1,6 +1,6 @@
 -- Whether programs conflict is told by the resources that their code names.
-use Rattle.std.proofs.Common.{◌≡◌, ◌⊎◌, ℕ, Bool, true, false, true≢false, List, [], ◌∷◌, ◌++◌, map, refl, sym, ◌∙◌, ap, subst, inl, inr, eqb, Option, None, Some}
-use Rattle.std.specs.Prelude.{Contains, Decides, ◌&&◌, ◌||◌, option_to_list}
+use Rattle.std.proofs.Common.{◌≡◌, ◌⊎◌, ℕ, true, true≢false, [], ◌∷◌, ◌++◌, map, refl, sym, ap, subst, inl, inr, Option, None, Some}
+use Rattle.std.specs.Prelude.{Contains, Decides, ◌&&◌, option_to_list}
 use Rattle.std.proofs.lemmas.Bool.{eqb-true, or_cases}
 use Rattle.std.proofs.lemmas.Bool.Decides.{Decides-and, Decides-or}
 use Rattle.std.proofs.lemmas.List.Elements.{Contains-append_left, Contains-append_right}
