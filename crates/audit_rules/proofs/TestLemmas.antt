@@ -74,8 +74,8 @@ one-more d ps l law kept keeps earlier low = elim (cases_lt (rank_of earlier) (r
 ]
 
 all-kept : (d : Description) (ps : List Program) (l : Log) → KeptBelow d ps l 6 → LogKeepsAll d ps l
-all-kept d ps l kept law = kept law (low law) where
-  low : (law : Law) → rank_of law < 6
+all-kept d ps l kept any = kept any (low any) where
+  low : (any : Law) → rank_of any < 6
   low law.Following = omega arith
   low law.Images = omega arith
   low law.SerialReplay = omega arith

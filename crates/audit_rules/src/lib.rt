@@ -5,4 +5,6 @@ pub mod law;
 pub mod laws;
 
 pub use law::{Law, Verdict};
-pub use laws::{devices_follow, one_verdict, right_programs_can_be_told, the_first_failure_is_told};
+pub use laws::{
+    devices_follow, one_verdict, right_programs_can_be_told, the_first_failure_is_told,
+};
