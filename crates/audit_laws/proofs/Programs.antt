@@ -1,11 +1,10 @@
 -- The programs of a script are those that it installs or injects.
 use Rattle.std.proofs.Common.{◌≡◌, ℕ, zero, suc, true, List, [], ◌∷◌, map, refl, sym, ◌∙◌, ap, subst, Option, Some, None}
-use Rattle.std.specs.Prelude.{All, IsTrue, IsSomeAnd, ◌==◌, ◌&&◌, slice_get, bytes_eq}
+use Rattle.std.specs.Prelude.{All, IsSomeAnd, ◌==◌, ◌&&◌, slice_get, bytes_eq}
 use Rattle.std.specs.List.{list_any}
 use Rattle.std.proofs.lemmas.Bool.{eq-eqb, and_from, or_left, or_right}
 use Rattle.std.proofs.lemmas.List.Elements.{All-head, All-tail}
 use Rattle.std.proofs.lemmas.Slice.Eq.{bytes_eq-Decides}
-use Rattle.arrayvec.specs.ArrayVec.{ArrayVec}
 use Rattle.vm_desc.specs.declared.description.Description.{Description}
 use Rattle.mate_journal.specs.Machine.{HeldProgram}
 use Rattle.mate_journal.specs.declared.program.Program.{Program}
@@ -18,7 +17,6 @@ use Rattle.node_programs.specs.Sources.{held_as, is_held_as, meaning_by}
 use Rattle.node_programs.specs.WorldPrograms.{IsProgramOfWhat, AreProgramsOfWorld}
 use Rattle.world_script.specs.declared.world.World.{World as Script}
 use Rattle.world_script.specs.declared.world.Planned.{Planned}
-use Rattle.world_script.specs.declared.world.What.TheVariants as what
 use Rattle.world_rules.specs.Effect.{Installing}
 use Rattle.world_rules.specs.State.{Moment, effect_at, state}
 use Rattle.world_rules.specs.Run.{HaveCome}

@@ -1,6 +1,6 @@
 -- What the nodes of a world tell keeps each law.
-use Rattle.std.proofs.Common.{◌≡◌, ◌≢◌, ◌<◌, ℕ, List, [], ◌∷◌, ◌++◌, map, Option, Some, None, sym, subst, inl, inr}
-use Rattle.std.specs.Prelude.{IfSome, IsSomeAnd, length, slice_get}
+use Rattle.std.proofs.Common.{◌≡◌, ◌<◌, ℕ, List, [], ◌∷◌, Option, Some, None, refl, sym, subst, inl, inr}
+use Rattle.std.specs.Prelude.{IfSome, IsSomeAnd, slice_get}
 use Rattle.std.proofs.lemmas.Bool.Decides.{eqb_tells}
 use Rattle.vm_desc.specs.declared.description.Description.{Description}
 use Rattle.mate_journal.specs.Journal.{Told, Event, Reading, nothing_heard, heard_all, heard_told, journal_of, AtEachEntry}
@@ -20,7 +20,7 @@ use Rattle.world_rules.specs.State.{Moment, node_at, effect_at, state}
 use Rattle.world_rules.specs.Run.{FirstThen, DeedMakes, HaveCome, EndsJournal, IsJournalOf, stamp_of, journal}
 use Rattle.world_rules.specs.Report.{IsLogOf, IsWorldReport}
 use Rattle.world_laws.proofs.Journals.{journal-here, journal-other, reads_journals}
-use Rattle.world_images.proofs.Agree.{NoneInstall, by_made, occasions-none, settles-none}
+use Rattle.world_images.proofs.Agree.{by_made, occasions-none, settles-none}
 use Rattle.world_sources.specs.SourceWorld.{source_world}
 use Rattle.audit_rules.specs.Laws.{IsOneOf, InstallsProgram}
 use Rattle.audit_rules.specs.Verdicts.{LogKeepsAll, IsVerdict}
