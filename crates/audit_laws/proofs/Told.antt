@@ -91,11 +91,11 @@ shown-values m r (Some s) h = record { unwritten = h.unwritten; waiting = h.wait
 pub keeps-all : (d : Description) (ps : List Program) (l : Log) → IsWellFormed (machine_by d ps) (nothing_heard (machine_by d ps)) (journal_of l) → AtEachEntry (InstallsProgram ps) (machine_by d ps) (nothing_heard (machine_by d ps)) (journal_of l)
     → IsSerial (machine_by d ps) (nothing_heard (machine_by d ps)) (journal_of l) → ShowsStores (machine_by d ps) (nothing_heard (machine_by d ps)) (journal_of l)
     → GrantsInOrder (machine_by d ps) (nothing_heard (machine_by d ps)) 0 (journal_of l) → AsksDevicesInOrder (machine_by d ps).device_of (journal_of l) → LogKeepsAll d ps l
-keeps-all d ps l formed images serial stores grants devices law.Following = record { in_time = rising (journal_of l) formed.in_time; follow = formed.follow }
-keeps-all d ps l formed images serial stores grants devices law.Images = images
-keeps-all d ps l formed images serial stores grants devices law.SerialReplay = serial
-keeps-all d ps l formed images serial stores grants devices law.StoresSeen =
+keeps-all d ps l formed images serial stores grants devices law.D7 = record { in_time = rising (journal_of l) formed.in_time; follow = formed.follow }
+keeps-all d ps l formed images serial stores grants devices law.Image = images
+keeps-all d ps l formed images serial stores grants devices law.D8 = serial
+keeps-all d ps l formed images serial stores grants devices law.D9 =
     let m = machine_by d ps in
     weaker (ShowsStore m) (ShowsValuesAt m) m (nothing_heard m) (journal_of l) (λ r t h. shown-values m r (store_seen t) h) stores.shown
-keeps-all d ps l formed images serial stores grants devices law.GrantRule = grants
-keeps-all d ps l formed images serial stores grants devices law.DeviceOrder = devices
+keeps-all d ps l formed images serial stores grants devices law.D10 = grants
+keeps-all d ps l formed images serial stores grants devices law.D11 = devices

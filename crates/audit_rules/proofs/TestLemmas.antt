@@ -76,12 +76,12 @@ one-more d ps l law kept keeps earlier low = elim (cases_lt (rank_of earlier) (r
 all-kept : (d : Description) (ps : List Program) (l : Log) → KeptBelow d ps l 6 → LogKeepsAll d ps l
 all-kept d ps l kept any = kept any (low any) where
   low : (any : Law) → rank_of any < 6
-  low law.Following = omega arith
-  low law.Images = omega arith
-  low law.SerialReplay = omega arith
-  low law.StoresSeen = omega arith
-  low law.GrantRule = omega arith
-  low law.DeviceOrder = omega arith
+  low law.D7 = omega arith
+  low law.Image = omega arith
+  low law.D8 = omega arith
+  low law.D9 = omega arith
+  low law.D10 = omega arith
+  low law.D11 = omega arith
 
 -- what is told of a log
 abbrev Tells : Description → List Program → Log → Option Law → Type 0
@@ -91,62 +91,62 @@ fails-at : (d : Description) (ps : List Program) (l : Log) (law : Law) → KeptB
 fails-at d ps l law kept fails = record { fails = fails; before = kept }
 
 follows-in : (d : Description) (ps : List Program) (l : Log) (n : ℕ) → KeptBelow d ps l (suc n) → EntriesFollow (machine_by d ps) (journal_of l)
-follows-in d ps l n kept = kept law.Following (omega arith)
+follows-in d ps l n kept = kept law.D7 (omega arith)
 
 -- ---- each test in its turn
 
 abbrev from_grants : Description → List Program → Log → Option Law
-from_grants d ps l = if grants_in_order (conflict_of d) nobody 0 (journal_of l) then None else Some law.GrantRule
+from_grants d ps l = if grants_in_order (conflict_of d) nobody 0 (journal_of l) then None else Some law.D10
 
 abbrev from_stores : Description → List Program → Log → Option Law
-from_stores d ps l = if stores_right (machine_by d ps) nobody (machine_by d ps).zero_store (journal_of l) then from_grants d ps l else Some law.StoresSeen
+from_stores d ps l = if stores_right (machine_by d ps) nobody (machine_by d ps).zero_store (journal_of l) then from_grants d ps l else Some law.D9
 
 abbrev from_replay : Description → List Program → Log → Option Law
-from_replay d ps l = if replays_right (machine_by d ps) (conflict_of d) nobody (machine_by d ps).zero_store (journal_of l) then from_stores d ps l else Some law.SerialReplay
+from_replay d ps l = if replays_right (machine_by d ps) (conflict_of d) nobody (machine_by d ps).zero_store (journal_of l) then from_stores d ps l else Some law.D8
 
 abbrev from_images : Description → List Program → Log → Option Law
-from_images d ps l = if images_right ps nobody (journal_of l) then from_replay d ps l else Some law.Images
+from_images d ps l = if images_right ps nobody (journal_of l) then from_replay d ps l else Some law.Image
 
 module _ (d : Description) (ps : List Program) (l : Log) (right : AreRightPrograms d ps) (tidy : IsTidyLog d l) where
-  by_grants : (b : Bool) → grants_in_order (conflict_of d) nobody 0 (journal_of l) ≡ b → KeptBelow d ps l 4 → Tells d ps l (if b then None else Some law.GrantRule)
+  by_grants : (b : Bool) → grants_in_order (conflict_of d) nobody 0 (journal_of l) ≡ b → KeptBelow d ps l 4 → Tells d ps l (if b then None else Some law.D10)
   by_grants true is kept =
       let granted = (grants_told (machine_by d ps) (conflict_of d) (journal_of l) (conflicts d ps right) (follows-in d ps l 3 kept)).0 is in
-      let in_order = devices d ps (journal_of l) right (follows-in d ps l 3 kept) (kept law.SerialReplay (omega arith)) granted in
-      all-kept d ps l (one-more d ps l law.DeviceOrder (one-more d ps l law.GrantRule kept granted) in_order)
+      let in_order = devices d ps (journal_of l) right (follows-in d ps l 3 kept) (kept law.D8 (omega arith)) granted in
+      all-kept d ps l (one-more d ps l law.D11 (one-more d ps l law.D10 kept granted) in_order)
   by_grants false is kept =
       let tells = grants_told (machine_by d ps) (conflict_of d) (journal_of l) (conflicts d ps right) (follows-in d ps l 3 kept) in
-      fails-at d ps l law.GrantRule kept (not_from_Decides (grants_in_order (conflict_of d) nobody 0 (journal_of l)) tells is)
+      fails-at d ps l law.D10 kept (not_from_Decides (grants_in_order (conflict_of d) nobody 0 (journal_of l)) tells is)
 
-  by_stores : (b : Bool) → stores_right (machine_by d ps) nobody (machine_by d ps).zero_store (journal_of l) ≡ b → KeptBelow d ps l 3 → Tells d ps l (if b then from_grants d ps l else Some law.StoresSeen)
+  by_stores : (b : Bool) → stores_right (machine_by d ps) nobody (machine_by d ps).zero_store (journal_of l) ≡ b → KeptBelow d ps l 3 → Tells d ps l (if b then from_grants d ps l else Some law.D9)
   by_stores true is kept =
       let tells = stores_told (machine_by d ps) (journal_of l) (lengths d ps right) (seen_lengths d ps l tidy) (follows-in d ps l 2 kept) in
-      by_grants (grants_in_order (conflict_of d) nobody 0 (journal_of l)) refl (one-more d ps l law.StoresSeen kept (tells.0 is))
+      by_grants (grants_in_order (conflict_of d) nobody 0 (journal_of l)) refl (one-more d ps l law.D9 kept (tells.0 is))
   by_stores false is kept =
       let tells = stores_told (machine_by d ps) (journal_of l) (lengths d ps right) (seen_lengths d ps l tidy) (follows-in d ps l 2 kept) in
-      fails-at d ps l law.StoresSeen kept (not_from_Decides (stores_right (machine_by d ps) nobody (machine_by d ps).zero_store (journal_of l)) tells is)
+      fails-at d ps l law.D9 kept (not_from_Decides (stores_right (machine_by d ps) nobody (machine_by d ps).zero_store (journal_of l)) tells is)
 
-  by_replay : (b : Bool) → replays_right (machine_by d ps) (conflict_of d) nobody (machine_by d ps).zero_store (journal_of l) ≡ b → KeptBelow d ps l 2 → Tells d ps l (if b then from_stores d ps l else Some law.SerialReplay)
+  by_replay : (b : Bool) → replays_right (machine_by d ps) (conflict_of d) nobody (machine_by d ps).zero_store (journal_of l) ≡ b → KeptBelow d ps l 2 → Tells d ps l (if b then from_stores d ps l else Some law.D8)
   by_replay true is kept =
       let tells = replay_told (machine_by d ps) (conflict_of d) (journal_of l) (parts d ps right) (conflicts d ps right) (follows-in d ps l 1 kept) in
-      by_stores (stores_right (machine_by d ps) nobody (machine_by d ps).zero_store (journal_of l)) refl (one-more d ps l law.SerialReplay kept (tells.0 is))
+      by_stores (stores_right (machine_by d ps) nobody (machine_by d ps).zero_store (journal_of l)) refl (one-more d ps l law.D8 kept (tells.0 is))
   by_replay false is kept =
       let tells = replay_told (machine_by d ps) (conflict_of d) (journal_of l) (parts d ps right) (conflicts d ps right) (follows-in d ps l 1 kept) in
-      fails-at d ps l law.SerialReplay kept (not_from_Decides (replays_right (machine_by d ps) (conflict_of d) nobody (machine_by d ps).zero_store (journal_of l)) tells is)
+      fails-at d ps l law.D8 kept (not_from_Decides (replays_right (machine_by d ps) (conflict_of d) nobody (machine_by d ps).zero_store (journal_of l)) tells is)
 
-  images_told : EntriesFollow (machine_by d ps) (journal_of l) → Decides (images_right ps nobody (journal_of l)) (LogKeeps d ps l law.Images)
+  images_told : EntriesFollow (machine_by d ps) (journal_of l) → Decides (images_right ps nobody (journal_of l)) (LogKeeps d ps l law.Image)
   images_told follow =
       images-Decides ps (machine_by d ps) (nothing_heard (machine_by d ps)) nobody (journal_of l) (nothing_heard-numbered (machine_by d ps)) (nobody-IsRoll (machine_by d ps)) follow.follow
 
-  by_images : (b : Bool) → images_right ps nobody (journal_of l) ≡ b → KeptBelow d ps l 1 → Tells d ps l (if b then from_replay d ps l else Some law.Images)
+  by_images : (b : Bool) → images_right ps nobody (journal_of l) ≡ b → KeptBelow d ps l 1 → Tells d ps l (if b then from_replay d ps l else Some law.Image)
   by_images true is kept =
-      by_replay (replays_right (machine_by d ps) (conflict_of d) nobody (machine_by d ps).zero_store (journal_of l)) refl (one-more d ps l law.Images kept ((images_told (follows-in d ps l 0 kept)).0 is))
-  by_images false is kept = fails-at d ps l law.Images kept (not_from_Decides (images_right ps nobody (journal_of l)) (images_told (follows-in d ps l 0 kept)) is)
+      by_replay (replays_right (machine_by d ps) (conflict_of d) nobody (machine_by d ps).zero_store (journal_of l)) refl (one-more d ps l law.Image kept ((images_told (follows-in d ps l 0 kept)).0 is))
+  by_images false is kept = fails-at d ps l law.Image kept (not_from_Decides (images_right ps nobody (journal_of l)) (images_told (follows-in d ps l 0 kept)) is)
 
-  by_following : (b : Bool) → entries_follow (machine_by d ps) (journal_of l) ≡ b → Tells d ps l (if b then from_images d ps l else Some law.Following)
+  by_following : (b : Bool) → entries_follow (machine_by d ps) (journal_of l) ≡ b → Tells d ps l (if b then from_images d ps l else Some law.D7)
   by_following true is =
-      by_images (images_right ps nobody (journal_of l)) refl (one-more d ps l law.Following (none-below d ps l) ((following-Decides (machine_by d ps) (journal_of l)).0 is))
+      by_images (images_right ps nobody (journal_of l)) refl (one-more d ps l law.D7 (none-below d ps l) ((following-Decides (machine_by d ps) (journal_of l)).0 is))
   by_following false is =
-      fails-at d ps l law.Following (none-below d ps l) (not_from_Decides (entries_follow (machine_by d ps) (journal_of l)) (following-Decides (machine_by d ps) (journal_of l)) is)
+      fails-at d ps l law.D7 (none-below d ps l) (not_from_Decides (entries_follow (machine_by d ps) (journal_of l)) (following-Decides (machine_by d ps) (journal_of l)) is)
 
 pub failed-told : (d : Description) (ps : List Program) (l : Log) → AreRightPrograms d ps → IsTidyLog d l → MatchOption (failed_by d ps l) (LogKeepsAll d ps l) (LogFails d ps l)
 failed-told d ps l right tidy = by_following d ps l right tidy (entries_follow (machine_by d ps) (journal_of l)) refl

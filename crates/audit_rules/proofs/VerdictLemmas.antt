@@ -22,20 +22,20 @@ within P (x ∷ xs) (suc n) some = let h = within P xs n some in omega (arith, h
 
 -- laws by their place
 abbrev law_at : ℕ → Law
-law_at zero = law.Following
-law_at (suc zero) = law.Images
-law_at (suc (suc zero)) = law.SerialReplay
-law_at (suc (suc (suc zero))) = law.StoresSeen
-law_at (suc (suc (suc (suc zero)))) = law.GrantRule
-law_at (suc (suc (suc (suc (suc n))))) = law.DeviceOrder
+law_at zero = law.D7
+law_at (suc zero) = law.Image
+law_at (suc (suc zero)) = law.D8
+law_at (suc (suc (suc zero))) = law.D9
+law_at (suc (suc (suc (suc zero)))) = law.D10
+law_at (suc (suc (suc (suc (suc n))))) = law.D11
 
 law-again : (a : Law) → law_at (rank_of a) ≡ a
-law-again law.Following = refl
-law-again law.Images = refl
-law-again law.SerialReplay = refl
-law-again law.StoresSeen = refl
-law-again law.GrantRule = refl
-law-again law.DeviceOrder = refl
+law-again law.D7 = refl
+law-again law.Image = refl
+law-again law.D8 = refl
+law-again law.D9 = refl
+law-again law.D10 = refl
+law-again law.D11 = refl
 
 pub same_rank : (a b : Law) → rank_of a ≡ rank_of b → a ≡ b
 same_rank a b e = sym (law-again a) ∙ ap law_at e ∙ law-again b

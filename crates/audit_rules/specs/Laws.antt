@@ -38,18 +38,18 @@ machine_by d ps = machine_of d (meaning_by d ps)
 
 -- the journal keeps the law
 abbrev pub KeepsLaw : Machine → List Program → List Event → Law → Type 0
-KeepsLaw m ps es law.Following = EntriesFollow m es
-KeepsLaw m ps es law.Images = AtEachEntry (InstallsProgram ps) m (nothing_heard m) es
-KeepsLaw m ps es law.SerialReplay = IsSerial m (nothing_heard m) es
-KeepsLaw m ps es law.StoresSeen = AtEachEntry (ShowsValuesAt m) m (nothing_heard m) es
-KeepsLaw m ps es law.GrantRule = GrantsInOrder m (nothing_heard m) 0 es
-KeepsLaw m ps es law.DeviceOrder = AsksDevicesInOrder m.device_of es
+KeepsLaw m ps es law.D7 = EntriesFollow m es
+KeepsLaw m ps es law.Image = AtEachEntry (InstallsProgram ps) m (nothing_heard m) es
+KeepsLaw m ps es law.D8 = IsSerial m (nothing_heard m) es
+KeepsLaw m ps es law.D9 = AtEachEntry (ShowsValuesAt m) m (nothing_heard m) es
+KeepsLaw m ps es law.D10 = GrantsInOrder m (nothing_heard m) 0 es
+KeepsLaw m ps es law.D11 = AsksDevicesInOrder m.device_of es
 
 -- the place of a law in their order
 abbrev pub rank_of : Law → ℕ
-rank_of law.Following = 0
-rank_of law.Images = 1
-rank_of law.SerialReplay = 2
-rank_of law.StoresSeen = 3
-rank_of law.GrantRule = 4
-rank_of law.DeviceOrder = 5
+rank_of law.D7 = 0
+rank_of law.Image = 1
+rank_of law.D8 = 2
+rank_of law.D9 = 3
+rank_of law.D10 = 4
+rank_of law.D11 = 5

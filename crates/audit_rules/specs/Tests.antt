@@ -1,5 +1,5 @@
--- The first law that a log fails, by tests.
-use Rattle.std.specs.Prelude.{ℕ, ◌&&◌, nat_lt, Bool, true, List, [], ◌∷◌, Option, Some, None, if◌then◌else◌}
+-- The first law that a log fails, and the verdict on a report, by tests.
+use Rattle.std.specs.Prelude.{ℕ, suc, ◌&&◌, nat_lt, Bool, true, List, [], ◌∷◌, Option, Some, None, if◌then◌else◌}
 use Rattle.std.specs.List.{list_any}
 use Rattle.vm_desc.specs.Shapes.{shape_of}
 use Rattle.vm_desc.specs.declared.description.Description.{Description}
@@ -7,6 +7,7 @@ use Rattle.mate_journal.specs.Journal.{Told, Posted, Dropped, Started, Asked, An
 use Rattle.mate_journal.specs.Log.{Log}
 use Rattle.mate_journal.specs.Machine.{HeldProgram, Machine}
 use Rattle.mate_journal.specs.declared.program.Program.{Program}
+use Rattle.mate_journal.specs.declared.report.Report.{Report}
 use Rattle.node_invariant.specs.Meaning.{code_of}
 use Rattle.node_programs.specs.Sources.{is_held_as}
 use Rattle.audit_finite.specs.Granting.{ConflictTest, grants_in_order}
@@ -18,6 +19,8 @@ use Rattle.audit_runs.specs.CodeMeaning.{conflict_with}
 use Rattle.audit_rules.specs.Laws.{machine_by}
 use Rattle.audit_rules.specs.declared.law.Law.{Law}
 use Rattle.audit_rules.specs.declared.law.Law.TheVariants as law
+use Rattle.audit_rules.specs.declared.law.Verdict.{Verdict}
+use Rattle.audit_rules.specs.declared.law.Verdict.TheVariants.{Serial, Refuted}
 
 -- the version that is installed, 0 for none
 abbrev pub version_installed : Option HeldProgram → ℕ
@@ -50,12 +53,25 @@ first_failed m conflict ps es =
     (if images_right ps nobody es then
     (if replays_right m conflict nobody m.zero_store es then
     (if stores_right m nobody m.zero_store es then
-    (if grants_in_order conflict nobody 0 es then None else Some law.GrantRule)
-    else Some law.StoresSeen)
-    else Some law.SerialReplay)
-    else Some law.Images)
-    else Some law.Following
+    (if grants_in_order conflict nobody 0 es then None else Some law.D10)
+    else Some law.D9)
+    else Some law.D8)
+    else Some law.Image)
+    else Some law.D7
 
 -- of a log
 abbrev pub failed_by : Description → List Program → Log → Option Law
 failed_by d ps l = first_failed (machine_by d ps) (conflict_of d) ps (journal_of l)
+
+-- a law that is failed at this node, or what is told of the nodes behind it
+abbrev pub refuted_or : Option Law → ℕ → Verdict → Verdict
+refuted_or None node rest = rest
+refuted_or (Some law) node rest = Refuted node law
+
+-- of the logs from this node on, the first that fails a law
+abbrev pub verdict_from : Description → List Program → ℕ → List Log → Verdict
+verdict_from d ps node [] = Serial
+verdict_from d ps node (l ∷ ls) = refuted_or (failed_by d ps l) node (verdict_from d ps (suc node) ls)
+
+abbrev pub verdict_of : Description → List Program → Report → Verdict
+verdict_of d ps r = verdict_from d ps 0 r.nodes

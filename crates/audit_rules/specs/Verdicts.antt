@@ -1,5 +1,5 @@
 -- What a verdict on a report says.
-use Rattle.std.specs.Prelude.{◌<◌, ℕ, List, length, IsSomeAnd, IfSome, slice_get}
+use Rattle.std.specs.Prelude.{◌≡◌, ◌<◌, ℕ, List, map, length, IsSomeAnd, IfSome, slice_get}
 use Rattle.vm_desc.specs.declared.description.Description.{Description}
 use Rattle.mate_journal.specs.Journal.{journal_of}
 use Rattle.mate_journal.specs.Log.{Log}
@@ -38,3 +38,7 @@ pub record IsSerialReport (d : Description) (ps : List Program) (r : Report) : T
 abbrev pub IsVerdict : Description → List Program → Report → Verdict → Type 0
 IsVerdict d ps r Serial = NodesKeep d ps r (length r.nodes)
 IsVerdict d ps r (Refuted node law) = NodesKeep d ps r node × IsSomeAnd (slice_get r.nodes node) (λ l. LogFails d ps l law)
+
+-- each node's journal in the one report is that in the other
+abbrev pub TellSameJournals : Report → Report → Type 0
+TellSameJournals r s = map journal_of r.nodes ≡ map journal_of s.nodes

@@ -17,8 +17,8 @@ ghost use Rattle.audit_finite.specs.Granting.{TellsConflicts};
 ghost use Rattle.audit_finite.specs.Replay.{GoesByParts};
 ghost use Rattle.audit_finite.specs.Shown.{KeepsLengths, SeenLengths};
 ghost use Rattle.audit_rules.specs.Laws.{machine_by};
-ghost use Rattle.audit_rules.specs.Tests.{conflict_of, failed_by};
-ghost use Rattle.audit_rules.specs.Verdicts.{IsSerialReport, IsVerdict, LogKeepsAll, LogFails};
+ghost use Rattle.audit_rules.specs.Tests.{conflict_of, failed_by, verdict_of};
+ghost use Rattle.audit_rules.specs.Verdicts.{IsSerialReport, IsVerdict, LogKeepsAll, LogFails, TellSameJournals};
 ghost use Rattle.audit_rules.specs.declared.law.Verdict.{Verdict};
 ghost use Rattle.audit_rules.specs.declared.law.Verdict.TheVariants.{Serial};
 
@@ -41,6 +41,16 @@ pub fn right_programs_can_be_told()
 /// The tests tell the first law that a tidy log fails, where the programs are right: each law is decided.
 pub fn the_first_failure_is_told()
     ensures { (d : Description) (ps : List Program) (l : Log) → AreRightPrograms d ps → IsTidyLog d l → MatchOption (failed_by d ps l) (LogKeepsAll d ps l) (LogFails d ps l) }
+{}
+
+/// The tests tell the verdict on a tidy report, where the programs are right.
+pub fn the_verdict_is_told()
+    ensures { (d : Description) (ps : List Program) (r : Report) → AreRightPrograms d ps → IsTidy d r → IsVerdict d ps r (verdict_of d ps r) }
+{}
+
+/// A verdict is on the journals of a report alone, whatever room is left in its logs.
+pub fn verdicts_are_on_journals()
+    ensures { (d : Description) (ps : List Program) (r s : Report) (v : Verdict) → TellSameJournals r s → IsVerdict d ps r v → IsVerdict d ps s v }
 {}
 
 /// A report has one verdict; and a tidy one is found serial exactly where it is a serial report.

@@ -7,4 +7,5 @@ pub mod laws;
 pub use law::{Law, Verdict};
 pub use laws::{
     devices_follow, one_verdict, right_programs_can_be_told, the_first_failure_is_told,
+    the_verdict_is_told, verdicts_are_on_journals,
 };
