@@ -1,0 +1,10 @@
+pub mod Deciding
+pub mod Members
+pub mod RollLemmas
+pub mod InstalledLemmas
+pub mod FollowingLemmas
+pub mod GrantLemmas
+pub mod ReplayLemmas
+pub mod SameLemmas
+pub mod RerunLemmas
+pub mod ShownLemmas

@@ -1,0 +1,68 @@
+-- How the entries of a journal follow one another, and that stamps don't fall: what a well-formed journal owes but for the
+-- time of its first event.
+use Rattle.std.specs.Prelude.{suc, ◌+◌, ◌==◌, nat_le, nat_lt, ◌&&◌, ◌||◌, not, Bool, true, false, List, [], ◌∷◌, is_some}
+use Rattle.std.specs.List.{list_any}
+use Rattle.mate_num.specs.declared.call.End.{End}
+use Rattle.mate_num.specs.declared.call.End.TheVariants as end
+use Rattle.mate_num.specs.declared.call.Stamp.{Stamp}
+use Rattle.mate_num.specs.declared.id.HandlerId.{HandlerId}
+use Rattle.mate_num.specs.declared.id.ContextId.{ContextId}
+use Rattle.mate_journal.specs.Machine.{Machine}
+use Rattle.mate_journal.specs.Journal.{Told, Posted, Dropped, Started, Asked, Answered, Ended, Installed, Reset, Seen, Void, Event, nothing_heard, AtEachEntry}
+use Rattle.mate_journal.specs.WellFormed.{MayFollow, IsInTime}
+use Rattle.audit_finite.specs.Roll.{Roll, nobody, rolled, is_at, is_queued, is_ready, is_waiting}
+
+-- stamps never fall along the journal, from its first event on
+abbrev pub StampsRise : List Event → Type 0
+StampsRise [] = Unit {0}
+StampsRise (e ∷ es) = IsInTime e.stamp es
+
+-- each entry may follow on those before it, and stamps never fall
+pub record EntriesFollow (m : Machine) (es : List Event) : Type 0 where
+  pub in_time : StampsRise es
+  pub follow : AtEachEntry (MayFollow m) m (nothing_heard m) es
+
+-- ---- the same as tests
+
+abbrev pub not_before : Stamp → Stamp → Bool
+not_before old new = nat_le old.event new.event && (nat_le old.time new.time && (not (old.event == new.event) || (old.time == new.time)))
+
+abbrev pub is_in_time : Stamp → List Event → Bool
+is_in_time last [] = true
+is_in_time last (e ∷ es) = not_before last e.stamp && is_in_time e.stamp es
+
+abbrev pub stamps_rise : List Event → Bool
+stamps_rise [] = true
+stamps_rise (e ∷ es) = is_in_time e.stamp es
+
+abbrev pub is_context_of : Machine → HandlerId → ContextId → Bool
+is_context_of m h c = nat_le (m.first_context h) c.0 && nat_lt c.0 (m.first_context h + m.contexts h)
+
+abbrev pub closes : End → Bool
+closes end.Halt = true
+closes (end.Fault kind) = true
+closes (end.Wants f args) = false
+
+-- a live invocation has the context
+abbrev pub is_taken : Roll → ContextId → Bool
+is_taken x c = list_any (λ s. s.invocation.context.0 == c.0) x.seats
+
+abbrev pub may_follow : Machine → Roll → Told → Bool
+may_follow m x (Posted n h c payload) = (n == suc x.posts) && (is_some (x.installed h) && (is_context_of m h c && not (is_taken x c)))
+may_follow m x (Dropped h cause) = true
+may_follow m x (Started n) = is_at x n is_queued
+may_follow m x (Asked n f args) = is_at x n is_ready
+may_follow m x (Answered n value) = is_at x n is_waiting
+may_follow m x (Ended n how) = is_at x n is_ready && closes how
+may_follow m x (Installed p) = true
+may_follow m x Reset = true
+may_follow m x (Seen store) = true
+may_follow m x (Void cause) = true
+
+-- each entry of the journal, with the roll before it
+abbrev pub follow_one_another : Machine → Roll → List Event → Bool
+follow_one_another m x [] = true
+follow_one_another m x (e ∷ es) = may_follow m x e.told && follow_one_another m (rolled x e.told) es
+
+abbrev pub entries_follow : Machine → List Event → Bool
+entries_follow m es = stamps_rise es && follow_one_another m nobody es

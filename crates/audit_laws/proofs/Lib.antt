@@ -1,0 +1,4 @@
+pub mod Told
+pub mod Programs
+pub mod NodeReports
+pub mod WorldReports

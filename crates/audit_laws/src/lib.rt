@@ -1,0 +1,34 @@
+//! What a node and a world tell of their runs is found serial.
+#![tactic(auto)]
+
+ghost use Rattle.std.specs.Prelude.{List};
+ghost use Rattle.vm_desc.specs.declared.description.Description.{Description};
+ghost use Rattle.mate_journal.specs.NodeReport.{IsNodeReport};
+ghost use Rattle.mate_journal.specs.NodeScript.{Step, RunEnd};
+ghost use Rattle.mate_journal.specs.Turns.{Clock};
+ghost use Rattle.mate_journal.specs.declared.program.Program.{Program};
+ghost use Rattle.mate_journal.specs.declared.report.Report.{Report};
+ghost use Rattle.node_programs.specs.ScriptSteps.{AreProgramsOf, steps_of};
+ghost use Rattle.node_programs.specs.Sources.{meaning_by};
+ghost use Rattle.node_programs.specs.WorldPrograms.{AreProgramsOfWorld};
+ghost use Rattle.script_reader.specs.Steps.{NodeScript};
+ghost use Rattle.world_script.specs.declared.world.World.{World as Script};
+ghost use Rattle.world_rules.specs.Report.{IsWorldReport};
+ghost use Rattle.world_sources.specs.SourceWorld.{source_world};
+ghost use Rattle.audit_rules.specs.Verdicts.{IsVerdict};
+ghost use Rattle.audit_rules.specs.declared.law.Verdict.TheVariants.{Serial};
+ghost use Rattle.audit_laws.specs.NodeInstalls.{InstallPrograms};
+
+/// What a node tells of the steps of a script is serial for the programs that the steps install, however its run ends: whole, at
+/// a full log, or cut from outside. The steps of a script install its programs.
+pub fn node_reports_are_serial()
+    ensures steps { (d : Description) (ps : List Program) (k : Clock) (steps : List Step) (how : RunEnd) (r : Report) →
+        InstallPrograms ps steps → IsNodeReport d k (meaning_by d ps) steps how r → IsVerdict d ps r Serial }
+    ensures installs { (d : Description) (script : NodeScript) (ps : List Program) → AreProgramsOf d script ps → InstallPrograms ps (steps_of script ps) }
+{}
+
+/// What the nodes of a world tell is serial for the programs that its script injects, however its run ends.
+pub fn world_reports_are_serial()
+    ensures { (d : Description) (script : Script) (ps : List Program) (how : RunEnd) (r : Report) →
+        AreProgramsOfWorld d script ps → IsWorldReport (source_world d script ps) how r → IsVerdict d ps r Serial }
+{}

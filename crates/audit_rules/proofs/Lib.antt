@@ -1,0 +1,4 @@
+pub mod RightLemmas
+pub mod VerdictLemmas
+pub mod TestLemmas
+pub mod ReportLemmas

@@ -1,0 +1,77 @@
+-- The first law that a log fails, and the verdict on a report, by tests.
+use Rattle.std.specs.Prelude.{ℕ, suc, ◌&&◌, nat_lt, Bool, true, List, [], ◌∷◌, Option, Some, None, if◌then◌else◌}
+use Rattle.std.specs.List.{list_any}
+use Rattle.vm_desc.specs.Shapes.{shape_of}
+use Rattle.vm_desc.specs.declared.description.Description.{Description}
+use Rattle.mate_journal.specs.Journal.{Told, Posted, Dropped, Started, Asked, Answered, Ended, Installed, Reset, Seen, Void, Event, journal_of}
+use Rattle.mate_journal.specs.Log.{Log}
+use Rattle.mate_journal.specs.Machine.{HeldProgram, Machine}
+use Rattle.mate_journal.specs.declared.program.Program.{Program}
+use Rattle.mate_journal.specs.declared.report.Report.{Report}
+use Rattle.node_invariant.specs.Meaning.{code_of}
+use Rattle.node_programs.specs.Sources.{is_held_as}
+use Rattle.audit_finite.specs.Granting.{ConflictTest, grants_in_order}
+use Rattle.audit_finite.specs.Rerun.{replays_right}
+use Rattle.audit_finite.specs.Roll.{Roll, nobody, rolled}
+use Rattle.audit_finite.specs.Following.{entries_follow}
+use Rattle.audit_finite.specs.Shown.{stores_right}
+use Rattle.audit_runs.specs.CodeMeaning.{conflict_with}
+use Rattle.audit_rules.specs.Laws.{machine_by}
+use Rattle.audit_rules.specs.declared.law.Law.{Law}
+use Rattle.audit_rules.specs.declared.law.Law.TheVariants as law
+use Rattle.audit_rules.specs.declared.law.Verdict.{Verdict}
+use Rattle.audit_rules.specs.declared.law.Verdict.TheVariants.{Serial, Refuted}
+
+-- the version that is installed, 0 for none
+abbrev pub version_installed : Option HeldProgram → ℕ
+version_installed None = 0
+version_installed (Some p) = p.version
+
+abbrev pub installs_right : List Program → Roll → Told → Bool
+installs_right ps x (Installed p) = list_any (is_held_as p) ps && nat_lt (version_installed (x.installed p.handler)) p.version
+installs_right ps x (Posted n h c payload) = true
+installs_right ps x (Dropped h cause) = true
+installs_right ps x (Started n) = true
+installs_right ps x (Asked n f args) = true
+installs_right ps x (Answered n value) = true
+installs_right ps x (Ended n how) = true
+installs_right ps x Reset = true
+installs_right ps x (Seen store) = true
+installs_right ps x (Void cause) = true
+
+abbrev pub images_right : List Program → Roll → List Event → Bool
+images_right ps x [] = true
+images_right ps x (e ∷ es) = installs_right ps x e.told && images_right ps (rolled x e.told) es
+
+-- programs conflict where the code of their images does
+abbrev pub conflict_of : Description → ConflictTest
+conflict_of d = conflict_with (shape_of d) (λ p. code_of (shape_of d) p.image)
+
+abbrev pub first_failed : Machine → ConflictTest → List Program → List Event → Option Law
+first_failed m conflict ps es =
+    if entries_follow m es then
+    (if images_right ps nobody es then
+    (if replays_right m conflict nobody m.zero_store es then
+    (if stores_right m nobody m.zero_store es then
+    (if grants_in_order conflict nobody 0 es then None else Some law.D10)
+    else Some law.D9)
+    else Some law.D8)
+    else Some law.Image)
+    else Some law.D7
+
+-- of a log
+abbrev pub failed_by : Description → List Program → Log → Option Law
+failed_by d ps l = first_failed (machine_by d ps) (conflict_of d) ps (journal_of l)
+
+-- a law that is failed at this node, or what is told of the nodes behind it
+abbrev pub refuted_or : Option Law → ℕ → Verdict → Verdict
+refuted_or None node rest = rest
+refuted_or (Some law) node rest = Refuted node law
+
+-- of the logs from this node on, the first that fails a law
+abbrev pub verdict_from : Description → List Program → ℕ → List Log → Verdict
+verdict_from d ps node [] = Serial
+verdict_from d ps node (l ∷ ls) = refuted_or (failed_by d ps l) node (verdict_from d ps (suc node) ls)
+
+abbrev pub verdict_of : Description → List Program → Report → Verdict
+verdict_of d ps r = verdict_from d ps 0 r.nodes

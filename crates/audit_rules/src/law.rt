@@ -1,0 +1,27 @@
+//! The laws of a node's journal in their order, and a verdict on a report.
+
+/// What a node's journal owes, in the order in which it is told. Each variant is named by the word that stands for it in a refusal.
+#[derive(Clone, Copy)]
+pub enum Law {
+    /// Following: entries follow one another as they may, and stamps never fall.
+    D7,
+    /// Images: what is installed is one of the programs, and newer than what was installed for its handler.
+    Image,
+    /// Serial replay: the invocations, run whole and one at a time in the order of their ends, give what is told.
+    D8,
+    /// Stores seen: what a store shows is as it is.
+    D9,
+    /// Grant rule: an invocation waits to start only for conflicting ones.
+    D10,
+    /// Device order: in each era the calls to a device are in order. It is never the first that a journal fails.
+    D11,
+}
+
+/// Whether a report shows serial behaviour.
+#[derive(Clone, Copy)]
+pub enum Verdict {
+    /// Each node's journal keeps each law.
+    Serial,
+    /// The lowest node whose journal fails a law, and the first law that it fails.
+    Refuted { node: u8, law: Law },
+}
