@@ -160,7 +160,7 @@ whole_run m r n =
     let i = r.invocations n in
     m.meaning.run i.program r.serial i.payload (answers_of i) m.turns
 
--- the function and arguments that the invocation waits for
+-- the calls of an invocation, with the one that it waits in and its answer
 abbrev answered : Phase → ℤ → List Call → List Call
 answered Unposted value calls = calls
 answered Queued value calls = calls

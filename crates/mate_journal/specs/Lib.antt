@@ -15,3 +15,4 @@ pub mod NodeRun
 pub mod Tidy
 pub mod NodeReport
 pub mod OpenLog
+pub mod Ranges

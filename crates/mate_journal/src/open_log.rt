@@ -10,6 +10,7 @@ use crate::{NodeLog, Stamped};
 use mate_num::{HandlerId, Image, NoMemory, Stamp, Store};
 use std::alloc::Global;
 use std::marker::Model;
+use std::mem;
 
 /// What happened on one node, in order. After a `reserve` it is written without memory. Contracts see all of it; memory has
 /// what was told since the last `forget`.
@@ -118,6 +119,18 @@ impl OpenLog {
         self.gone += self.kept.entries().len();
         self.past = Past::with(&self.past, &self.kept);
         self.kept.cut(0, 0, 0);
+    }
+
+    /// Where all was forgotten: takes the room of another empty log, and leaves that one its own. So one room serves many logs
+    /// that are written in turn.
+    pub fn trade(&mut self, room: &mut NodeLog)
+        requires gone { self.old.gone ≡ gone_of self.old.all }
+        requires empty { IsEmpty room.old }
+        ensures same { self.new ≡ record self.old { all = record self.old.all { spare = room.old.spare } } }
+        ensures empty { IsEmpty room.new }
+        ensures room { room.new.spare ≡ self.old.all.spare }
+    {
+        mem::swap(&mut self.kept, room);
     }
 
     /// What was told since the last `forget`.

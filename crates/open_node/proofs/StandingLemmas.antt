@@ -1,6 +1,6 @@
 -- Who is ready, who waits, and what is installed, as it was heard.
-use Rattle.std.proofs.Common.{◌≡◌, true, false, List, [], Option, Some, None, refl, sym, ◌∙◌, ap, subst, inl, inr}
-use Rattle.std.specs.Prelude.{IsSome}
+use Rattle.std.proofs.Common.{◌≡◌, Bool, true, false, List, [], Option, Some, None, refl, sym, ◌∙◌, ap, subst, inl, inr}
+use Rattle.std.specs.Prelude.{IsSome, MatchBool, is_some, map, slice_get}
 use Rattle.std.specs.Option.{option_map}
 use Rattle.mate_num.specs.declared.id.ContextId.{ContextId}
 use Rattle.mate_num.specs.declared.id.HandlerId.{HandlerId}
@@ -9,7 +9,7 @@ use Rattle.context_sched.specs.Ready.{holds}
 use Rattle.vm_desc.specs.declared.description.Description.{Description}
 use Rattle.mate_journal.specs.Journal.{Reading, held, is_live}
 use Rattle.mate_journal.specs.NodeScript.{IsReadyIn}
-use Rattle.journal_laws.specs.Progress.{IsNoneLive, GoesForward}
+use Rattle.journal_laws.specs.Progress.{IsNoneLive, IsSomeReady, GoesForward}
 use Rattle.node_contexts.specs.declared.handlers.Held.{Held}
 use Rattle.node_contexts.specs.declared.seat.Seat.{Seat}
 use Rattle.node_contexts.specs.At.{at, IsAsking, IsNoneAsking}
@@ -21,6 +21,8 @@ use Rattle.node_invariant.specs.Keeps.{reading, Keeps}
 use Rattle.node_invariant.proofs.MoveLemmas.{none_ready, none_waits, answering, was_waiting}
 use Rattle.node_invariant.specs.Starting.{Rests}
 use Rattle.node_calls.proofs.RunningLemmas.{one, one-ready}
+use Rattle.node_calls.proofs.SettleLemmas.{first-ready, none-first}
+use Rattle.node_invariant.specs.Queue.{invocation_in}
 use Rattle.node_calls.specs.Calls.{NobodyWaits}
 use Rattle.open_node.specs.Calls.{IsNoneReady, IsWaitingIn, IsAsked, IsImageOf}
 use Rattle.open_node.proofs.JournalLemmas.{Forward}
@@ -34,6 +36,18 @@ pub nobody-ready : (d : Description) (s : Parts) → Keeps d s → s.contexts.ri
 nobody-ready d s keeps empty n is =
     let c = ((reading d s.log.all).invocations n).context in
     none_ready (held_at s.handlers.programs) (reading d s.log.all) s.contexts c keeps.fits (ap (λ (l : List ContextId). holds l c) empty) record { invocation = n; ready = is; context = refl }
+
+-- whether one is
+pub ready-or-not : (d : Description) (s : Parts) → Keeps d s → (o : Option ContextId) → o ≡ slice_get s.contexts.ring 0 → (b : Bool) → b ≡ is_some o
+    → MatchBool b (IsSomeReady (reading d s.log.all)) (IsNoneReady (reading d s.log.all) × (map (invocation_in s.contexts) s.contexts.ring ≡ []))
+ready-or-not d s keeps (Some c) first b is =
+    let ready = ready-in d s c keeps (first-ready s.contexts c first) in
+    subst (λ (b : Bool). MatchBool b (IsSomeReady (reading d s.log.all)) (IsNoneReady (reading d s.log.all) × (map (invocation_in s.contexts) s.contexts.ring ≡ []))) (sym is)
+    (record { invocation = ready.invocation; ready = ready.ready })
+ready-or-not d s keeps None first b is =
+    let empty = none-first s.contexts.ring first in
+    subst (λ (b : Bool). MatchBool b (IsSomeReady (reading d s.log.all)) (IsNoneReady (reading d s.log.all) × (map (invocation_in s.contexts) s.contexts.ring ≡ []))) (sym is)
+    (nobody-ready d s keeps empty, ap (map (invocation_in s.contexts)) empty)
 
 -- ---- who waits
 

@@ -1,11 +1,12 @@
 //! A node whose log can be forgotten in part: its heap and contexts, what is installed for its handlers, and its log.
 
-ghost use Rattle.std.specs.Prelude.{◌≡◌, ◌<◌, ◌≤◌, ◌+◌, ◌*◌, length, All, MatchOption, MatchResult, IfOk, OnOk};
+ghost use Rattle.std.specs.Prelude.{◌≡◌, ◌<◌, ◌≤◌, ◌+◌, ◌*◌, [], length, All, MatchBool, MatchOption, MatchResult, IfOk, OnOk};
 ghost use Rattle.mate_num.specs.declared.bounds.TheConstants.{CODE_MAX, CONTEXTS_MAX};
 ghost use Rattle.mate_journal.specs.Log.{IsEmpty};
 ghost use Rattle.mate_journal.specs.Journal.{held as held_version};
 ghost use Rattle.mate_journal.specs.Pace.{Pace, no_pace};
 ghost use Rattle.mate_journal.specs.NodeScript.{IsReadyIn};
+ghost use Rattle.journal_laws.specs.Progress.{IsSomeReady};
 ghost use Rattle.node_invariant.specs.Meaning.{machine_in, clock_of};
 ghost use Rattle.node_invariant.specs.Keeps.{IsTimely};
 ghost use Rattle.node_invariant.specs.Starting.{Rests};
@@ -71,7 +72,7 @@ fn keeps_journal(description: &Description, parts: &Parts)
 
 impl OpenNode {
     ghost use Rattle.open_node.specs.View.{heard_of, HasPace, Tells, IsSameNode};
-    ghost use Rattle.open_node.specs.Calls.{HasStepped, StandsAs, IsAsked, IsImageOf, TellFrom};
+    ghost use Rattle.open_node.specs.Calls.{HasStepped, IsNoneReady, StandsAs, IsAsked, IsImageOf, TellFrom};
 
     /// A node of this machine. Nothing is installed, all variables are 0, all buffers are empty, and nothing was told.
     pub fn new(alloc: Global, description: &Description) -> Result<OpenNode, NoMemory>
@@ -135,6 +136,13 @@ impl OpenNode {
         settle(&self.description, &mut self.parts, at);
     }
 
+    /// Whether an invocation is ready.
+    pub fn is_ready(&self) -> bool
+        ensures { MatchBool result (IsSomeReady (heard_of self.now)) (IsNoneReady (heard_of self.now) × (self.now.line ≡ [])) }
+    {
+        self.parts.contexts.first_ready().is_some()
+    }
+
     /// What can go on. A `step` in a context that it names as `Can` is never refused.
     pub fn standing(&self) -> Standing
         ensures { StandsAs (heard_of self.now) result }
@@ -191,6 +199,19 @@ impl OpenNode {
         ensures pace { (p : Pace) → HasPace self.old p → HasPace self.new p }
     {
         self.parts.log.forget();
+    }
+
+    /// Where all that was told is forgotten: takes the room of another empty log, and leaves that one its own. So nodes that
+    /// are called in turn share one room.
+    pub fn trade(&mut self, room: &mut NodeLog)
+        requires gone { self.old.gone ≡ gone_of self.old.log }
+        requires empty { IsEmpty room.old }
+        ensures same { self.new ≡ record self.old { log = record self.old.log { spare = room.old.spare } } }
+        ensures pace { (p : Pace) → HasPace self.old p → HasPace self.new p }
+        ensures empty { IsEmpty room.new }
+        ensures room { room.new.spare ≡ self.old.log.spare }
+    {
+        self.parts.log.trade(room);
     }
 
     /// What was told since the last `forget`.

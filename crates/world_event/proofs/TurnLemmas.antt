@@ -1,5 +1,5 @@
 -- The turns of a node: what they tell is little, and what calls in them waits behind them.
-use Rattle.std.proofs.Common.{◌≡◌, ℕ, ◌+◌, ◌≤◌, List, [], ◌∷◌, length, map, sym, ◌∙◌, ap, subst, arith}
+use Rattle.std.proofs.Common.{◌≡◌, ℕ, ◌+◌, ◌≤◌, List, [], ◌∷◌, length, map, drop, refl, sym, ◌∙◌, ap, subst, arith, append-nil}
 use Rattle.mate_num.specs.declared.call.Stamp.{Stamp}
 use Rattle.mate_journal.specs.Machine.{Machine}
 use Rattle.mate_journal.specs.Journal.{Told, Event, Reading, nothing_heard, heard, heard_all, heard_told, journal_of, AtEachEntry}
@@ -19,7 +19,7 @@ use Rattle.vm_desc.proofs.DescriptionLemmas.{bounds_of}
 use Rattle.open_node.proofs.CallLemmas.{Tells-by}
 use Rattle.world_step.proofs.NodeLemmas.{tells-behind}
 use Rattle.call_waits.specs.Waiting.{WaitApart, WaitSmall, AreAwaited, AreFollowing, HasFewContexts, JournalsWaitApart, JournalsWaitSmall, SettlingAwaits, SettlingTellsFew}
-use Rattle.open_node.specs.Calls.{told_from}
+use Rattle.open_node.specs.Calls.{IsNoneReady, told_by_entries, told_from}
 use Rattle.world_handling.specs.Handling.{IsPaced}
 use Rattle.world_event.proofs.ToldLemmas.{tells-heard, told-behind}
 
@@ -86,3 +86,24 @@ module _ (old mid new : NodeView) (at : Stamp) (bound : ℕ) (same : IsSameNode 
       let waits = law (clock_of mid.description) (heard_of mid) paced.pace tells.told settles.0 settles.1 (turns-follow mid new at tells.told tells.description tells.grows formed_new)
       (subst WaitSmall heard_is (formed-small new formed_new small)) in
       subst (AreAwaited (heard_of new)) (sym told_is) (subst (λ (r : Reading). AreAwaited r tells.told) (sym heard_is) waits)
+
+-- ---- where nobody is ready
+
+drop-all : {A : Type 0} (xs : List A) → drop (length xs) xs ≡ []
+drop-all [] = refl
+drop-all (x ∷ xs) = drop-all xs
+
+module _ (v : NodeView) (at : Stamp) (none : IsNoneReady (heard_of v)) where
+  -- no turn is had
+  pub none-tell : v.line ≡ [] → IsTimely at v.log → Tells v v at (Settles (clock_of v.description) (machine_in v.description) (heard_of v))
+  none-tell empty timely = record {
+    told = [];
+    description = refl;
+    grows = record { journal = sym (append-nil (journal_of v.log)); count = omega arith; spare = omega arith; timely = timely };
+    gone = refl;
+    paces = λ p pace. (p, record { turns = []; are_turns = tt; made = refl; then = refl; empty = pace.line ∙ empty; settled = none }, pace);
+  }
+
+-- and nothing is told
+pub none-awaited : (v : NodeView) → AreAwaited (heard_of v) (told_from (length v.log.entries) v.log)
+none-awaited v = subst (λ (es : List Stamped). AreAwaited (heard_of v) (told_by_entries v.log es)) (sym (drop-all v.log.entries)) tt

@@ -15,7 +15,7 @@ use call_waits::{settling_leaves_waiting, settling_tells_few, waits_are_apart};
 use mate_num::{NoMemory, Stamp};
 use open_node::OpenNode;
 
-/// The node has turns until nobody is ready there. They tell at most 32 entries, and what calls in them waits behind them.
+/// The node has turns until nobody is ready there, none where nobody is. They tell at most 32 entries, and what calls in them waits behind them.
 pub(crate) fn have_turns(node: &mut OpenNode, at: Stamp) -> Result<(), NoMemory>
     requires timely { IsTimely at node.old.log }
     requires paced { IsPaced node.old }
@@ -24,13 +24,17 @@ pub(crate) fn have_turns(node: &mut OpenNode, at: Stamp) -> Result<(), NoMemory>
     ensures apart { OnOk result (WaitApart (heard_of node.new)) }
     ensures awaited { OnOk result (AreAwaited (heard_of node.new) (told_from (length node.old.log.entries) node.new.log)) }
 {
+    waits_are_apart();
+    settling_leaves_waiting();
+    settling_tells_few();
+    is_well_formed(node);
+    if !node.is_ready() {
+        return Ok(());
+    }
     node.reserve(32)?;
     is_well_formed(node);
     node.settle(at);
     is_well_formed(node);
-    waits_are_apart();
-    settling_leaves_waiting();
-    settling_tells_few();
     Ok(())
 }
 
