@@ -24,7 +24,7 @@ use Rattle.node_programs.specs.Sources.{meaning_by}
 use Rattle.world_images.proofs.Agree.{NoInstall, NoneInstall, by_made, occasions-none, settles-none}
 use Rattle.audit_rules.specs.Laws.{InstallsProgram, machine_by}
 use Rattle.audit_rules.specs.Verdicts.{LogKeepsAll, IsVerdict}
-use Rattle.audit_rules.specs.declared.law.Verdict.TheVariants.{Serial}
+use Rattle.audit_verdict.specs.declared.law.Verdict.TheVariants.{Serial}
 use Rattle.audit_laws.specs.NodeInstalls.{IsInstallOf, InstallPrograms}
 use Rattle.audit_laws.proofs.Told.{at_events, InstallsRight, none-right, install-right, keeps-all}
 

@@ -21,7 +21,7 @@ use Rattle.audit_finite.specs.Following.{StampsRise}
 use Rattle.audit_finite.specs.Shown.{ShowsValues, ShowsValuesAt}
 use Rattle.audit_rules.specs.Laws.{IsOneOf, InstallsProgram, machine_by}
 use Rattle.audit_rules.specs.Verdicts.{LogKeepsAll}
-use Rattle.audit_rules.specs.declared.law.Law.TheVariants as law
+use Rattle.audit_verdict.specs.declared.law.Law.TheVariants as law
 
 -- ---- a rule of what is told
 

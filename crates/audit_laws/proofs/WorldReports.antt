@@ -24,7 +24,7 @@ use Rattle.world_images.proofs.Agree.{by_made, occasions-none, settles-none}
 use Rattle.world_sources.specs.SourceWorld.{source_world}
 use Rattle.audit_rules.specs.Laws.{IsOneOf, InstallsProgram}
 use Rattle.audit_rules.specs.Verdicts.{LogKeepsAll, IsVerdict}
-use Rattle.audit_rules.specs.declared.law.Verdict.TheVariants.{Serial}
+use Rattle.audit_verdict.specs.declared.law.Verdict.TheVariants.{Serial}
 use Rattle.audit_laws.proofs.Told.{told-append, stamped, at_stamped, InstallsRight, none-right, install-right, keeps-all}
 use Rattle.audit_laws.proofs.Programs.{event-installs}
 

@@ -16,7 +16,7 @@ ghost use Rattle.world_script.specs.declared.world.World.{World as Script};
 ghost use Rattle.world_rules.specs.Report.{IsWorldReport};
 ghost use Rattle.world_sources.specs.SourceWorld.{source_world};
 ghost use Rattle.audit_rules.specs.Verdicts.{IsVerdict};
-ghost use Rattle.audit_rules.specs.declared.law.Verdict.TheVariants.{Serial};
+ghost use Rattle.audit_verdict.specs.declared.law.Verdict.TheVariants.{Serial};
 ghost use Rattle.audit_laws.specs.NodeInstalls.{InstallPrograms};
 
 /// What a node tells of the steps of a script is serial for the programs that the steps install, however its run ends: whole, at

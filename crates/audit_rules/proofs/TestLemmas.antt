@@ -28,8 +28,8 @@ use Rattle.audit_finite.proofs.ShownLemmas.{stores_told}
 use Rattle.audit_rules.specs.Laws.{InstallsProgram, machine_by, rank_of}
 use Rattle.audit_rules.specs.Tests.{version_installed, installs_right, images_right, conflict_of, failed_by}
 use Rattle.audit_rules.specs.Verdicts.{LogKeeps, LogKeepsAll, LogFails}
-use Rattle.audit_rules.specs.declared.law.Law.{Law}
-use Rattle.audit_rules.specs.declared.law.Law.TheVariants as law
+use Rattle.audit_verdict.specs.declared.law.Law.{Law}
+use Rattle.audit_verdict.specs.declared.law.Law.TheVariants as law
 use Rattle.audit_rules.proofs.VerdictLemmas.{same_rank}
 use Rattle.audit_rules.proofs.RightLemmas.{parts, conflicts, lengths, devices, seen_lengths}
 

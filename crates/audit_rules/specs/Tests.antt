@@ -17,10 +17,10 @@ use Rattle.audit_finite.specs.Following.{entries_follow}
 use Rattle.audit_finite.specs.Shown.{stores_right}
 use Rattle.audit_runs.specs.CodeMeaning.{conflict_with}
 use Rattle.audit_rules.specs.Laws.{machine_by}
-use Rattle.audit_rules.specs.declared.law.Law.{Law}
-use Rattle.audit_rules.specs.declared.law.Law.TheVariants as law
-use Rattle.audit_rules.specs.declared.law.Verdict.{Verdict}
-use Rattle.audit_rules.specs.declared.law.Verdict.TheVariants.{Serial, Refuted}
+use Rattle.audit_verdict.specs.declared.law.Law.{Law}
+use Rattle.audit_verdict.specs.declared.law.Law.TheVariants as law
+use Rattle.audit_verdict.specs.declared.law.Verdict.{Verdict}
+use Rattle.audit_verdict.specs.declared.law.Verdict.TheVariants.{Serial, Refuted}
 
 -- the version that is installed, 0 for none
 abbrev pub version_installed : Option HeldProgram → ℕ

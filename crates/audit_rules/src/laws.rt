@@ -19,8 +19,8 @@ ghost use Rattle.audit_finite.specs.Shown.{KeepsLengths, SeenLengths};
 ghost use Rattle.audit_rules.specs.Laws.{machine_by};
 ghost use Rattle.audit_rules.specs.Tests.{conflict_of, failed_by, verdict_of};
 ghost use Rattle.audit_rules.specs.Verdicts.{IsSerialReport, IsVerdict, LogKeepsAll, LogFails, TellSameJournals};
-ghost use Rattle.audit_rules.specs.declared.law.Verdict.{Verdict};
-ghost use Rattle.audit_rules.specs.declared.law.Verdict.TheVariants.{Serial};
+ghost use Rattle.audit_verdict.specs.declared.law.Verdict.{Verdict};
+ghost use Rattle.audit_verdict.specs.declared.law.Verdict.TheVariants.{Serial};
 
 /// The order of calls to devices follows from the other laws: it is never the first to fail.
 pub fn devices_follow()

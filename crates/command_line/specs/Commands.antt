@@ -28,6 +28,8 @@ pub data Task : Type 0 where
   Expand : (source : List ℕ) → Task
   -- write what a new node of a machine answers to the capsules in a file, the bytes of a serial line
   Feed : (machine stream : List ℕ) → Task
+  -- say whether the report in a file shows serial behaviour of what a script, of a node or of a world, runs on a machine, with sources folded or not
+  Audit : (fold : Bool) (machine script report : List ℕ) → Task
 
 -- the word for the built-in machine, in place of a description's file
 abbrev pub builtin_word : List ℕ
@@ -80,13 +82,18 @@ abbrev pub feed_task : List (List ℕ) → Option Task
 feed_task (machine ∷ stream ∷ []) = Some (Feed machine stream)
 feed_task words = None
 
--- the task of a line; `node`, `sim` and `gen` take both flags, `compile` takes `--fold`, and no other command takes a flag
+abbrev pub audit_task : Bool → List (List ℕ) → Option Task
+audit_task fold (machine ∷ script ∷ report ∷ []) = Some (Audit fold machine script report)
+audit_task fold words = None
+
+-- the task of a line; `node`, `sim` and `gen` take both flags, `compile` and `audit` take `--fold`, and no other command takes a flag
 abbrev pub task_of : Line → Option Task
 task_of l =
     if bytes_eq l.command (codes "node") then node_task l.fold l.brief l.args else
     if bytes_eq l.command (codes "sim") then sim_task l.fold l.brief l.args else
     if bytes_eq l.command (codes "gen") then gen_task l.fold l.brief l.args else
     if bytes_eq l.command (codes "compile") && not l.brief then compile_task l.fold l.args else
+    if bytes_eq l.command (codes "audit") && not l.brief then audit_task l.fold l.args else
     if l.brief || l.fold then None else
     if bytes_eq l.command (codes "table") then table_task l.args else
     if bytes_eq l.command (codes "check") then check_task l.args else
@@ -117,3 +124,4 @@ task_held (command.Compile c) = Compile c.fold c.machine.now c.handler.now c.ver
 task_held (command.Check machine file) = Check machine.now file.now
 task_held (command.Expand source) = Expand source.now
 task_held (command.Feed machine stream) = Feed machine.now stream.now
+task_held (command.Audit a) = Audit a.fold a.machine.now a.script.now a.report.now

@@ -3,9 +3,10 @@
 ghost use Rattle.std.specs.Prelude.{◌≡◌, ◌≤◌, map, option_map, IfSome};
 ghost use Rattle.std.specs.Char.{is_ascii_digit};
 ghost use Rattle.std.specs.List.{list_all};
-ghost use Rattle.command_line.specs.Commands.{task_held, line_said, task_of, node_task, sim_task, gen_task, table_task, compile_task, check_task, expand_task, feed_task, version_said, number_said, is_counting};
+ghost use Rattle.command_line.specs.Commands.{task_held, line_said, task_of, node_task, sim_task, gen_task, table_task, compile_task, check_task, expand_task, feed_task, audit_task, version_said, number_said, is_counting};
 
 use crate::CommandLine;
+use crate::audit::Audit;
 use crate::compilation::Compilation;
 use crate::made_run::MadeRun;
 use crate::script_run::ScriptRun;
@@ -29,6 +30,8 @@ pub enum Command<'a> {
     Expand { source: &'a str },
     /// Writes what a new node of a machine answers to the capsules in the file `stream`, which has the bytes of a serial line.
     Feed { machine: &'a str, stream: &'a str },
+    /// Says whether a report shows serial behaviour.
+    Audit(Audit<'a>),
 }
 
 /// The command of a line; None where its word is unknown, or has other words or flags than the command takes.
@@ -46,6 +49,9 @@ pub fn command_of<'a>(line: &CommandLine<'a>) -> Option<Command<'a>>
     }
     if line.command == "compile" && !line.brief {
         return compile(line.args.as_slice(), line.fold);
+    }
+    if line.command == "audit" && !line.brief {
+        return audit(line.args.as_slice(), line.fold);
     }
     if line.brief || line.fold {
         return None;
@@ -158,6 +164,20 @@ fn feed<'a>(args: &[&'a str]) -> Option<Command<'a>>
         return None;
     };
     Some(Command::Feed { machine, stream })
+}
+
+fn audit<'a>(args: &[&'a str], fold: bool) -> Option<Command<'a>>
+    ensures { option_map task_held result ≡ audit_task fold (map (λ w. w.now) args.now) }
+{
+    let [machine, script, report] = args else {
+        return None;
+    };
+    Some(Command::Audit(Audit {
+        machine,
+        script,
+        report,
+        fold,
+    }))
 }
 
 /// A version in decimal digits, from 1 to 4294967295, with no sign and no 0 before it.

@@ -6,4 +6,5 @@ pub mod ExpansionCauses
 pub mod DescriptionCauses
 pub mod CapsuleCauses
 pub mod ScriptCauses
+pub mod Refutations
 pub mod Refusals

@@ -6,6 +6,7 @@ use Rattle.mate_refusals.specs.CapsuleCauses.{capsule_words}
 use Rattle.mate_refusals.specs.DescriptionCauses.{description_words}
 use Rattle.mate_refusals.specs.ExpansionCauses.{expansion_words}
 use Rattle.mate_refusals.specs.LineEnds.{name_line, number_line}
+use Rattle.mate_refusals.specs.Refutations.{refutation_words}
 use Rattle.mate_refusals.specs.ScriptCauses.{bad_line_words}
 use Rattle.mate_refusals.specs.SourceCauses.{source_words, code_words}
 use Rattle.mate_refusals.specs.declared.status.Status.{Status}
@@ -29,6 +30,7 @@ status_of (refusal.BadDescription why) = status.BadDescription
 status_of (refusal.BadScript line why) = status.BadScript
 status_of (refusal.InFile name why) = cause_status why
 status_of (refusal.BadStream place) = status.BadStream
+status_of (refusal.Refuted why) = status.Refuted
 status_of refusal.LogFull = status.LogFull
 status_of refusal.SinkFault = status.SinkFault
 status_of refusal.NoMemory = status.NoMemory
@@ -49,6 +51,7 @@ line_of (refusal.BadDescription why) = codes "bad description " ++ description_w
 line_of (refusal.BadScript line why) = codes "bad script line " ++ bad_line_words line why
 line_of (refusal.InFile name why) = file_line name why
 line_of (refusal.BadStream place) = number_line (codes "bad stream ") place
+line_of (refusal.Refuted why) = refutation_words why
 line_of refusal.LogFull = codes "log full\n"
 line_of refusal.SinkFault = codes "sink fault\n"
 line_of refusal.NoMemory = codes "no memory\n"

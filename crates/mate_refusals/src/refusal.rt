@@ -10,6 +10,7 @@ ghost use Rattle.mate_refusals.specs.declared.refusal.Refusal.TheVariants.{InFil
 use crate::cause::Cause;
 use crate::description_cause::DescriptionCause;
 use crate::line_ends::print_numbered;
+use crate::refutation::Refutation;
 use crate::script_cause::print_line;
 use crate::status::Status;
 use mate_files::{Pen, Sink, SinkFault};
@@ -33,6 +34,8 @@ pub enum Refusal {
     BadStream {
         place: u32,
     },
+    /// The report doesn't show serial behaviour.
+    Refuted(Refutation),
     /// The run met the limit of records before its end.
     LogFull,
     SinkFault,
@@ -51,6 +54,7 @@ impl Refusal {
             Refusal::BadScript { .. } => Status::BadScript,
             Refusal::InFile(_, cause) => cause.status(),
             Refusal::BadStream { .. } => Status::BadStream,
+            Refusal::Refuted(_) => Status::Refuted,
             Refusal::LogFull => Status::LogFull,
             Refusal::SinkFault => Status::SinkFault,
             Refusal::NoMemory => Status::NoMemory,
@@ -66,6 +70,7 @@ impl Refusal {
             Refusal::BadScript { line, cause } => bad_script(pen, err, *line, *cause),
             Refusal::InFile(name, cause) => cause.print(pen, err, name.as_str()),
             Refusal::BadStream { place } => print_numbered(pen, err, "bad stream ", *place),
+            Refusal::Refuted(why) => why.print(pen, err),
             Refusal::LogFull => pen.text(err, "log full\n"),
             Refusal::SinkFault => pen.text(err, "sink fault\n"),
             Refusal::NoMemory => pen.text(err, "no memory\n"),

@@ -7,7 +7,7 @@ use Rattle.mate_files.specs.Files.{Names}
 use Rattle.mate_files.proofs.SinkLemmas.{Rose-after}
 use Rattle.mate_refusals.specs.declared.refusal.Refusal.{Refusal}
 use Rattle.mate_refusals.specs.declared.cause.Cause.{Cause}
-use Rattle.mate_refusals.specs.declared.refusal.Refusal.TheVariants.{Usage, BadDescription, BadScript, InFile, BadStream, LogFull, SinkFault, NoMemory}
+use Rattle.mate_refusals.specs.declared.refusal.Refusal.TheVariants.{Usage, BadDescription, BadScript, InFile, BadStream, Refuted, LogFull, SinkFault, NoMemory}
 
 -- a step that gives a refusal ends the command with it, as a `?` does
 pub stops_by : {A B : Type 0} {step : Result A Refusal → Type 0} {next : A → Result B Refusal → Type 0} (r : Refusal) (answer : Result B Refusal)
@@ -37,6 +37,7 @@ unread-as A B (BadDescription why) unread = unread
 unread-as A B (BadScript line why) unread = unread
 unread-as A B (InFile name why) unread = unread
 unread-as A B (BadStream place) unread = unread
+unread-as A B (Refuted why) unread = unread
 unread-as A B LogFull unread = unread
 unread-as A B SinkFault unread = unread
 unread-as A B NoMemory unread = unread

@@ -1,4 +1,6 @@
-//! The laws of a node's journal in their order, and a verdict on a report.
+//! The laws of a node's journal by name, and a verdict on a report.
+
+ghost use Rattle.std.specs.Prelude.{◌≡◌};
 
 /// What a node's journal owes, in the order in which it is told. Each variant is named by the word that stands for it in a refusal.
 #[derive(Clone, Copy)]
@@ -15,6 +17,24 @@ pub enum Law {
     D10,
     /// Device order: in each era the calls to a device are in order. It is never the first that a journal fails.
     D11,
+}
+
+impl Law {
+    ghost use Rattle.audit_verdict.specs.Words.{law_word};
+
+    /// The word that stands for it in a refusal.
+    pub fn word(self) -> &'static str
+        ensures { result.now ≡ law_word self }
+    {
+        match self {
+            Law::D7 => "d7",
+            Law::Image => "image",
+            Law::D8 => "d8",
+            Law::D9 => "d9",
+            Law::D10 => "d10",
+            Law::D11 => "d11",
+        }
+    }
 }
 
 /// Whether a report shows serial behaviour.

@@ -1,0 +1,6 @@
+//! What an audit of a report says.
+#![tactic(auto)]
+
+pub mod law;
+
+pub use law::{Law, Verdict};
