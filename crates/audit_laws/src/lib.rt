@@ -13,9 +13,11 @@ ghost use Rattle.node_programs.specs.Sources.{meaning_by};
 ghost use Rattle.node_programs.specs.WorldPrograms.{AreProgramsOfWorld};
 ghost use Rattle.script_reader.specs.Steps.{NodeScript};
 ghost use Rattle.world_script.specs.declared.world.World.{World as Script};
+ghost use Rattle.report_reading.specs.Parts.{IsSameReport};
 ghost use Rattle.world_rules.specs.Report.{IsWorldReport};
 ghost use Rattle.world_sources.specs.SourceWorld.{source_world};
 ghost use Rattle.audit_rules.specs.Verdicts.{IsVerdict};
+ghost use Rattle.audit_rules.specs.declared.law.Verdict.{Verdict};
 ghost use Rattle.audit_rules.specs.declared.law.Verdict.TheVariants.{Serial};
 ghost use Rattle.audit_laws.specs.NodeInstalls.{InstallPrograms};
 
@@ -31,4 +33,9 @@ pub fn node_reports_are_serial()
 pub fn world_reports_are_serial()
     ensures { (d : Description) (script : Script) (ps : List Program) (how : RunEnd) (r : Report) →
         AreProgramsOfWorld d script ps → IsWorldReport (source_world d script ps) how r → IsVerdict d ps r Serial }
+{}
+
+/// A report that is read back from its text has the verdict that it had.
+pub fn verdicts_are_read_back()
+    ensures { (d : Description) (ps : List Program) (x r : Report) (v : Verdict) → IsSameReport x r → IsVerdict d ps r v → IsVerdict d ps x v }
 {}
