@@ -1,1 +1,2 @@
 pub mod NodeInstalls
+pub mod Reading

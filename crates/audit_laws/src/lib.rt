@@ -1,7 +1,7 @@
 //! What a node and a world tell of their runs is found serial.
 #![tactic(auto)]
 
-ghost use Rattle.std.specs.Prelude.{List};
+ghost use Rattle.std.specs.Prelude.{List, Result};
 ghost use Rattle.vm_desc.specs.declared.description.Description.{Description};
 ghost use Rattle.mate_journal.specs.NodeReport.{IsNodeReport};
 ghost use Rattle.mate_journal.specs.NodeScript.{Step, RunEnd};
@@ -13,11 +13,19 @@ ghost use Rattle.node_programs.specs.Sources.{meaning_by};
 ghost use Rattle.node_programs.specs.WorldPrograms.{AreProgramsOfWorld};
 ghost use Rattle.script_reader.specs.Steps.{NodeScript};
 ghost use Rattle.world_script.specs.declared.world.World.{World as Script};
+ghost use Rattle.report_text.specs.Text.{text};
+ghost use Rattle.report_text.specs.Tidy.{IsTidy};
+ghost use Rattle.report_reading.specs.Parts.{IsSameReport};
+ghost use Rattle.report_reading.specs.Reads.{ReadsReport};
+ghost use Rattle.report_reading.specs.Written.{HasReportRanges};
+ghost use Rattle.report_reading.specs.declared.fault.TextFault.{TextFault};
 ghost use Rattle.world_rules.specs.Report.{IsWorldReport};
 ghost use Rattle.world_sources.specs.SourceWorld.{source_world};
 ghost use Rattle.audit_rules.specs.Verdicts.{IsVerdict};
+ghost use Rattle.audit_verdict.specs.declared.law.Verdict.{Verdict};
 ghost use Rattle.audit_verdict.specs.declared.law.Verdict.TheVariants.{Serial};
 ghost use Rattle.audit_laws.specs.NodeInstalls.{InstallPrograms};
+ghost use Rattle.audit_laws.specs.Reading.{IsReadWith};
 
 /// What a node tells of the steps of a script is serial for the programs that the steps install, however its run ends: whole, at
 /// a full log, or cut from outside. The steps of a script install its programs.
@@ -31,4 +39,12 @@ pub fn node_reports_are_serial()
 pub fn world_reports_are_serial()
     ensures { (d : Description) (script : Script) (ps : List Program) (how : RunEnd) (r : Report) →
         AreProgramsOfWorld d script ps → IsWorldReport (source_world d script ps) how r → IsVerdict d ps r Serial }
+{}
+
+/// A report that is read back from its text has the verdict that it had; and the text of a tidy report whose numbers are in the ranges of
+/// their types is read, but for want of memory.
+pub fn verdicts_are_read_back()
+    ensures same { (d : Description) (ps : List Program) (x r : Report) (v : Verdict) → IsSameReport x r → IsVerdict d ps r v → IsVerdict d ps x v }
+    ensures text { (d : Description) (ps : List Program) (r : Report) (v : Verdict) (answer : Result Report TextFault) →
+        IsTidy d r → HasReportRanges r → IsVerdict d ps r v → ReadsReport d (text d r) answer → IsReadWith d ps v answer }
 {}
