@@ -1,9 +1,11 @@
 -- The commands have one answer, and words say one task.
-use Rattle.std.proofs.Common.{◌≡◌, inl, inr, ℕ, Bool, List, Option, Some, None, Result, Ok, Err, refl, sym, ◌∙◌, ap, subst}
-use Rattle.std.specs.Prelude.{⊤}
+use Rattle.std.proofs.Common.{◌≡◌, inl, inr, ℕ, Bool, List, Option, Some, None, Result, Ok, Err, refl, sym, ◌∙◌, ap, subst, arith}
+use Rattle.std.specs.Prelude.{⊤, ◌+◌, [], length}
+use Rattle.std.specs.Global.{Vec}
 use Rattle.arrayvec.specs.ArrayVec.{ArrayVec}
 use Rattle.capsule_codec.specs.Image.{CapsuleParts, capsule_parts}
 use Rattle.capsule_codec.specs.declared.capsule.Capsule.{Capsule}
+use Rattle.capsule_feed.specs.Lines.{feed_text}
 use Rattle.capsule_listing.specs.CapsuleText.{capsule_text}
 use Rattle.code_verifier.specs.Verified.{VerifiedCode}
 use Rattle.command_line.specs.Words.{Line, IsLine}
@@ -17,6 +19,7 @@ use Rattle.mate_steps.specs.CapsuleFiles.{capsule}
 use Rattle.mate_documents.specs.Compile.{compile, capsule_hex}
 use Rattle.mate_documents.specs.Documents.{script_line}
 use Rattle.mate_documents.specs.Expand.{expand}
+use Rattle.mate_documents.specs.Feed.{feed, answers, whole_stream, IsOpenAt}
 use Rattle.mate_cli.specs.Ends.{task}
 use Rattle.mate_steps.specs.OneAnswer.{AnswersAgree, steady}
 use Rattle.mate_documents.specs.Outputs.{writes}
@@ -24,15 +27,16 @@ use Rattle.command_laws.specs.SameText.{SameText}
 use Rattle.mate_documents.specs.declared.output.Output.TheVariants as output
 use Rattle.mate_documents.specs.Table.{opcode_table}
 use Rattle.opcode_gen.specs.TableText.{table_text}
-use Rattle.mate_steps.specs.Parts.{handler, handler_named}
+use Rattle.mate_steps.specs.Parts.{handler, handler_named, file}
 use Rattle.mate_steps.specs.Sources.{source}
 use Rattle.mate_steps.specs.Steps.{◌▸◌}
 use Rattle.mate_documents.specs.declared.output.Output.{Output}
 use Rattle.mate_refusals.specs.declared.refusal.Refusal.{Refusal}
-use Rattle.mate_steps.proofs.OneAnswer.{then_agrees, judged_agrees, machine_agrees}
+use Rattle.mate_steps.proofs.OneAnswer.{SameBytes, then_agrees, judged_agrees, file_agrees, machine_agrees}
 use Rattle.mate_steps.proofs.OneCapsule.{SameCapsule, capsule_agrees}
 use Rattle.mate_steps.proofs.OneSource.{SameCompiled, source_agrees}
 use Rattle.mate_steps.proofs.OneExpansion.{SameScript, expansion_agrees}
+use Rattle.slip_gateway.specs.Stream.{unfinished}
 use Rattle.ts_syntax.specs.Seen.{source_of}
 use Rattle.ts_syntax.specs.Tree.{Source}
 use Rattle.ts_syntax.specs.declared.script.Script.{Script}
@@ -120,6 +124,36 @@ expand_agrees names name =
     (λ a b e. subst (λ (s : Source). AnswersAgree SameText (writes (script_line (source_of a))) (writes (script_line s))) (same a b e) (writes_agree (script_line (source_of a)))) where
       same : (a b : Script) → SameScript a b → source_of a ≡ source_of b
       same a b e = e
+
+-- ---- feed
+
+-- a stream ends where a frame ends or doesn't, and there is one place behind its last END
+stream_agrees : (bytes : List ℕ) → AnswersAgree ◌≡◌ (whole_stream bytes) (whole_stream bytes)
+stream_agrees bytes = judged_agrees ◌≡◌ _ _ _ one not same where
+  one : (a b : ⊤) → unfinished bytes ≡ [] → unfinished bytes ≡ [] → a ≡ b
+  one a b p q = refl
+
+  not : (a : ⊤) (e : ℕ) → unfinished bytes ≡ [] → IsOpenAt bytes e → ⊥
+  not a e p q = q.0 p
+
+  same : (e h : ℕ) → IsOpenAt bytes e → IsOpenAt bytes h → e ≡ h
+  same e h p q = let x = p.1 in let y = q.1 in omega (arith, x, y)
+
+answers_agree : (d : Description) (bytes : List ℕ) → AnswersAgree SameText (answers d bytes) (answers d bytes)
+answers_agree d bytes = then_agrees ◌≡◌ SameText _ _ _ _ (stream_agrees bytes) (λ a b e. writes_agree (feed_text d bytes))
+
+pub feed_agrees : (names : Names) (vm name : List ℕ) → AnswersAgree SameText (feed (steady names) vm name) (feed (steady names) vm name)
+feed_agrees names vm name =
+    then_agrees ◌≡◌ SameText _ _ _ _ (machine_agrees names vm)
+    (λ a b e. subst (λ (d : Description). AnswersAgree SameText (after_machine a) (after_machine d)) e (with_machine a)) where
+      after_machine : Description → Result Output Refusal → Type 0
+      after_machine d = file (steady names) name ▸ λ bytes. answers d bytes.items
+
+      with_bytes : (d : Description) (a b : Vec ℕ) → SameBytes a b → AnswersAgree SameText (answers d a.items) (answers d b.items)
+      with_bytes d a b e = subst (λ (bytes : List ℕ). AnswersAgree SameText (answers d a.items) (answers d bytes)) e (answers_agree d a.items)
+
+      with_machine : (d : Description) → AnswersAgree SameText (after_machine d) (after_machine d)
+      with_machine d = then_agrees SameBytes SameText _ _ _ _ (file_agrees names name) (with_bytes d)
 
 -- ---- words
 

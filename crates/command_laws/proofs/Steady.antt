@@ -2,13 +2,14 @@
 use Rattle.std.proofs.Common.{◌≡◌, ◌⊎◌, inl, inr, ℕ, Bool, List, [], ◌∷◌, ◌++◌, Option, Some, None, option_to_list, Result, Ok, Err, sym, subst}
 use Rattle.std.specs.Prelude.{IsTrue}
 use Rattle.std.specs.Global.{Vec}
-use Rattle.command_line.specs.Commands.{Task, Node, Sim, Gen, Table, Compile, Check, Expand}
+use Rattle.command_line.specs.Commands.{Task, Node, Sim, Gen, Table, Compile, Check, Expand, Feed}
 use Rattle.mate_cli.specs.Ends.{command, task, Owes}
 use Rattle.mate_cli.specs.Node.{node}
 use Rattle.mate_cli.specs.Worlds.{sim, made_run}
 use Rattle.mate_documents.specs.Check.{check}
 use Rattle.mate_documents.specs.Compile.{compile}
 use Rattle.mate_documents.specs.Expand.{expand}
+use Rattle.mate_documents.specs.Feed.{feed}
 use Rattle.mate_documents.specs.declared.output.Output.{Output}
 use Rattle.mate_files.specs.Counts.{Rose}
 use Rattle.mate_files.specs.Files.{Names, WhereTold}
@@ -127,6 +128,9 @@ module _ (f : Folder) (names : Names) (told : f.told ≡ Some names) where
   expand_stays : (name : List ℕ) → Stays (expand f name) (expand (steady names) name)
   expand_stays name = then_stays _ _ _ _ (then_stays _ _ _ _ (file_stays name) (λ bytes. stays _)) (λ s. stays _)
 
+  feed_stays : (vm name : List ℕ) → Stays (feed f vm name) (feed (steady names) vm name)
+  feed_stays vm name = then_stays _ _ _ _ (machine_stays vm) (λ d. then_stays _ _ _ _ (file_stays name) (λ bytes. stays _))
+
   command_stays : (t : Task) → Stays (command f t) (command (steady names) t)
   command_stays (Node fold short vm name) = node_stays fold short vm name
   command_stays (Sim fold short vm name) = sim_stays fold short vm name
@@ -135,6 +139,7 @@ module _ (f : Folder) (names : Names) (told : f.told ≡ Some names) where
   command_stays (Compile fold vm h version name) = compile_stays fold vm h version name
   command_stays (Check vm name) = check_stays vm name
   command_stays (Expand name) = expand_stays name
+  command_stays (Feed vm name) = feed_stays vm name
 
   owes_stay : (words : List (List ℕ)) → Stays (Owes f words) (Owes (steady names) words)
   owes_stay words = then_stays _ _ _ _ (stays (task words)) command_stays

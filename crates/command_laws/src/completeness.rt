@@ -6,6 +6,7 @@ ghost use Rattle.mate_documents.specs.Check.{check};
 ghost use Rattle.mate_documents.specs.Compile.{compile};
 ghost use Rattle.command_laws.specs.Completed.{Completes, IsUnhindered};
 ghost use Rattle.mate_documents.specs.Expand.{expand};
+ghost use Rattle.mate_documents.specs.Feed.{feed};
 ghost use Rattle.mate_cli.specs.Ends.{CallEnds, Owes, Sinks, task};
 ghost use Rattle.mate_documents.specs.declared.output.Output.{Output};
 ghost use Rattle.mate_refusals.specs.declared.status.Status.{Status};
@@ -42,6 +43,11 @@ pub fn check_has_one_answer()
 /// The command `expand` has one answer but for want of memory, where the files are steady.
 pub fn expand_has_one_answer()
     ensures { (names : Names) (name : List ℕ) → AnswersAgree SameText (expand (steady names) name) (expand (steady names) name) }
+{}
+
+/// The command `feed` has one answer but for want of memory, where the files are steady.
+pub fn feed_has_one_answer()
+    ensures { (names : Names) (vm name : List ℕ) → AnswersAgree SameText (feed (steady names) vm name) (feed (steady names) vm name) }
 {}
 
 /// The command `node` has one answer but for want of memory, where the files are steady: one run, or one summary.

@@ -2,7 +2,7 @@
 use Rattle.std.specs.Prelude.{◌≡◌, ℕ, true, false, List, Option, Result, Ok, Err, ⊤, ◌⊎◌}
 use Rattle.mate_files.specs.Counts.{Rose}
 use Rattle.mate_files.specs.Sink.{Sent, SentPart}
-use Rattle.command_line.specs.Commands.{Task, Node, Sim, Gen, Table, Compile, Check, Expand, Says, SaysNothing}
+use Rattle.command_line.specs.Commands.{Task, Node, Sim, Gen, Table, Compile, Check, Expand, Feed, Says, SaysNothing}
 use Rattle.mate_refusals.specs.Refusals.{TellsRefusal}
 use Rattle.mate_refusals.specs.declared.status.Status.{Status}
 use Rattle.mate_refusals.specs.declared.status.Status.TheVariants.{Ok as AllDone}
@@ -11,6 +11,7 @@ use Rattle.mate_refusals.specs.declared.refusal.Refusal.TheVariants.{Usage, LogF
 use Rattle.mate_documents.specs.Check.{check}
 use Rattle.mate_documents.specs.Compile.{compile}
 use Rattle.mate_documents.specs.Expand.{expand}
+use Rattle.mate_documents.specs.Feed.{feed}
 use Rattle.mate_cli.specs.Node.{node}
 use Rattle.mate_cli.specs.Worlds.{sim, made_run}
 use Rattle.mate_documents.specs.Documents.{document_text, is_full}
@@ -38,6 +39,7 @@ command f (Table vm) = opcode_table f vm
 command f (Compile fold vm h version name) = compile f fold vm h version name
 command f (Check vm name) = check f vm name
 command f (Expand name) = expand f name
+command f (Feed vm name) = feed f vm name
 
 -- the task that the words say
 abbrev pub task : List (List ℕ) → Result Task Refusal → Type 0

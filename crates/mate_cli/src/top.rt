@@ -9,7 +9,7 @@ ghost use Rattle.mate_steps.specs.Parts.{ReadsFiles};
 use crate::writing::write_output;
 use crate::{made, node, sim};
 use command_line::{Command, WordsFault, command_of};
-use mate_documents::{Output, check, compile, expand, table};
+use mate_documents::{Output, check, compile, expand, feed, table};
 use mate_files::{Files, Sink};
 use mate_refusals::{Refusal, Status};
 use std::alloc::Global;
@@ -29,6 +29,8 @@ use std::alloc::Global;
 /// - `check VM HEX` decodes and verifies the capsule whose image the file `HEX` has in hexadecimal digits, and writes its
 ///   head line, its listing and its locks.
 /// - `expand SOURCE` writes the plain script that the source with procedures stands for, its tokens in one line.
+/// - `feed VM STREAM` cuts the bytes of the file `STREAM` into frames (RFC 1055), and writes what a new node of such a machine
+///   answers to each, which should be a capsule that it installs.
 ///
 /// For any other status than `Ok` one line goes to `err`, and, but for `LogFull`, a fault of `out` and want of memory,
 /// nothing to `out`. A failing `err` changes nothing.
@@ -82,5 +84,6 @@ fn task_output<F: Files>(alloc: Global, files: &mut F, task: Command<'_>) -> Res
         Command::Compile(words) => compile::output(alloc, files, words),
         Command::Check { machine, capsule } => check::output(alloc, files, machine, capsule),
         Command::Expand { source } => expand::output(alloc, files, source),
+        Command::Feed { machine, stream } => feed::output(alloc, files, machine, stream),
     }
 }

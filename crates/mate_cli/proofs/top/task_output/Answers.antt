@@ -40,6 +40,11 @@ returns-in-Expand-clause-does g c =
     let f : Folder = record { told = g.F.Files.contents c.args.files.now; steady = g.F.Files.steady c.args.files.now } in
     subst (λ (t : Command). command f (task_held t) c.output-in-Expand.result) (sym c.in-Expand.is) c.output-in-Expand.ensures.does
 
+pub returns-in-Feed-clause-does : goal.returns-in-Feed-clause-does
+returns-in-Feed-clause-does g c =
+    let f : Folder = record { told = g.F.Files.contents c.args.files.now; steady = g.F.Files.steady c.args.files.now } in
+    subst (λ (t : Command). command f (task_held t) c.output-in-Feed.result) (sym c.in-Feed.is) c.output-in-Feed.ensures.does
+
 pub returns-in-Node-clause-reads : goal.returns-in-Node-clause-reads
 returns-in-Node-clause-reads g c = c.output.ensures.reads
 
@@ -81,3 +86,9 @@ returns-in-Expand-clause-reads g c = c.output-in-Expand.ensures.reads
 
 pub returns-in-Expand-clause-writable : goal.returns-in-Expand-clause-writable
 returns-in-Expand-clause-writable g c = c.output-in-Expand.ensures.writable
+
+pub returns-in-Feed-clause-reads : goal.returns-in-Feed-clause-reads
+returns-in-Feed-clause-reads g c = c.output-in-Feed.ensures.reads
+
+pub returns-in-Feed-clause-writable : goal.returns-in-Feed-clause-writable
+returns-in-Feed-clause-writable g c = c.output-in-Feed.ensures.writable
