@@ -15,7 +15,9 @@ ghost use Rattle.command_callers.specs.Folders.{HoldsFile, RefusesAs};
 
 use mate_files::Files;
 use mate_refusals::Refusal;
-use mate_steps::{CodeFault, CompiledScript, compiled_script, expansion_of, machine_of, read_file, source_of};
+use mate_steps::{
+    CodeFault, CompiledScript, compiled_script, expansion_of, machine_of, read_file, source_of,
+};
 use std::alloc::Global;
 use ts_syntax::{Checked, Script};
 use vm_desc::Description;
