@@ -2,8 +2,9 @@
 
 ghost use Rattle.std.specs.Prelude.{◌≡◌, ◌≢◌, ◌<◌, ◌≤◌, ℕ, List, length, codes, None, Some, Ok, IfOk, IfErr};
 ghost use Rattle.vm_desc.specs.Limits.{Parts};
+ghost use Rattle.vm_desc.specs.Shapes.{shape_of};
 ghost use Rattle.vm_reader.specs.Text.{description_of};
-ghost use Rattle.ts_syntax.specs.Checked.{tree_of};
+ghost use Rattle.ts_syntax.specs.Checked.{tree_of, shape_of as shape_of_script};
 ghost use Rattle.ts_checker.specs.Accepted.{IsAccepted};
 ghost use Rattle.command_line.specs.Commands.{builtin_word};
 ghost use Rattle.mate_refusals.specs.declared.cause.Cause.TheVariants.{Unread as UnreadCause};
@@ -14,9 +15,11 @@ ghost use Rattle.command_callers.specs.Folders.{HoldsFile, RefusesAs};
 
 use mate_files::Files;
 use mate_refusals::Refusal;
-use mate_steps::{CompiledScript, expansion_of, machine_of, read_file, source_of};
+use mate_steps::{
+    CodeFault, CompiledScript, compiled_script, expansion_of, machine_of, read_file, source_of,
+};
 use std::alloc::Global;
-use ts_syntax::Script;
+use ts_syntax::{Checked, Script};
 use vm_desc::Description;
 
 /// No other description is read in the place of one that isn't there.
@@ -52,6 +55,18 @@ pub fn an_unfolded_source_keeps_its_tree<F: Files>(
         → IfOk result (λ c. IsAccepted desc.now bytes (tree_of c.script)) }
 {
     source_of(alloc, files, desc, false, name)
+}
+
+/// What isn't folded takes no memory.
+pub fn an_unfolded_script_never_wants_memory(
+    alloc: Global,
+    desc: &Description,
+    script: Checked,
+) -> Result<CompiledScript, CodeFault>
+    requires { shape_of_script script ≡ shape_of desc.now }
+    ensures { IfErr result (λ fault. fault ≢ CodeFault.NoMemory) }
+{
+    compiled_script(alloc, desc, false, script)
 }
 
 /// A text of a machine that isn't read for want of memory is no bad description.

@@ -1,10 +1,11 @@
 //! Sources and names that exclude wrong bodies of `check` and of a `Scope`.
 
-ghost use Rattle.std.specs.Prelude.{◌≡◌, [], ◌∷◌, negsuc, codes, IfOk, Ok, Err, None, Some, true};
+ghost use Rattle.std.specs.Prelude.{◌≡◌, [], ◌∷◌, negsuc, codes, IfOk, IsOkAnd, IsErrAnd, Ok, Err, None, Some, true};
 ghost use Rattle.ts_syntax.specs.Checked.{tree_of};
 ghost use Rattle.ts_syntax.specs.Seen.{source_of};
 ghost use Rattle.ts_syntax.specs.Tree.{no_acts, act_then, clear, number};
-ghost use Rattle.ts_scope.specs.Refusal.{GivesChecked};
+ghost use Rattle.ts_checker.specs.Answer.{GivesChecked};
+ghost use Rattle.ts_scope.specs.Names.{names_before};
 ghost use Rattle.ts_scope.specs.Seen.{scope_names};
 ghost use Rattle.language_callers.specs.Scripts.{with_step};
 ghost use Rattle.language_callers.specs.Sources.{word, actuator, private_entry, nine_privates, calling_f, for_x, f_in_the_limit};
@@ -90,7 +91,17 @@ pub fn a_ninth_private_is_refused<'a>(
     decls: &[Decl],
 ) -> Result<Scope<'a>, CheckFault>
     requires { decls.now ≡ nine_privates }
-    ensures { GivesChecked scope_names result (Err CheckFault.TooManyPrivates) }
+    ensures { IsErrAnd result (λ fault. fault ≡ CheckFault.TooManyPrivates) }
+{
+    Scope::of(desc, decls)
+}
+
+pub fn no_declarations_take_no_memory<'a>(
+    desc: &'a Description,
+    decls: &[Decl],
+) -> Result<Scope<'a>, CheckFault>
+    requires { decls.now ≡ [] }
+    ensures { IsOkAnd result (λ scope. scope_names scope ≡ names_before desc.now) }
 {
     Scope::of(desc, decls)
 }

@@ -11,9 +11,9 @@ use Rattle.ts_parser.specs.Cutting.{Cuts}
 use Rattle.ts_parser.specs.Verdict.{Answers}
 use Rattle.ts_parser.specs.declared.fault.SourceFault.{SourceFault}
 use Rattle.ts_parser.specs.declared.fault.SourceFault.TheVariants as fault
-use Rattle.ts_scope.specs.Refusal.{RefusesScript}
 use Rattle.ts_scope.specs.declared.fault.CheckFault.{CheckFault}
 use Rattle.ts_scope.specs.declared.fault.CheckFault.TheVariants as check
+use Rattle.ts_checker.specs.Answer.{RefusesScript}
 use Rattle.ts_checker.specs.Checks.{checked_source}
 use Rattle.mate_steps.specs.Answers.{IsMisspelt, IsUnmeant, IsRefused, TellsAcceptance}
 use Rattle.mate_steps.specs.declared.refusal.SourceRefusal.{SourceRefusal}

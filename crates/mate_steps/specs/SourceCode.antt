@@ -48,8 +48,8 @@ pub record IsCompiledOf (shape : Shape) (fold : Bool) (tree : Block) (c : Compil
   pub tree_is : tree_of c.script ≡ compiled_tree fold tree
   pub code_is : IsCodeOf shape fold tree c.code
 
--- the compiled script of an accepted tree, or why there is none
+-- the compiled script of an accepted tree, or why there is none; only a fold takes memory
 abbrev pub GivesCode : Shape → Bool → Block → Result CompiledScript CodeFault → Type 0
 GivesCode shape fold tree (Ok c) = IsCompiledOf shape fold tree c
 GivesCode shape fold tree (Err (Uncompiled fault)) = HasNoCode shape fold tree fault
-GivesCode shape fold tree (Err NoMemory) = Unit {0}
+GivesCode shape fold tree (Err NoMemory) = fold ≡ true

@@ -1,7 +1,7 @@
 -- A `do` and the parameters of a head: what is refused of them, step by step.
-use Rattle.std.proofs.Common.{◌≡◌, ℕ, suc, ◌+◌, ◌<◌, List, [], ◌∷◌, ◌++◌, length, map, take, drop, get_or, true, false, Option, Some, None, refl, ap, sym, ◌∙◌, arith}
+use Rattle.std.proofs.Common.{◌≡◌, ℕ, suc, ◌+◌, ◌<◌, ◌≤◌, List, [], ◌∷◌, ◌++◌, length, map, take, drop, get_or, true, false, Option, Some, None, refl, ap, sym, ◌∙◌, arith}
 use Rattle.std.specs.Prelude.{is_some}
-use Rattle.std.proofs.lemmas.List.{take_more, map-append, take-map}
+use Rattle.std.proofs.lemmas.List.{take_all, take_more, drop_all, length-map, map-append, take-map}
 use Rattle.std.proofs.lemmas.Bool.Decides.{nat_tests}
 use Rattle.ts_syntax.specs.declared.expr.Expr.{Expr}
 use Rattle.ts_syntax.specs.declared.word.Word.{Word}
@@ -13,7 +13,7 @@ use Rattle.proc_names.specs.declared.fault.ProcFault.{ProcFault}
 use Rattle.proc_names.specs.declared.fault.ProcFault.TheVariants.{Params, Again}
 use Rattle.proc_names.specs.Heads.{heads_of}
 use Rattle.proc_names.specs.Places.{place_of_name, declared_as}
-use Rattle.proc_names.specs.NameFaults.{◌<|>◌, refused_if, word_fault, argument_total, args_fault, call_fault, call_name_fault, params_fault, procedure_fault, procedures_fault}
+use Rattle.proc_names.specs.NameFaults.{◌<|>◌, refused_if, word_fault, argument_total, args_fault, acts_fault, call_fault, call_name_fault, params_fault, procedure_fault, procedures_fault}
 
 -- the arguments are counted as a list and as trees alike
 pub argument_total-trees_of : (es : List Expr) → argument_total (trees_of es) ≡ length es
@@ -94,3 +94,11 @@ procedure_passes procs i p body within is free =
     ap (λ ps. procedures_fault (take i (heads_of procs)) (map procedure_of ps) body) (drop_item procs i p within is)
     ∙ ap (λ o. o <|> procedures_fault (take i (heads_of procs) ++ (p.name.name, length p.params) ∷ []) (map procedure_of (drop (i + 1) procs)) body) free
     ∙ ap (λ hs. procedures_fault hs (map procedure_of (drop (i + 1) procs)) body) (heads_more procs i p within is)
+
+-- behind all procedures the statements are left
+pub procedures_end : (procs : List Proc) (i : ℕ) (body : Acts) → length procs ≤ i
+    → procedures_fault (take i (heads_of procs)) (map procedure_of (drop i procs)) body ≡ acts_fault (take (length procs) (heads_of procs)) body
+procedures_end procs i body past =
+    let many : length (heads_of procs) ≡ length procs = length-map procs (λ p. (p.name.name, length p.params)) in
+    ap (λ ps. procedures_fault (take i (heads_of procs)) (map procedure_of ps) body) (drop_all i procs past)
+    ∙ ap (λ hs. acts_fault hs body) (take_all i (heads_of procs) (omega (arith, many, past)) ∙ sym (take_all (length procs) (heads_of procs) (omega (arith, many))))

@@ -1,6 +1,7 @@
 //! The names in statements and in the heads of procedures.
 
 ghost use Rattle.std.specs.Prelude.{◌≡◌, ◌≤◌, ◌<◌, [], length, take};
+ghost use Rattle.std.specs.Result.{result_err};
 ghost use Rattle.ts_syntax.specs.Seen.{acts_of, act_of, trees_of, procedure_of, procedure_source_of};
 ghost use Rattle.proc_names.specs.Places.{declared_as};
 ghost use Rattle.proc_names.specs.Heads.{heads_of};
@@ -63,7 +64,7 @@ fn again(word: &Word) -> ProcFault
 
 #[cycle(block)]
 fn block(heads: &Heads, count: usize, stmts: &Block) -> Result<(), ProcFault>
-    ensures { NamesPass result (acts_fault (take count (heads_of heads.now.procs.now)) (acts_of stmts.now)) }
+    ensures { result_err result ≡ acts_fault (take count (heads_of heads.now.procs.now)) (acts_of stmts.now) }
 {
     for stmt in stmts.as_slice() {
         statement(heads, count, stmt)?;
@@ -73,7 +74,7 @@ fn block(heads: &Heads, count: usize, stmts: &Block) -> Result<(), ProcFault>
 
 #[cycle(block)]
 fn statement(heads: &Heads, count: usize, stmt: &Stmt) -> Result<(), ProcFault>
-    ensures { NamesPass result (act_fault (take count (heads_of heads.now.procs.now)) (act_of stmt.now)) }
+    ensures { result_err result ≡ act_fault (take count (heads_of heads.now.procs.now)) (act_of stmt.now) }
 {
     match stmt {
         Stmt::Set(name, value) => {
@@ -124,7 +125,7 @@ fn statement(heads: &Heads, count: usize, stmt: &Stmt) -> Result<(), ProcFault>
 
 // A `do`: its procedure's name, and its arguments.
 fn call(heads: &Heads, count: usize, name: &Word, args: &Args) -> Result<(), ProcFault>
-    ensures { NamesPass result (call_name_fault (take count (heads_of heads.now.procs.now)) name.now (trees_of args.now)) }
+    ensures { result_err result ≡ call_name_fault (take count (heads_of heads.now.procs.now)) name.now (trees_of args.now) }
 {
     word(name)?;
     let Some(parameters) = heads.parameters(count, &name.name) else {

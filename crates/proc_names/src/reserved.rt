@@ -1,9 +1,9 @@
 //! Names that an expansion keeps for itself.
 
 ghost use Rattle.std.specs.Prelude.{◌≡◌};
+ghost use Rattle.std.specs.Result.{result_err};
 ghost use Rattle.ts_syntax.specs.Seen.{tree_of, trees_of};
 ghost use Rattle.proc_names.specs.NameFaults.{is_reserved as begins_reserved, word_fault, expr_fault, args_fault, decls_fault};
-ghost use Rattle.proc_names.specs.Passing.{NamesPass};
 
 use crate::fault::ProcFault;
 use mate_num::Name;
@@ -20,7 +20,7 @@ fn is_reserved(name: &Name) -> bool
 }
 
 pub(crate) fn word(word: &Word) -> Result<(), ProcFault>
-    ensures { NamesPass result (word_fault word.now) }
+    ensures { result_err result ≡ word_fault word.now }
 {
     if is_reserved(&word.name) {
         return Err(ProcFault::Reserved { place: word.place });
@@ -29,7 +29,7 @@ pub(crate) fn word(word: &Word) -> Result<(), ProcFault>
 }
 
 pub(crate) fn declarations(decls: &[Decl]) -> Result<(), ProcFault>
-    ensures { NamesPass result (decls_fault decls.now) }
+    ensures { result_err result ≡ decls_fault decls.now }
 {
     for decl in decls {
         word(&decl.word)?;
@@ -39,7 +39,7 @@ pub(crate) fn declarations(decls: &[Decl]) -> Result<(), ProcFault>
 
 #[cycle(expression)]
 pub(crate) fn expression(expr: &Expr) -> Result<(), ProcFault>
-    ensures { NamesPass result (expr_fault (tree_of expr.now)) }
+    ensures { result_err result ≡ expr_fault (tree_of expr.now) }
 {
     match expr {
         Expr::Num(_) => Ok(()),
@@ -67,7 +67,7 @@ pub(crate) fn expression(expr: &Expr) -> Result<(), ProcFault>
 
 #[cycle(expression)]
 pub(crate) fn arguments(args: &[Expr]) -> Result<(), ProcFault>
-    ensures { NamesPass result (args_fault (trees_of args.now)) }
+    ensures { result_err result ≡ args_fault (trees_of args.now) }
 {
     for arg in args {
         expression(arg)?;

@@ -1,5 +1,5 @@
 -- What is returned where a part of a check refuses.
-use Rattle.std.proofs.Common.{◌≡◌, Bool, true, List, Option, Some, None, Result, Ok, Err, ◌∙◌, ap, sym}
+use Rattle.std.proofs.Common.{◌≡◌, Bool, true, List, Option, Some, None, Result, Ok, Err, ◌∙◌, ap, sym, subst}
 use Rattle.std.specs.Prelude.{IsErrAnd}
 use Rattle.std.specs.declared.alloc.Global.{Global}
 use Rattle.std.specs.declared.boxed.Box.{Box}
@@ -13,11 +13,23 @@ use Rattle.ts_syntax.specs.declared.stmt.Stmt.{Stmt}
 use Rattle.ts_syntax.specs.declared.stmt.Stmt.TheVariants as does
 use Rattle.ts_syntax.proofs.SeenLemmas.{tree_two, act_if_then, act_if_else}
 use Rattle.ts_scope.specs.declared.fault.CheckFault.{CheckFault}
-use Rattle.ts_scope.specs.declared.fault.CheckFault.TheVariants.{Undeclared, NotInVm, Twice, Kind, Arity, TooManyPrivates, NoMemory}
-use Rattle.ts_scope.specs.Refusal.{◌>>=◌, RefusesScript, GivesChecked}
+use Rattle.ts_scope.specs.declared.fault.CheckFault.TheVariants.{NoMemory}
+use Rattle.ts_scope.specs.Refusal.{◌>>=◌}
 use Rattle.ts_scope.specs.Names.{ScriptNames}
-use Rattle.ts_scope.proofs.CheckLemmas.{refuses_along, gives_refusal}
+use Rattle.ts_checker.specs.Answer.{RefusesScript, GivesChecked}
 use Rattle.ts_checker.specs.Checks.{checked_expr, checked_stmt, checked_block}
+
+-- a check refuses where another one does that it follows
+refuses_along : {A B : Type 0} (e : CheckFault) (r : Result A CheckFault) (s : Result B CheckFault) → ((f : CheckFault) → r ≡ Err f → s ≡ Err f)
+    → RefusesScript e r → RefusesScript e s
+refuses_along NoMemory r s along h = tt
+refuses_along fault r s along h = along fault h
+
+-- what is returned where a part of a check refused
+pub gives_refusal : {A B : Type 0} (view : A → B) (e : CheckFault) (result : Result A CheckFault) (s : Result B CheckFault)
+    → IsErrAnd result (λ y. y ≡ e) → RefusesScript e s → GivesChecked view result s
+gives_refusal view e (Ok x) s is h = absurd is
+gives_refusal view e (Err y) s is h = let P : CheckFault → Type 0 = λ z. RefusesScript z s in subst P (sym is) h
 
 -- the whole refuses as the part does
 pub refused_part : {A B C : Type 0} (view : A → B) (e : CheckFault) (result : Result A CheckFault) (part : Result C CheckFault) (whole : Result B CheckFault)
@@ -25,13 +37,8 @@ pub refused_part : {A B C : Type 0} (view : A → B) (e : CheckFault) (result : 
 refused_part view e result part whole along is h = gives_refusal view e result whole is (refuses_along e part whole along h)
 
 refuses_by : {A : Type 0} (e : CheckFault) (check : Result A CheckFault) → check ≡ Err e → RefusesScript e check
-refuses_by (Undeclared name place) check is = is
-refuses_by (NotInVm name) check is = is
-refuses_by (Twice name) check is = is
-refuses_by (Kind place) check is = is
-refuses_by (Arity place) check is = is
-refuses_by TooManyPrivates check is = is
 refuses_by NoMemory check is = tt
+refuses_by fault check is = is
 
 -- the check refuses with this fault
 pub refused_by : {A B : Type 0} (view : A → B) (e : CheckFault) (result : Result A CheckFault) (check : Result B CheckFault)

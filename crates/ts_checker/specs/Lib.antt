@@ -1,3 +1,4 @@
 pub mod Checks
+pub mod Answer
 pub mod Seen
 pub mod Accepted

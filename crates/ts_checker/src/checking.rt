@@ -4,7 +4,7 @@ ghost use Rattle.std.specs.Prelude.{◌≡◌, IfOk};
 ghost use Rattle.vm_desc.specs.Shapes.{shape_of as shape_of_machine};
 ghost use Rattle.ts_syntax.specs.Checked.{shape_of, tree_of};
 ghost use Rattle.ts_syntax.specs.Seen.{source_of};
-ghost use Rattle.ts_scope.specs.Refusal.{GivesChecked};
+ghost use Rattle.ts_checker.specs.Answer.{GivesChecked};
 ghost use Rattle.ts_checker.specs.Checks.{checked_source};
 
 use crate::stmts::block;

@@ -7,7 +7,7 @@ ghost use Rattle.vm_desc.specs.Shapes.{is_send};
 ghost use Rattle.ts_syntax.specs.Seen.{tree_of, trees_of};
 ghost use Rattle.ts_syntax.specs.Tree as given;
 ghost use Rattle.ts_syntax.specs.TreeOf.{expr_tree};
-ghost use Rattle.ts_scope.specs.Refusal.{GivesChecked};
+ghost use Rattle.ts_checker.specs.Answer.{GivesChecked};
 ghost use Rattle.ts_checker.specs.Checks.{variable_expression, name_alone, sent, checked_call, checked_expr, checked_args};
 ghost use Rattle.ts_scope.specs.Seen.{scope_names};
 ghost use Rattle.ts_checker.specs.Seen.{arguments_of, boxed_expression, call_of};

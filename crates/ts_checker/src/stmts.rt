@@ -4,7 +4,7 @@ ghost use Rattle.std.specs.Prelude.{◌≡◌, [], IfOk};
 ghost use Rattle.ts_syntax.specs.Seen.{tree_of, trees_of, act_of, acts_of};
 ghost use Rattle.ts_syntax.specs.Tree as given;
 ghost use Rattle.ts_syntax.specs.TreeOf.{stmt_tree, block_tree, block_trees};
-ghost use Rattle.ts_scope.specs.Refusal.{GivesChecked};
+ghost use Rattle.ts_checker.specs.Answer.{GivesChecked};
 ghost use Rattle.ts_checker.specs.Checks.{checked_step, checked_head, checked_stmt, checked_block};
 ghost use Rattle.ts_scope.specs.Seen.{scope_names};
 ghost use Rattle.ts_checker.specs.Seen.{checked_head_of};

@@ -9,30 +9,8 @@ use Rattle.ts_syntax.specs.Text.{token_text}
 use Rattle.ts_syntax.specs.Spelling.{kinds}
 use Rattle.ts_syntax.specs.Cut.{is_blank, is_digit, begins_name, in_name, sign_of, keywords, keyword_among, word_kind, token, CutFault, Mode, between, comment, word, literal, less, greater, Turn, stop, go, behind, sign_turn, fresh, turn, at_end, with_front, turned, cut_from, cut}
 use Rattle.ts_lexer.specs.Spans.{Begins, Passes}
+use Rattle.ts_lexer.specs.Printed.{IsWord, IsNameText, IsKind, AreKinds}
 use Rattle.ts_lexer.proofs.CutLemmas.{cut_from-nil, cut_from-cons}
-
--- a text that can stand in a name token or a keyword
-pub record IsWord (w : List ℕ) : Type 0 where
-  pub begins : Begins begins_name w
-  pub passes : Passes in_name w
-  pub short : length w ≤ 16
-
--- the text of a name token
-pub record IsNameText (w : List ℕ) : Type 0 where
-  pub fits : IsWord w
-  pub named : word_kind w ≡ kind.Name w
-
--- a kind that some text is cut into
-abbrev pub IsKind : TokenKind → Type 0
-IsKind (kind.Name w) = IsNameText w
-IsKind (kind.Num n) = n ≤ 65535
-IsKind kind.Proc = ⊥
-IsKind kind.Do = ⊥
-IsKind _ = Unit {0}
-
-abbrev pub AreKinds : List TokenKind → Type 0
-AreKinds [] = Unit {0}
-AreKinds (k ∷ ks) = IsKind k × AreKinds ks
 
 -- what a mode, a turn and a result keep
 

@@ -1,5 +1,7 @@
+pub mod CountLemmas
 pub mod CutLemmas
 pub mod KindLemmas
+pub mod LineLemmas
 pub mod PlaceLemmas
 pub mod PrintedLemmas
 pub mod ScriptLemmas

@@ -10,9 +10,8 @@ use Rattle.ts_syntax.specs.Text.{token_text, written, text_of}
 use Rattle.ts_syntax.specs.Spelling.{kinds}
 use Rattle.ts_syntax.specs.Cut.{is_digit, begins_name, in_name, word_kind, token, between, less, greater, go, behind, fresh, turn, with_front, cut_from}
 use Rattle.ts_lexer.specs.Spans.{Begins, Passes, value_of}
-use Rattle.ts_lexer.specs.Printed.{IsCutInto}
+use Rattle.ts_lexer.specs.Printed.{IsKind, AreKinds, IsCutInto}
 use Rattle.ts_lexer.proofs.CutLemmas.{Stops, cut_from-nil, cut_from-go, cut_from-turn, ends_before, word_cut, literal_cut, blank_cut}
-use Rattle.ts_lexer.proofs.KindLemmas.{IsKind, AreKinds, cut-AreKinds}
 
 -- the bytes are at their end or begin with a space
 abbrev Spaced : List ℕ → Type 0
@@ -187,8 +186,6 @@ written_again false (k ∷ ks) i h = first_again k ks i h.0 (written_again true 
 written_again true (k ∷ ks) i h =
     spaced_again i (token_text k ++ written true ks) (k ∷ ks) (first_again k ks (i + 1) h.0 (written_again true ks (i + 1 + length (token_text k)) h.1))
 
--- what is written of a text's tokens
-pub printed_again : (bytes : List ℕ) (ks : List TokenKind) → IsCutInto bytes ks → IsCutInto (text_of ks) ks
-printed_again bytes ks h =
-    let u = written_again false ks 0 (subst AreKinds h.are (cut-AreKinds bytes h.tokens h.cuts)) in
-    record { tokens = u.tokens; cuts = u.cuts; are = u.are }
+-- what is written of such tokens
+pub written_cut : (ks : List TokenKind) → AreKinds ks → IsCutInto (text_of ks) ks
+written_cut ks h = let u = written_again false ks 0 h in record { tokens = u.tokens; cuts = u.cuts; are = u.are }

@@ -1,12 +1,38 @@
 -- Texts that are cut into tokens of given kinds, and texts that spell a script.
-use Rattle.std.specs.Prelude.{◌≡◌, ℕ, List, Ok}
+use Rattle.std.specs.Prelude.{◌≡◌, ◌≤◌, ℕ, List, [], ◌∷◌, length, Ok}
 use Rattle.ts_syntax.specs.declared.token.Token.{Token}
 use Rattle.ts_syntax.specs.declared.token.TokenKind.{TokenKind}
+use Rattle.ts_syntax.specs.declared.token.TokenKind.TheVariants as kind
 use Rattle.ts_syntax.specs.Tree.{Source}
-use Rattle.ts_syntax.specs.Cut.{cut}
+use Rattle.ts_syntax.specs.Cut.{begins_name, in_name, word_kind, cut}
 use Rattle.ts_syntax.specs.Spelling.{kinds}
 use Rattle.ts_syntax.specs.Faults.{Spells}
 use Rattle.ts_lexer.specs.Bare.{bare}
+use Rattle.ts_lexer.specs.Spans.{Begins, Passes}
+
+-- a text that can stand in a name token or a keyword: at most 16 letters, digits and `_`, of which the first is no digit
+pub record IsWord (w : List ℕ) : Type 0 where
+  pub begins : Begins begins_name w
+  pub passes : Passes in_name w
+  pub short : length w ≤ 16
+
+-- the text of a name token
+pub record IsNameText (w : List ℕ) : Type 0 where
+  pub fits : IsWord w
+  pub named : word_kind w ≡ kind.Name w
+
+-- a kind that some text is cut into: a name that is no keyword, a literal that is small enough, or a sign or keyword of plain
+-- TinyScript
+abbrev pub IsKind : TokenKind → Type 0
+IsKind (kind.Name w) = IsNameText w
+IsKind (kind.Num n) = n ≤ 65535
+IsKind kind.Proc = ⊥
+IsKind kind.Do = ⊥
+IsKind _ = Unit {0}
+
+abbrev pub AreKinds : List TokenKind → Type 0
+AreKinds [] = Unit {0}
+AreKinds (k ∷ ks) = IsKind k × AreKinds ks
 
 -- the bytes are cut into tokens of these kinds
 pub record IsCutInto (bytes : List ℕ) (ks : List TokenKind) : Type 0 where

@@ -1,16 +1,23 @@
 //! What is printed of a text's tokens is cut into the same tokens.
 
-ghost use Rattle.std.specs.Prelude.{ℕ, List};
+ghost use Rattle.std.specs.Prelude.{◌≡◌, ◌++◌, ℕ, List, None, codes};
 ghost use Rattle.ts_syntax.specs.declared.token.TokenKind.{TokenKind};
 ghost use Rattle.ts_syntax.specs.Tree.{Source};
+ghost use Rattle.ts_syntax.specs.Cut.{cut};
+ghost use Rattle.ts_syntax.specs.Depth.{first_deep};
+ghost use Rattle.ts_syntax.specs.Derived.{IsDerived};
 ghost use Rattle.ts_syntax.specs.Spelling.{source_spelled};
 ghost use Rattle.ts_syntax.specs.Text.{text_of};
-ghost use Rattle.ts_lexer.specs.Printed.{IsCutInto, IsTextOf, IsTextButPlaces};
+ghost use Rattle.ts_lexer.specs.Printed.{AreKinds, IsCutInto, IsTextOf, IsTextButPlaces};
 
-/// The law of printed text: tokens that some text is cut into, written with one space between two, are cut into
-/// tokens of the same kinds. So where some text spells a script, what `print` writes of the script spells the same
-/// script but for its places.
+/// The law of printed text: tokens of kinds that some text is cut into, written with one space between two, are cut into
+/// tokens of the same kinds, and a line feed behind a text changes no token. So what `print` writes of a script that the
+/// grammar derives spells the same script but for its places, where its tokens are of such kinds and none lies too deep; and
+/// so does what it writes of a script that some text spells.
 pub fn print_law()
-    ensures tokens { (bytes : List ℕ) (ks : List TokenKind) → IsCutInto bytes ks → IsCutInto (text_of ks) ks }
-    ensures script { (bytes : List ℕ) (s : Source) → IsTextOf bytes s → IsTextButPlaces (text_of (source_spelled s)) s }
+    ensures kinds { (bytes : List ℕ) (ks : List TokenKind) → IsCutInto bytes ks → AreKinds ks }
+    ensures tokens { (ks : List TokenKind) → AreKinds ks → IsCutInto (text_of ks) ks }
+    ensures line { (bytes : List ℕ) → cut (bytes ++ codes "\n") ≡ cut bytes }
+    ensures script { (s : Source) → IsDerived s → AreKinds (source_spelled s) → first_deep (source_spelled s) ≡ None → IsTextButPlaces (text_of (source_spelled s)) s }
+    ensures again { (bytes : List ℕ) (s : Source) → IsTextOf bytes s → IsTextButPlaces (text_of (source_spelled s)) s }
 {}

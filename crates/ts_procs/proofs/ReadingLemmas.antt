@@ -11,8 +11,9 @@ use Rattle.ts_parser.proofs.VerdictLemmas.{one_verdict_in}
 use Rattle.proc_names.specs.declared.fault.ProcFault.{ProcFault}
 use Rattle.proc_names.specs.declared.fault.ProcFault.TheVariants.{BadByte, BigLiteral, Unexpected, TooDeep, NoProc, Params, Again, Reserved, TooLarge, TooNested, NoMemory}
 use Rattle.proc_names.specs.declared.named.PScript.{PScript}
-use Rattle.proc_names.specs.Named.{written_of}
+use Rattle.proc_names.specs.Named.{written_of, IsNamedScript}
 use Rattle.proc_names.specs.NameFaults.{name_fault}
+use Rattle.proc_names.proofs.FaultLemmas.{named_alone}
 use Rattle.ts_procs.specs.Reading.{Reads, IsProcedureText, IsMisnamed}
 
 of_cut : CutFault → ProcFault
@@ -77,3 +78,18 @@ one_refusal bytes f g p q told told' = let e = same_reading bytes (Err f) (Err g
 
 pub not_both : (bytes : List ℕ) (a : PScript) (f : ProcFault) → Reads bytes (Ok a) → Reads bytes (Err f) → (f ≡ NoMemory → ⊥) → ⊥
 not_both bytes a f p q told = let e = same_reading bytes (Ok (written_of a)) (Err f) (read_so bytes a p) (refused_so bytes f q told) in cc
+
+-- the names of a script decide what its text is read as
+pub named_read : (bytes : List ℕ) (s : ProcedureSource) (result : Result PScript ProcFault) → IsProcedureText bytes s → IsNamedScript s result → Reads bytes result
+named_read bytes s (Ok script) text is = subst (IsProcedureText bytes) (sym is) text
+named_read bytes s (Err (NoProc name place)) text is = record { source = s; written = text; names = is }
+named_read bytes s (Err (Params place)) text is = record { source = s; written = text; names = is }
+named_read bytes s (Err (Again name place)) text is = record { source = s; written = text; names = is }
+named_read bytes s (Err (Reserved place)) text is = record { source = s; written = text; names = is }
+named_read bytes s (Err (BadByte place)) text is = absurd (named_alone s (BadByte place) is)
+named_read bytes s (Err (BigLiteral place)) text is = absurd (named_alone s (BigLiteral place) is)
+named_read bytes s (Err (Unexpected place)) text is = absurd (named_alone s (Unexpected place) is)
+named_read bytes s (Err (TooDeep place)) text is = absurd (named_alone s (TooDeep place) is)
+named_read bytes s (Err (TooLarge count)) text is = absurd (named_alone s (TooLarge count) is)
+named_read bytes s (Err (TooNested depth)) text is = absurd (named_alone s (TooNested depth) is)
+named_read bytes s (Err NoMemory) text is = tt

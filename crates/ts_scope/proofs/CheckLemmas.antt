@@ -1,9 +1,8 @@
 -- Checks one after another.
-use Rattle.std.proofs.Common.{◌≡◌, Bool, true, false, Option, Some, None, Result, Ok, Err, refl, subst, sym}
-use Rattle.std.specs.Prelude.{⊤, IfOk, IsErrAnd, ok_or}
+use Rattle.std.proofs.Common.{◌≡◌, Bool, true, false, Option, Some, None, Result, Ok, Err, refl, sym, ap, ◌∙◌}
+use Rattle.std.specs.Prelude.{IfOk, IsErrAnd, MatchResult, ok_or}
 use Rattle.ts_scope.specs.declared.fault.CheckFault.{CheckFault}
-use Rattle.ts_scope.specs.declared.fault.CheckFault.TheVariants.{Undeclared, NotInVm, Twice, Kind, Arity, TooManyPrivates, NoMemory}
-use Rattle.ts_scope.specs.Refusal.{◌>>=◌, unless_refused, RefusesScript, GivesChecked}
+use Rattle.ts_scope.specs.Refusal.{◌>>=◌, unless_refused}
 
 -- what holds of all that a check gives, by what holds of what the check before it gives
 pub bind_keeps : {A B : Type 0} (P : A → Type 0) (Q : B → Type 0) (r : Result A CheckFault) (next : A → Result B CheckFault)
@@ -21,19 +20,8 @@ pub ok_or_found : {A : Type 0} (o : Option A) (e : CheckFault) → IfOk (ok_or o
 ok_or_found None e = tt
 ok_or_found (Some x) e = refl
 
--- a check refuses where another one does that it follows
-pub refuses_along : {A B : Type 0} (e : CheckFault) (r : Result A CheckFault) (s : Result B CheckFault) → ((f : CheckFault) → r ≡ Err f → s ≡ Err f)
-    → RefusesScript e r → RefusesScript e s
-refuses_along (Undeclared name place) r s along h = along (Undeclared name place) h
-refuses_along (NotInVm name) r s along h = along (NotInVm name) h
-refuses_along (Twice name) r s along h = along (Twice name) h
-refuses_along (Kind place) r s along h = along (Kind place) h
-refuses_along (Arity place) r s along h = along (Arity place) h
-refuses_along TooManyPrivates r s along h = along TooManyPrivates h
-refuses_along NoMemory r s along h = tt
-
 -- what is returned where a part of a check refused
-pub gives_refusal : {A B : Type 0} (view : A → B) (e : CheckFault) (result : Result A CheckFault) (s : Result B CheckFault)
-    → IsErrAnd result (λ y. y ≡ e) → RefusesScript e s → GivesChecked view result s
-gives_refusal view e (Ok x) s is h = absurd is
-gives_refusal view e (Err y) s is h = let P : CheckFault → Type 0 = λ z. RefusesScript z s in subst P (sym is) h
+pub refuses_with : {A B : Type 0} (P : A → Type 0) (e : CheckFault) (result : Result A CheckFault) (check : Result B CheckFault)
+    → IsErrAnd result (λ y. y ≡ e) → check ≡ Err e → MatchResult result P (λ y. check ≡ Err y)
+refuses_with P e (Ok x) check is h = absurd is
+refuses_with P e (Err y) check is h = h ∙ ap Err (sym is)

@@ -1,5 +1,5 @@
 -- What keeps the declared names few.
-use Rattle.std.specs.Prelude.{◌≡◌, ◌≤◌, ℕ, Bool, true, List, map, bytes_eq, IsTrue}
+use Rattle.std.specs.Prelude.{◌≤◌, ℕ, Bool, true, List, map, bytes_eq, IsTrue}
 use Rattle.std.specs.List.{IsDistinct, list_all}
 use Rattle.vm_desc.specs.Names.{stands_in}
 use Rattle.vm_desc.specs.declared.description.Description.{Description}

@@ -94,15 +94,15 @@ fn function_among(functions: &[Function], name: &Name) -> Option<(FunId, FunKind
 }
 
 impl<'a> Scope<'a> {
-    ghost use Rattle.std.specs.Prelude.{OnOk};
-    ghost use Rattle.ts_scope.specs.Refusal.{GivesChecked};
+    ghost use Rattle.std.specs.Prelude.{Ok, Err, MatchResult, OnOk};
     ghost use Rattle.ts_scope.specs.Room.{IsFit};
     ghost use Rattle.ts_scope.specs.Names.{names_before, private_count, made, declare, declare_all, found_symbol, variable, buffer, function, closes_for};
     ghost use Rattle.ts_scope.specs.Seen.{scope_names};
 
-    /// The names that the declarations make known, from left to right.
+    /// The names that the declarations make known, from left to right, or the first refusal of them. It takes no memory.
     pub fn of(desc: &'a Description, decls: &[Decl]) -> Result<Scope<'a>, CheckFault>
-        ensures { GivesChecked scope_names result (declare_all (names_before desc.now) decls.now) }
+        ensures { let names = declare_all (names_before desc.now) decls.now in
+            MatchResult result (λ scope. names ≡ Ok (scope_names scope)) (λ fault. names ≡ Err fault) }
     {
         let mut scope = Scope {
             desc,
@@ -117,7 +117,8 @@ impl<'a> Scope<'a> {
     // Makes a declared name known.
     fn declare(&mut self, decl: &Decl) -> Result<(), CheckFault>
         requires { IsFit self.old.desc.now self.old.names.items }
-        ensures value { GivesChecked (λ _. scope_names self.new) result (declare (scope_names self.old) decl.now) }
+        ensures value { let names = declare (scope_names self.old) decl.now in
+            MatchResult result (λ _. names ≡ Ok (scope_names self.new)) (λ fault. names ≡ Err fault) }
         ensures fit { OnOk result (IsFit self.new.desc.now self.new.names.items) }
     {
         let name = &decl.word.name;

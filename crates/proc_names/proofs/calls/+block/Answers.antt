@@ -28,8 +28,8 @@ block-loop-stmt-preserved t c =
 
 pub block-returns : goal.block-returns
 block-returns t c =
-    ap (λ (ss : List Stmt). acts_fault (take c.args.count (heads_of c.args.heads.now.procs.now)) (acts_of ss)) (sym c.as_slice-stmt-items.ensures)
-    ∙ c.loop-stmt.invariant ∙ acts_end (take c.args.count (heads_of c.args.heads.now.procs.now)) c.as_slice-stmt-items.result.now c.loop-stmt.stmt-index c.loop-stmt-test.false
+    sym (ap (λ (ss : List Stmt). acts_fault (take c.args.count (heads_of c.args.heads.now.procs.now)) (acts_of ss)) (sym c.as_slice-stmt-items.ensures)
+    ∙ c.loop-stmt.invariant ∙ acts_end (take c.args.count (heads_of c.args.heads.now.procs.now)) c.as_slice-stmt-items.result.now c.loop-stmt.stmt-index c.loop-stmt-test.false)
 
 pub statement-returns-in_err-word-in-Set : goal.statement-returns-in_err-word-in-Set
 statement-returns-in_err-word-in-Set t c =

@@ -21,11 +21,11 @@ arguments-loop-arg-preserved t c =
     c.loop-arg.invariant ∙ args_next c.args.args.now c.loop-arg.arg-index c.arg-item.result c.loop-arg-test.true c.arg-item.is c.in_ok-expression.ensures
 
 pub arguments-returns : goal.arguments-returns
-arguments-returns t c = c.loop-arg.invariant ∙ args_end c.args.args.now c.loop-arg.arg-index c.loop-arg-test.false
+arguments-returns t c = sym (c.loop-arg.invariant ∙ args_end c.args.args.now c.loop-arg.arg-index c.loop-arg-test.false)
 
 pub expression-returns-in-Num : goal.expression-returns-in-Num
 expression-returns-in-Num t c =
-    ap expr_fault (ap tree_of c.in-Num.is ∙ tree_number c.in-Num.field-0)
+    sym (ap expr_fault (ap tree_of c.in-Num.is ∙ tree_number c.in-Num.field-0))
 
 pub expression-returns-in-Var : goal.expression-returns-in-Var
 expression-returns-in-Var t c =
@@ -85,7 +85,7 @@ expression-returns-in-Paren t c =
 
 pub expression-returns-in-MsgSize : goal.expression-returns-in-MsgSize
 expression-returns-in-MsgSize t c =
-    ap expr_fault (ap tree_of c.in-MsgSize.is ∙ tree_message_size)
+    sym (ap expr_fault (ap tree_of c.in-MsgSize.is ∙ tree_message_size))
 
 pub expression-returns-in_err-word-in-Call : goal.expression-returns-in_err-word-in-Call
 expression-returns-in_err-word-in-Call t c =
@@ -117,5 +117,5 @@ expression-returns-in_ok-expression-in-Two t c =
     let s = c.in-Two in
     let r = c.expression-in-Two-2 in
     tree_passes r.result (ap tree_of s.is ∙ tree_two s.field-0 s.left s.right)
-    (passed_first r.result (expr_fault (tree_of s.left.value)) (expr_fault (tree_of s.right.value)) (ap (λ (x : Expr). expr_fault (tree_of x)) (sym c.deref-in-Two.ensures) ∙ c.in_ok-expression-in-Two.ensures)
+    (passed_first r.result (expr_fault (tree_of s.left.value)) (expr_fault (tree_of s.right.value)) (c.in_ok-expression-in-Two.ensures ∙ ap (λ (x : Expr). expr_fault (tree_of x)) c.deref-in-Two.ensures)
     (expr_passes r.result c.deref-in-Two-2.ensures r.ensures))

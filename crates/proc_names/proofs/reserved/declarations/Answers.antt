@@ -1,4 +1,4 @@
-use Rattle.std.proofs.Common.{◌∙◌, ◌+◌, Option, drop, refl}
+use Rattle.std.proofs.Common.{◌∙◌, ◌+◌, Option, drop, refl, sym}
 use Rattle.proc_names.specs.declared.fault.ProcFault.{ProcFault}
 use Rattle.proc_names.specs.NameFaults.{◌<|>◌, word_fault, decls_fault}
 use Rattle.proc_names.proofs.PartLemmas.{refused_first, passed_as, decls_from, decls_next, decls_end}
@@ -19,4 +19,4 @@ loop-decl-preserved c =
     c.loop-decl.invariant ∙ decls_next c.args.decls.now c.loop-decl.decl-index c.decl-item.result c.loop-decl-test.true c.decl-item.is c.in_ok-word.ensures
 
 pub returns : goal.returns
-returns c = c.loop-decl.invariant ∙ decls_end c.args.decls.now c.loop-decl.decl-index c.loop-decl-test.false
+returns c = sym (c.loop-decl.invariant ∙ decls_end c.args.decls.now c.loop-decl.decl-index c.loop-decl-test.false)

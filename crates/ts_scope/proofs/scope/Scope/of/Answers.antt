@@ -1,8 +1,8 @@
 use Rattle.std.proofs.Common.{ap, sym, ◌∙◌}
 use Rattle.std.proofs.lemmas.List.{drop_all}
-use Rattle.ts_scope.specs.Names.{names_before, declare, declare_all}
+use Rattle.ts_scope.specs.Names.{names_before, declare_all}
 use Rattle.ts_scope.specs.Seen.{scope_names}
-use Rattle.ts_scope.proofs.CheckLemmas.{refuses_along, gives_refusal}
+use Rattle.ts_scope.proofs.CheckLemmas.{refuses_with}
 use Rattle.ts_scope.proofs.DeclLemmas.{decls_refused, decls_after}
 use Rattle.ts_scope.proofs.RoomLemmas.{fit_none}
 use Rattle.ts_scope.proofs.scope.Scope.of.Goals as goal
@@ -13,10 +13,9 @@ loop-decl-init c =
 
 pub returns-in_err-declare : goal.returns-in_err-declare
 returns-in_err-declare c =
-    gives_refusal scope_names c.in_err-declare.field-0.0 c.from_residual.result (declare_all (names_before c.args.desc.now) c.args.decls.now) c.from_residual.ensures.1
-    (refuses_along c.in_err-declare.field-0.0 (declare (scope_names c.loop-decl.scope) c.decl-item.result) (declare_all (names_before c.args.desc.now) c.args.decls.now)
-    (λ f refused. c.loop-decl.invariant.0 ∙ decls_refused (scope_names c.loop-decl.scope) c.args.decls.now c.loop-decl.decl-index c.decl-item.result f c.loop-decl-test.true c.decl-item.is refused)
-    c.in_err-declare.ensures.value)
+    refuses_with _ c.in_err-declare.field-0.0 c.from_residual.result (declare_all (names_before c.args.desc.now) c.args.decls.now) c.from_residual.ensures.1
+    (c.loop-decl.invariant.0 ∙ decls_refused (scope_names c.loop-decl.scope) c.args.decls.now c.loop-decl.decl-index c.decl-item.result c.in_err-declare.field-0.0
+    c.loop-decl-test.true c.decl-item.is c.in_err-declare.ensures.value)
 
 pub declare-requires : goal.declare-requires
 declare-requires c = c.loop-decl.invariant.1

@@ -1,0 +1,2 @@
+pub mod CompiledText
+pub mod ExpansionText

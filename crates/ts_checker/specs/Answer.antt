@@ -1,0 +1,14 @@
+-- How an answer of the program is what a check gives, where want of memory may come in place of it.
+use Rattle.std.specs.Prelude.{◌≡◌, Result, Ok, Err, ⊤}
+use Rattle.ts_scope.specs.declared.fault.CheckFault.{CheckFault}
+use Rattle.ts_scope.specs.declared.fault.CheckFault.TheVariants.{NoMemory}
+
+-- the check refuses with this fault; want of memory tells nothing of it
+abbrev pub RefusesScript : {B : Type 0} → CheckFault → Result B CheckFault → Type 0
+RefusesScript NoMemory check = ⊤
+RefusesScript fault check = check ≡ Err fault
+
+-- an answer of the program, seen by view, is what the check gives
+abbrev pub GivesChecked : {A B : Type 0} → (A → B) → Result A CheckFault → Result B CheckFault → Type 0
+GivesChecked view (Ok x) check = check ≡ Ok (view x)
+GivesChecked view (Err e) check = RefusesScript e check
