@@ -40,7 +40,7 @@ use Rattle.mate_journal.specs.NodeReport.{is_whole}
 use Rattle.mate_journal.specs.declared.program.Program.{Program}
 use Rattle.run_steps.specs.Running.{report_with, at_event, HasRun, IsReportOf}
 use Rattle.run_steps.specs.Writing.{PassWrites}
-use Rattle.run_steps.specs.declared.writing.Pass.{Pass}
+use Rattle.run_writing.specs.declared.pass.Pass.{Pass}
 use Rattle.run_writing.specs.Writing.{last_event, lines_before, last_line, write_fault_of, WritesReport, ended_by, HasWritten}
 use Rattle.run_writing.specs.declared.write_fault.WriteFault.{WriteFault}
 use Rattle.run_writing.specs.declared.write_fault.WriteFault.TheVariants.{NoMemory}

@@ -8,35 +8,20 @@ ghost use Rattle.open_node.specs.Journal.{KeepsJournal};
 ghost use Rattle.node_programs.specs.ScriptSteps.{AreProgramsOf};
 ghost use Rattle.run_steps.specs.Running.{IsReportOf, report_with};
 ghost use Rattle.run_steps.specs.Keeping.{IsNewNode, StaysAsToldTo};
-ghost use Rattle.run_steps.specs.Writing.{PassWrites, PutsLast};
-ghost use Rattle.run_writing.specs.Writing.{RunsInto, WritesRun};
+ghost use Rattle.run_steps.specs.Writing.{PassWrites};
+ghost use Rattle.run_writing.specs.Writing.{PutsLast, RunsInto, WritesRun};
 ghost use Rattle.run_writing.specs.declared.write_fault.WriteFault.TheVariants.{NoMemory as OutOfMemory};
 
 use crate::heap_node::{HeapNode, Written};
 use crate::running::{is_full, report_of};
 use mate_files::{Sink, SinkFault};
-use mate_journal::{Airs, IntoFault, NodeLogs, Programs, Report};
+use mate_journal::{IntoFault, NodeLogs, Programs, Report};
 use mate_num::Stamp;
 use report_text::{write_end, write_event};
-use run_writing::{WriteFault, ended, stopped};
+use run_writing::{Pass, WriteFault, ended, nothing_run, stopped};
 use script_reader::Steps;
 use std::alloc::Global;
 use vm_desc::Description;
-
-/// How the writing of a run ended: how many events ended, whether they are all, and whether their lines were written.
-#[derive(Clone, Copy)]
-pub(crate) struct Pass {
-    events: u64,
-    whole: bool,
-    result: Result<(), WriteFault>,
-}
-
-/// The report of a run that didn't begin.
-fn nothing_run(alloc: Global) -> Report
-    ensures { result ≡ record { nodes = []; air = []; events = 0; whole = false } }
-{
-    Report::new(NodeLogs::new(alloc), Airs::new(alloc), 0, false)
-}
 
 /// Memory was refused before an event.
 fn no_room(node: &HeapNode, events: u64) -> Pass

@@ -7,6 +7,8 @@ use Rattle.mate_journal.specs.Log.{Log}
 use Rattle.mate_journal.specs.NodeScript.{Full, Whole}
 use Rattle.mate_journal.specs.declared.program.Program.{Program}
 use Rattle.mate_journal.specs.declared.report.Report.{Report}
+use Rattle.mate_journal.specs.declared.report.IntoFault.{IntoFault}
+use Rattle.mate_journal.specs.declared.report.IntoFault.TheVariants as into
 use Rattle.mate_journal.specs.declared.report.RunFault.{RunFault}
 use Rattle.mate_journal.specs.declared.report.RunFault.TheVariants.{LogFull, NoMemory}
 use Rattle.world_script.specs.declared.world.World.{World as Script}
@@ -15,7 +17,8 @@ use Rattle.world_rules.specs.Report.{IsWorldReport, IsLogOf}
 use Rattle.world_rules.specs.Run.{HaveCome, journal}
 use Rattle.world_rules.specs.State.{Moment}
 use Rattle.world_rules.specs.World.{World}
-use Rattle.world_sim.specs.Promise.{WorldRunGives}
+use Rattle.run_writing.specs.Writing.{RunsInto}
+use Rattle.world_sim.specs.Promise.{IsReportOfWorld, WorldRunGives}
 use Rattle.world_sources.specs.SourceWorld.{source_world}
 use Rattle.world_run_callers.specs.Runs.{CameWithRoom, EndsSeen, IsFullBehind}
 
@@ -67,3 +70,14 @@ ends_seen d script ps (Ok r) some gives =
     let w = source_world d script ps in
     of_some (slice_get r.nodes 0) (IsLogOf w Whole gives.run.moments 0) (EndsSeen (suc r.events) script.until) (λ l. of_log w gives.run.moments (suc r.events) l (ap suc gives.run.events)) (gives.run.logs 0 (omega (arith, some)))
 ends_seen d script ps (Err fault) some gives = tt
+
+-- ---- a run that its sink stopped
+
+pub keeps_nodes : (d : Description) (script : Script) (ps : List Program) (out out' : Option (List ℕ)) (before now : ℕ) (r : Result Report IntoFault) → RunsInto d (IsReportOfWorld d script ps) out out' before now r
+    → IfErr r (λ fault. (report : Report) → fault ≡ into.Sink report → length report.nodes ≡ script.nodes)
+keeps_nodes d script ps out out' before now (Ok r) gives = tt
+keeps_nodes d script ps out out' before now (Err (into.LogFull r)) gives = λ report is. cc
+keeps_nodes d script ps out out' before now (Err (into.NoMemory r)) gives = λ report is. cc
+keeps_nodes d script ps out out' before now (Err (into.Sink r)) gives = λ report is.
+    let same : r ≡ report = cc in
+    subst (λ (x : Report). length x.nodes ≡ script.nodes) same gives.0.report.run.nodes

@@ -1,17 +1,19 @@
 //! The run of a world.
 
-ghost use Rattle.std.specs.Prelude.{◌≡◌, ◌≤◌, suc, slice_get, IsSomeAnd, IfOk, IfErr};
+ghost use Rattle.std.specs.Prelude.{◌≡◌, ◌≤◌, suc, length, slice_get, IsSomeAnd, IfOk, IfErr};
 ghost use Rattle.mate_journal.specs.declared.report.Report.{Report as Reported};
+ghost use Rattle.mate_journal.specs.declared.report.IntoFault.TheVariants.{Sink as StoppedBySink};
 ghost use Rattle.mate_journal.specs.declared.report.RunFault.TheVariants.{LogFull};
 ghost use Rattle.node_programs.specs.WorldPrograms.{AreProgramsOfWorld};
 ghost use Rattle.world_sources.specs.SourceWorld.{source_world};
 ghost use Rattle.world_run_callers.specs.Runs.{CameWithRoom, EndsSeen, IsFullBehind};
 
-use mate_journal::{Programs, Report, RunFault};
+use mate_files::Sink;
+use mate_journal::{IntoFault, Programs, Report, RunFault};
 use std::alloc::Global;
 use vm_desc::Description;
 use world_script::World;
-use world_sim::run;
+use world_sim::{run, run_into};
 
 /// A run that stops one record earlier would be refused at 999,999.
 pub fn a_full_run_has_a_million_records(
@@ -51,4 +53,18 @@ pub fn the_first_node_is_seen_at_the_end(
     ensures { IfOk result (λ report. IsSomeAnd (slice_get report.nodes 0) (EndsSeen (suc report.events) world.now.until)) }
 {
     run(alloc, desc, world, programs)
+}
+
+/// A run that hands out the report of nothing where its sink fails would give one without nodes.
+pub fn a_stopped_report_has_its_nodes<S: Sink>(
+    alloc: Global,
+    desc: &Description,
+    world: &World,
+    programs: &Programs,
+    out: &mut S,
+) -> Result<Report, IntoFault>
+    requires { AreProgramsOfWorld desc.now world.now programs.now }
+    ensures { IfErr result (λ fault. (report : Reported) → fault ≡ StoppedBySink report → length report.nodes ≡ world.now.nodes) }
+{
+    run_into(alloc, desc, world, programs, out)
 }

@@ -1,5 +1,5 @@
 -- A world's whole run, as its last lines are written.
-use Rattle.std.proofs.Common.{◌≡◌, ℕ, suc, ◌<◌, List, [], ◌∷◌, ◌++◌, length, map, drop, get_or, Option, Some, None, Result, Ok, Err, true, false, refl, sym, ◌∙◌, ap, subst, arith, append-nil, append_assoc, All}
+use Rattle.std.proofs.Common.{◌≡◌, ℕ, suc, ◌<◌, ◌≤◌, List, [], ◌∷◌, ◌++◌, length, map, drop, get_or, Option, Some, None, Ok, Err, true, false, refl, sym, ◌∙◌, ap, subst, arith, append-nil, append_assoc, All}
 use Rattle.std.specs.Prelude.{slice_get, IsSomeAnd, flat_map, unwrap_or}
 use Rattle.std.specs.Global.{Vec}
 use Rattle.std.proofs.lemmas.Option.{slice_get-get_or}
@@ -11,12 +11,15 @@ use Rattle.mate_journal.specs.Journal.{Told, Seen, told_of, journal_of}
 use Rattle.mate_journal.specs.Journal.{Event as Entered}
 use Rattle.mate_journal.specs.NodeScript.{Whole, Cut}
 use Rattle.mate_journal.specs.OpenLog.{Gone, nothing_gone}
+use Rattle.mate_journal.specs.declared.entry.Stamped.{Stamped}
 use Rattle.mate_journal.specs.Tidy.{NumbersInOrder, below}
 use Rattle.mate_files.specs.Sink.{Puts}
 use Rattle.mate_files.specs.declared.sink.SinkFault.{SinkFault}
-use Rattle.run_writing.specs.Writing.{HasWritten, lines_before, last_line, write_fault_of, ended_by, WritesRun}
+use Rattle.run_record.specs.declared.record.Record.{Record}
+use Rattle.run_writing.specs.Writing.{HasWritten, PutsLast, WritesReport, lines_before, last_line, write_fault_of}
+use Rattle.run_writing.specs.declared.pass.Pass.{Pass}
 use Rattle.run_writing.specs.declared.write_fault.WriteFault.{WriteFault}
-use Rattle.run_writing.proofs.WritingLemmas.{written-nothing, written-more, fails-within, ended-whole}
+use Rattle.run_writing.proofs.WritingLemmas.{written-nothing, written-more, stopped-within, ended-whole}
 use Rattle.mate_journal.specs.declared.air.Aired.{Aired}
 use Rattle.mate_journal.specs.declared.report.Report.{Report}
 use Rattle.mate_journal.specs.declared.program.Program.{Program}
@@ -28,17 +31,22 @@ use Rattle.world_rules.specs.State.{Moment}
 use Rattle.world_rules.specs.Run.{journal, airs, IsJournalOf}
 use Rattle.world_rules.specs.Report.{IsWorldReport}
 use Rattle.world_text.specs.EventText.{so_far, TellJournals, ShowTheirStores, StartsWithIntervals, StoresAddTheirLines, store_lines}
-use Rattle.world_sim.specs.Reporting.{mote_logs, told_report, ShowStores}
+use Rattle.world_simulation.specs.Reporting.{mote_logs, told_report, ShowStores}
 use Rattle.world_script.specs.declared.world.World.{World as Script}
 use Rattle.world_states.specs.Coming.{code_world}
 use Rattle.world_event.specs.Performing.{IsMoteAfter}
 use Rattle.world_step.specs.declared.mote.Mote.{Mote}
-use Rattle.world_sim.specs.Running.{StandsAfter}
-use Rattle.world_sim.specs.Keeping.{IsWhole}
-use Rattle.world_sim.specs.Writing.{report_now, LogsAreKept, AreAtHand, HasWrittenNow, StandsAtEnd}
-use Rattle.world_sim.specs.declared.simulation.Simulation.{Simulation}
-use Rattle.world_sim.proofs.WorldLemmas.{some-at, of-machine, shown-machine, whole-log, whole-report}
-use Rattle.world_sim.proofs.WritingLemmas.{log-at, long-logs, first-mote, tell, keeps-all, cut-report}
+use Rattle.world_simulation.specs.Running.{StandsAfter}
+use Rattle.world_simulation.specs.Keeping.{IsWhole, HaveForgotten}
+use Rattle.world_simulation.specs.Telling.{report_now, LogsAreKept}
+use Rattle.world_sim.specs.Recording.{IsRecorded}
+use Rattle.world_sim.specs.Writing.{HasWrittenNow, StandsAtEnd, WritesRecorded}
+use Rattle.mate_journal.specs.NodeScript.{RunEnd}
+use Rattle.world_simulation.specs.declared.simulation.Simulation.{Simulation}
+use Rattle.world_simulation.proofs.WorldLemmas.{some-at, of-machine, shown-machine, whole-log, whole-report}
+use Rattle.world_simulation.proofs.MoteLemmas.{log-at, long-logs, first-mote, tell, keeps-all}
+use Rattle.world_simulation.proofs.KeepingLemmas.{forgotten-motes, forgotten-kept}
+use Rattle.world_sim.proofs.WritingLemmas.{cut-report}
 
 -- a whole journal ends with one entry of the next number
 seen-last : (w : World) (ms : List Moment) (k : ℕ) (es : List Entered) → IsJournalOf w Whole ms k es → (e : Entered) × (es ≡ journal w k ms ++ e ∷ []) × (e.stamp.event ≡ suc (length ms))
@@ -79,19 +87,23 @@ module _ (w : World) (d : Description) (law : StoresAddTheirLines w) (ms : List 
       subst P (sym (same ∙ air)) (subst Q (sym air) (subst N (sym number) (law ms (mote_logs s.motes.items) (mote_logs new.motes.items) shows d).1))
 
   -- their lines were written, and the last line was put
-  pub ends-whole : (put : Result (Unit {0}) SinkFault) (out f mid fm out' f' out0 f0 : _) → HasWrittenNow d s out0 f0 out f → Puts {T = Unit {0}} out f mid fm (Ok tt) Stores → Puts mid fm out' f' put (last_line R)
-      → WritesRun d (IsWorldReport w) out0 out' f0 f' (ended_by true put)
-  ends-whole put out f mid fm out' f' out0 f0 written stores last = record {
-    report = R;
-    gives = ended-whole d (IsWorldReport w) out0 mid out' f0 fm f' R Stores (written-more Stores (lines d (report_now new)) written stores stored) whole (stored ∙ ap (λ (bs : List ℕ). bs ++ Stores) front) put last;
-  }
+  pub ends-whole : (pass : Pass) (kept : Option Record) → IsRecorded kept new → (out f mid fm out' f' out0 f0 : _) → HasWrittenNow d s out0 f0 out f → Puts {T = Unit {0}} out f mid fm (Ok tt) Stores → PutsLast R mid fm out' f' pass
+      → WritesRecorded d (IsWorldReport w) out0 out' f0 f' pass kept
+  ends-whole pass kept recorded out f mid fm out' f' out0 f0 written stores last = subst (λ (p : Pass). WritesRecorded d (IsWorldReport w) out0 out' f0 f' p kept) (sym last.is) (record {
+    ended = new;
+    gives = ended-whole d (IsWorldReport w) out0 mid out' f0 fm f' R Stores (written-more Stores (lines d (report_now new)) written stores stored) whole (stored ∙ ap (λ (bs : List ℕ). bs ++ Stores) front) last.put last.puts;
+    recorded = recorded;
+  })
 
   -- the sink failed in the stores' lines
-  pub stores-fail : (fault : SinkFault) (answer : WriteFault) (out f out' f' out0 f0 : _) → HasWrittenNow d s out0 f0 out f → Puts {T = Unit {0}} out f out' f' (Err fault) Stores → answer ≡ write_fault_of fault
-      → WritesRun d (IsWorldReport w) out0 out' f0 f' (Err answer)
-  stores-fail fault answer out f out' f' out0 f0 written puts is =
-      fails-within d (IsWorldReport w) out0 out out' f0 f f' Whole R whole (lines d (report_now s)) [] written (front ∙ sym (append-nil (lines_before d R (suc events)))) fault answer Stores (last_line R)
-      (sym (append_assoc (lines d (report_now s)) Stores (last_line R)) ∙ ap (λ (bs : List ℕ). bs ++ last_line R) (sym stored)) puts is
+  pub stores-fail : (kept : Option Record) → IsRecorded kept new → (fault : SinkFault) (answer : WriteFault) (out f out' f' out0 f0 : _) → HasWrittenNow d s out0 f0 out f → Puts {T = Unit {0}} out f out' f' (Err fault) Stores → answer ≡ write_fault_of fault
+      → WritesRecorded d (IsWorldReport w) out0 out' f0 f' (record { events = events; whole = true; result = Err answer }) kept
+  stores-fail kept recorded fault answer out f out' f' out0 f0 written puts is = record {
+    ended = new;
+    gives = stopped-within d (IsWorldReport w) out0 out out' f0 f f' Whole R whole (lines d (report_now s)) [] written (front ∙ sym (append-nil (lines_before d R (suc events)))) fault answer Stores (last_line R)
+        (sym (append_assoc (lines d (report_now s)) Stores (last_line R)) ∙ ap (λ (bs : List ℕ). bs ++ last_line R) (sym stored)) puts is;
+    recorded = recorded;
+  }
 
 -- ---- the start
 
@@ -136,11 +148,11 @@ module _ (d : Description) (script : Script) (ps : List Program) (law : StartsWi
 
   pub start-fails : (kept : LogsAreKept s.motes.items) (fault : SinkFault) (answer : WriteFault) (out f out' f' : _) → IsWhole s
       → Puts {T = Unit {0}} out f out' f' (Err fault) (event_piece d (drop s.radio.gone s.radio.air) m.node.log m.node.gone.entries 0) → answer ≡ write_fault_of fault
-      → WritesRun d (IsWorldReport (code_world d script ps)) out out' f f' (Err answer)
+      → WritesReport d (IsWorldReport (code_world d script ps)) out out' f f' (Err answer) (told_report s 0 false)
   start-fails kept fault answer out f out' f' whole puts is =
       let r : Report = told_report s 0 false in
       let piece : List ℕ = event_piece d (drop s.radio.gone s.radio.air) m.node.log m.node.gone.entries 0 in
-      fails-within d (IsWorldReport (code_world d script ps)) out out out' f f f' Cut r (cut-report d script ps b.moments 0 s b.come b.radio.air b.nodes b.motes (sym b.count) kept) [] [] written-nothing refl fault answer
+      stopped-within d (IsWorldReport (code_world d script ps)) out out out' f f f' Cut r (cut-report d script ps b.moments 0 s b.come b.radio.air b.nodes b.motes (sym b.count) kept) [] [] written-nothing refl fault answer
       piece [] (append-nil piece ∙ at-start whole) puts is
 
 -- ---- the radio waits for less
@@ -150,6 +162,33 @@ written-air d s new air motes out0 f0 out f written =
     let P : List Aired → Type 0 = λ xs. HasWritten out0 f0 out f (lines d (so_far (mote_logs new.motes.items) xs)) in
     let Q : Vec Mote → Type 0 = λ v. HasWritten out0 f0 out f (lines d (so_far (mote_logs v.items) s.radio.air)) in
     subst P (sym air) (subst Q (sym motes) written)
+
+-- ---- the nodes forget what they told
+
+-- no more of it is gone than was told
+abbrev pub AreAtHand : List Mote → Type 0
+AreAtHand motes = All (λ (m : Mote). m.node.gone.entries ≤ length m.node.log.entries) motes
+
+pub forgotten-hand : (olds news : List Mote) → HaveForgotten (length olds) olds news → AreAtHand news
+forgotten-hand olds news f k x below =
+    let more = f.count in
+    let low : k < length olds = omega (arith, below, more) in
+    let one = f.each k (get_or olds k x) (get_or news k x) low (slice_get-get_or olds k x low) (slice_get-get_or news k x below) in
+    let gone = ap (λ (g : Gone). g.entries) one.same.gone in
+    let same = ap (λ (es : List Stamped). length es) one.same.log.entries in
+    omega (arith, gone, same)
+
+pub end-still : (w : World) (how : RunEnd) (events : ℕ) (s new : Simulation) → HaveForgotten (length s.motes.items) s.motes.items new.motes.items → new.radio.air ≡ s.radio.air → StandsAtEnd w how events s → StandsAtEnd w how events new
+end-still w how events s new f air b = record {
+  moments = b.moments;
+  come = b.come;
+  count = b.count;
+  ends = b.ends;
+  air = air ∙ b.air;
+  nodes = f.count ∙ b.nodes;
+  each = forgotten-motes w b.moments s.motes.items new.motes.items w.nodes b.nodes f b.each;
+  kept = forgotten-kept s.motes.items new.motes.items f b.kept;
+}
 
 -- ---- what is shown at the end
 
@@ -176,7 +215,7 @@ some-told w ms at olds news nodes count each hand shows journals k m low =
     let old_told = length-told (get_or olds k x).node.log in
     let within = hand k x old_low in
     let gone : (get_or news k m).node.gone.entries ≡ (get_or olds k x).node.gone.entries
-    = ap (λ (g : Gone). g.entries) (shows.shown k (get_or olds k x) (get_or news k m) old_low (slice_get-get_or olds k x old_low) (slice_get-get_or news k m low)).tells.gone in
+    = ap (λ (g : Gone). g.entries) (shows.each k (get_or olds k x) (get_or news k m) old_low (slice_get-get_or olds k x old_low) (slice_get-get_or news k m low)).tells.gone in
     omega (arith, more, sum, one, told, same, before, old_told, within, gone)
 
 pub all-numbered : (motes : List Mote) → LogsAreKept motes → All NumbersInOrder (mote_logs motes)
@@ -196,7 +235,7 @@ ended-journals d script ps ms at olds news stamp nodes each shows k l below =
     let x = first-mote olds k old_low in
     let y = first-mote news k low in
     let before = some-at (IsMoteAfter w ms k) olds k x old_low (each k (omega (arith, old_low, nodes))) in
-    let one = shows.shown k (get_or olds k x) (get_or news k y) old_low (slice_get-get_or olds k x old_low) (slice_get-get_or news k y low) in
+    let one = shows.each k (get_or olds k x) (get_or news k y) old_low (slice_get-get_or olds k x old_low) (slice_get-get_or news k y low) in
     subst (λ (z : Log). IsJournalOf w Whole ms k (journal_of z)) (sym (log-at news k l y low)) (whole-log d script ps ms at k (get_or olds k x) (get_or news k y) stamp before one)
 
 -- the report of a whole run, and how its stores were shown

@@ -1,9 +1,5 @@
-pub mod BeginLemmas
-pub mod ReportLemmas
-pub mod StepLemmas
-pub mod RunLemmas
-pub mod WorldLemmas
+pub mod RecordingLemmas
 pub mod WritingLemmas
 pub mod EndingLemmas
-pub mod KeepingLemmas
-pub mod PromiseLemmas
+pub mod HandLemmas
+pub mod SameLemmas

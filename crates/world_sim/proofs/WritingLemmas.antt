@@ -1,133 +1,47 @@
 -- A world's report, as it is written event by event.
-use Rattle.std.proofs.Common.{◌≡◌, ℕ, zero, suc, ◌+◌, ◌-◌, ◌<◌, ◌≤◌, List, [], ◌∷◌, ◌++◌, length, take, drop, get_or, set, Option, Some, Result, Ok, Err, false, refl, sym, ◌∙◌, ap, subst, arith, append-nil, All, Bool}
+use Rattle.std.proofs.Common.{◌≡◌, ℕ, zero, suc, ◌+◌, ◌-◌, ◌<◌, ◌≤◌, List, [], ◌∷◌, ◌++◌, length, take, drop, get_or, Option, Some, Ok, Err, false, refl, sym, ◌∙◌, ap, subst, arith, append-nil, Bool}
 use Rattle.std.specs.Prelude.{slice_get, IsSomeAnd, flat_map}
 use Rattle.std.specs.Global.{Vec}
 use Rattle.std.proofs.lemmas.Option.{slice_get-get_or}
-use Rattle.std.proofs.lemmas.List.{length-map, take-append-drop}
-use Rattle.std.proofs.lemmas.List.Elements.{All-nil, All-cons}
-use Rattle.mate_num.specs.declared.call.Stamp.{Stamp}
+use Rattle.std.proofs.lemmas.List.{take-append-drop}
 use Rattle.mate_journal.specs.Log.{Log}
-use Rattle.mate_journal.specs.Journal.{journal_of}
 use Rattle.mate_journal.specs.NodeScript.{RunEnd, Full, Cut}
-use Rattle.mate_journal.specs.Tidy.{NumbersInOrder, below}
+use Rattle.mate_journal.specs.Tidy.{below}
 use Rattle.mate_files.specs.Sink.{Puts}
 use Rattle.mate_files.specs.declared.sink.SinkFault.{SinkFault}
-use Rattle.run_writing.specs.Writing.{OfRun, lines_before, last_line, write_fault_of, ended_by, WritesRun}
+use Rattle.run_record.specs.declared.record.Record.{Record}
+use Rattle.run_writing.specs.Writing.{OfRun, PutsLast, lines_before, write_fault_of, WritesRun}
+use Rattle.run_writing.specs.declared.pass.Pass.{Pass}
 use Rattle.run_writing.specs.declared.write_fault.WriteFault.{WriteFault}
 use Rattle.run_writing.specs.declared.write_fault.WriteFault.TheVariants.{NoMemory}
-use Rattle.run_writing.proofs.WritingLemmas.{written-more, fails-within, wants-memory, ended-full}
+use Rattle.run_writing.proofs.WritingLemmas.{written-more, stopped-within, cut-short, ended-full, writes-as}
 use Rattle.world_text.proofs.EventLemmas.{all_stand, store_lines-next, store_lines-both}
 use Rattle.mate_journal.specs.declared.air.Aired.{Aired}
 use Rattle.mate_journal.specs.declared.program.Program.{Program}
 use Rattle.mate_journal.specs.declared.report.Report.{Report}
 use Rattle.node_invariant.specs.Meaning.{machine_in}
 use Rattle.open_node.specs.Journal.{KeepsJournal}
-use Rattle.radio_sim.specs.declared.event.Event.{Event}
 use Rattle.report_text.specs.Text.{lines, event_lines, event_piece}
 use Rattle.vm_desc.specs.declared.description.Description.{Description}
 use Rattle.world_rules.specs.World.{World}
-use Rattle.world_rules.specs.Effect.{event_node}
 use Rattle.world_rules.specs.State.{Moment, state}
-use Rattle.radio_sim.specs.Radio.{Ether}
 use Rattle.world_rules.specs.Run.{HaveCome, IsAtEnd, airs, journal}
 use Rattle.world_rules.specs.Report.{IsLogOf, IsWorldReport}
 use Rattle.world_script.specs.declared.world.World.{World as Script}
 use Rattle.world_states.specs.Coming.{code_world}
-use Rattle.world_event.specs.Performing.{IsMoteAfter, MayPerform, Performed}
+use Rattle.world_event.specs.Performing.{IsMoteAfter}
 use Rattle.world_step.specs.declared.mote.Mote.{Mote}
-use Rattle.world_text.specs.EventText.{so_far, TellJournals, AddsLines, EventsAddTheirLines, store_lines}
-use Rattle.world_sim.specs.Reporting.{mote_logs, told_report, AreOfMachine}
-use Rattle.world_sim.specs.Running.{StandsAfter, StandsAtNext}
-use Rattle.world_sim.specs.Writing.{report_now, LogsAreKept, AddsEvent, HasWrittenNow, StandsAtEnd}
-use Rattle.world_sim.specs.declared.simulation.Simulation.{Simulation}
-use Rattle.world_sim.proofs.WorldLemmas.{some-at, of-machine, full-report}
-
--- ---- logs of motes
-
-pub log-at : (motes : List Mote) (k : ℕ) (l : Log) (m : Mote) → k < length motes → get_or (mote_logs motes) k l ≡ (get_or motes k m).node.log
-log-at [] k l m low = absurd (omega (arith, low))
-log-at (x ∷ motes) zero l m low = refl
-log-at (x ∷ motes) (suc k) l m low = log-at motes k l m (omega (arith, low))
-
-pub long-logs : (motes : List Mote) → length (mote_logs motes) ≡ length motes
-long-logs motes = length-map motes (λ (m : Mote). m.node.log)
-
-pub set-log : (motes : List Mote) (k : ℕ) (y : Mote) → mote_logs (set motes k y) ≡ set (mote_logs motes) k y.node.log
-set-log [] k y = refl
-set-log (x ∷ motes) zero y = refl
-set-log (x ∷ motes) (suc k) y = ap (λ (ls : List Log). x.node.log ∷ ls) (set-log motes k y)
-
-pub first-mote : (motes : List Mote) (k : ℕ) → k < length motes → Mote
-first-mote [] k low = absurd (omega (arith, low))
-first-mote (x ∷ motes) zero low = x
-first-mote (x ∷ motes) (suc k) low = first-mote motes k (omega (arith, low))
-
--- it stands there
-pub at-mote : (motes : List Mote) (k : ℕ) (low : k < length motes) → slice_get motes k ≡ Some (first-mote motes k low)
-unfolding first-mote
-at-mote [] k low = absurd (omega (arith, low))
-at-mote (x ∷ motes) zero low = refl
-at-mote (x ∷ motes) (suc k) low = at-mote motes k (omega (arith, low))
-
--- the logs tell the journals
-pub tell : (w : World) (ms : List Moment) (motes : List Mote) (nodes : ℕ) → length motes ≡ nodes → ((k : ℕ) → k < nodes → IsSomeAnd (slice_get motes k) (IsMoteAfter w ms k)) → TellJournals w ms (mote_logs motes)
-tell w ms motes nodes count each k l below =
-    let long = long-logs motes in
-    let low : k < length motes = omega (arith, below, long) in
-    let m = first-mote motes k low in
-    ap journal_of (log-at motes k l m low) ∙ (some-at (IsMoteAfter w ms k) motes k m low (each k (omega (arith, low, count)))).journal
-
--- each log is kept
-pub keeps-all : (d : Description) (motes : List Mote) → LogsAreKept motes → AreOfMachine d motes → All (KeepsJournal d (machine_in d)) (mote_logs motes)
-keeps-all d [] kept are = All-nil (KeepsJournal d (machine_in d))
-keeps-all d (m ∷ motes) kept are =
-    let own = kept 0 m (omega arith) in
-    let is : m.node.description ≡ d = are 0 m (omega arith) in
-    All-cons (KeepsJournal d (machine_in d)) m.node.log (mote_logs motes) (subst (λ (e : Description). KeepsJournal e (machine_in e) m.node.log) is own)
-    (keeps-all d motes (λ i x low. kept (suc i) x (omega (arith, low))) (λ i x low. are (suc i) x (omega (arith, low))))
-
--- ---- one event more
-
-module _ (w : World) (law : EventsAddTheirLines w) (ms : List Moment) (m : Moment) (olds : List Mote) (old_air new_air : List Aired) (number event : ℕ) (x y : Mote) (told : TellJournals w ms (mote_logs olds))
-    (low : number < length olds) (found : get_or olds number x ≡ x) (own : event_node w m.cause ≡ number) (x_numbered : NumbersInOrder x.node.log) (y_numbered : NumbersInOrder y.node.log)
-    (journal_is : journal_of y.node.log ≡ journal w number (m ∷ ms)) (old_is : old_air ≡ airs w ms) (new_is : new_air ≡ airs w (m ∷ ms)) (stamp : event ≡ suc (length ms)) where
-  pub event-adds : AddsLines (so_far (mote_logs olds) old_air) (so_far (mote_logs (set olds number y)) new_air) event (drop (length old_air) new_air) y.node.log (length x.node.log.entries) number
-  event-adds =
-      let A : List Aired → Type 0 = λ xs. AddsLines (so_far (mote_logs olds) xs) (so_far (mote_logs (set olds number y)) new_air) event (drop (length xs) new_air) y.node.log (length x.node.log.entries) number in
-      let B : List Aired → Type 0 = λ xs. AddsLines (so_far (mote_logs olds) (airs w ms)) (so_far (mote_logs (set olds number y)) xs) event (drop (length (airs w ms)) xs) y.node.log (length x.node.log.entries) number in
-      let C : List Log → Type 0 = λ ls. AddsLines (so_far (mote_logs olds) (airs w ms)) (so_far ls (airs w (m ∷ ms))) event (drop (length (airs w ms)) (airs w (m ∷ ms))) y.node.log (length x.node.log.entries) number in
-      let D : ℕ → Type 0 = λ n. AddsLines (so_far (mote_logs olds) (airs w ms)) (so_far (set (mote_logs olds) number y.node.log) (airs w (m ∷ ms))) n (drop (length (airs w ms)) (airs w (m ∷ ms))) y.node.log (length x.node.log.entries) number in
-      let long = long-logs olds in
-      subst A (sym old_is) (subst B (sym new_is) (subst C (sym (set-log olds number y)) (subst D (sym stamp)
-      (law ms m (mote_logs olds) number x.node.log y.node.log told (omega (arith, low, long)) (log-at olds number x.node.log x low ∙ ap (λ (z : Mote). z.node.log) found) own x_numbered y_numbered journal_is))))
-
--- an event's lines, on the node that it came to
-pub piece-adds : (w : World) (law : EventsAddTheirLines w) (d : Description) (script : Script) (ps : List Program) (e : Event) (at : Stamp) (s : Simulation) (number : ℕ) (x y : Mote) (radio : Ether)
-    (b : StandsAtNext w e at s) → (may : MayPerform w b.moments b.cause number e at s.radio x) → (p : Performed w b.moments b.cause number at s.radio radio x y) → number < length s.motes.items → NumbersInOrder x.node.log → NumbersInOrder y.node.log
-    → get_or s.motes.items number x ≡ x → (new : Simulation) → new.radio ≡ radio → new.motes.items ≡ set s.motes.items number y → AddsEvent at.event s new number
-piece-adds w law d script ps e at s number x y radio b may p low xn yn found new radio_is motes_is =
-    let own : event_node w p.moment.cause ≡ number = ap (event_node w) p.cause ∙ may.node in
-    let adds = event-adds w law b.moments p.moment s.motes.items s.radio.air radio.air number at.event x y (tell w b.moments s.motes.items w.nodes b.nodes b.motes) low found own xn yn p.mote.journal may.air p.radio.air may.stamp in
-    let S : List Mote → Type 0 = λ ms. AddsLines (report_now s) (so_far (mote_logs ms) radio.air) at.event (drop (length s.radio.air) radio.air) y.node.log (length x.node.log.entries) number in
-    let T : Ether → Type 0 = λ r. AddsLines (report_now s) (so_far (mote_logs new.motes.items) r.air) at.event (drop (length s.radio.air) r.air) y.node.log (length x.node.log.entries) number in
-    record {
-      before = x;
-      after = y;
-      found = slice_get-get_or s.motes.items number x low ∙ ap (λ (m : Mote). Some m) found;
-      low = low;
-      motes = motes_is;
-      log_gone = p.log_gone;
-      air_gone = ap (λ (r : Ether). r.gone) radio_is ∙ p.air_gone;
-      adds = subst T (sym radio_is) (subst S (sym motes_is) adds);
-    }
-
--- the other nodes keep their logs
-pub kept-set : (motes : List Mote) (k : ℕ) (y : Mote) → LogsAreKept motes → KeepsJournal y.node.description (machine_in y.node.description) y.node.log → LogsAreKept (set motes k y)
-kept-set [] k y kept own = kept
-kept-set (x ∷ motes) zero y kept own =
-    All-cons (λ (m : Mote). KeepsJournal m.node.description (machine_in m.node.description) m.node.log) y motes own (λ i z low. kept (suc i) z (omega (arith, low)))
-kept-set (x ∷ motes) (suc k) y kept own =
-    All-cons (λ (m : Mote). KeepsJournal m.node.description (machine_in m.node.description) m.node.log) x (set motes k y) (kept 0 x (omega arith)) (kept-set motes k y (λ i z low. kept (suc i) z (omega (arith, low))) own)
+use Rattle.world_text.specs.EventText.{so_far, TellJournals, store_lines}
+use Rattle.world_simulation.specs.Reporting.{mote_logs, told_report}
+use Rattle.world_simulation.specs.Running.{StandsAfter}
+use Rattle.world_simulation.specs.Telling.{report_now, LogsAreKept, AddsEvent}
+use Rattle.world_simulation.proofs.MoteLemmas.{log-at, long-logs, first-mote, tell, keeps-all}
+use Rattle.world_promise.specs.Promise.{IsReportOfWorld}
+use Rattle.node_programs.specs.WorldPrograms.{AreProgramsOfWorld}
+use Rattle.world_sim.specs.Recording.{IsRecorded}
+use Rattle.world_sim.specs.Writing.{HasWrittenNow, StandsAtEnd, WritesRecorded}
+use Rattle.world_simulation.specs.declared.simulation.Simulation.{Simulation}
+use Rattle.world_simulation.proofs.WorldLemmas.{some-at, of-machine, full-report}
 
 -- ---- the report of what stands
 
@@ -202,21 +116,26 @@ module _ (d : Description) (script : Script) (ps : List Program) where
 
   -- memory was refused: the report is of what stood before
   pub memory-ends : (ms : List Moment) (s : Simulation) (events : ℕ) → HaveCome W ms → s.radio.air ≡ airs W ms → (count : length s.motes.items ≡ script.nodes)
-      → (each : (k : ℕ) → k < script.nodes → IsSomeAnd (slice_get s.motes.items k) (IsMoteAfter W ms k)) → events ≡ length ms → LogsAreKept s.motes.items
-      → (out f out0 f0 : _) → HasWrittenNow d s out0 f0 out f → WritesRun d Is out0 out f0 f (Err NoMemory)
-  memory-ends ms s events come air count each number kept out f out0 f0 written =
-      wants-memory d Is out0 out f0 f Cut (told_report s events false) (cut-report d script ps ms events s come air count each number kept) (lines d (report_now s)) []
-      (event_lines d (report_now s) events) written (append-nil (lines d (report_now s))) (covered W d ms s events false (tell W ms s.motes.items script.nodes count each) air number)
+      → (each : (k : ℕ) → k < script.nodes → IsSomeAnd (slice_get s.motes.items k) (IsMoteAfter W ms k)) → events ≡ length ms → LogsAreKept s.motes.items → (kept : Option Record) → IsRecorded kept s
+      → (out f out0 f0 : _) → HasWrittenNow d s out0 f0 out f → WritesRecorded d Is out0 out f0 f (record { events = events; whole = false; result = Err NoMemory }) kept
+  memory-ends ms s events come air count each number logs kept recorded out f out0 f0 written = record {
+    ended = s;
+    gives = cut-short d Is out0 out f0 f Cut (told_report s events false) (cut-report d script ps ms events s come air count each number logs) (lines d (report_now s)) []
+        (event_lines d (report_now s) events) written (append-nil (lines d (report_now s))) (covered W d ms s events false (tell W ms s.motes.items script.nodes count each) air number);
+    recorded = recorded;
+  }
 
   -- the log is full, and the last line was put
-  pub full-ends : (s : Simulation) (events : ℕ) (b : StandsAtEnd W Full events s) → (put : Result (Unit {0}) SinkFault) → (out f out' f' out0 f0 : _) → HasWrittenNow d s out0 f0 out f → Puts out f out' f' put (last_line (told_report s events false))
-      → WritesRun d Is out0 out' f0 f' (ended_by false put)
-  full-ends s events b put out f out' f' out0 f0 written puts =
-      let r : Report = told_report s events false in record {
-        report = r;
+  pub full-ends : (s : Simulation) (events : ℕ) (b : StandsAtEnd W Full events s) → (pass : Pass) (kept : Option Record) → IsRecorded kept s → (out f out' f' out0 f0 : _) → HasWrittenNow d s out0 f0 out f
+      → PutsLast (told_report s events false) out f out' f' pass → WritesRecorded d Is out0 out' f0 f' pass kept
+  full-ends s events b pass kept recorded out f out' f' out0 f0 written last =
+      let r : Report = told_report s events false in
+      subst (λ (p : Pass). WritesRecorded d Is out0 out' f0 f' p kept) (sym last.is) (record {
+        ended = s;
         gives = ended-full d Is out0 out out' f0 f f' r (event_lines d (report_now s) events) written (full-report-now d script ps b.moments events s b.come b.air b.nodes b.each (sym b.count) b.kept b.ends)
-            (covered W d b.moments s events false (tell W b.moments s.motes.items script.nodes b.nodes b.each) b.air (sym b.count)) put puts;
-      }
+            (covered W d b.moments s events false (tell W b.moments s.motes.items script.nodes b.nodes b.each) b.air (sym b.count)) last.put last.puts;
+        recorded = recorded;
+      })
 
   -- an event's lines were written
   pub step-goes : (number node : ℕ) (s new : Simulation) (adds : AddsEvent number s new node) → (out f out' f' out0 f0 : _) → HasWrittenNow d s out0 f0 out f
@@ -224,15 +143,25 @@ module _ (d : Description) (script : Script) (ps : List Program) where
   step-goes number node s new adds out f out' f' out0 f0 written puts =
       written-more (event_piece d (drop (length s.radio.air) new.radio.air) adds.after.node.log (length adds.before.node.log.entries) node) (lines d (report_now new)) written puts (adds.adds.lines_are d)
 
-  pub step-fails : (number node : ℕ) (s new : Simulation) (adds : AddsEvent number s new node) (b : StandsAfter W number new) → LogsAreKept new.motes.items → (fault : SinkFault) (answer : WriteFault) → (out f out' f' out0 f0 : _)
+  pub step-fails : (number node : ℕ) (s new : Simulation) (adds : AddsEvent number s new node) (b : StandsAfter W number new) → LogsAreKept new.motes.items → (kept : Option Record) → IsRecorded kept new → (fault : SinkFault) (answer : WriteFault) → (out f out' f' out0 f0 : _)
       → HasWrittenNow d s out0 f0 out f → Puts {T = Unit {0}} out f out' f' (Err fault) (event_piece d (drop (length s.radio.air) new.radio.air) adds.after.node.log (length adds.before.node.log.entries) node) → answer ≡ write_fault_of fault
-      → WritesRun d Is out0 out' f0 f' (Err answer)
-  step-fails number node s new adds b kept fault answer out f out' f' out0 f0 written puts is =
+      → WritesRecorded d Is out0 out' f0 f' (record { events = number; whole = false; result = Err answer }) kept
+  step-fails number node s new adds b logs kept recorded fault answer out f out' f' out0 f0 written puts is =
       let r : Report = told_report new number false in
       let piece : List ℕ = event_piece d (drop (length s.radio.air) new.radio.air) adds.after.node.log (length adds.before.node.log.entries) node in
-      fails-within d Is out0 out out' f0 f f' Cut r (cut-report d script ps b.moments number new b.come b.radio.air b.nodes b.motes (sym b.count) kept) (lines d (report_now s)) [] written
-      (adds.adds.before d ∙ sym (append-nil (lines_before d r number))) fault answer piece []
-      (ap (λ (bs : List ℕ). lines d (report_now s) ++ bs) (append-nil piece) ∙ sym (adds.adds.lines_are d)) puts is
+      record {
+        ended = new;
+        gives = stopped-within d Is out0 out out' f0 f f' Cut r (cut-report d script ps b.moments number new b.come b.radio.air b.nodes b.motes (sym b.count) logs) (lines d (report_now s)) [] written
+            (adds.adds.before d ∙ sym (append-nil (lines_before d r number))) fault answer piece []
+            (ap (λ (bs : List ℕ). lines d (report_now s) ++ bs) (append-nil piece) ∙ sym (adds.adds.lines_are d)) puts is;
+        recorded = recorded;
+      }
+
+  -- what was written is what is promised
+  pub promised : (out out' : Option (List ℕ)) (f f' : ℕ) (pass : Pass) (kept : Option Record) → ((how : RunEnd) (r : Report) → AreProgramsOfWorld d script ps → Is how r → IsReportOfWorld d script ps how r) → AreProgramsOfWorld d script ps
+      → WritesRecorded d Is out out' f f' pass kept → WritesRun d (IsReportOfWorld d script ps) out out' f f' pass.result
+  promised out out' f f' pass kept keep right writes =
+      writes-as d Is (IsReportOfWorld d script ps) out out' f f' pass.result (λ how r is. keep how r right is) (record { report = told_report writes.ended pass.events pass.whole; gives = writes.gives })
 
 -- ---- the last entries
 

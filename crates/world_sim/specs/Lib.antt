@@ -1,6 +1,3 @@
 pub mod Promise
-pub mod Running
-pub mod Starting
-pub mod Reporting
+pub mod Recording
 pub mod Writing
-pub mod Keeping

@@ -1,11 +1,9 @@
-//! The run of a world: its events in their order, and the report of them.
+//! The run of a world: its events in their order, and the report of them, which is written as they end.
 #![tactic(auto)]
 
-mod promise;
-mod report;
+pub mod recording;
 pub mod running;
-mod simulation;
 pub mod writing;
 
 pub use running::run;
-pub use writing::write_world;
+pub use writing::{run_into, write_world};

@@ -1,16 +1,15 @@
 //! The run of a world.
 
 ghost use Rattle.node_programs.specs.WorldPrograms.{AreProgramsOfWorld};
-ghost use Rattle.world_sim.specs.Promise.{WorldRunGives};
+ghost use Rattle.world_promise.specs.Promise.{WorldRunGives};
 
-use crate::promise::reports_keep_the_promise;
-use crate::report::{report_of, see_stores};
-use crate::simulation::{Simulation, Written};
 use mate_journal::{NodeLogs, Programs, RECORDS_MAX, Report, RunFault};
 use mate_num::Stamp;
 use std::alloc::Global;
 use vm_desc::Description;
+use world_promise::reports_keep_the_promise;
 use world_script::World;
+use world_simulation::{Simulation, Written, report_of, see_stores};
 use world_states::states_are_sound;
 use world_step::Effect;
 

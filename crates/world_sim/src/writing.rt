@@ -1,40 +1,71 @@
-//! The run of a world whose lines are written as its events end.
+//! The run of a world whose lines are written as its events end, and whose report may be handed out.
 
-ghost use Rattle.std.specs.Prelude.{◌≡◌, ◌≤◌, ◌<◌, ◌+◌, length, drop, sum_by, slice_get, All, Some, IfSome, OnOk};
+ghost use Rattle.std.specs.Prelude.{◌≡◌, ◌≤◌, ◌<◌, ◌+◌, length, drop, sum_by, slice_get, All, Some, IfOk, IfSome, OnOk, Err, false};
 ghost use Rattle.mate_files.specs.Sink.{Puts};
 ghost use Rattle.mate_journal.specs.NodeScript.{Whole, Full};
 ghost use Rattle.report_text.specs.Text.{event_piece};
-ghost use Rattle.run_writing.specs.Writing.{WritesRun, last_line};
+ghost use Rattle.run_writing.specs.Writing.{PutsLast, RunsInto, WritesRun};
+ghost use Rattle.run_writing.specs.declared.write_fault.WriteFault.TheVariants.{NoMemory as OutOfMemory};
+ghost use Rattle.world_rules.specs.Report.{IsWorldReport};
 ghost use Rattle.world_states.specs.Coming.{code_world};
 ghost use Rattle.node_programs.specs.WorldPrograms.{AreProgramsOfWorld};
 ghost use Rattle.world_step.specs.Motes.{plain_effect};
 ghost use Rattle.world_step.specs.declared.mote.Mote.{Mote as MoteState};
-ghost use Rattle.world_sim.specs.Keeping.{IsWhole};
-ghost use Rattle.world_sim.specs.Promise.{IsReportOfWorld};
-ghost use Rattle.world_sim.specs.Reporting.{mote_logs, told_report};
-ghost use Rattle.world_sim.specs.Running.{StandsAfter, StandsAtNext};
-ghost use Rattle.world_sim.specs.Writing.{AreAtHand, LogsAreKept, EndsSo, IsStartWritten, IsStepWritten, StandsAtEnd};
+ghost use Rattle.world_promise.specs.Promise.{IsReportOfWorld};
+ghost use Rattle.world_simulation.specs.Keeping.{IsWhole};
+ghost use Rattle.world_simulation.specs.Reporting.{mote_logs, told_report};
+ghost use Rattle.world_simulation.specs.Running.{StandsAfter, StandsAtNext};
+ghost use Rattle.world_simulation.specs.Telling.{LogsAreKept};
+ghost use Rattle.world_sim.specs.Recording.{IsRecorded, is_kept};
+ghost use Rattle.world_sim.specs.Writing.{EndsSo, IsStartWritten, IsStepWritten, StandsAtEnd, StartsRecorded, WritesRecorded};
 ghost use Rattle.world_text.specs.EventText.{store_lines};
 
-use crate::promise::reports_keep_the_promise;
-use crate::report::see_stores;
-use crate::simulation::{Simulation, Written};
+use crate::recording::{add_event, record_event, record_stores};
 use mate_files::{Sink, SinkFault};
-use mate_journal::{Programs, RECORDS_MAX};
-use mate_num::Stamp;
+use mate_journal::{IntoFault, Programs, RECORDS_MAX, Report};
+use mate_num::{NoMemory, Stamp};
 use radio_sim::Event;
 use report_text::{write_end, write_event};
-use run_writing::{WriteFault, ended, stopped};
+use run_record::Record;
+use run_writing::{Pass, WriteFault, ended, nothing_run, stopped};
 use std::alloc::Global;
 use vm_desc::Description;
+use world_promise::reports_keep_the_promise;
 use world_script::World;
+use world_simulation::{Simulation, Written, forget_all, see_stores};
 use world_states::states_are_sound;
 use world_step::{Effect, Mote};
 use world_text::text_grows_by_events;
 
 /// Runs a world as `run` does, and writes each event's lines when it ends, and then the last line. After a fault of the sink no
-/// further event is begun. What a node told in an event, and what happened on the air in it, is forgotten before the next one, so
-/// that a long run takes no more memory than its nodes and their longest events.
+/// further event is begun; the report then has the events that ended.
+pub fn run_into<S: Sink>(
+    alloc: Global,
+    desc: &Description,
+    world: &World,
+    programs: &Programs,
+    out: &mut S,
+) -> Result<Report, IntoFault>
+    requires { AreProgramsOfWorld desc.now world.now programs.now }
+    ensures gives { RunsInto desc.now (IsReportOfWorld desc.now world.now programs.now) (S.written out.old) (S.written out.new) (S.faults out.old) (S.faults out.new) result }
+    ensures later { S.faults out.old ≤ S.faults out.new }
+{
+    reports_keep_the_promise();
+    let Ok((mut sim, record)) = start_recorded(alloc, desc, world, programs) else {
+        return Err(IntoFault::NoMemory(nothing_run(alloc)));
+    };
+    let mut record = Some(record);
+    let pass = write_run(desc, world, programs, &mut sim, &mut record, out);
+    let Some(record) = record else { unreachable!() };
+    let report = record.into_report(pass.events, pass.whole);
+    match pass.result {
+        Ok(()) => Ok(report),
+        Err(fault) => Err(fault.with_report(report)),
+    }
+}
+
+/// The same text, without a report: what a node told in an event, and what happened on the air in it, is forgotten before the next
+/// one, so that a long run takes no more memory than its nodes and their longest events.
 pub fn write_world<S: Sink>(
     alloc: Global,
     desc: &Description,
@@ -47,40 +78,91 @@ pub fn write_world<S: Sink>(
     ensures later { S.faults out.old ≤ S.faults out.new }
 {
     reports_keep_the_promise();
-    states_are_sound();
     let Ok(mut sim) = Simulation::start(alloc, desc, world) else {
         return Err(WriteFault::NoMemory);
     };
-    if let Err(fault) = write_start(desc, world, programs, &sim, out) {
-        return Err(fault);
+    let mut none = None;
+    write_run(desc, world, programs, &mut sim, &mut none, out).result
+}
+
+/// The world before its first event, and the record of its start.
+fn start_recorded(
+    alloc: Global,
+    desc: &Description,
+    world: &World,
+    programs: &Programs,
+) -> Result<(Simulation, Record), NoMemory>
+    requires { AreProgramsOfWorld desc.now world.now programs.now }
+    ensures { IfOk result (λ made. StartsRecorded (code_world desc.now world.now programs.now) made.0 made.1) }
+{
+    let mut record = Record::new(alloc, world.nodes)?;
+    let sim = Simulation::start(alloc, desc, world)?;
+    add_event(&mut record, &sim, 0)?;
+    Ok((sim, record))
+}
+
+/// Runs a world from its start, and writes each event's lines when it ends, and then the last line. Where a record is kept, it has what
+/// the report has that was written, or a part of it.
+#[inline(never)]
+fn write_run<S: Sink>(
+    desc: &Description,
+    world: &World,
+    programs: &Programs,
+    sim: &mut Simulation,
+    records: &mut Option<Record>,
+    out: &mut S,
+) -> Pass
+    requires right { AreProgramsOfWorld desc.now world.now programs.now }
+    requires stands { StandsAfter (code_world desc.now world.now programs.now) 0 sim.old }
+    requires whole { IsWhole sim.old }
+    requires recorded { IsRecorded records.old sim.old }
+    ensures gives { WritesRecorded desc.now (IsWorldReport (code_world desc.now world.now programs.now)) (S.written out.old) (S.written out.new) (S.faults out.old) (S.faults out.new) result records.new }
+    ensures kept { is_kept records.new ≡ is_kept records.old }
+    ensures later { S.faults out.old ≤ S.faults out.new }
+{
+    states_are_sound();
+    if let Err(fault) = write_start(desc, world, programs, sim, out) {
+        return stopped_at(0, fault);
     }
     let mut effect = Effect::none();
     for events in 0..u64::MAX {
         let Some((time, event)) = sim.radio.next() else {
-            return write_ending(desc, world, programs, &mut sim, events, out);
+            return write_ending(desc, world, programs, sim, events, records, out);
         };
         if sim.records >= RECORDS_MAX {
-            return write_full(desc, world, programs, &sim, events, out);
+            return write_last(sim, events, false, out);
         }
         let at = Stamp {
             event: events + 1,
             time,
         };
-        if let Err(fault) = write_step(
+        if let Err(pass) = write_step(
             desc,
             world,
             programs,
-            &mut sim,
+            sim,
             &event,
             at,
             &mut effect,
+            records,
             out,
         ) {
-            return Err(fault);
+            return pass;
         }
     }
     // (more events than 64 bits count)
-    Err(WriteFault::NoMemory)
+    stopped_at(u64::MAX, WriteFault::NoMemory)
+}
+
+/// The run stopped behind so many events, and was cut.
+fn stopped_at(events: u64, fault: WriteFault) -> Pass
+    ensures { result ≡ record { events = events; whole = false; result = Err fault } }
+{
+    Pass {
+        events,
+        whole: false,
+        result: Err(fault),
+    }
 }
 
 /// Writes the lines of the start: the first interval of each node.
@@ -106,7 +188,7 @@ fn write_start<S: Sink>(
     }
 }
 
-/// The event comes, with this stamp, and its lines are written.
+/// The event comes, with this stamp; it is recorded, where a record is kept, and its lines are written.
 #[inline(never)]
 fn write_step<S: Sink>(
     desc: &Description,
@@ -116,44 +198,32 @@ fn write_step<S: Sink>(
     event: &Event,
     at: Stamp,
     effect: &mut Effect,
+    records: &mut Option<Record>,
     out: &mut S,
-) -> Result<(), WriteFault>
+) -> Result<(), Pass>
     requires right { AreProgramsOfWorld desc.now world.now programs.now }
     requires stands { StandsAtNext (code_world desc.now world.now programs.now) event.now at sim.old }
     requires kept { LogsAreKept sim.old.motes.items }
     requires plain { effect.old ≡ plain_effect }
-    ensures writes { IsStepWritten desc.now (code_world desc.now world.now programs.now) at.event sim.old sim.new (S.written out.old) (S.faults out.old) (S.written out.new) (S.faults out.new) result }
+    requires recorded { IsRecorded records.old sim.old }
+    ensures writes { IsStepWritten desc.now (code_world desc.now world.now programs.now) at.event sim.old sim.new (S.written out.old) (S.faults out.old) (S.written out.new) (S.faults out.new) records.new result }
     ensures plain { OnOk result (effect.new ≡ plain_effect) }
+    ensures kept { is_kept records.new ≡ is_kept records.old }
     ensures later { S.faults out.old ≤ S.faults out.new }
 {
     let Ok(node) = sim.step(desc, world, programs, event, at, Written::Forgotten, effect) else {
-        return Err(WriteFault::NoMemory);
+        return Err(stopped_at(at.event - 1, WriteFault::NoMemory));
+    };
+    let Ok(()) = record_event(records, sim, node) else {
+        return Err(stopped_at(at.event - 1, WriteFault::NoMemory));
     };
     match write_piece(desc, sim, node, out) {
         Ok(()) => Ok(()),
-        Err(fault) => Err(stopped(fault)),
+        Err(fault) => Err(stopped_at(at.event, stopped(fault))),
     }
 }
 
-/// Writes the last line of a run that a full log ended.
-#[inline(never)]
-fn write_full<S: Sink>(
-    desc: &Description,
-    world: &World,
-    programs: &Programs,
-    sim: &Simulation,
-    events: u64,
-    out: &mut S,
-) -> Result<(), WriteFault>
-    requires right { AreProgramsOfWorld desc.now world.now programs.now }
-    requires ends { StandsAtEnd (code_world desc.now world.now programs.now) Full events sim.now }
-    ensures writes { EndsSo desc.now (code_world desc.now world.now programs.now) sim.now (S.written out.old) (S.faults out.old) (S.written out.new) (S.faults out.new) result }
-    ensures later { S.faults out.old ≤ S.faults out.new }
-{
-    ended(false, write_last(sim, events, false, out))
-}
-
-/// Each node's store is seen; their lines are written, and the last line.
+/// Each node's store is seen; they are recorded, where a record is kept; and their lines are written, and the last line.
 #[inline(never)]
 fn write_ending<S: Sink>(
     desc: &Description,
@@ -161,28 +231,40 @@ fn write_ending<S: Sink>(
     programs: &Programs,
     sim: &mut Simulation,
     events: u64,
+    records: &mut Option<Record>,
     out: &mut S,
-) -> Result<(), WriteFault>
+) -> Pass
     requires right { AreProgramsOfWorld desc.now world.now programs.now }
     requires ends { StandsAtEnd (code_world desc.now world.now programs.now) Whole events sim.old }
     requires few { events < 18446744073709551615 }
-    ensures writes { EndsSo desc.now (code_world desc.now world.now programs.now) sim.old (S.written out.old) (S.faults out.old) (S.written out.new) (S.faults out.new) result }
+    requires recorded { IsRecorded records.old sim.old }
+    ensures writes { EndsSo desc.now (code_world desc.now world.now programs.now) sim.old (S.written out.old) (S.faults out.old) (S.written out.new) (S.faults out.new) result records.new }
+    ensures kept { is_kept records.new ≡ is_kept records.old }
     ensures later { S.faults out.old ≤ S.faults out.new }
 {
     text_grows_by_events();
-    are_at_hand(sim.motes.as_slice());
     let at = Stamp {
         event: events + 1,
         time: world.until,
     };
+    let Ok(()) = forget_all(&mut sim.motes) else {
+        return stopped_at(events, WriteFault::NoMemory);
+    };
     let Ok(()) = see_stores(&mut sim.motes, at) else {
-        return Err(WriteFault::NoMemory);
+        return stopped_at(events, WriteFault::NoMemory);
     };
     logs_are_kept(sim.motes.as_slice());
+    let Ok(()) = record_stores(records, sim) else {
+        return stopped_at(events, WriteFault::NoMemory);
+    };
     if let Err(fault) = write_stores(desc, sim.motes.as_slice(), out) {
-        return Err(stopped(fault));
+        return Pass {
+            events,
+            whole: true,
+            result: Err(stopped(fault)),
+        };
     }
-    ended(true, write_last(sim, events, true, out))
+    write_last(sim, events, true, out)
 }
 
 /// Writes what a node and the radio have at hand.
@@ -220,19 +302,20 @@ fn write_stores<S: Sink>(desc: &Description, motes: &[Mote], out: &mut S) -> Res
     Ok(())
 }
 
-/// Writes the last line of the report of what stands. (`NoMemory` comes also where 64 bits don't count its records.)
-fn write_last<S: Sink>(
-    sim: &Simulation,
-    events: u64,
-    whole: bool,
-    out: &mut S,
-) -> Result<(), SinkFault>
+/// Writes the last line of the report of what stands, behind its other lines. (`NoMemory` comes also where 64 bits don't count its records.)
+#[inline(never)]
+fn write_last<S: Sink>(sim: &Simulation, events: u64, whole: bool, out: &mut S) -> Pass
     requires { length sim.now.motes.items ≤ 64 }
-    ensures { Puts (S.written out.old) (S.faults out.old) (S.written out.new) (S.faults out.new) result (last_line (told_report sim.now events whole)) }
+    ensures { PutsLast (told_report sim.now events whole) (S.written out.old) (S.faults out.old) (S.written out.new) (S.faults out.new) result }
 {
-    match records_in(sim) {
+    let put = match records_in(sim) {
         Some(records) => write_end(records, events, sim.motes.len() as u8, whole, out),
         None => Err(SinkFault::NoMemory),
+    };
+    Pass {
+        events,
+        whole,
+        result: ended(whole, put),
     }
 }
 
@@ -258,15 +341,6 @@ fn entries_in(motes: &[Mote]) -> Option<u64>
 /// What each node keeps of its log.
 fn logs_are_kept(motes: &[Mote])
     ensures { LogsAreKept motes.now }
-{
-    for mote in motes {
-        let _kept = mote.node.kept();
-    }
-}
-
-/// No more of a node's log is gone than was told.
-fn are_at_hand(motes: &[Mote])
-    ensures { AreAtHand motes.now }
 {
     for mote in motes {
         let _kept = mote.node.kept();

@@ -2,10 +2,10 @@ use Rattle.std.proofs.Common.{◌≡◌, ℕ, suc, ◌+◌, ◌≤◌, length, r
 use Rattle.mate_journal.specs.NodeScript.{Whole, Full}
 use Rattle.radio_sim.specs.Radio.{Ether}
 use Rattle.world_states.specs.Coming.{code_world}
-use Rattle.world_sim.proofs.KeepingLemmas.{whole-still, whole-shown}
-use Rattle.world_sim.proofs.RunLemmas.{behind, is-done}
-use Rattle.world_sim.proofs.WorldLemmas.{all-timely, of-machine, shown-machine, full-report, whole-report}
-use Rattle.world_sim.specs.Keeping.{IsWhole}
+use Rattle.world_simulation.proofs.KeepingLemmas.{whole-still, whole-shown}
+use Rattle.world_simulation.proofs.RunLemmas.{behind, is-done}
+use Rattle.world_simulation.proofs.WorldLemmas.{all-timely, of-machine, shown-machine, full-report, whole-report}
+use Rattle.world_simulation.specs.Keeping.{IsWhole}
 use Rattle.world_sim.proofs.running.run.Goals as goal
 
 pub see_stores-requires : goal.see_stores-requires

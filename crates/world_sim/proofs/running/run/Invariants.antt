@@ -1,8 +1,8 @@
 use Rattle.std.proofs.Common.{◌≡◌, length}
 use Rattle.world_states.specs.Coming.{code_world}
 use Rattle.world_step.specs.Motes.{plain_effect}
-use Rattle.world_sim.specs.Keeping.{IsWhole}
-use Rattle.world_sim.specs.Running.{StandsAfter}
+use Rattle.world_simulation.specs.Keeping.{IsWhole}
+use Rattle.world_simulation.specs.Running.{StandsAfter}
 use Rattle.world_sim.proofs.running.run.Given as goal
 
 abbrev pub invariant-loop-events : goal.invariant-loop-events

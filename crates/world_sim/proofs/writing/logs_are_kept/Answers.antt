@@ -4,7 +4,7 @@ use Rattle.std.proofs.lemmas.List.Elements.{All-more}
 use Rattle.node_invariant.specs.Meaning.{machine_in}
 use Rattle.open_node.specs.Journal.{KeepsJournal}
 use Rattle.world_step.specs.declared.mote.Mote.{Mote}
-use Rattle.world_sim.specs.Writing.{LogsAreKept}
+use Rattle.world_simulation.specs.Telling.{LogsAreKept}
 use Rattle.world_sim.proofs.writing.logs_are_kept.Goals as goal
 
 pub loop-mote-preserved : goal.loop-mote-preserved

@@ -1,5 +1,9 @@
-use Rattle.std.proofs.Common.{length, refl}
-use Rattle.world_sim.proofs.KeepingLemmas.{written-still, at-hand-now, put-now}
+use Rattle.std.proofs.Common.{◌≡◌, ◌-◌, length, sym, subst, arith}
+use Rattle.run_writing.specs.declared.pass.Pass.{Pass}
+use Rattle.world_states.specs.Coming.{code_world}
+use Rattle.world_sim.specs.Writing.{EndsSo}
+use Rattle.world_sim.proofs.HandLemmas.{written-still, at-hand-now, put-now}
+use Rattle.world_sim.proofs.RecordingLemmas.{recorded-before, recorded-still}
 use Rattle.world_sim.proofs.WritingLemmas.{memory-ends, step-goes, step-fails}
 use Rattle.world_sim.proofs.writing.write_step.Goals as goal
 
@@ -7,7 +11,29 @@ use Rattle.world_sim.proofs.writing.write_step.Goals as goal
 pub returns-in_default-clause-writes : goal.returns-in_default-clause-writes
 returns-in_default-clause-writes g c =
     let b = c.requires.stands in
-    λ out0 f0 written. memory-ends c.args.desc.now c.args.world.now c.args.programs.now b.moments c.args.sim.now (length b.moments) b.come b.air b.nodes b.motes refl c.requires.kept _ _ out0 f0 written
+    let stamp = b.stamp in
+    let number : c.args.at.event - 1 ≡ length b.moments = omega (arith, stamp) in
+    subst (λ (p : Pass). EndsSo c.args.desc.now (code_world c.args.desc.now c.args.world.now c.args.programs.now) c.args.sim.now (g.S.Sink.written c.args.out.now) (g.S.Sink.faults c.args.out.now) (g.S.Sink.written c.args.out.now) (g.S.Sink.faults c.args.out.now) p c.args.records.now)
+    (sym c.stopped_at.ensures)
+    (λ out0 f0 written. memory-ends c.args.desc.now c.args.world.now c.args.programs.now b.moments c.args.sim.now (c.args.at.event - 1) b.come b.air b.nodes b.motes number c.requires.kept c.args.records.now c.requires.recorded _ _ out0 f0 written)
+
+pub record_event-requires-clause-node : goal.record_event-requires-clause-node
+record_event-requires-clause-node g c = (at-hand-now c.args.at.event c.in-Ok.node c.args.sim.now c.in-Ok.ensures.adds.mid c.step.new.self c.in-Ok.ensures.adds.lets_go c.in-Ok.ensures.adds.adds).low
+
+pub record_event-requires-clause-before : goal.record_event-requires-clause-before
+record_event-requires-clause-before g c =
+    recorded-before c.args.records.now c.args.sim.now c.in-Ok.ensures.adds.mid c.step.new.self c.in-Ok.node c.args.at.event c.in-Ok.ensures.adds.lets_go c.in-Ok.ensures.adds.adds c.requires.recorded
+
+-- memory was refused to the record
+pub returns-in_default-record_event-clause-writes : goal.returns-in_default-record_event-clause-writes
+returns-in_default-record_event-clause-writes g c =
+    let b = c.requires.stands in
+    let stamp = b.stamp in
+    let number : c.args.at.event - 1 ≡ length b.moments = omega (arith, stamp) in
+    subst (λ (p : Pass). EndsSo c.args.desc.now (code_world c.args.desc.now c.args.world.now c.args.programs.now) c.args.sim.now (g.S.Sink.written c.args.out.now) (g.S.Sink.faults c.args.out.now) (g.S.Sink.written c.args.out.now) (g.S.Sink.faults c.args.out.now) p c.record_event.new.records)
+    (sym c.stopped_at-in_default-record_event.ensures)
+    (λ out0 f0 written. memory-ends c.args.desc.now c.args.world.now c.args.programs.now b.moments c.args.sim.now (c.args.at.event - 1) b.come b.air b.nodes b.motes number c.requires.kept c.record_event.new.records
+    (recorded-still c.args.records.now c.record_event.new.records c.args.sim.now c.in_default-record_event.ensures.recorded c.requires.recorded) _ _ out0 f0 written)
 
 pub write_piece-requires : goal.write_piece-requires
 write_piece-requires g c = (at-hand-now c.args.at.event c.in-Ok.node c.args.sim.now c.in-Ok.ensures.adds.mid c.step.new.self c.in-Ok.ensures.adds.lets_go c.in-Ok.ensures.adds.adds).low
@@ -21,15 +47,19 @@ returns-in-Ok-write_piece-clause-writes g c =
       λ out0 f0 written.
           step-goes c.args.desc.now c.args.world.now c.args.programs.now c.args.at.event c.in-Ok.node a.mid c.step.new.self a.adds _ _ _ _ out0 f0
           (written-still c.args.sim.now a.mid c.in-Ok.node a.lets_go c.args.desc.now out0 f0 _ _ written) (put-now c.args.desc.now c.in-Ok.node a.mid c.step.new.self a.adds h _ _ _ _ _ (c.in-Ok-write_piece.ensures a.adds.after h.found)),
+      c.in-Ok-record_event.ensures.recorded,
     )
 
 pub returns-in-Err-clause-writes : goal.returns-in-Err-clause-writes
 returns-in-Err-clause-writes g c =
     let a = c.in-Ok.ensures.adds in
     let h = at-hand-now c.args.at.event c.in-Ok.node c.args.sim.now a.mid c.step.new.self a.lets_go a.adds in
-    λ out0 f0 written.
-    step-fails c.args.desc.now c.args.world.now c.args.programs.now c.args.at.event c.in-Ok.node a.mid c.step.new.self a.adds c.in-Ok.ensures.stands (c.in-Ok.ensures.kept c.requires.kept) c.in-Err.fault c.stopped.result _ _ _ _ out0 f0
-    (written-still c.args.sim.now a.mid c.in-Ok.node a.lets_go c.args.desc.now out0 f0 _ _ written) (put-now c.args.desc.now c.in-Ok.node a.mid c.step.new.self a.adds h _ _ _ _ _ (c.in-Err.ensures a.adds.after h.found)) c.stopped.ensures
+    subst (λ (p : Pass). EndsSo c.args.desc.now (code_world c.args.desc.now c.args.world.now c.args.programs.now) c.args.sim.now (g.S.Sink.written c.args.out.now) (g.S.Sink.faults c.args.out.now) (g.S.Sink.written c.write_piece.new.out) (g.S.Sink.faults c.write_piece.new.out) p c.record_event.new.records)
+    (sym c.stopped_at-in-Err.ensures)
+    (λ out0 f0 written.
+    step-fails c.args.desc.now c.args.world.now c.args.programs.now c.args.at.event c.in-Ok.node a.mid c.step.new.self a.adds c.in-Ok.ensures.stands (c.in-Ok.ensures.kept c.requires.kept) c.record_event.new.records c.in-Ok-record_event.ensures.recorded
+    c.in-Err.fault c.stopped.result _ _ _ _ out0 f0
+    (written-still c.args.sim.now a.mid c.in-Ok.node a.lets_go c.args.desc.now out0 f0 _ _ written) (put-now c.args.desc.now c.in-Ok.node a.mid c.step.new.self a.adds h _ _ _ _ _ (c.in-Err.ensures a.adds.after h.found)) c.stopped.ensures)
 
 pub returns-in-Ok-write_piece-clause-later : goal.returns-in-Ok-write_piece-clause-later
 returns-in-Ok-write_piece-clause-later g c =

@@ -1,6 +1,6 @@
 use Rattle.std.proofs.Common.{◌≡◌, Ok, take}
 use Rattle.mate_files.specs.Sink.{Puts}
-use Rattle.world_sim.specs.Reporting.{mote_logs}
+use Rattle.world_simulation.specs.Reporting.{mote_logs}
 use Rattle.world_text.specs.EventText.{store_lines}
 use Rattle.world_sim.proofs.writing.write_stores.Given as goal
 

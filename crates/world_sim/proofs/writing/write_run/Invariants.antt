@@ -1,0 +1,18 @@
+use Rattle.std.proofs.Common.{◌≡◌}
+use Rattle.world_states.specs.Coming.{code_world}
+use Rattle.world_step.specs.Motes.{plain_effect}
+use Rattle.world_simulation.specs.Running.{StandsAfter}
+use Rattle.world_simulation.specs.Telling.{LogsAreKept}
+use Rattle.world_sim.specs.Recording.{IsRecorded, is_kept}
+use Rattle.world_sim.specs.Writing.{HasWrittenNow}
+use Rattle.world_sim.proofs.writing.write_run.Given as goal
+
+abbrev pub invariant-loop-events : goal.invariant-loop-events
+invariant-loop-events g l = record {
+  stands : StandsAfter (code_world l.desc l.world l.programs) l.events l.sim;
+  kept : LogsAreKept l.sim.motes.items;
+  plain : l.effect ≡ plain_effect;
+  written : HasWrittenNow l.desc l.sim (g.S.Sink.written l.fn.out) (g.S.Sink.faults l.fn.out) (g.S.Sink.written l.out) (g.S.Sink.faults l.out);
+  recorded : IsRecorded l.records l.sim;
+  same : is_kept l.records ≡ is_kept l.fn.records;
+}

@@ -1,0 +1,7 @@
+pub mod BeginLemmas
+pub mod ReportLemmas
+pub mod StepLemmas
+pub mod RunLemmas
+pub mod WorldLemmas
+pub mod MoteLemmas
+pub mod KeepingLemmas

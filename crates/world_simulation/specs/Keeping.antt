@@ -1,0 +1,41 @@
+-- What the nodes and the radio of a world have at hand of what they told.
+use Rattle.std.specs.Prelude.{◌≡◌, ◌<◌, ℕ, List, length, slice_get, slice_set, Some, All}
+use Rattle.mate_journal.specs.OpenLog.{nothing_gone, gone_of}
+use Rattle.mate_journal.specs.Pace.{Pace}
+use Rattle.open_node.specs.View.{HasPace, IsSameNode}
+use Rattle.world_step.specs.declared.mote.Mote.{Mote}
+use Rattle.world_simulation.specs.Reporting.{HaveChanged}
+use Rattle.world_simulation.specs.declared.simulation.Simulation.{Simulation}
+use Rattle.world_simulation.specs.declared.simulation.Written.{Written}
+use Rattle.world_simulation.specs.declared.simulation.Written.TheVariants.{Kept, Forgotten}
+
+-- nothing is forgotten
+pub record IsWhole (s : Simulation) : Type 0 where
+  pub nodes : All (λ (m : Mote). m.node.gone ≡ nothing_gone) s.motes.items
+  pub air : s.radio.gone ≡ 0
+
+-- all that the node told is forgotten, and nothing else of it changed
+pub record HasForgotten (old new : Mote) : Type 0 where
+  pub same : IsSameNode (record old.node { gone = gone_of old.node.log }) new.node
+  pub pace : (p : Pace) → HasPace old.node p → HasPace new.node p
+  pub rest : new ≡ record old { node = new.node }
+  pub few : length old.node.log.entries < 3999999999
+
+-- so it is of the first of the nodes
+abbrev pub HaveForgotten : ℕ → List Mote → List Mote → Type 0
+HaveForgotten n old new = HaveChanged HasForgotten n old new
+
+-- all that the node and the radio told is forgotten, and nothing else changed
+pub record LetsGo (old new : Simulation) (node : ℕ) : Type 0 where
+  pub before : Mote
+  pub after : Mote
+  pub found : slice_get old.motes.items node ≡ Some before
+  pub motes : new.motes.items ≡ slice_set old.motes.items node after
+  pub forgets : HasForgotten before after
+  pub radio : new.radio ≡ record old.radio { gone = length old.radio.air }
+  pub records : new.records ≡ old.records
+
+-- so it is where what was told is to be forgotten
+abbrev pub LetsGoAsTold : Written → Simulation → Simulation → ℕ → Type 0
+LetsGoAsTold Kept old new node = new ≡ old
+LetsGoAsTold Forgotten old new node = LetsGo old new node

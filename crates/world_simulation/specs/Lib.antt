@@ -1,0 +1,5 @@
+pub mod Running
+pub mod Starting
+pub mod Reporting
+pub mod Telling
+pub mod Keeping
