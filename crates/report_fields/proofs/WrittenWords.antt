@@ -15,7 +15,7 @@ use Rattle.vm_desc.specs.Names.{is_name, has_form, begins_name, continues_name}
 use Rattle.report_text.specs.Words.{word}
 use Rattle.report_fields.specs.Words.{words_of}
 use Rattle.report_fields.specs.Hex.{is_lower_digit}
-use Rattle.report_fields.specs.Ranges.{IsByteList}
+use Rattle.mate_journal.specs.Ranges.{IsByteList}
 use Rattle.report_fields.proofs.NumberLemmas.{plain-decimal, IsValue}
 use Rattle.report_fields.proofs.HexLemmas.{list_all-weaker}
 use Rattle.report_fields.proofs.StoreLemmas.{joined}

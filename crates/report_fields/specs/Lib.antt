@@ -4,4 +4,3 @@ pub mod Hex
 pub mod Names
 pub mod Fields
 pub mod Stores
-pub mod Ranges

@@ -1,6 +1,5 @@
 -- What a line of a report tells, and its text.
-use Rattle.std.specs.Prelude.{◌≡◌, ◌<◌, ◌≤◌, ◌^◌, ℕ, List, [], ◌∷◌, ◌++◌, codes, length, All, ℤ, FitsSigned, ⊤}
-use Rattle.std.specs.Int.{w16}
+use Rattle.std.specs.Prelude.{◌≡◌, ◌<◌, ◌≤◌, ◌^◌, ℕ, List, [], ◌∷◌, ◌++◌, codes, length, ⊤}
 use Rattle.arrayvec.specs.ArrayVec.{ArrayVec}
 use Rattle.mate_num.specs.declared.store.Store.{Store}
 use Rattle.vm_desc.specs.declared.description.Description.{Description}
@@ -11,10 +10,8 @@ use Rattle.mate_journal.specs.declared.air.Air.{Air}
 use Rattle.mate_journal.specs.declared.air.Air.TheVariants as air
 use Rattle.mate_journal.specs.declared.entry.Entry.{Entry}
 use Rattle.mate_journal.specs.declared.entry.Entry.TheVariants as entry
-use Rattle.mate_journal.specs.declared.entry.VoidCause.{VoidCause}
-use Rattle.mate_journal.specs.declared.entry.VoidCause.TheVariants as void
 use Rattle.report_text.specs.Words.{stamp_words, air_words, entry_words}
-use Rattle.report_fields.specs.Ranges.{IsByteList, AreValues}
+use Rattle.mate_journal.specs.Ranges.{IsByteList, HasEntryRanges, HasAirRanges, HasStoreRanges}
 use Rattle.report_reader.specs.declared.line.Told.{Told}
 use Rattle.report_reader.specs.declared.line.Told.TheVariants as told
 use Rattle.report_reader.specs.declared.line.Line.{Line}
@@ -75,37 +72,11 @@ pub record IsRight (d : Description) (l : Line) : Type 0 where
 
 -- ---- the numbers in a line are in the ranges of their types: every line's are
 
-abbrev pub HasVoidRanges : VoidCause → Type 0
-HasVoidRanges void.NotReady = ⊤
-HasVoidRanges void.NotWaiting = ⊤
-HasVoidRanges (void.NotNewer held) = held < 2 ^ 32
-
-abbrev pub HasEntryRanges : Entry → Type 0
-HasEntryRanges (entry.Post n h c payload) = (n < 2 ^ 32) × AreValues payload.items
-HasEntryRanges (entry.Dropped h cause) = ⊤
-HasEntryRanges (entry.Start n) = n < 2 ^ 32
-HasEntryRanges (entry.Ask n f args) = (n < 2 ^ 32) × AreValues args.items
-HasEntryRanges (entry.Answer n v) = (n < 2 ^ 32) × FitsSigned w16 v
-HasEntryRanges (entry.Halt n) = n < 2 ^ 32
-HasEntryRanges (entry.Fault n kind) = n < 2 ^ 32
-HasEntryRanges (entry.Install h version image) = ⊤
-HasEntryRanges entry.Reset = ⊤
-HasEntryRanges (entry.Seen store) = ⊤
-HasEntryRanges (entry.Void cause) = HasVoidRanges cause
-
-abbrev pub HasAirRanges : Air → Type 0
-HasAirRanges (air.Interval length) = length < 2 ^ 32
-HasAirRanges air.Keep = ⊤
-HasAirRanges (air.Sent n bytes) = (n < 2 ^ 32) × (length bytes.items ≤ 64) × IsByteList bytes.items
-HasAirRanges (air.Lost n to) = n < 2 ^ 32
-HasAirRanges (air.Got n from) = n < 2 ^ 32
-HasAirRanges (air.Noise bytes) = (length bytes.items ≤ 64) × IsByteList bytes.items
-
 abbrev pub HasToldRanges : Told → Type 0
 HasToldRanges (told.OnAir a) = HasAirRanges a
 HasToldRanges (told.Made e) = HasEntryRanges e
 HasToldRanges (told.Installed h version image) = (version < 2 ^ 32) × (length image.items ≤ 1056) × IsByteList image.items
-HasToldRanges (told.Shown s) = All (λ v. FitsSigned w16 v) s.shared.items × All (λ (b : ArrayVec ℤ). AreValues b.items) s.buffers.items
+HasToldRanges (told.Shown s) = HasStoreRanges s
 
 pub record HasRanges (l : Line) : Type 0 where
   pub event : l.stamp.event < 2 ^ 64

@@ -1,5 +1,5 @@
 -- The text of a tidy report is that of its lines, which fit one after another.
-use Rattle.std.proofs.Common.{◌≡◌, ℕ, zero, suc, ◌+◌, ◌<◌, ◌≤◌, ◌==◌, max, Bool, true, false, List, [], ◌∷◌, ◌++◌, length, map, get_or, Option, Some, None, Result, Ok, Err, refl, sym, ap, subst, ◌∙◌, arith, inl, inr, ◌⊎◌, append_assoc, append-nil, length-append}
+use Rattle.std.proofs.Common.{◌≡◌, ℕ, zero, suc, ◌+◌, ◌<◌, ◌≤◌, ◌==◌, Bool, true, false, List, [], ◌∷◌, ◌++◌, length, map, get_or, Option, Some, refl, sym, ap, subst, ◌∙◌, arith, inl, inr, append-nil}
 use Rattle.std.specs.Prelude.{All, AllPairs, fold, flat_map, IsTrue, is_some, codes, slice_get}
 use Rattle.std.specs.List.{AllZip}
 use Rattle.std.proofs.lemmas.Grind.{flat_map-append}
@@ -7,10 +7,10 @@ use Rattle.std.proofs.lemmas.List.Elements.{All-nil, All-cons, All-head, All-tai
 use Rattle.std.proofs.lemmas.Bool.{eqb-true, cases_lt}
 use Rattle.arrayvec.specs.ArrayVec.{ArrayVec}
 use Rattle.vm_desc.specs.declared.description.Description.{Description}
-use Rattle.mate_num.specs.declared.call.Stamp.{Stamp}
 use Rattle.mate_num.specs.declared.store.Store.{Store}
-use Rattle.mate_journal.specs.Log.{Log, IsSameLog}
-use Rattle.mate_journal.specs.Tidy.{image_named, store_named, names_in, below, IsEntryInRange, IsStoreOf, EventsRise, entry_event, NumbersInOrder, IsTidyLog, HasFullImages}
+use Rattle.mate_journal.specs.Log.{Log}
+use Rattle.mate_journal.specs.Ranges.{HasEntryRanges, HasStampedRanges, HasLogRanges, HasReportRanges}
+use Rattle.mate_journal.specs.Tidy.{image_named, store_named, names_in, below, IsEntryInRange, IsStoreOf, EventsRise, entry_event, NumbersInOrder, HasFullImages}
 use Rattle.mate_journal.specs.declared.air.Air.{Air}
 use Rattle.mate_journal.specs.declared.air.Air.TheVariants as air
 use Rattle.mate_journal.specs.declared.air.Aired.{Aired}
@@ -19,21 +19,16 @@ use Rattle.mate_journal.specs.declared.entry.Entry.TheVariants as entry
 use Rattle.mate_journal.specs.declared.entry.Stamped.{Stamped}
 use Rattle.mate_journal.specs.declared.report.Report.{Report}
 use Rattle.report_text.specs.Words.{entry_words, stamp_words, seen_words, image_of, image_word, word, number, handler_name}
-use Rattle.report_text.specs.Text.{air_line, entry_line, entry_lines, event_lines, events_end, records, end_line, lines, text}
+use Rattle.report_text.specs.Text.{air_line, entry_line, entry_lines, event_lines}
 use Rattle.report_text.specs.Progress.{air_event, at_event}
-use Rattle.report_text.specs.Pieces.{IsNamed, IsBefore}
+use Rattle.report_text.specs.Pieces.{IsNamed}
 use Rattle.report_text.specs.Tidy.{IsTidy, IsAirInRange, AirNodesRise, Mark, marks, marks_of, IsNoEarlier, AreOfOneNode, IsLastSeen}
 use Rattle.report_text.proofs.EventLemmas.{All-of_map, All-of_flat_map, All-front, All-back}
-use Rattle.report_text.proofs.TextLemmas.{below_end}
-use Rattle.report_text.proofs.MergeLemmas.{below_end-air}
 use Rattle.report_reader.specs.declared.line.Line.{Line}
-use Rattle.report_reader.specs.declared.line.Told.{Told}
-use Rattle.report_reader.specs.declared.line.Told.TheVariants as told
 use Rattle.report_reader.specs.Told as reader
-use Rattle.report_reading.specs.Fits.{is_on_air, is_shown, line_mark, line_marks, StandsBehind, AreInOrder, IsSound, AreFitting, IsLineBelow, FitsLast}
-use Rattle.report_reading.specs.Parts.{log_of, air_told, logs_of, report_of, IsSameReport}
+use Rattle.report_reading.specs.Fits.{is_on_air, is_shown, line_mark, line_marks, StandsBehind, IsSound, AreFitting}
 use Rattle.report_reading.specs.Reads.{text_of_lines}
-use Rattle.report_reading.specs.Written.{image_at, store_at, told_by_entry, line_of_entry, line_of_aired, node_lines, lines_at, lines_of, last_in_text, HasStampRange, HasLineRanges, HasReportRanges}
+use Rattle.report_reading.specs.Written.{told_by_entry, line_of_entry, line_of_aired, node_lines, lines_at}
 use Rattle.report_reading.proofs.OrderLemmas.{last_marks}
 
 -- ---- what an entry names is there
@@ -146,11 +141,24 @@ right-told d l (entry.Fault n kind) r x full stores = tt
 right-told d l entry.Reset r x full stores = tt
 right-told d l (entry.Void cause) r x full stores = tt
 
-line-sound : (d : Description) (l : Log) (node : ℕ) (e : Stamped) → node < 64 → IsEntryInRange d e.entry → IsNamed l e.entry → HasFullImages l → All (IsStoreOf d) l.stores → HasLineRanges (line_of_entry l 0 e)
+told-ranges : (l : Log) (x : Entry) → IsNamed l x → HasLogRanges l → HasEntryRanges x → reader.HasToldRanges (told_by_entry l x)
+told-ranges l (entry.Install h version image) n log own = let r = log.images image (record { items = [] }) n in (own, r.0, r.1)
+told-ranges l (entry.Seen store) n log own = log.stores store (record { shared = record { items = [] }; buffers = record { items = [] } }) n
+told-ranges l (entry.Post i h c payload) n log own = own
+told-ranges l (entry.Dropped h cause) n log own = tt
+told-ranges l (entry.Start i) n log own = own
+told-ranges l (entry.Ask i f args) n log own = own
+told-ranges l (entry.Answer i v) n log own = own
+told-ranges l (entry.Halt i) n log own = own
+told-ranges l (entry.Fault i kind) n log own = own
+told-ranges l entry.Reset n log own = tt
+told-ranges l (entry.Void cause) n log own = own
+
+line-sound : (d : Description) (l : Log) (node : ℕ) (e : Stamped) → node < 64 → IsEntryInRange d e.entry → IsNamed l e.entry → HasFullImages l → All (IsStoreOf d) l.stores → HasLogRanges l → HasStampedRanges e
     → IsSound d (line_of_entry l node e)
-line-sound d l node e low r n full stores ranges = record {
+line-sound d l node e low r n full stores log own = record {
   right = record { node = low; told = right-told d l e.entry r n full stores };
-  ranges = record { event = ranges.stamp.event; time = ranges.stamp.time; told = ranges.told };
+  ranges = record { event = own.stamp.event; time = own.stamp.time; told = told-ranges l e.entry n log own.entry };
 }
 
 -- ---- what holds of each record's line
@@ -191,12 +199,12 @@ lines-sound d r events t ranges =
     let h = ranges.air k x q in
     record {
       right = record { node = omega (arith, low, high); told = right-air (length r.nodes) a.air high in_range.1 };
-      ranges = record { event = h.stamp.event; time = h.stamp.time; told = h.told };
+      ranges = record { event = h.stamp.event; time = h.stamp.time; told = h.air };
     }))
     (λ i x q k e p.
     (let l = get_or r.nodes i x in
     let log = t.logs i x q in
-    line-sound d l i (get_or l.entries k e) (omega (arith, q, high)) (log.in_range k e p) (named-log l log.numbered k e p) (t.images i x q) log.lengths (ranges.logs i x q k e p)))
+    line-sound d l i (get_or l.entries k e) (omega (arith, q, high)) (log.in_range k e p) (named-log l log.numbered k e p) (t.images i x q) log.lengths (ranges.nodes i x q) ((ranges.nodes i x q).entries k e p)))
 
 -- ---- the marks of the lines are those of the records
 

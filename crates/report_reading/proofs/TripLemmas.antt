@@ -1,34 +1,33 @@
 -- The text of a tidy report is read as that report.
-use Rattle.std.proofs.Common.{◌≡◌, ℕ, zero, suc, ◌+◌, ◌<◌, ◌≤◌, List, [], ◌∷◌, ◌++◌, length, map, take, get_or, Result, Ok, Err, refl, sym, ap, subst, ◌∙◌, arith, append-nil}
-use Rattle.std.specs.Prelude.{All, flat_map, sum_by}
+use Rattle.std.proofs.Common.{◌≡◌, ℕ, zero, suc, ◌<◌, ◌≤◌, List, [], ◌∷◌, ◌++◌, length, map, take, get_or, Result, Ok, Err, refl, sym, ap, subst, ◌∙◌, arith, length-append}
+use Rattle.std.specs.Prelude.{All, flat_map, codes, ◌^◌}
 use Rattle.std.specs.List.{AllZip}
 use Rattle.std.proofs.lemmas.List.{take_all}
-use Rattle.std.proofs.lemmas.List.Elements.{All-nil, All-cons, AllZip-push}
+use Rattle.std.proofs.lemmas.List.Elements.{AllZip-push}
 use Rattle.vm_desc.specs.declared.description.Description.{Description}
 use Rattle.mate_journal.specs.Log.{Log, IsSameLog}
-use Rattle.mate_journal.specs.Tidy.{below, EventsRise, entry_event, NumbersInOrder}
+use Rattle.mate_journal.specs.Ranges.{HasReportRanges}
+use Rattle.mate_journal.specs.Tidy.{below}
 use Rattle.mate_journal.specs.declared.entry.Entry.{Entry}
 use Rattle.mate_journal.specs.declared.entry.Entry.TheVariants as entry
-use Rattle.mate_journal.specs.declared.entry.Stamped.{Stamped}
 use Rattle.mate_journal.specs.declared.air.Aired.{Aired}
 use Rattle.mate_journal.specs.declared.report.Report.{Report}
-use Rattle.report_text.specs.Text.{events_end, records, lines, text}
+use Rattle.report_text.specs.Text.{events_end, records, text}
 use Rattle.report_text.specs.Tidy.{IsTidy}
-use Rattle.report_text.specs.Progress.{air_event}
-use Rattle.report_text.specs.Pieces.{IsBefore}
 use Rattle.report_text.proofs.TextLemmas.{below_end}
 use Rattle.report_text.proofs.MergeLemmas.{below_end-air}
 use Rattle.report_reader.specs.declared.line.Line.{Line}
+use Rattle.report_reader.specs.Told.{line_words, line_text}
 use Rattle.report_reading.specs.LastLines.{last_text}
-use Rattle.report_reading.specs.Fits.{AreFitting, FitsLast, IsToldBelow, IsLineBelow}
+use Rattle.report_reading.specs.Fits.{FitsLast, IsToldBelow, IsLineBelow}
 use Rattle.report_reading.specs.Parts.{no_log, log_of, logs_of, report_of, IsSameReport}
-use Rattle.report_reading.specs.Reads.{text_of_lines, AreLines, AreOfReport, ReadsReport}
-use Rattle.report_reading.specs.Written.{told_by_entry, line_of_entry, line_of_aired, lines_at, lines_of, last_in_text, HasReportRanges, GivesBack}
+use Rattle.report_reading.specs.Reads.{text_of_lines, AreLines, ReadsReport}
+use Rattle.report_reading.specs.Written.{told_by_entry, lines_at, lines_of, last_in_text, GivesBack}
 use Rattle.report_reading.specs.declared.last_line.LastLine.{LastLine}
 use Rattle.report_reading.specs.declared.fault.TextFault.{TextFault}
 use Rattle.report_reading.specs.declared.fault.TextFault.TheVariants.{BadLine, NoMemory}
 use Rattle.report_reading.proofs.PartLemmas.{take-push, map-push}
-use Rattle.report_reading.proofs.BackLemmas.{Written, none-written, written-from, counts-same}
+use Rattle.report_reading.proofs.BackLemmas.{none-written, written-from, counts-same}
 use Rattle.report_reading.proofs.LinesLemmas.{log-of_lines, air-of_lines}
 use Rattle.report_reading.proofs.RoundLemmas.{lines-fit, lines-all, events-text}
 use Rattle.report_reading.proofs.VerdictLemmas.{one_list, no_bad_line}
@@ -68,29 +67,48 @@ same-nodes d r t =
 same_report : (d : Description) (r : Report) → IsTidy d r → IsSameReport r (report_of (lines_of r) (last_in_text r))
 same_report d r t = record { nodes = same-nodes d r t; air = sym (air-of_lines r (events_end r) t.air_ordered (below_end-air r)); events = refl; whole = refl }
 
-last-fits : (d : Description) (r : Report) → IsTidy d r → HasReportRanges r → FitsLast (lines_of r) (last_in_text r)
-last-fits d r t ranges =
+-- each line is one byte long at least
+lines-long : (d : Description) (ls : List Line) → length ls ≤ length (text_of_lines d ls)
+lines-long d [] = omega arith
+lines-long d (l ∷ ls) =
+    let rest = lines-long d ls in
+    let long = length-append (line_text d l) (text_of_lines d ls) in
+    let own = length-append (line_words d l) (codes "\n") in
+    let end : length (codes "\n") ≡ 1 = refl in
+    omega (arith, rest, long, own, end)
+
+record-count : (d : Description) (r : Report) → IsTidy d r → HasReportRanges r → records r ≡ length (lines_of r)
+record-count d r t ranges =
     let fit = lines-fit d r (events_end r) t ranges in
-    let above = lines-below d r (below (events_end r)) t in
     let e = last_in_text r in
-    let w = written-from d e [] (lines_of r) (none-written d e) fit.order.ordered fit.sound above in
+    let w = written-from d e [] (lines_of r) (none-written d e) fit.order.ordered fit.sound (lines-below d r (below (events_end r)) t) in
     let s = same_report d r t in
     let air = ap (λ (xs : List Aired). length xs) s.air in
     let logs = counts-same 0 r.nodes (logs_of (length r.nodes) (lines_of r)) s.nodes in
     let count = w.count in
+    omega (arith, air, logs, count)
+
+lines-text : (d : Description) (r : Report) → IsTidy d r → text d r ≡ text_of_lines d (lines_of r) ++ last_text (last_in_text r)
+lines-text d r t = ap (λ (x : List ℕ). x ++ last_text (last_in_text r)) (events-text d r (below (events_end r)) (λ k x q. (t.logs k x q).numbered))
+
+last-fits : (d : Description) (r : Report) → IsTidy d r → HasReportRanges r → length (text d r) < 2 ^ 64 → FitsLast (lines_of r) (last_in_text r)
+last-fits d r t ranges short =
+    let count = record-count d r t ranges in
+    let long = lines-long d (lines_of r) in
+    let both = ap (λ (bs : List ℕ). length bs) (lines-text d r t) ∙ length-append (text_of_lines d (lines_of r)) (last_text (last_in_text r)) in
     let high = t.nodes_high in record {
-      ranges = record { records = ranges.records; events = ranges.events; nodes = omega (arith, high) };
-      records = omega (arith, air, logs, count);
+      ranges = record { records = omega (arith, count, long, both, short); events = ranges.events; nodes = omega (arith, high) };
+      records = count;
       low = t.nodes_low;
       high = t.nodes_high;
-      above = above;
+      above = lines-below d r (below (events_end r)) t;
     }
 
-pub written-lines : (d : Description) (r : Report) → IsTidy d r → HasReportRanges r → AreLines d (text d r) (lines_of r) (last_in_text r)
-written-lines d r t ranges = record {
+pub written-lines : (d : Description) (r : Report) → IsTidy d r → HasReportRanges r → length (text d r) < 2 ^ 64 → AreLines d (text d r) (lines_of r) (last_in_text r)
+written-lines d r t ranges short = record {
   fitting = lines-fit d r (events_end r) t ranges;
-  last = last-fits d r t ranges;
-  text = ap (λ (x : List ℕ). x ++ last_text (last_in_text r)) (events-text d r (below (events_end r)) (λ k x q. (t.logs k x q).numbered));
+  last = last-fits d r t ranges short;
+  text = lines-text d r t;
 }
 
 zip-sym : (xs ys : List Log) → AllZip IsSameLog xs ys → AllZip IsSameLog ys xs
@@ -116,13 +134,18 @@ same-both a b c s t = record {
   whole = s.whole ∙ sym t.whole;
 }
 
-pub gives_back : (d : Description) (bytes : List ℕ) (result : Result Report TextFault) → ReadsReport d bytes result → (r : Report) → IsTidy d r → HasReportRanges r → bytes ≡ text d r → GivesBack r result
-gives_back d bytes (Err NoMemory) h r t ranges e = tt
-gives_back d bytes (Err (BadLine n)) h r t ranges e =
-    no_bad_line d bytes (lines_of r) (last_in_text r) n (subst (λ (bs : List ℕ). AreLines d bs (lines_of r) (last_in_text r)) (sym e) (written-lines d r t ranges)) h
-gives_back d bytes (Ok x) h r t ranges e =
-    let l = subst (λ (bs : List ℕ). AreLines d bs (lines_of r) (last_in_text r)) (sym e) (written-lines d r t ranges) in
-    let s = one_list d bytes h.ls (lines_of r) h.e (last_in_text r) h.lines l in
-    let is : IsSameReport x (report_of (lines_of r) (last_in_text r)) =
-    subst (λ (f : LastLine). IsSameReport x (report_of (lines_of r) f)) s.last (subst (λ (ls : List Line). IsSameReport x (report_of ls h.e)) s.lines h.is) in
-    same-both x r (report_of (lines_of r) (last_in_text r)) is (same_report d r t)
+pub gives_back : (d : Description) (bytes : List ℕ) (result : Result Report TextFault) → length bytes ≤ 4000000000 → ReadsReport d bytes result → (r : Report) → IsTidy d r → HasReportRanges r → bytes ≡ text d r → GivesBack r result
+gives_back d bytes result few h r t ranges e = by result h where
+  written : AreLines d bytes (lines_of r) (last_in_text r)
+  written =
+      let long : length (text d r) ≡ length bytes = ap (λ (bs : List ℕ). length bs) (sym e) in
+      subst (λ (bs : List ℕ). AreLines d bs (lines_of r) (last_in_text r)) (sym e) (written-lines d r t ranges (omega (arith, long, few)))
+
+  by : (result : Result Report TextFault) → ReadsReport d bytes result → GivesBack r result
+  by (Err NoMemory) h = tt
+  by (Err (BadLine n)) h = no_bad_line d bytes (lines_of r) (last_in_text r) n written h
+  by (Ok x) h =
+      let s = one_list d bytes h.ls (lines_of r) h.e (last_in_text r) h.lines written in
+      let is : IsSameReport x (report_of (lines_of r) (last_in_text r)) =
+      subst (λ (f : LastLine). IsSameReport x (report_of (lines_of r) f)) s.last (subst (λ (ls : List Line). IsSameReport x (report_of ls h.e)) s.lines h.is) in
+      same-both x r (report_of (lines_of r) (last_in_text r)) is (same_report d r t)

@@ -1,7 +1,6 @@
--- The lines that the text of a report has, and the ranges of its numbers.
-use Rattle.std.specs.Prelude.{◌≡◌, ◌<◌, ◌^◌, ℕ, suc, List, [], ◌∷◌, ◌++◌, map, flat_map, length, All, slice_index_or, Result, Ok, Err, ⊤}
+-- The lines that the text of a report has.
+use Rattle.std.specs.Prelude.{ℕ, suc, List, [], ◌∷◌, ◌++◌, map, flat_map, length, slice_index_or, Result, Ok, Err, ⊤}
 use Rattle.arrayvec.specs.ArrayVec.{ArrayVec}
-use Rattle.mate_num.specs.declared.call.Stamp.{Stamp}
 use Rattle.mate_num.specs.declared.store.Store.{Store}
 use Rattle.mate_journal.specs.Log.{Log}
 use Rattle.mate_journal.specs.Tidy.{below, entry_event}
@@ -15,7 +14,6 @@ use Rattle.report_text.specs.Progress.{air_event, at_event}
 use Rattle.report_reader.specs.declared.line.Line.{Line}
 use Rattle.report_reader.specs.declared.line.Told.{Told}
 use Rattle.report_reader.specs.declared.line.Told.TheVariants as told
-use Rattle.report_reader.specs.Told.{HasToldRanges}
 use Rattle.report_reading.specs.Parts.{IsSameReport}
 use Rattle.report_reading.specs.declared.fault.TextFault.{TextFault}
 use Rattle.report_reading.specs.declared.fault.TextFault.TheVariants.{BadLine, NoMemory}
@@ -61,22 +59,6 @@ lines_of r = flat_map (lines_at r) (below (events_end r))
 
 abbrev pub last_in_text : Report → LastLine
 last_in_text r = record { whole = r.whole; records = records r; events = r.events; nodes = length r.nodes }
-
--- ---- the numbers of a report are in the ranges of their types: every report's are
-
-pub record HasStampRange (at : Stamp) : Type 0 where
-  pub event : at.event < 2 ^ 64
-  pub time : at.time < 2 ^ 32
-
-pub record HasLineRanges (l : Line) : Type 0 where
-  pub stamp : HasStampRange l.stamp
-  pub told : HasToldRanges l.told
-
-pub record HasReportRanges (r : Report) : Type 0 where
-  pub air : All (λ (a : Aired). HasLineRanges (line_of_aired a)) r.air
-  pub logs : All (λ (l : Log). All (λ (e : Stamped). HasLineRanges (line_of_entry l 0 e)) l.entries) r.nodes
-  pub events : r.events < 2 ^ 64
-  pub records : records r < 2 ^ 64
 
 -- what reading the text of a report gives: this report, whatever room is left in its logs
 abbrev pub GivesBack : Report → Result Report TextFault → Type 0

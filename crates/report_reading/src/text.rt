@@ -6,9 +6,10 @@ ghost use Rattle.report_text.specs.Tidy.{IsTidy};
 ghost use Rattle.std.specs.List.{prefix_len};
 ghost use Rattle.vm_desc.specs.declared.description.Description.{Description};
 ghost use Rattle.report_reader.specs.declared.line.Line.{Line};
+ghost use Rattle.mate_journal.specs.Ranges.{HasReportRanges};
 ghost use Rattle.mate_journal.specs.declared.report.Report.{Report};
 ghost use Rattle.report_reading.specs.Reads.{ReadsReport};
-ghost use Rattle.report_reading.specs.Written.{HasReportRanges, GivesBack};
+ghost use Rattle.report_reading.specs.Written.{GivesBack};
 ghost use Rattle.report_reading.specs.Steps.{IsOneLine, TellsNone, HasRead, ReadsLast};
 
 use crate::fault::TextFault;
@@ -22,7 +23,8 @@ use vm_desc::Description;
 /// Reads the text of a report.
 ///
 /// It answers the report whose text the bytes are, and refuses with `BadLine` exactly where they are the text of none, at the
-/// first line that doesn't fit after the lines before it.
+/// first line that doesn't fit after the lines before it. The text of a tidy report is read as that report (its numbers are in the
+/// ranges of their types, as every report's are: `report_is_in_range`).
 pub fn read(alloc: Global, desc: &Description, bytes: &[u8]) -> Result<Report, TextFault>
     requires { length bytes.now ≤ 4000000000 }
     ensures reads { ReadsReport desc.now bytes.now result }

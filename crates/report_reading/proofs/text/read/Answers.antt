@@ -10,4 +10,4 @@ pub returns-clause-same : goal.returns-clause-same
 returns-clause-same c = result_text c.args.desc.now c.args.bytes.now c.read_lines.result c.read_lines.ensures
 
 pub returns-clause-back : goal.returns-clause-back
-returns-clause-back c = λ r tidy ranges is. gives_back c.args.desc.now c.args.bytes.now c.read_lines.result c.read_lines.ensures r tidy ranges is
+returns-clause-back c = λ r tidy ranges is. gives_back c.args.desc.now c.args.bytes.now c.read_lines.result c.requires c.read_lines.ensures r tidy ranges is
