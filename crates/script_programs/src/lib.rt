@@ -6,4 +6,4 @@ pub mod programs;
 pub mod script;
 
 pub use programs::programs_of;
-pub use script::script_of;
+pub use script::{script_in, script_of};

@@ -29,8 +29,8 @@ pub fn script_of<F: Files>(
     script_in(alloc, desc, bytes.as_slice())
 }
 
-/// The node script in these bytes.
-fn script_in(alloc: Global, desc: &Description, bytes: &[u8]) -> Result<Steps, Refusal>
+/// The node script in these bytes. It is right for the machine, and its steps name its files in order.
+pub fn script_in(alloc: Global, desc: &Description, bytes: &[u8]) -> Result<Steps, Refusal>
     requires { length bytes.now ≤ 1048576 }
     ensures does { script_text desc.now bytes.now result }
     ensures right { IfOk result (IsRightSteps desc.now) }
