@@ -46,10 +46,5 @@ tokens_refused d bytes tokens f cuts h = handed_on d bytes f (told f h)
     told fault.NoMemory h = tt
 
 pub script_refused : (d : Description) (bytes : List ℕ) (tokens : List Token) (s : Source) (f : CheckFault) → cut bytes ≡ Ok tokens → Spells tokens s → RefusesScript f (checked_source d s) → IsUnmeant d bytes f
-script_refused d bytes tokens s (check.Undeclared name place) cuts spells h = record { tokens = tokens; source = s; cuts = cuts; spells = spells; checks = h }
-script_refused d bytes tokens s (check.NotInVm name) cuts spells h = record { tokens = tokens; source = s; cuts = cuts; spells = spells; checks = h }
-script_refused d bytes tokens s (check.Twice name) cuts spells h = record { tokens = tokens; source = s; cuts = cuts; spells = spells; checks = h }
-script_refused d bytes tokens s (check.Kind place) cuts spells h = record { tokens = tokens; source = s; cuts = cuts; spells = spells; checks = h }
-script_refused d bytes tokens s (check.Arity place) cuts spells h = record { tokens = tokens; source = s; cuts = cuts; spells = spells; checks = h }
-script_refused d bytes tokens s check.TooManyPrivates cuts spells h = record { tokens = tokens; source = s; cuts = cuts; spells = spells; checks = h }
 script_refused d bytes tokens s check.NoMemory cuts spells h = tt
+script_refused d bytes tokens s f cuts spells h = record { tokens = tokens; source = s; cuts = cuts; spells = spells; checks = h }

@@ -22,13 +22,8 @@ IsMisspelt d bytes fault.NoMemory = Unit {0}
 
 -- the bytes spell a script that the checks refuse
 abbrev pub IsUnmeant : Description → List ℕ → CheckFault → Type 0
-IsUnmeant d bytes (check.Undeclared name place) = IsRefusedBy d bytes (by_check (check.Undeclared name place))
-IsUnmeant d bytes (check.NotInVm name) = IsRefusedBy d bytes (by_check (check.NotInVm name))
-IsUnmeant d bytes (check.Twice name) = IsRefusedBy d bytes (by_check (check.Twice name))
-IsUnmeant d bytes (check.Kind place) = IsRefusedBy d bytes (by_check (check.Kind place))
-IsUnmeant d bytes (check.Arity place) = IsRefusedBy d bytes (by_check (check.Arity place))
-IsUnmeant d bytes check.TooManyPrivates = IsRefusedBy d bytes (by_check check.TooManyPrivates)
 IsUnmeant d bytes check.NoMemory = Unit {0}
+IsUnmeant d bytes f = IsRefusedBy d bytes (by_check f)
 
 abbrev pub IsRefused : Description → List ℕ → SourceRefusal → Type 0
 IsRefused d bytes (Spelling f) = IsMisspelt d bytes f

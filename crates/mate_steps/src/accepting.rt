@@ -1,6 +1,7 @@
 //! The whole way from bytes to a checked script.
 
 ghost use Rattle.std.specs.Prelude.{◌≡◌, ◌≤◌, length, IfOk};
+ghost use Rattle.mate_files.specs.declared.files.TheConstants.{FILE_MAX};
 ghost use Rattle.vm_desc.specs.Shapes.{shape_of as shape_of_machine};
 ghost use Rattle.ts_syntax.specs.Checked.{shape_of};
 ghost use Rattle.mate_steps.specs.Answers.{TellsAcceptance};
@@ -16,7 +17,7 @@ use vm_desc::Description;
 /// its tokens over the whole text, then of its grammar and depth, then of its checks. Want of memory may come in place of
 /// any answer.
 pub fn accept(alloc: Global, desc: &Description, bytes: &[u8]) -> Result<Checked, SourceRefusal>
-    requires { length bytes.now ≤ 1048576 }
+    requires { length bytes.now ≤ FILE_MAX }
     ensures tells { TellsAcceptance desc.now bytes.now result }
     ensures shape { IfOk result (λ script. shape_of script ≡ shape_of_machine desc.now) }
 {

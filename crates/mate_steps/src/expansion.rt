@@ -1,6 +1,7 @@
 //! From the file of a source with procedures to the plain script that it stands for.
 
 ghost use Rattle.std.specs.Prelude.{◌≡◌, ◌≤◌, length};
+ghost use Rattle.mate_files.specs.declared.files.TheConstants.{FILE_MAX};
 ghost use Rattle.proc_names.specs.Named.{written_of};
 ghost use Rattle.mate_steps.specs.Expansions.{RefusesExpansion, script_with_procedures, expanded_script, expanded_bytes, expanded_source};
 ghost use Rattle.mate_steps.specs.Parts.{ReadsFiles};
@@ -24,7 +25,7 @@ pub fn expansion_of<F: Files>(alloc: Global, files: &mut F, name: &str) -> Resul
 
 /// That of the bytes of the source `name`.
 fn expanded_bytes(alloc: Global, name: &str, bytes: &[u8]) -> Result<Script, Refusal>
-    requires { length bytes.now ≤ 1048576 }
+    requires { length bytes.now ≤ FILE_MAX }
     ensures { expanded_bytes name.now bytes.now result }
 {
     let script = script_with_procedures(alloc, name, bytes)?;
@@ -36,7 +37,7 @@ fn expanded_bytes(alloc: Global, name: &str, bytes: &[u8]) -> Result<Script, Ref
 
 /// The script with procedures that the bytes of the source `name` spell.
 fn script_with_procedures(alloc: Global, name: &str, bytes: &[u8]) -> Result<PScript, Refusal>
-    requires { length bytes.now ≤ 1048576 }
+    requires { length bytes.now ≤ FILE_MAX }
     ensures { script_with_procedures name.now bytes.now result }
 {
     match read(alloc, bytes) {

@@ -1,6 +1,7 @@
 //! From the file of a source to its code.
 
 ghost use Rattle.std.specs.Prelude.{◌≡◌, ◌≤◌, length, IfOk};
+ghost use Rattle.mate_files.specs.declared.files.TheConstants.{FILE_MAX};
 ghost use Rattle.ts_syntax.specs.Checked.{tree_of, shape_of as shape_of_script};
 ghost use Rattle.vm_desc.specs.Shapes.{shape_of};
 ghost use Rattle.mate_steps.specs.Parts.{ReadsFiles};
@@ -40,7 +41,7 @@ pub fn compiled_bytes(
     name: &str,
     bytes: &[u8],
 ) -> Result<CompiledScript, Refusal>
-    requires { length bytes.now ≤ 1048576 }
+    requires { length bytes.now ≤ FILE_MAX }
     ensures does { compiled_bytes desc.now fold name.now bytes.now result }
     ensures filled { IfOk result (λ c. 1 ≤ length c.code.items) }
 {
@@ -56,7 +57,7 @@ pub fn accepted(
     name: &str,
     bytes: &[u8],
 ) -> Result<Checked, Refusal>
-    requires { length bytes.now ≤ 1048576 }
+    requires { length bytes.now ≤ FILE_MAX }
     ensures does { accepted desc.now name.now bytes.now (tree_in result) }
     ensures shape { IfOk result (λ script. shape_of_script script ≡ shape_of desc.now) }
 {

@@ -3,12 +3,13 @@ use Rattle.std.specs.Prelude.{ℕ, min, List, map}
 use Rattle.ts_syntax.specs.Tree.{Act}
 use Rattle.ts_syntax.specs.Seen.{acts}
 use Rattle.proc_expansion.specs.declared.extent.Extent.{Extent}
+use Rattle.proc_expansion.specs.declared.extent.TheConstants.{COUNT_MAX}
 use Rattle.proc_expansion.specs.Expansion.{Callee}
 use Rattle.proc_expansion.specs.Extent.{acts_count, acts_depth}
 
--- the extent of statements: their number stops at 1,000,000, and their depth at 2^32 - 1
+-- the extent of statements: their number stops at `COUNT_MAX`, and their depth at 2^32 - 1
 abbrev pub extent_of : List Act → Extent
-extent_of xs = record { count = min 1000000 (acts_count (acts xs)); depth = min 4294967295 (acts_depth (acts xs)) }
+extent_of xs = record { count = min COUNT_MAX (acts_count (acts xs)); depth = min 4294967295 (acts_depth (acts xs)) }
 
 -- the extents of bodies
 abbrev pub body_extents : List (List ℕ × Callee) → List Extent

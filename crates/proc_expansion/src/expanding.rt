@@ -3,6 +3,8 @@
 ghost use Rattle.std.specs.Prelude.{◌≡◌, ◌≤◌, min, map, IfOk};
 ghost use Rattle.ts_syntax.specs.Seen.{procedure_of, source_of};
 ghost use Rattle.proc_names.specs.Named.{written_of};
+ghost use Rattle.proc_expansion.specs.declared.expanding.TheConstants.{STATEMENTS_MAX, DEPTH_MAX};
+ghost use Rattle.proc_expansion.specs.declared.extent.TheConstants.{COUNT_MAX};
 ghost use Rattle.proc_expansion.specs.Answer.{Expands};
 ghost use Rattle.proc_expansion.specs.Expansion.{expansion};
 ghost use Rattle.proc_expansion.specs.Extent.{acts_count, acts_depth};
@@ -51,8 +53,8 @@ pub fn expand(alloc: Global, script: &PScript) -> Result<Script, ProcFault>
 // How large the expansion is, by a plan of the script's procedures.
 fn whole_extent(plan: &Plan, script: &PScript) -> Extent
     requires { map procedure_of plan.now.heads.procs.now ≡ (written_of script.now).procs }
-    ensures count { result.count ≡ min 1000000 (acts_count (expansion (written_of script.now)).body) }
-    ensures depth { result.count ≤ 10000 → result.depth ≡ acts_depth (expansion (written_of script.now)).body }
+    ensures count { result.count ≡ min COUNT_MAX (acts_count (expansion (written_of script.now)).body) }
+    ensures depth { result.count ≤ STATEMENTS_MAX → result.depth ≡ acts_depth (expansion (written_of script.now)).body }
 {
     block_extent(
         &plan.heads,
@@ -65,7 +67,7 @@ fn whole_extent(plan: &Plan, script: &PScript) -> Extent
 // The plain script, by a plan of the script's procedures.
 fn written<'a>(alloc: Global, plan: &Plan<'a>, script: &'a PScript) -> Result<Script, NoMemory>
     requires planned { map procedure_of plan.now.heads.procs.now ≡ (written_of script.now).procs }
-    requires shallow { acts_depth (expansion (written_of script.now)).body ≤ 32 }
+    requires shallow { acts_depth (expansion (written_of script.now)).body ≤ DEPTH_MAX }
     ensures { IfOk result (λ new. source_of new ≡ expansion (written_of script.now)) }
 {
     let decls = declarations(alloc, script.decls().as_slice(), plan.parameters)?;

@@ -26,6 +26,7 @@ pub struct Extent {
 
 impl Extent {
     ghost use Rattle.std.specs.Prelude.{◌≡◌, ◌+◌, min, max};
+    ghost use Rattle.proc_expansion.specs.declared.extent.TheConstants.{COUNT_MAX};
 
     fn of(count: u32) -> Extent
         ensures { result ≡ record { count = count; depth = 0 } }
@@ -35,7 +36,7 @@ impl Extent {
 
     // Both, one after the other.
     fn then(self, other: Extent) -> Extent
-        ensures count { result.count ≡ min 1000000 (self.count + other.count) }
+        ensures count { result.count ≡ min COUNT_MAX (self.count + other.count) }
         ensures depth { result.depth ≡ max self.depth other.depth }
     {
         Extent {
@@ -46,7 +47,7 @@ impl Extent {
 
     // A statement with these inside it.
     fn within(self) -> Extent
-        ensures count { result.count ≡ min 1000000 (1 + self.count) }
+        ensures count { result.count ≡ min COUNT_MAX (1 + self.count) }
         ensures depth { result.depth ≡ min 4294967295 (1 + self.depth) }
     {
         Extent {

@@ -18,6 +18,7 @@ pub fn print_law()
     ensures kinds { (bytes : List ℕ) (ks : List TokenKind) → IsCutInto bytes ks → AreKinds ks }
     ensures tokens { (ks : List TokenKind) → AreKinds ks → IsCutInto (text_of ks) ks }
     ensures line { (bytes : List ℕ) → cut (bytes ++ codes "\n") ≡ cut bytes }
-    ensures script { (s : Source) → IsDerived s → AreKinds (source_spelled s) → first_deep (source_spelled s) ≡ None → IsTextButPlaces (text_of (source_spelled s)) s }
+    ensures script { (s : Source) → IsDerived s → AreKinds (source_spelled s) → first_deep (source_spelled s) ≡ None
+        → IsTextButPlaces (text_of (source_spelled s)) s }
     ensures again { (bytes : List ℕ) (s : Source) → IsTextOf bytes s → IsTextButPlaces (text_of (source_spelled s)) s }
 {}
