@@ -35,4 +35,5 @@ pub record IsCodeOfText (machine : Description) (bytes : List ℕ) (code : Array
 abbrev pub CompilesAsSource : Type 0
 CompilesAsSource =
     (machine : Description) (fold : Bool) (from to bytes : List ℕ) (plain : Script) (c : CompiledScript) →
-    expanded_bytes from bytes (Ok plain) → compiled_bytes machine fold to (script_line (source_of plain)) (Ok c) → IsCodeOfText machine bytes c.code
+    expanded_bytes from bytes (Ok plain) → compiled_bytes machine fold to (script_line (source_of plain)) (Ok c) →
+    IsCodeOfText machine bytes c.code

@@ -25,7 +25,8 @@ pub fn derivation_law()
 /// than the 1,048,576 bytes that a source's file has at most, and then no command reads it.
 pub fn text_law()
     ensures spells { (bytes : List ℕ) (script : PScript) → IsProcedureText bytes (written_of script) → SpellsExpansion (written_of script) }
-    ensures accepted { (bytes : List ℕ) (script : PScript) → IsProcedureText bytes (written_of script) → IsAcceptedAsExpanded (written_of script) }
+    ensures accepted { (bytes : List ℕ) (script : PScript) → IsProcedureText bytes (written_of script)
+        → IsAcceptedAsExpanded (written_of script) }
     ensures means { (bytes : List ℕ) (script : PScript) → IsProcedureText bytes (written_of script) → TextMeansIt (written_of script) }
 {
     print_law();

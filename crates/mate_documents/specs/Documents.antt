@@ -8,15 +8,9 @@ use Rattle.capsule_codec.specs.Image.{capsule_parts}
 use Rattle.capsule_feed.specs.Lines.{feed_text}
 use Rattle.capsule_listing.specs.CapsuleText.{capsule_text, IsVerifiedFor}
 use Rattle.ts_syntax.specs.Seen.{source_of}
-use Rattle.ts_syntax.specs.Spelling.{source_spelled}
-use Rattle.ts_syntax.specs.Text.{text_of}
-use Rattle.ts_syntax.specs.Tree.{Source}
+pub use Rattle.ts_printer.specs.Line.{script_line}
 use Rattle.mate_documents.specs.declared.document.Document.{Document}
 use Rattle.mate_documents.specs.declared.document.Document.TheVariants as document
-
--- the tokens of a plain script, with one space between two, and a line feed
-abbrev pub script_line : Source → List ℕ
-script_line s = text_of (source_spelled s) ++ codes "\n"
 
 abbrev pub document_text : Document → List ℕ
 document_text (document.Summary d r) = brief d r

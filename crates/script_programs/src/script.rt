@@ -1,6 +1,7 @@
 //! From a file to the node script in it.
 
 ghost use Rattle.std.specs.Prelude.{◌≤◌, length, IfOk};
+ghost use Rattle.mate_files.specs.declared.files.TheConstants.{FILE_MAX};
 ghost use Rattle.mate_steps.specs.Parts.{ReadsFiles};
 ghost use Rattle.script_programs.specs.Numbers.{NamesInOrder};
 ghost use Rattle.script_programs.specs.Scripts.{script, script_text};
@@ -31,7 +32,7 @@ pub fn script_of<F: Files>(
 
 /// The node script in these bytes. It is right for the machine, and its steps name its files in order.
 pub fn script_in(alloc: Global, desc: &Description, bytes: &[u8]) -> Result<Steps, Refusal>
-    requires { length bytes.now ≤ 1048576 }
+    requires { length bytes.now ≤ FILE_MAX }
     ensures does { script_text desc.now bytes.now result }
     ensures right { IfOk result (IsRightSteps desc.now) }
     ensures in_order { IfOk result NamesInOrder }

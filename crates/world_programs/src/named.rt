@@ -1,6 +1,7 @@
 //! The programs of what a script names, whichever script it is.
 
 ghost use Rattle.std.specs.Prelude.{◌≡◌, ◌≤◌, length, false, true, IfOk};
+ghost use Rattle.mate_files.specs.declared.files.TheConstants.{FILE_MAX};
 ghost use Rattle.mate_steps.specs.Parts.{ReadsFiles};
 ghost use Rattle.node_programs.specs.Right.{AreRightPrograms};
 ghost use Rattle.world_programs.specs.Named.{is_of_world, begins_world, programs_by, programs_named};
@@ -47,7 +48,7 @@ fn programs_in_world<F: Files>(
     fold: bool,
     bytes: &[u8],
 ) -> Result<Programs, Refusal>
-    requires { length bytes.now ≤ 1048576 }
+    requires { length bytes.now ≤ FILE_MAX }
     ensures does { programs_by true (record { told = F.contents files.old; steady = F.steady files.old }) desc.now fold bytes.now result }
     ensures reads { ReadsFiles (F.contents files.old) (F.steady files.old) (F.faults files.old) (F.contents files.new) (F.steady files.new) (F.faults files.new) result }
     ensures right { IfOk result (AreRightPrograms desc.now) }
@@ -65,7 +66,7 @@ fn programs_in_script<F: Files>(
     fold: bool,
     bytes: &[u8],
 ) -> Result<Programs, Refusal>
-    requires { length bytes.now ≤ 1048576 }
+    requires { length bytes.now ≤ FILE_MAX }
     ensures does { programs_by false (record { told = F.contents files.old; steady = F.steady files.old }) desc.now fold bytes.now result }
     ensures reads { ReadsFiles (F.contents files.old) (F.steady files.old) (F.faults files.old) (F.contents files.new) (F.steady files.new) (F.faults files.new) result }
     ensures right { IfOk result (AreRightPrograms desc.now) }
