@@ -2,7 +2,7 @@
 use Rattle.std.specs.Prelude.{◌≡◌, ℕ, true, false, List, Option, Result, Ok, Err, ⊤, ◌⊎◌}
 use Rattle.mate_files.specs.Counts.{Rose}
 use Rattle.mate_files.specs.Sink.{Sent, SentPart}
-use Rattle.command_line.specs.Commands.{Task, Node, Sim, Gen, Table, Compile, Check, Expand, Feed, Says, SaysNothing}
+use Rattle.command_line.specs.Commands.{Task, Node, Sim, Gen, Table, Compile, Check, Expand, Feed, Audit, Says, SaysNothing}
 use Rattle.mate_refusals.specs.Refusals.{TellsRefusal}
 use Rattle.mate_refusals.specs.declared.status.Status.{Status}
 use Rattle.mate_refusals.specs.declared.status.Status.TheVariants.{Ok as AllDone}
@@ -12,6 +12,7 @@ use Rattle.mate_documents.specs.Check.{check}
 use Rattle.mate_documents.specs.Compile.{compile}
 use Rattle.mate_documents.specs.Expand.{expand}
 use Rattle.mate_documents.specs.Feed.{feed}
+use Rattle.mate_cli.specs.Audit.{audit}
 use Rattle.mate_cli.specs.Node.{node}
 use Rattle.mate_cli.specs.Worlds.{sim, made_run}
 use Rattle.mate_documents.specs.Documents.{document_text, is_full}
@@ -40,6 +41,7 @@ command f (Compile fold vm h version name) = compile f fold vm h version name
 command f (Check vm name) = check f vm name
 command f (Expand name) = expand f name
 command f (Feed vm name) = feed f vm name
+command f (Audit fold vm script report) = audit f fold vm script report
 
 -- the task that the words say
 abbrev pub task : List (List ℕ) → Result Task Refusal → Type 0

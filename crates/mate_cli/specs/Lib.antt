@@ -1,4 +1,5 @@
 pub mod Runs
 pub mod Node
 pub mod Worlds
+pub mod Audit
 pub mod Ends

@@ -7,7 +7,7 @@ ghost use Rattle.mate_documents.specs.Outputs.{CanBeWritten};
 ghost use Rattle.mate_steps.specs.Parts.{ReadsFiles};
 
 use crate::writing::write_output;
-use crate::{made, node, sim};
+use crate::{audit, made, node, sim};
 use command_line::{Command, WordsFault, command_of};
 use mate_documents::{Output, check, compile, expand, feed, table};
 use mate_files::{Files, Sink};
@@ -31,6 +31,9 @@ use std::alloc::Global;
 /// - `expand SOURCE` writes the plain script that the source with procedures stands for, its tokens in one line.
 /// - `feed VM STREAM` cuts the bytes of the file `STREAM` into frames (RFC 1055), and writes what a new node of such a machine
 ///   answers to each, which should be a capsule that it installs.
+/// - `audit VM SCRIPT REPORT` says whether the report in the file `REPORT` shows serial behaviour of what the script in the file `SCRIPT`, of a node or
+///   of a world, runs on such a machine: it writes `serial`, or refuses with the first line that fits no report, or with the
+///   lowest node whose journal fails a law, and the first law that it fails.
 ///
 /// For any other status than `Ok` one line goes to `err`, and, but for `LogFull`, a fault of `out` and want of memory,
 /// nothing to `out`. A failing `err` changes nothing.
@@ -85,5 +88,6 @@ fn task_output<F: Files>(alloc: Global, files: &mut F, task: Command<'_>) -> Res
         Command::Check { machine, capsule } => check::output(alloc, files, machine, capsule),
         Command::Expand { source } => expand::output(alloc, files, source),
         Command::Feed { machine, stream } => feed::output(alloc, files, machine, stream),
+        Command::Audit(words) => audit::output(alloc, files, words),
     }
 }

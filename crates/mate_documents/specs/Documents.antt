@@ -19,6 +19,7 @@ document_text (document.Capsule image) = encode_lower image.value.items ++ codes
 document_text (document.Listing d l) = capsule_text d (capsule_parts l.value.capsule) l.value.code.code
 document_text (document.Expansion s) = script_line (source_of s)
 document_text (document.Answers d stream) = feed_text d stream.items
+document_text document.Serial = codes "serial\n"
 
 -- it tells of a run that a full log ended
 abbrev pub is_full : Document → Bool
@@ -33,3 +34,4 @@ HasText (document.Capsule image) = ⊤
 HasText (document.Listing d l) = IsVerifiedFor d (capsule_parts l.value.capsule) l.value.code
 HasText (document.Expansion s) = ⊤
 HasText (document.Answers d stream) = ⊤
+HasText document.Serial = ⊤

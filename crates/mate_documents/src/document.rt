@@ -31,6 +31,8 @@ pub enum Document {
     Expansion(Script),
     /// What a new node of this machine answers to the frames of this stream, a line each.
     Answers(BoxedMachine, Vec<u8>),
+    /// That a report shows serial behaviour: one word.
+    Serial,
 }
 
 impl Document {
@@ -55,6 +57,7 @@ impl Document {
             Document::Answers(machine, stream) => {
                 write_answers(machine.description(), stream.as_slice(), out)
             }
+            Document::Serial => write_serial(out),
         }
     }
 
@@ -69,6 +72,7 @@ impl Document {
             Document::Listing(_, _) => false,
             Document::Expansion(_) => false,
             Document::Answers(_, _) => false,
+            Document::Serial => false,
         }
     }
 }
@@ -91,6 +95,15 @@ fn write_script<S: Sink>(script: &Script, out: &mut S) -> Result<(), SinkFault>
         Ok(()) => end_line(out),
         Err(fault) => Err(fault),
     }
+}
+
+/// Writes the word for a report that shows serial behaviour, and a line feed.
+fn write_serial<S: Sink>(out: &mut S) -> Result<(), SinkFault>
+    ensures { Puts (S.written out.old) (S.faults out.old) (S.written out.new) (S.faults out.new) result (codes "serial\n") }
+{
+    let mut pen = Pen::new();
+    pen.text(out, "serial\n");
+    pen.finish()
 }
 
 /// Writes a line feed.
