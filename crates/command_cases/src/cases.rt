@@ -62,13 +62,16 @@ fn outcome(
     run(alloc, &mut setting, words)
 }
 
-/// Takes a part of a case: a file, the expansion of one, or a call that is to fail. False where it is none of these.
+/// Takes a part of a case: a file, as a text or as bytes, the expansion of one, or a call that is to fail. False where it is none of these.
 fn set(alloc: Global, setting: &mut Setting, part: &str) -> Result<bool, AllocError> {
     if let Some(call) = part.strip_prefix("fail ") {
         return Ok(fail(setting, call));
     }
     if let Some(file) = part.strip_prefix("expand ") {
         return add_expanded(alloc, setting, file);
+    }
+    if let Some(file) = part.strip_prefix("bytes ") {
+        return add_bytes(alloc, setting, file);
     }
     add_file(alloc, setting, part)
 }
@@ -92,6 +95,17 @@ fn add_expanded(alloc: Global, setting: &mut Setting, file: &str) -> Result<bool
     let words = format!(in alloc; "expand {name}")?;
     let ended = run(alloc, &mut apart, words.as_str())?;
     Ok(right && ended.status == 0 && add(setting, name, ended.written.as_bytes()))
+}
+
+/// Adds a file that is written `NAME=HEX`, its bytes in hexadecimal digits.
+fn add_bytes(alloc: Global, setting: &mut Setting, file: &str) -> Result<bool, AllocError> {
+    let Some((name, digits)) = file.split_once('=') else {
+        return Ok(false);
+    };
+    let Some(bytes) = case_files::bytes_of(alloc, digits)? else {
+        return Ok(false);
+    };
+    Ok(add(setting, name, bytes.as_slice()))
 }
 
 fn add(setting: &mut Setting, name: &str, bytes: &[u8]) -> bool {

@@ -1,0 +1,3 @@
+! reads the level
+shared level;
+level = light();
