@@ -1,5 +1,5 @@
 -- What is at hand of a world, and what it lets go.
-use Rattle.std.proofs.Common.{◌≡◌, ◌<◌, ◌+◌, ◌-◌, ℕ, zero, suc, List, [], ◌∷◌, ◌++◌, length, map, set, drop, get_or, Option, Some, None, Result, refl, sym, ◌∙◌, ap, subst, arith, inl, inr, All}
+use Rattle.std.proofs.Common.{◌≡◌, ◌<◌, ◌+◌, ◌-◌, ℕ, zero, suc, List, [], ◌∷◌, ◌++◌, length, map, set, drop, get_or, Option, Some, None, Result, refl, sym, ◌∙◌, ap, subst, arith, inl, inr, ◌⊎◌, All}
 use Rattle.std.specs.Prelude.{slice_get, IsSomeAnd, flat_map, unwrap_or, codes}
 use Rattle.std.specs.List.{AllZip}
 use Rattle.std.proofs.lemmas.Bool.{cases_eq}
@@ -17,7 +17,7 @@ use Rattle.mate_journal.specs.Log.{Log, IsSameLog}
 use Rattle.mate_journal.specs.Journal.{journal_of, told_of}
 use Rattle.mate_journal.specs.Journal.{Event as Entered}
 use Rattle.mate_journal.specs.NodeScript.{records_max}
-use Rattle.mate_journal.specs.OpenLog.{Gone, OpenView, nothing_gone, entry_behind, stamped_behind, IsKept}
+use Rattle.mate_journal.specs.OpenLog.{Gone, OpenView, nothing_gone, gone_of, entry_behind, stamped_behind, IsKept}
 use Rattle.mate_journal.specs.declared.air.Aired.{Aired}
 use Rattle.mate_journal.specs.declared.entry.Entry.{Entry}
 use Rattle.mate_journal.specs.declared.entry.Entry.TheVariants as entry
@@ -39,12 +39,12 @@ use Rattle.world_calls.specs.Calls.{AreCallsOf}
 use Rattle.world_rules.specs.World.{World}
 use Rattle.world_rules.specs.State.{Moment, WorldState, state}
 use Rattle.world_event.specs.Finishing.{IsTakenFrom}
-use Rattle.world_event.specs.Performing.{IsMoteAfter, coming}
+use Rattle.world_event.specs.Performing.{IsMoteAfter, IsRadioAfter, coming}
 use Rattle.world_event.proofs.RoomLemmas.{records-high}
 use Rattle.world_step.specs.declared.mote.Mote.{Mote}
-use Rattle.world_sim.specs.Keeping.{IsWhole, LetsGo, LetsGoAsTold}
+use Rattle.world_sim.specs.Keeping.{IsWhole, IsFew, LetsGo, LetsGoAsTold}
 use Rattle.world_sim.specs.Reporting.{ShowStores, mote_logs}
-use Rattle.world_sim.specs.Running.{StandsAtNext}
+use Rattle.world_sim.specs.Running.{StandsAfter, StandsAtNext}
 use Rattle.world_sim.specs.Writing.{report_now, LogsAreKept, AddsEvent, HasWrittenNow}
 use Rattle.world_sim.specs.declared.simulation.Simulation.{Simulation}
 use Rattle.world_sim.specs.declared.simulation.Written.{Written}
@@ -110,6 +110,9 @@ module _ (d : Description) (v : OpenView) (kept : Log) (is : IsKept v kept) (nod
 alike : (a b : Log) → IsSameLog a b → a ≡ record b { spare = a.spare }
 alike a b same = λ i. record { entries = same.entries i; images = same.images i; stores = same.stores i; spare = a.spare }
 
+pub gone-same : (a b : Log) → IsSameLog a b → gone_of a ≡ gone_of b
+gone-same a b same = λ i. record { entries = length (same.entries i); images = length (same.images i); stores = length (same.stores i) }
+
 same-self : (l : Log) → IsSameLog l l
 same-self l = record { entries = refl; images = refl; stores = refl }
 
@@ -138,7 +141,7 @@ module _ (old mid : Simulation) (node : ℕ) (go : LetsGo old mid node) where
   same-now : IsSameReport (report_now mid) (report_now old)
   same-now = record {
     nodes = subst (λ (ls : List Log). AllZip IsSameLog ls (mote_logs old.motes.items)) (sym (ap mote_logs go.motes ∙ set-log old.motes.items node go.after))
-        (all-set (mote_logs old.motes.items) node go.after.node.log go.before.node.log (log-found old.motes.items node go.before go.found) go.same.log);
+        (all-set (mote_logs old.motes.items) node go.after.node.log go.before.node.log (log-found old.motes.items node go.before go.found) go.log);
     air = ap (λ (e : Ether). e.air) go.radio;
     events = refl;
     whole = refl;
@@ -149,12 +152,12 @@ module _ (old mid : Simulation) (node : ℕ) (go : LetsGo old mid node) where
 
   heard-same : heard_of go.after.node ≡ heard_of go.before.node
   unfolding reading
-  heard-same = ap (λ (d : Description). reading d go.after.node.log) go.same.description ∙ ap (reading go.before.node.description) (alike go.after.node.log go.before.node.log go.same.log)
+  heard-same = ap (λ (d : Description). reading d go.after.node.log) go.description ∙ ap (reading go.before.node.description) (alike go.after.node.log go.before.node.log go.log)
 
   go-mote : (w : World) (ms : List Moment) → IsMoteAfter w ms node go.before → IsMoteAfter w ms node go.after
   go-mote w ms m = record {
     is = record {
-      description = go.same.description ∙ m.is.description;
+      description = go.description ∙ m.is.description;
       reading = heard-same ∙ m.is.reading;
       pace = go.pace ((state w ms).nodes node).pace m.is.pace;
       timer = ap (λ (x : Mote). x.timer) go.rest ∙ m.is.timer;
@@ -162,7 +165,7 @@ module _ (old mid : Simulation) (node : ℕ) (go : LetsGo old mid node) where
       pumps = ap (λ (x : Mote). x.pumps) go.rest ∙ m.is.pumps;
       calls = subst (λ (x : Mote). AreCallsOf w node ((state w ms).nodes node).called x.calls) (sym go.rest) m.is.calls;
     };
-    journal = ap journal_of (alike go.after.node.log go.before.node.log go.same.log) ∙ m.journal;
+    journal = ap journal_of (alike go.after.node.log go.before.node.log go.log) ∙ m.journal;
   }
 
   go-taken : (w : World) (s : WorldState) (m : Moment) → IsTakenFrom w s m old.radio → IsTakenFrom w s m mid.radio
@@ -223,6 +226,37 @@ kept-still Forgotten old mid node m go found low own kept = subst LogsAreKept (s
   mine : KeepsJournal go.after.node.description (machine_in go.after.node.description) go.after.node.log
   mine = subst (λ (x : Mote). KeepsJournal x.node.description (machine_in x.node.description) x.node.log) is own
 
+-- ---- where it is let go behind an event
+
+module _ (old mid : Simulation) (node : ℕ) (go : LetsGo old mid node) (low : node < length old.motes.items) where
+  pub go-after : (w : World) (events : ℕ) → StandsAfter w events old → StandsAfter w events mid
+  go-after w events b = record {
+    moments = b.moments;
+    come = b.come;
+    count = b.count;
+    radio = subst (λ (e : Ether). IsRadioAfter w b.moments e) (sym go.radio) (record {
+      due = b.radio.due;
+      until = b.radio.until;
+      now = b.radio.now;
+      air = b.radio.air;
+      stands = record { stands = record { sent = b.radio.stands.stands.sent; wires = b.radio.stands.stands.wires }; delay = b.radio.stands.delay };
+      fit = b.radio.fit;
+    });
+    nodes = ap (λ (xs : List Mote). length xs) go.motes ∙ length-set old.motes.items node go.after ∙ b.nodes;
+    motes = go-motes old mid node go w b.moments b.motes low;
+    records = go.records ∙ b.records;
+    well_formed = b.well_formed;
+  }
+
+-- it stands there still, and was written
+pub left-stands : (old mid : Simulation) (node : ℕ) (w : World) (events : ℕ) → (mid ≡ old) ⊎ LetsGo old mid node → node < length old.motes.items → StandsAfter w events old → StandsAfter w events mid
+left-stands old mid node w events (inl same) low b = subst (StandsAfter w events) (sym same) b
+left-stands old mid node w events (inr go) low b = go-after old mid node go low w events b
+
+pub left-written : (old mid : Simulation) (node : ℕ) → (mid ≡ old) ⊎ LetsGo old mid node → (d : Description) (out0 f0 out f : _) → HasWrittenNow d old out0 f0 out f → HasWrittenNow d mid out0 f0 out f
+left-written old mid node (inl same) d out0 f0 out f written = subst (λ (s : Simulation). HasWrittenNow d s out0 f0 out f) (sym same) written
+left-written old mid node (inr go) d out0 f0 out f written = go-written old mid node go d out0 f0 out f written
+
 -- ---- nothing is forgotten
 
 all-set-whole : (motes : List Mote) (k : ℕ) (y : Mote) → All (λ (m : Mote). m.node.gone ≡ nothing_gone) motes → y.node.gone ≡ nothing_gone → All (λ (m : Mote). m.node.gone ≡ nothing_gone) (set motes k y)
@@ -257,6 +291,20 @@ few-stand w e at s node m b low found =
     let room = b.room in
     omega (arith, high, told, long, air, records, room)
 
+pub few-after : (w : World) (events : ℕ) (s : Simulation) (node : ℕ) → StandsAfter w events s → node < w.nodes → s.records < 1000000 → IsFew s node
+few-after w events s node b low room =
+    let high = records-high w node b.moments in
+    let air = ap length b.radio.air in
+    let records = b.records in
+    record {
+      log = λ m found.
+          let own : IsMoteAfter w b.moments node m = subst (λ (o : Option Mote). IsSomeAnd o (IsMoteAfter w b.moments node)) found (b.motes node low) in
+          let told = ap length own.journal in
+          let long = length-map m.node.log.entries (λ (x : Stamped). let v : Entered = record { stamp = x.stamp; told = told_of m.node.log x.entry } in v) in
+          omega (arith, high, told, long, air, records, room);
+      air = omega (arith, high, air, records, room);
+    }
+
 -- ---- what is at hand behind an event
 
 -- the node and the radio have at hand what they told in the event
@@ -274,7 +322,7 @@ at-hand-now number node old mid new go adds =
     record {
       low = omega (arith, low, long);
       found = ap (λ (xs : List Mote). slice_get xs node) adds.motes ∙ slice_get_set_same mid.motes.items node adds.after low;
-      entries = ap (λ (g : Gone). g.entries) (adds.log_gone ∙ ap (λ (m : Mote). m.node.gone) (sym mine) ∙ go.same.gone) ∙ ap (λ (es : List Stamped). length es) (sym go.same.log.entries) ∙ ap (λ (m : Mote). length m.node.log.entries) mine;
+      entries = ap (λ (g : Gone). g.entries) (adds.log_gone ∙ ap (λ (m : Mote). m.node.gone) (sym mine) ∙ go.gone) ∙ ap (λ (es : List Stamped). length es) (sym go.log.entries) ∙ ap (λ (m : Mote). length m.node.log.entries) mine;
       air = adds.air_gone ∙ ap (λ (e : Ether). e.gone) go.radio ∙ ap (λ (e : Ether). length e.air) (sym go.radio);
     } where
       was : node < length mid.motes.items → node < length old.motes.items

@@ -6,7 +6,7 @@ ghost use Rattle.world_sim.specs.Promise.{WorldRunGives};
 use crate::promise::reports_keep_the_promise;
 use crate::report::{report_of, see_stores};
 use crate::simulation::{Simulation, Written};
-use mate_journal::{NodeLogs, Programs, RECORDS_MAX, Report, RunFault};
+use mate_journal::{NodeLog, NodeLogs, Programs, RECORDS_MAX, Report, RunFault};
 use mate_num::Stamp;
 use std::alloc::Global;
 use vm_desc::Description;
@@ -30,6 +30,8 @@ pub fn run(
     states_are_sound();
     let logs = NodeLogs::empty(alloc, world.nodes)?;
     let mut sim = Simulation::start(alloc, desc, world)?;
+    // (nothing is let go, so nothing takes its place)
+    let mut room = NodeLog::new(alloc);
     let mut effect = Effect::none();
     for events in 0..u64::MAX {
         let Some((time, event)) = sim.radio.next() else {
@@ -54,6 +56,7 @@ pub fn run(
             &event,
             at,
             Written::Kept,
+            &mut room,
             &mut effect,
         )?;
     }

@@ -2,6 +2,7 @@
 
 ghost use Rattle.std.specs.Prelude.{◌≡◌, ◌≤◌, ◌<◌, ◌+◌, length, drop, sum_by, slice_get, All, Some, IfSome, OnOk};
 ghost use Rattle.mate_files.specs.Sink.{Puts};
+ghost use Rattle.mate_journal.specs.Log.{IsEmpty};
 ghost use Rattle.mate_journal.specs.NodeScript.{Whole, Full};
 ghost use Rattle.report_text.specs.Text.{event_piece};
 ghost use Rattle.run_writing.specs.Writing.{WritesRun, last_line};
@@ -20,7 +21,7 @@ use crate::promise::reports_keep_the_promise;
 use crate::report::see_stores;
 use crate::simulation::{Simulation, Written};
 use mate_files::{Sink, SinkFault};
-use mate_journal::{Programs, RECORDS_MAX};
+use mate_journal::{NodeLog, Programs, RECORDS_MAX};
 use mate_num::Stamp;
 use radio_sim::Event;
 use report_text::{write_end, write_event};
@@ -33,8 +34,8 @@ use world_step::{Effect, Mote};
 use world_text::text_grows_by_events;
 
 /// Runs a world as `run` does, and writes each event's lines when it ends, and then the last line. After a fault of the sink no
-/// further event is begun. What a node told in an event, and what happened on the air in it, is forgotten before the next one, so
-/// that a long run takes no more memory than its nodes and their longest events.
+/// further event is begun. What a node told in an event, and what happened on the air in it, is forgotten before the next one, and
+/// the room of its log goes to the node of the next one: so a long run takes no more memory than its nodes and its longest event.
 pub fn write_world<S: Sink>(
     alloc: Global,
     desc: &Description,
@@ -54,6 +55,7 @@ pub fn write_world<S: Sink>(
     if let Err(fault) = write_start(desc, world, programs, &sim, out) {
         return Err(fault);
     }
+    let mut room = NodeLog::new(alloc);
     let mut effect = Effect::none();
     for events in 0..u64::MAX {
         let Some((time, event)) = sim.radio.next() else {
@@ -73,6 +75,7 @@ pub fn write_world<S: Sink>(
             &mut sim,
             &event,
             at,
+            &mut room,
             &mut effect,
             out,
         ) {
@@ -106,7 +109,8 @@ fn write_start<S: Sink>(
     }
 }
 
-/// The event comes, with this stamp, and its lines are written.
+/// The event comes, with this stamp, and its lines are written. Where a next one may come, what was told is then forgotten, and the
+/// room of the node's log is spare again.
 #[inline(never)]
 fn write_step<S: Sink>(
     desc: &Description,
@@ -115,24 +119,37 @@ fn write_step<S: Sink>(
     sim: &mut Simulation,
     event: &Event,
     at: Stamp,
+    room: &mut NodeLog,
     effect: &mut Effect,
     out: &mut S,
 ) -> Result<(), WriteFault>
     requires right { AreProgramsOfWorld desc.now world.now programs.now }
     requires stands { StandsAtNext (code_world desc.now world.now programs.now) event.now at sim.old }
     requires kept { LogsAreKept sim.old.motes.items }
+    requires empty { IsEmpty room.old }
     requires plain { effect.old ≡ plain_effect }
     ensures writes { IsStepWritten desc.now (code_world desc.now world.now programs.now) at.event sim.old sim.new (S.written out.old) (S.faults out.old) (S.written out.new) (S.faults out.new) result }
+    ensures empty { IsEmpty room.new }
     ensures plain { OnOk result (effect.new ≡ plain_effect) }
     ensures later { S.faults out.old ≤ S.faults out.new }
 {
-    let Ok(node) = sim.step(desc, world, programs, event, at, Written::Forgotten, effect) else {
+    let Ok(node) = sim.step(
+        desc,
+        world,
+        programs,
+        event,
+        at,
+        Written::Forgotten,
+        room,
+        effect,
+    ) else {
         return Err(WriteFault::NoMemory);
     };
-    match write_piece(desc, sim, node, out) {
-        Ok(()) => Ok(()),
-        Err(fault) => Err(stopped(fault)),
+    if let Err(fault) = write_piece(desc, sim, node, out) {
+        return Err(stopped(fault));
     }
+    sim.leave(node, room);
+    Ok(())
 }
 
 /// Writes the last line of a run that a full log ended.

@@ -87,6 +87,7 @@ pub loop-events-preserved : goal.loop-events-preserved
 loop-events-preserved g c = record {
   stands = c.in_default-write_step.ensures.writes.0;
   kept = c.in_default-write_step.ensures.writes.1;
+  empty = c.in_default-write_step.ensures.empty;
   plain = c.in_default-write_step.ensures.plain;
   written =
       c.in_default-write_step.ensures.writes.2 _ _
