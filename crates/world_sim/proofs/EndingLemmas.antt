@@ -174,8 +174,8 @@ forgotten-hand olds news f k x below =
     let more = f.count in
     let low : k < length olds = omega (arith, below, more) in
     let one = f.each k (get_or olds k x) (get_or news k x) low (slice_get-get_or olds k x low) (slice_get-get_or news k x below) in
-    let gone = ap (λ (g : Gone). g.entries) one.same.gone in
-    let same = ap (λ (es : List Stamped). length es) one.same.log.entries in
+    let gone = ap (λ (g : Gone). g.entries) one.gone in
+    let same = ap (λ (es : List Stamped). length es) one.log.entries in
     omega (arith, gone, same)
 
 pub end-still : (w : World) (how : RunEnd) (events : ℕ) (s new : Simulation) → HaveForgotten (length s.motes.items) s.motes.items new.motes.items → new.radio.air ≡ s.radio.air → StandsAtEnd w how events s → StandsAtEnd w how events new

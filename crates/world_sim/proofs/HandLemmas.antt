@@ -1,5 +1,5 @@
 -- What the nodes and the radio of a world have at hand, and its lines.
-use Rattle.std.proofs.Common.{◌≡◌, ◌<◌, ◌+◌, ◌-◌, ℕ, zero, suc, List, [], ◌∷◌, ◌++◌, length, map, drop, Option, Some, Result, refl, sym, ◌∙◌, ap, subst, arith}
+use Rattle.std.proofs.Common.{◌≡◌, ◌<◌, ◌+◌, ◌-◌, ℕ, zero, suc, List, [], ◌∷◌, ◌++◌, length, map, drop, Option, Some, Result, refl, sym, ◌∙◌, ap, subst, arith, inl, inr, ◌⊎◌}
 use Rattle.std.specs.Prelude.{slice_get, flat_map, unwrap_or, codes}
 use Rattle.std.specs.List.{AllZip}
 use Rattle.std.proofs.lemmas.List.{length-set, drop-map, drop-drop}
@@ -92,6 +92,10 @@ still-written d old new logs air out0 f0 out f written =
 pub written-still : (old mid : Simulation) (node : ℕ) (go : LetsGo old mid node) (d : Description) (out0 f0 out f : _) → HasWrittenNow d old out0 f0 out f → HasWrittenNow d mid out0 f0 out f
 written-still old mid node go d out0 f0 out f written = still-written d old mid (go-logs old mid node go) (ap (λ (e : Ether). e.air) go.radio) out0 f0 out f written
 
+pub left-written : (old mid : Simulation) (node : ℕ) → (mid ≡ old) ⊎ LetsGo old mid node → (d : Description) (out0 f0 out f : _) → HasWrittenNow d old out0 f0 out f → HasWrittenNow d mid out0 f0 out f
+left-written old mid node (inl same) d out0 f0 out f written = subst (λ (s : Simulation). HasWrittenNow d s out0 f0 out f) (sym same) written
+left-written old mid node (inr go) d out0 f0 out f written = written-still old mid node go d out0 f0 out f written
+
 -- ---- what is at hand behind an event
 
 -- the node and the radio have at hand what they told in the event
@@ -109,7 +113,7 @@ at-hand-now number node old mid new go adds =
     record {
       low = omega (arith, low, long);
       found = ap (λ (xs : List Mote). slice_get xs node) adds.motes ∙ slice_get_set_same mid.motes.items node adds.after low;
-      entries = ap (λ (g : Gone). g.entries) (adds.log_gone ∙ ap (λ (m : Mote). m.node.gone) (sym mine) ∙ go.forgets.same.gone) ∙ ap (λ (es : List Stamped). length es) (sym go.forgets.same.log.entries) ∙ ap (λ (m : Mote). length m.node.log.entries) mine;
+      entries = ap (λ (g : Gone). g.entries) (adds.log_gone ∙ ap (λ (m : Mote). m.node.gone) (sym mine) ∙ go.forgets.gone) ∙ ap (λ (es : List Stamped). length es) (sym go.forgets.log.entries) ∙ ap (λ (m : Mote). length m.node.log.entries) mine;
       air = adds.air_gone ∙ ap (λ (e : Ether). e.gone) go.radio ∙ ap (λ (e : Ether). length e.air) (sym go.radio);
     } where
       was : node < length mid.motes.items → node < length old.motes.items

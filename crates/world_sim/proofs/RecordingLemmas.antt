@@ -1,5 +1,5 @@
 -- What is recorded of a world's run.
-use Rattle.std.proofs.Common.{◌≡◌, ◌<◌, ◌≤◌, ◌+◌, ℕ, zero, suc, List, [], ◌∷◌, ◌++◌, length, set, drop, get_or, Option, Some, None, All, refl, sym, ◌∙◌, ap, subst, arith, length-append, append-nil, inl, inr}
+use Rattle.std.proofs.Common.{◌≡◌, ◌<◌, ◌≤◌, ◌+◌, ℕ, zero, suc, List, [], ◌∷◌, ◌++◌, length, set, drop, get_or, Option, Some, None, All, refl, sym, ◌∙◌, ap, subst, arith, length-append, append-nil, inl, inr, ◌⊎◌}
 use Rattle.std.specs.Prelude.{slice_get, unwrap_or, option_to_list}
 use Rattle.std.specs.List.{AllZip}
 use Rattle.std.proofs.lemmas.Grind.{flat_map-append}
@@ -106,7 +106,7 @@ set-back (a ∷ ls) (suc k) x y found = ap (λ (zs : List Log). a ∷ zs) (set-b
 pub go-logs : (old mid : Simulation) (node : ℕ) (go : LetsGo old mid node) → AllZip IsSameLog (mote_logs mid.motes.items) (mote_logs old.motes.items)
 go-logs old mid node go =
     subst (λ (ls : List Log). AllZip IsSameLog ls (mote_logs old.motes.items)) (sym (ap mote_logs go.motes ∙ set-log old.motes.items node go.after))
-    (all-set_one (mote_logs old.motes.items) node go.after.node.log go.before.node.log (log-found old.motes.items node go.before go.found) go.forgets.same.log)
+    (all-set_one (mote_logs old.motes.items) node go.after.node.log go.before.node.log (log-found old.motes.items node go.before go.found) go.forgets.log)
 
 pub forgotten-logs : (olds news : List Mote) → HaveForgotten (length olds) olds news → AllZip IsSameLog (mote_logs news) (mote_logs olds)
 forgotten-logs olds news f = all-places (mote_logs news) (mote_logs olds) (long-logs news ∙ f.count ∙ sym (long-logs olds)) each where
@@ -129,6 +129,10 @@ record-as r logs logs' air air' same is of = record {
 pub recorded-as : (kept : Option Record) (old new : Simulation) → AllZip IsSameLog (mote_logs new.motes.items) (mote_logs old.motes.items) → new.radio.air ≡ old.radio.air → IsRecorded kept old → IsRecorded kept new
 recorded-as None old new same air of = tt
 recorded-as (Some r) old new same air of = record-as r (mote_logs old.motes.items) (mote_logs new.motes.items) old.radio.air new.radio.air same air of
+
+pub left-recorded : (kept : Option Record) (old mid : Simulation) (node : ℕ) → (mid ≡ old) ⊎ LetsGo old mid node → IsRecorded kept old → IsRecorded kept mid
+left-recorded kept old mid node (inl same) of = subst (IsRecorded kept) (sym same) of
+left-recorded kept old mid node (inr go) of = recorded-as kept old mid (go-logs old mid node go) (ap (λ (e : Ether). e.air) go.radio) of
 
 pub recorded-still : (old new : Option Record) (s : Simulation) → StaysRecorded old new → IsRecorded old s → IsRecorded new s
 recorded-still None None s stays of = tt
@@ -190,8 +194,8 @@ module _ (r : Record) (old mid new : Simulation) (node number : ℕ) (go : LetsG
 
   front-gone : adds.after.node.gone ≡ gone_of adds.before.node.log
   front-gone =
-      adds.log_gone ∙ ap (λ (m : Mote). m.node.gone) (sym mine) ∙ go.forgets.same.gone
-      ∙ sym (ap gone_of (alike go.after.node.log go.before.node.log go.forgets.same.log))
+      adds.log_gone ∙ ap (λ (m : Mote). m.node.gone) (sym mine) ∙ go.forgets.gone
+      ∙ sym (ap gone_of (alike go.after.node.log go.before.node.log go.forgets.log))
       ∙ ap (λ (m : Mote). gone_of m.node.log) mine
 
   before-one : IsRecordBefore r new node
@@ -350,11 +354,11 @@ module _ (r : Record) (w : World) (ms : List Moment) (at : Stamp) (olds mids new
       let one : length (last.0 ∷ []) ≡ 1 = refl in
       let grown : length m.node.log.entries ≡ length b.node.log.entries + 1 = omega (arith, was, is, sum, one) in
       let few = forgot.few in
-      let same = ap (λ (es : List Stamped). length es) forgot.same.log.entries in
+      let same = ap (λ (es : List Stamped). length es) forgot.log.entries in
       record {
         front = b.node.log;
         same = all-at r.logs.items (mote_logs mids) k own b.node.log logs has (log-found mids k b is_b);
-        gone = seen.tells.gone ∙ forgot.same.gone ∙ sym (ap gone_of (alike b.node.log a.node.log forgot.same.log));
+        gone = seen.tells.gone ∙ forgot.gone ∙ sym (ap gone_of (alike b.node.log a.node.log forgot.log));
         goes_on = on;
         numbered = nm;
         few = omega (arith, few, same, grown);

@@ -3,7 +3,7 @@
 ghost use Rattle.node_programs.specs.WorldPrograms.{AreProgramsOfWorld};
 ghost use Rattle.world_promise.specs.Promise.{WorldRunGives};
 
-use mate_journal::{NodeLogs, Programs, RECORDS_MAX, Report, RunFault};
+use mate_journal::{NodeLog, NodeLogs, Programs, RECORDS_MAX, Report, RunFault};
 use mate_num::Stamp;
 use std::alloc::Global;
 use vm_desc::Description;
@@ -29,6 +29,8 @@ pub fn run(
     states_are_sound();
     let logs = NodeLogs::empty(alloc, world.nodes)?;
     let mut sim = Simulation::start(alloc, desc, world)?;
+    // (nothing is let go, so nothing takes its place)
+    let mut room = NodeLog::new(alloc);
     let mut effect = Effect::none();
     for events in 0..u64::MAX {
         let Some((time, event)) = sim.radio.next() else {
@@ -53,6 +55,7 @@ pub fn run(
             &event,
             at,
             Written::Kept,
+            &mut room,
             &mut effect,
         )?;
     }

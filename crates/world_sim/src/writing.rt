@@ -2,6 +2,7 @@
 
 ghost use Rattle.std.specs.Prelude.{◌≡◌, ◌≤◌, ◌<◌, ◌+◌, length, drop, sum_by, slice_get, All, Some, IfOk, IfSome, OnOk, Err, false};
 ghost use Rattle.mate_files.specs.Sink.{Puts};
+ghost use Rattle.mate_journal.specs.Log.{IsEmpty};
 ghost use Rattle.mate_journal.specs.NodeScript.{Whole, Full};
 ghost use Rattle.report_text.specs.Text.{event_piece};
 ghost use Rattle.run_writing.specs.Writing.{PutsLast, RunsInto, WritesRun};
@@ -22,7 +23,7 @@ ghost use Rattle.world_text.specs.EventText.{store_lines};
 
 use crate::recording::{add_event, record_event, record_stores};
 use mate_files::{Sink, SinkFault};
-use mate_journal::{IntoFault, Programs, RECORDS_MAX, Report};
+use mate_journal::{IntoFault, NodeLog, Programs, RECORDS_MAX, Report};
 use mate_num::{NoMemory, Stamp};
 use radio_sim::Event;
 use report_text::{write_end, write_event};
@@ -65,7 +66,8 @@ pub fn run_into<S: Sink>(
 }
 
 /// The same text, without a report: what a node told in an event, and what happened on the air in it, is forgotten before the next
-/// one, so that a long run takes no more memory than its nodes and their longest events.
+/// one, and the room of its log goes to the node of the next one: so a long run takes no more memory than its nodes and its longest
+/// event.
 pub fn write_world<S: Sink>(
     alloc: Global,
     desc: &Description,
@@ -124,6 +126,7 @@ fn write_run<S: Sink>(
     if let Err(fault) = write_start(desc, world, programs, sim, out) {
         return stopped_at(0, fault);
     }
+    let mut room = NodeLog::new(alloc);
     let mut effect = Effect::none();
     for events in 0..u64::MAX {
         let Some((time, event)) = sim.radio.next() else {
@@ -143,6 +146,7 @@ fn write_run<S: Sink>(
             sim,
             &event,
             at,
+            &mut room,
             &mut effect,
             records,
             out,
@@ -188,7 +192,8 @@ fn write_start<S: Sink>(
     }
 }
 
-/// The event comes, with this stamp; it is recorded, where a record is kept, and its lines are written.
+/// The event comes, with this stamp; it is recorded, where a record is kept, and its lines are written. Where a next one may come, what
+/// was told is then forgotten, and the room of the node's log is spare again.
 #[inline(never)]
 fn write_step<S: Sink>(
     desc: &Description,
@@ -197,6 +202,7 @@ fn write_step<S: Sink>(
     sim: &mut Simulation,
     event: &Event,
     at: Stamp,
+    room: &mut NodeLog,
     effect: &mut Effect,
     records: &mut Option<Record>,
     out: &mut S,
@@ -204,23 +210,35 @@ fn write_step<S: Sink>(
     requires right { AreProgramsOfWorld desc.now world.now programs.now }
     requires stands { StandsAtNext (code_world desc.now world.now programs.now) event.now at sim.old }
     requires kept { LogsAreKept sim.old.motes.items }
+    requires empty { IsEmpty room.old }
     requires plain { effect.old ≡ plain_effect }
     requires recorded { IsRecorded records.old sim.old }
     ensures writes { IsStepWritten desc.now (code_world desc.now world.now programs.now) at.event sim.old sim.new (S.written out.old) (S.faults out.old) (S.written out.new) (S.faults out.new) records.new result }
+    ensures empty { IsEmpty room.new }
     ensures plain { OnOk result (effect.new ≡ plain_effect) }
     ensures kept { is_kept records.new ≡ is_kept records.old }
     ensures later { S.faults out.old ≤ S.faults out.new }
 {
-    let Ok(node) = sim.step(desc, world, programs, event, at, Written::Forgotten, effect) else {
+    let Ok(node) = sim.step(
+        desc,
+        world,
+        programs,
+        event,
+        at,
+        Written::Forgotten,
+        room,
+        effect,
+    ) else {
         return Err(stopped_at(at.event - 1, WriteFault::NoMemory));
     };
     let Ok(()) = record_event(records, sim, node) else {
         return Err(stopped_at(at.event - 1, WriteFault::NoMemory));
     };
-    match write_piece(desc, sim, node, out) {
-        Ok(()) => Ok(()),
-        Err(fault) => Err(stopped_at(at.event, stopped(fault))),
+    if let Err(fault) = write_piece(desc, sim, node, out) {
+        return Err(stopped_at(at.event, stopped(fault)));
     }
+    sim.leave(node, room);
+    Ok(())
 }
 
 /// Each node's store is seen; they are recorded, where a record is kept; and their lines are written, and the last line.

@@ -1,5 +1,5 @@
 -- What a world lets go, and what stands before an event.
-use Rattle.std.proofs.Common.{◌≡◌, ◌<◌, ◌+◌, ℕ, zero, suc, List, [], ◌∷◌, length, set, get_or, Option, Some, sym, ◌∙◌, ap, subst, arith, inl, inr, All}
+use Rattle.std.proofs.Common.{◌≡◌, ◌<◌, ◌+◌, ℕ, zero, suc, List, [], ◌∷◌, length, set, get_or, Option, Some, sym, ◌∙◌, ap, subst, arith, inl, inr, ◌⊎◌, All}
 use Rattle.std.specs.Prelude.{slice_get, IsSomeAnd, unwrap_or}
 use Rattle.std.proofs.lemmas.Bool.{cases_eq}
 use Rattle.std.proofs.lemmas.Option.{slice_get-get_or}
@@ -12,7 +12,7 @@ use Rattle.mate_journal.specs.Log.{Log, IsSameLog}
 use Rattle.mate_journal.specs.Journal.{journal_of, told_of}
 use Rattle.mate_journal.specs.Journal.{Event as Entered}
 use Rattle.mate_journal.specs.NodeScript.{records_max}
-use Rattle.mate_journal.specs.OpenLog.{nothing_gone}
+use Rattle.mate_journal.specs.OpenLog.{nothing_gone, gone_of}
 use Rattle.mate_journal.specs.Tidy.{IsTidyLog}
 use Rattle.mate_journal.specs.declared.entry.Stamped.{Stamped}
 use Rattle.node_invariant.specs.Meaning.{machine_in}
@@ -26,12 +26,12 @@ use Rattle.world_calls.specs.Calls.{AreCallsOf}
 use Rattle.world_rules.specs.World.{World}
 use Rattle.world_rules.specs.State.{Moment, WorldState, state}
 use Rattle.world_event.specs.Finishing.{IsTakenFrom}
-use Rattle.world_event.specs.Performing.{IsMoteAfter, coming}
+use Rattle.world_event.specs.Performing.{IsMoteAfter, IsRadioAfter, coming}
 use Rattle.world_event.proofs.RoomLemmas.{records-high}
 use Rattle.world_step.specs.declared.mote.Mote.{Mote}
-use Rattle.world_simulation.specs.Keeping.{IsWhole, HasForgotten, HaveForgotten, LetsGo, LetsGoAsTold}
+use Rattle.world_simulation.specs.Keeping.{IsWhole, IsFew, HasForgotten, HaveForgotten, LetsGo, LetsGoAsTold}
 use Rattle.world_simulation.specs.Reporting.{ShowStores}
-use Rattle.world_simulation.specs.Running.{StandsAtNext}
+use Rattle.world_simulation.specs.Running.{StandsAfter, StandsAtNext}
 use Rattle.world_simulation.specs.Telling.{LogsAreKept, AddsEvent}
 use Rattle.world_simulation.specs.declared.simulation.Simulation.{Simulation}
 use Rattle.world_simulation.specs.declared.simulation.Written.{Written}
@@ -43,6 +43,9 @@ use Rattle.world_simulation.proofs.MoteLemmas.{kept-set, first-mote, at-mote}
 pub alike : (a b : Log) → IsSameLog a b → a ≡ record b { spare = a.spare }
 alike a b same = λ i. record { entries = same.entries i; images = same.images i; stores = same.stores i; spare = a.spare }
 
+pub gone-same : (a b : Log) → IsSameLog a b → gone_of a ≡ gone_of b
+gone-same a b same = λ i. record { entries = length (same.entries i); images = length (same.images i); stores = length (same.stores i) }
+
 pub tidy-as : (d : Description) (l : Log) (n : ℕ) → IsTidyLog d l → IsTidyLog d (record l { spare = n })
 tidy-as d l n t = record { in_range = t.in_range; numbered = record { images = t.numbered.images; stores = t.numbered.stores }; lengths = t.lengths; ordered = t.ordered }
 
@@ -51,13 +54,13 @@ tidy-as d l n t = record { in_range = t.in_range; numbered = record { images = t
 module _ (old new : Mote) (f : HasForgotten old new) where
   heard-same : heard_of new.node ≡ heard_of old.node
   unfolding reading
-  heard-same = ap (λ (d : Description). reading d new.node.log) f.same.description ∙ ap (reading old.node.description) (alike new.node.log old.node.log f.same.log)
+  heard-same = ap (λ (d : Description). reading d new.node.log) f.description ∙ ap (reading old.node.description) (alike new.node.log old.node.log f.log)
 
   -- it is the same node
   pub forgotten-mote : (w : World) (ms : List Moment) (node : ℕ) → IsMoteAfter w ms node old → IsMoteAfter w ms node new
   forgotten-mote w ms node m = record {
     is = record {
-      description = f.same.description ∙ m.is.description;
+      description = f.description ∙ m.is.description;
       reading = heard-same ∙ m.is.reading;
       pace = f.pace ((state w ms).nodes node).pace m.is.pace;
       timer = ap (λ (x : Mote). x.timer) f.rest ∙ m.is.timer;
@@ -65,7 +68,7 @@ module _ (old new : Mote) (f : HasForgotten old new) where
       pumps = ap (λ (x : Mote). x.pumps) f.rest ∙ m.is.pumps;
       calls = subst (λ (x : Mote). AreCallsOf w node ((state w ms).nodes node).called x.calls) (sym f.rest) m.is.calls;
     };
-    journal = ap journal_of (alike new.node.log old.node.log f.same.log) ∙ m.journal;
+    journal = ap journal_of (alike new.node.log old.node.log f.log) ∙ m.journal;
   }
 
 -- and so are all
@@ -89,8 +92,8 @@ forgotten-kept olds news f kept k x below =
     let own = kept k x low in
     let a : Mote = get_or olds k x in
     let b : Mote = get_or news k x in
-    subst (λ (e : Description). KeepsJournal e (machine_in e) b.node.log) (sym o.same.description)
-    (subst (λ (l : Log). KeepsJournal a.node.description (machine_in a.node.description) l) (sym (alike b.node.log a.node.log o.same.log)) (kept-as a.node.description a.node.log b.node.log.spare own)) where
+    subst (λ (e : Description). KeepsJournal e (machine_in e) b.node.log) (sym o.description)
+    (subst (λ (l : Log). KeepsJournal a.node.description (machine_in a.node.description) l) (sym (alike b.node.log a.node.log o.log)) (kept-as a.node.description a.node.log b.node.log.spare own)) where
       kept-as : (d : Description) (l : Log) (n : ℕ) → KeepsJournal d (machine_in d) l → KeepsJournal d (machine_in d) (record l { spare = n })
       kept-as d l n k = record {
         well_formed = k.well_formed;
@@ -162,6 +165,33 @@ kept-still Forgotten old mid node m go found low own kept = subst LogsAreKept (s
   mine : KeepsJournal go.after.node.description (machine_in go.after.node.description) go.after.node.log
   mine = subst (λ (x : Mote). KeepsJournal x.node.description (machine_in x.node.description) x.node.log) is own
 
+-- ---- where it is let go behind an event
+
+module _ (old mid : Simulation) (node : ℕ) (go : LetsGo old mid node) (low : node < length old.motes.items) where
+  pub go-after : (w : World) (events : ℕ) → StandsAfter w events old → StandsAfter w events mid
+  go-after w events b = record {
+    moments = b.moments;
+    come = b.come;
+    count = b.count;
+    radio = subst (λ (e : Ether). IsRadioAfter w b.moments e) (sym go.radio) (record {
+      due = b.radio.due;
+      until = b.radio.until;
+      now = b.radio.now;
+      air = b.radio.air;
+      stands = record { stands = record { sent = b.radio.stands.stands.sent; wires = b.radio.stands.stands.wires }; delay = b.radio.stands.delay };
+      fit = b.radio.fit;
+    });
+    nodes = ap (λ (xs : List Mote). length xs) go.motes ∙ length-set old.motes.items node go.after ∙ b.nodes;
+    motes = go-motes old mid node go w b.moments b.motes low;
+    records = go.records ∙ b.records;
+    well_formed = b.well_formed;
+  }
+
+-- it stands there still
+pub left-stands : (old mid : Simulation) (node : ℕ) (w : World) (events : ℕ) → (mid ≡ old) ⊎ LetsGo old mid node → node < length old.motes.items → StandsAfter w events old → StandsAfter w events mid
+left-stands old mid node w events (inl same) low b = subst (StandsAfter w events) (sym same) b
+left-stands old mid node w events (inr go) low b = go-after old mid node go low w events b
+
 -- ---- nothing is forgotten
 
 all-set-whole : (motes : List Mote) (k : ℕ) (y : Mote) → All (λ (m : Mote). m.node.gone ≡ nothing_gone) motes → y.node.gone ≡ nothing_gone → All (λ (m : Mote). m.node.gone ≡ nothing_gone) (set motes k y)
@@ -195,3 +225,17 @@ few-stand w e at s node m b low found =
     let records = b.records in
     let room = b.room in
     omega (arith, high, told, long, air, records, room)
+
+pub few-after : (w : World) (events : ℕ) (s : Simulation) (node : ℕ) → StandsAfter w events s → node < w.nodes → s.records < 1000000 → IsFew s node
+few-after w events s node b low room =
+    let high = records-high w node b.moments in
+    let air = ap length b.radio.air in
+    let records = b.records in
+    record {
+      log = λ m found.
+          let own : IsMoteAfter w b.moments node m = subst (λ (o : Option Mote). IsSomeAnd o (IsMoteAfter w b.moments node)) found (b.motes node low) in
+          let told = ap length own.journal in
+          let long = length-map m.node.log.entries (λ (x : Stamped). let v : Entered = record { stamp = x.stamp; told = told_of m.node.log x.entry } in v) in
+          omega (arith, high, told, long, air, records, room);
+      air = omega (arith, high, air, records, room);
+    }

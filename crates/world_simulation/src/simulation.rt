@@ -1,6 +1,6 @@
 //! A world between its events: the radio, the nodes, and how many records stand.
 
-ghost use Rattle.std.specs.Prelude.{◌≡◌, ◌+◌, ◌<◌, ◌≤◌, ◌∷◌, [], List, length, slice_get, Some, All, IfOk, OnOk};
+ghost use Rattle.std.specs.Prelude.{◌≡◌, ◌+◌, ◌<◌, ◌≤◌, ◌∷◌, [], List, length, slice_get, Some, All, IfOk, OnOk, ◌⊎◌};
 ghost use Rattle.world_script.specs.World.{IsRightWorld};
 ghost use Rattle.mate_journal.specs.Log.{IsEmpty};
 ghost use Rattle.mate_journal.specs.declared.program.Program.{Program as ProgramOfFile};
@@ -14,10 +14,10 @@ ghost use Rattle.world_states.specs.Coming.{code_world};
 ghost use Rattle.node_programs.specs.WorldPrograms.{AreProgramsOfWorld};
 ghost use Rattle.world_simulation.specs.Starting.{HaveBegun};
 ghost use Rattle.world_simulation.specs.Running.{StandsAfter, StandsAtNext, NamesPart, named_node};
-ghost use Rattle.world_simulation.specs.Keeping.{IsWhole, LetsGoAsTold};
+ghost use Rattle.world_simulation.specs.Keeping.{IsWhole, IsFew, LetsGo, LetsGoAsTold};
 ghost use Rattle.world_simulation.specs.Telling.{HasComeOn, LogsAreKept};
 
-use mate_journal::Programs;
+use mate_journal::{NodeLog, Programs, RECORDS_MAX};
 use mate_num::{NoMemory, Stamp};
 use radio_sim::{Event, Radio};
 use std::alloc::Global;
@@ -64,8 +64,8 @@ impl Simulation {
         })
     }
 
-    /// The event comes, with this stamp. What its node and the radio told before it is forgotten, where that is to be forgotten. It
-    /// answers its node. The effect is nothing before it and after it.
+    /// The event comes, with this stamp. What its node and the radio told before it is forgotten, where that is to be forgotten, and
+    /// the node then has the spare room. It answers its node. The effect is nothing before it and after it.
     pub fn step(
         &mut self,
         desc: &Description,
@@ -74,20 +74,23 @@ impl Simulation {
         event: &Event,
         at: Stamp,
         written: Written,
+        room: &mut NodeLog,
         effect: &mut Effect,
     ) -> Result<u8, NoMemory>
         requires right { AreProgramsOfWorld desc.now world.now programs.now }
         requires stands { StandsAtNext (code_world desc.now world.now programs.now) event.now at self.old }
+        requires empty { IsEmpty room.old }
         requires plain { effect.old ≡ plain_effect }
         ensures stands { OnOk result (StandsAfter (code_world desc.now world.now programs.now) at.event self.new) }
         ensures adds { IfOk result (HasComeOn written at.event self.old self.new) }
         ensures kept { OnOk result (LogsAreKept self.old.motes.items → LogsAreKept self.new.motes.items) }
+        ensures empty { IsEmpty room.new }
         ensures plain { OnOk result (effect.new ≡ plain_effect) }
     {
         states_are_sound();
         text_grows_by_events();
         let number = node_of(world, event);
-        self.let_go(number, written);
+        self.let_go(number, written, room);
         let mote = &mut self.motes[usize::from(number)];
         let _before = mote.node.kept();
         let entries = mote.node.told();
@@ -110,17 +113,37 @@ impl Simulation {
         Ok(number)
     }
 
-    /// Forgets what a node and the radio told, where that is to be forgotten.
-    fn let_go(&mut self, number: u8, written: Written)
+    /// Behind an event of the node, where a next one may come: lets go what it told.
+    pub fn leave(&mut self, number: u8, room: &mut NodeLog)
+        requires node { number < length self.old.motes.items }
+        requires few { self.old.records < 1000000 → IsFew self.old number }
+        requires empty { IsEmpty room.old }
+        ensures leaves { (self.new ≡ self.old) ⊎ LetsGo self.old self.new number }
+        ensures kept { LogsAreKept self.old.motes.items → LogsAreKept self.new.motes.items }
+        ensures empty { IsEmpty room.new }
+    {
+        if self.records >= RECORDS_MAX {
+            return;
+        }
+        self.let_go(number, Written::Forgotten, room);
+        let _kept = self.motes[usize::from(number)].node.kept();
+    }
+
+    /// Forgets what a node and the radio told, where that is to be forgotten, and trades the node's room for the spare one.
+    pub(crate) fn let_go(&mut self, number: u8, written: Written, room: &mut NodeLog)
         requires node { number < length self.old.motes.items }
         requires log { (mote : MoteState) → slice_get self.old.motes.items number ≡ Some mote → length mote.node.log.entries < 3999999999 }
         requires air { length self.old.radio.air < 4000000000 }
-        ensures { LetsGoAsTold written self.old self.new number }
+        requires empty { IsEmpty room.old }
+        ensures lets_go { LetsGoAsTold written self.old self.new number }
+        ensures empty { IsEmpty room.new }
     {
         match written {
             Written::Kept => {}
             Written::Forgotten => {
-                self.motes[usize::from(number)].node.forget();
+                let node = &mut self.motes[usize::from(number)].node;
+                node.forget();
+                node.trade(room);
                 self.radio.forget();
             }
         }

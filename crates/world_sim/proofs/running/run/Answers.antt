@@ -81,12 +81,13 @@ report_of-requires-then-sim-ge-RECORDS_MAX-clause-whole c =
     record { nodes = c.loop-events.invariant.whole.nodes; air = ap (λ (e : Ether). e.gone) c.next.ensures.others ∙ c.loop-events.invariant.whole.air }
 
 pub loop-events-init : goal.loop-events-init
-loop-events-init c = record { stands = c.in_ok-sim.ensures.stands c.args.programs.now; plain = c.none-effect.ensures; logs = c.in_ok-logs.ensures.count; whole = c.in_ok-sim.ensures.whole }
+loop-events-init c = record { stands = c.in_ok-sim.ensures.stands c.args.programs.now; empty = record { entries = c.new-room.ensures.entries; images = c.new-room.ensures.images; stores = c.new-room.ensures.stores }; plain = c.none-effect.ensures; logs = c.in_ok-logs.ensures.count; whole = c.in_ok-sim.ensures.whole }
 
 pub loop-events-preserved : goal.loop-events-preserved
 loop-events-preserved c =
     let a = c.in_ok-step.ensures.adds in record {
       stands = c.in_ok-step.ensures.stands;
+      empty = c.in_ok-step.ensures.empty;
       plain = c.in_ok-step.ensures.plain;
       logs = c.loop-events.invariant.logs;
       whole = whole-still (c.loop-events.events + 1) c.in_ok-step.field-0 a.mid c.step.new.self a.adds

@@ -1,4 +1,5 @@
 use Rattle.std.proofs.Common.{◌≡◌, length}
+use Rattle.mate_journal.specs.Log.{IsEmpty}
 use Rattle.world_states.specs.Coming.{code_world}
 use Rattle.world_step.specs.Motes.{plain_effect}
 use Rattle.world_simulation.specs.Keeping.{IsWhole}
@@ -8,6 +9,7 @@ use Rattle.world_sim.proofs.running.run.Given as goal
 abbrev pub invariant-loop-events : goal.invariant-loop-events
 invariant-loop-events l = record {
   stands : StandsAfter (code_world l.desc l.world l.programs) l.events l.sim;
+  empty : IsEmpty l.room;
   plain : l.effect ≡ plain_effect;
   logs : length l.logs ≡ l.world.nodes;
   whole : IsWhole l.sim;

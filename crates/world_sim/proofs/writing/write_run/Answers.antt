@@ -80,6 +80,7 @@ pub loop-events-preserved : goal.loop-events-preserved
 loop-events-preserved g c = record {
   stands = c.in_default-write_step.ensures.writes.0;
   kept = c.in_default-write_step.ensures.writes.1;
+  empty = c.in_default-write_step.ensures.empty;
   plain = c.in_default-write_step.ensures.plain;
   written = c.in_default-write_step.ensures.writes.2 _ _ (written-air c.args.desc.now c.loop-events.sim (record { radio = c.next.new.self; motes = c.loop-events.sim.motes; records = c.loop-events.sim.records }) (ap (λ (e : Ether). e.air) c.next.ensures.others) refl _ _ _ _ c.loop-events.invariant.written);
   recorded = c.in_default-write_step.ensures.writes.3;

@@ -1,4 +1,5 @@
 use Rattle.std.proofs.Common.{◌≡◌}
+use Rattle.mate_journal.specs.Log.{IsEmpty}
 use Rattle.world_states.specs.Coming.{code_world}
 use Rattle.world_step.specs.Motes.{plain_effect}
 use Rattle.world_simulation.specs.Running.{StandsAfter}
@@ -11,6 +12,7 @@ abbrev pub invariant-loop-events : goal.invariant-loop-events
 invariant-loop-events g l = record {
   stands : StandsAfter (code_world l.desc l.world l.programs) l.events l.sim;
   kept : LogsAreKept l.sim.motes.items;
+  empty : IsEmpty l.room;
   plain : l.effect ≡ plain_effect;
   written : HasWrittenNow l.desc l.sim (g.S.Sink.written l.fn.out) (g.S.Sink.faults l.fn.out) (g.S.Sink.written l.out) (g.S.Sink.faults l.out);
   recorded : IsRecorded l.records l.sim;

@@ -1,9 +1,10 @@
 use Rattle.std.proofs.Common.{◌≡◌, ◌-◌, length, sym, subst, arith}
 use Rattle.run_writing.specs.declared.pass.Pass.{Pass}
 use Rattle.world_states.specs.Coming.{code_world}
+use Rattle.world_simulation.proofs.KeepingLemmas.{few-after, left-stands}
 use Rattle.world_sim.specs.Writing.{EndsSo}
-use Rattle.world_sim.proofs.HandLemmas.{written-still, at-hand-now, put-now}
-use Rattle.world_sim.proofs.RecordingLemmas.{recorded-before, recorded-still}
+use Rattle.world_sim.proofs.HandLemmas.{written-still, at-hand-now, put-now, left-written}
+use Rattle.world_sim.proofs.RecordingLemmas.{recorded-before, recorded-still, left-recorded}
 use Rattle.world_sim.proofs.WritingLemmas.{memory-ends, step-goes, step-fails}
 use Rattle.world_sim.proofs.writing.write_step.Goals as goal
 
@@ -38,16 +39,28 @@ returns-in_default-record_event-clause-writes g c =
 pub write_piece-requires : goal.write_piece-requires
 write_piece-requires g c = (at-hand-now c.args.at.event c.in-Ok.node c.args.sim.now c.in-Ok.ensures.adds.mid c.step.new.self c.in-Ok.ensures.adds.lets_go c.in-Ok.ensures.adds.adds).low
 
-pub returns-in-Ok-write_piece-clause-writes : goal.returns-in-Ok-write_piece-clause-writes
-returns-in-Ok-write_piece-clause-writes g c =
+pub leave-requires-clause-node : goal.leave-requires-clause-node
+leave-requires-clause-node g c = (at-hand-now c.args.at.event c.in-Ok.node c.args.sim.now c.in-Ok.ensures.adds.mid c.step.new.self c.in-Ok.ensures.adds.lets_go c.in-Ok.ensures.adds.adds).low
+
+pub leave-requires-clause-few : goal.leave-requires-clause-few
+leave-requires-clause-few g c = λ room.
+    let stands = c.in-Ok.ensures.stands in
+    let low = (at-hand-now c.args.at.event c.in-Ok.node c.args.sim.now c.in-Ok.ensures.adds.mid c.step.new.self c.in-Ok.ensures.adds.lets_go c.in-Ok.ensures.adds.adds).low in
+    let nodes = stands.nodes in
+    few-after (code_world c.args.desc.now c.args.world.now c.args.programs.now) c.args.at.event c.step.new.self c.in-Ok.node stands (omega (arith, low, nodes)) room
+
+pub returns-clause-writes : goal.returns-clause-writes
+returns-clause-writes g c =
     let a = c.in-Ok.ensures.adds in
-    let h = at-hand-now c.args.at.event c.in-Ok.node c.args.sim.now a.mid c.step.new.self a.lets_go a.adds in (
-      c.in-Ok.ensures.stands,
-      c.in-Ok.ensures.kept c.requires.kept,
+    let h = at-hand-now c.args.at.event c.in-Ok.node c.args.sim.now a.mid c.step.new.self a.lets_go a.adds in
+    let left = c.leave.ensures.leaves in (
+      left-stands c.step.new.self c.leave.new.self c.in-Ok.node (code_world c.args.desc.now c.args.world.now c.args.programs.now) c.args.at.event left h.low c.in-Ok.ensures.stands,
+      c.leave.ensures.kept (c.in-Ok.ensures.kept c.requires.kept),
       λ out0 f0 written.
-          step-goes c.args.desc.now c.args.world.now c.args.programs.now c.args.at.event c.in-Ok.node a.mid c.step.new.self a.adds _ _ _ _ out0 f0
-          (written-still c.args.sim.now a.mid c.in-Ok.node a.lets_go c.args.desc.now out0 f0 _ _ written) (put-now c.args.desc.now c.in-Ok.node a.mid c.step.new.self a.adds h _ _ _ _ _ (c.in-Ok-write_piece.ensures a.adds.after h.found)),
-      c.in-Ok-record_event.ensures.recorded,
+          left-written c.step.new.self c.leave.new.self c.in-Ok.node left c.args.desc.now out0 f0 _ _
+          (step-goes c.args.desc.now c.args.world.now c.args.programs.now c.args.at.event c.in-Ok.node a.mid c.step.new.self a.adds _ _ _ _ out0 f0
+          (written-still c.args.sim.now a.mid c.in-Ok.node a.lets_go c.args.desc.now out0 f0 _ _ written) (put-now c.args.desc.now c.in-Ok.node a.mid c.step.new.self a.adds h _ _ _ _ _ (c.in_default-write_piece.ensures a.adds.after h.found))),
+      left-recorded c.record_event.new.records c.step.new.self c.leave.new.self c.in-Ok.node left c.in_default-record_event.ensures.recorded,
     )
 
 pub returns-in-Err-clause-writes : goal.returns-in-Err-clause-writes
@@ -61,10 +74,10 @@ returns-in-Err-clause-writes g c =
     c.in-Err.fault c.stopped.result _ _ _ _ out0 f0
     (written-still c.args.sim.now a.mid c.in-Ok.node a.lets_go c.args.desc.now out0 f0 _ _ written) (put-now c.args.desc.now c.in-Ok.node a.mid c.step.new.self a.adds h _ _ _ _ _ (c.in-Err.ensures a.adds.after h.found)) c.stopped.ensures)
 
-pub returns-in-Ok-write_piece-clause-later : goal.returns-in-Ok-write_piece-clause-later
-returns-in-Ok-write_piece-clause-later g c =
+pub returns-clause-later : goal.returns-clause-later
+returns-clause-later g c =
     let a = c.in-Ok.ensures.adds in
-    (c.in-Ok-write_piece.ensures a.adds.after (at-hand-now c.args.at.event c.in-Ok.node c.args.sim.now a.mid c.step.new.self a.lets_go a.adds).found).later
+    (c.in_default-write_piece.ensures a.adds.after (at-hand-now c.args.at.event c.in-Ok.node c.args.sim.now a.mid c.step.new.self a.lets_go a.adds).found).later
 
 pub returns-in-Err-clause-later : goal.returns-in-Err-clause-later
 returns-in-Err-clause-later g c =
