@@ -114,7 +114,7 @@ forgotten-logs olds news f = all-places (mote_logs news) (mote_logs olds) (long-
   each k a b is_a is_b =
       let m = mote-of news k a is_a in
       let n = mote-of olds k b is_b in
-      let same = (f.each k n.mote m.mote (mote-low olds k n.mote n.found) n.found m.found).same.log in
+      let same = (f.each k n.mote m.mote (mote-low olds k n.mote n.found) n.found m.found).log in
       subst (λ (l : Log). IsSameLog l b) m.is (subst (λ (l : Log). IsSameLog m.mote.node.log l) n.is same)
 
 -- ---- what is recorded, where the logs stay the same

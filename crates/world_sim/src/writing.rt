@@ -56,7 +56,7 @@ pub fn run_into<S: Sink>(
         return Err(IntoFault::NoMemory(nothing_run(alloc)));
     };
     let mut record = Some(record);
-    let pass = write_run(desc, world, programs, &mut sim, &mut record, out);
+    let pass = write_run(alloc, desc, world, programs, &mut sim, &mut record, out);
     let Some(record) = record else { unreachable!() };
     let report = record.into_report(pass.events, pass.whole);
     match pass.result {
@@ -84,7 +84,7 @@ pub fn write_world<S: Sink>(
         return Err(WriteFault::NoMemory);
     };
     let mut none = None;
-    write_run(desc, world, programs, &mut sim, &mut none, out).result
+    write_run(alloc, desc, world, programs, &mut sim, &mut none, out).result
 }
 
 /// The world before its first event, and the record of its start.
@@ -107,6 +107,7 @@ fn start_recorded(
 /// the report has that was written, or a part of it.
 #[inline(never)]
 fn write_run<S: Sink>(
+    alloc: Global,
     desc: &Description,
     world: &World,
     programs: &Programs,

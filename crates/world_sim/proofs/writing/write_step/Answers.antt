@@ -60,7 +60,7 @@ returns-clause-writes g c =
           left-written c.step.new.self c.leave.new.self c.in-Ok.node left c.args.desc.now out0 f0 _ _
           (step-goes c.args.desc.now c.args.world.now c.args.programs.now c.args.at.event c.in-Ok.node a.mid c.step.new.self a.adds _ _ _ _ out0 f0
           (written-still c.args.sim.now a.mid c.in-Ok.node a.lets_go c.args.desc.now out0 f0 _ _ written) (put-now c.args.desc.now c.in-Ok.node a.mid c.step.new.self a.adds h _ _ _ _ _ (c.in_default-write_piece.ensures a.adds.after h.found))),
-      left-recorded c.record_event.new.records c.step.new.self c.leave.new.self c.in-Ok.node left c.in_default-record_event.ensures.recorded,
+      left-recorded c.record_event.new.records c.step.new.self c.leave.new.self c.in-Ok.node left c.in-Ok-record_event.ensures.recorded,
     )
 
 pub returns-in-Err-clause-writes : goal.returns-in-Err-clause-writes
