@@ -9,7 +9,7 @@ use Rattle.ts_syntax.specs.Text.{token_text}
 use Rattle.ts_syntax.specs.Spelling.{kinds}
 use Rattle.ts_syntax.specs.Cut.{is_blank, is_digit, begins_name, in_name, sign_of, keywords, keyword_among, word_kind, token, CutFault, Mode, between, comment, word, literal, less, greater, Turn, stop, go, behind, sign_turn, fresh, turn, at_end, with_front, turned, cut_from, cut}
 use Rattle.ts_lexer.specs.Spans.{Begins, Passes}
-use Rattle.ts_lexer.specs.Printed.{IsWord, IsNameText, IsKind, AreKinds}
+use Rattle.ts_lexer.specs.Printed.{IsWord, IsKind, AreKinds}
 use Rattle.ts_lexer.proofs.CutLemmas.{cut_from-nil, cut_from-cons}
 
 -- what a mode, a turn and a result keep

@@ -2,7 +2,7 @@
 use Rattle.std.proofs.Common.{◌≡◌, ℕ, List, length, None, sym, ◌∙◌, ap, subst}
 use Rattle.ts_syntax.specs.declared.token.TokenKind.{TokenKind}
 use Rattle.ts_syntax.specs.Tree.{Source}
-use Rattle.ts_syntax.specs.Spelling.{kinds, source_spelled, source_places, noted}
+use Rattle.ts_syntax.specs.Spelling.{source_spelled, source_places, noted}
 use Rattle.ts_syntax.specs.Depth.{first_deep}
 use Rattle.ts_syntax.specs.Derived.{IsDerived}
 use Rattle.ts_syntax.specs.Text.{text_of}

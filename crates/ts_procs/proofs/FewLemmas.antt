@@ -1,5 +1,5 @@
 -- A text has at most as many tokens as bytes, and a script at most as many parameters as tokens.
-use Rattle.std.proofs.Common.{◌≡◌, ℕ, suc, zero, ◌+◌, ◌<◌, ◌≤◌, ◌*◌, List, [], ◌∷◌, ◌++◌, length, map, Bool, true, false, Option, Some, None, Result, Ok, Err, ap, sym, ◌∙◌, subst, arith}
+use Rattle.std.proofs.Common.{◌≡◌, ℕ, suc, ◌+◌, ◌≤◌, List, [], ◌∷◌, ◌++◌, length, map, Bool, true, false, Option, Some, None, Result, Ok, Err, ap, sym, subst, arith}
 use Rattle.std.specs.Prelude.{⊤, if◌then◌else◌, ◌==◌, ◌-◌, nat_lt}
 use Rattle.std.proofs.lemmas.List.{length-append, length-map}
 use Rattle.ts_syntax.specs.declared.dialect.Dialect.TheVariants.{Procedures}

@@ -2,7 +2,7 @@
 use Rattle.std.specs.Prelude.{◌≡◌, ℕ, List, length, Some, Result, Ok, Err, ⊤}
 use Rattle.ts_syntax.specs.declared.dialect.Dialect.TheVariants.{Procedures}
 use Rattle.ts_syntax.specs.declared.token.Token.{Token}
-use Rattle.ts_syntax.specs.Cut.{cut_in, CutFault, bad_byte, big_literal}
+use Rattle.ts_syntax.specs.Cut.{cut_in, bad_byte, big_literal}
 use Rattle.ts_syntax.specs.Faults.{SpellsIn, IsUnexpectedIn, IsTooDeepIn}
 use Rattle.ts_syntax.specs.Tree.{ProcedureSource}
 use Rattle.ts_parser.specs.declared.fault.SourceFault.{SourceFault}
