@@ -41,15 +41,10 @@ file f name = judged (IsRead f name) (IsUnread f name) (λ why. InFile name (cau
 -- a file could not be read
 abbrev pub IsUnreadCause : Cause → Type 0
 IsUnreadCause (cause.Unread why) = ⊤
-IsUnreadCause (cause.Source why) = ⊥
-IsUnreadCause (cause.Code why) = ⊥
-IsUnreadCause (cause.Capsule why) = ⊥
-IsUnreadCause (cause.Expansion why) = ⊥
+IsUnreadCause _ = ⊥
 
 abbrev pub IsUnreadAnswer : {A : Type 0} → Result A Refusal → Type 0
 IsUnreadAnswer (Ok a) = ⊥
-IsUnreadAnswer (Err Usage) = ⊥
-IsUnreadAnswer (Err (BadDescription fault)) = ⊥
 IsUnreadAnswer (Err (InFile name why)) = IsUnreadCause why
 IsUnreadAnswer (Err _) = ⊥
 
