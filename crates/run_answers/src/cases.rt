@@ -5,15 +5,16 @@ ghost use Rattle.world_script.specs.World.{IsRightWorld};
 
 use crate::programs::{are_of, programs_of_script};
 use crate::same::are_same;
-use mate_journal::{IntoFault, Programs, Report, RunFault};
+use crate::stopped::stopped;
+use mate_journal::{Programs, Report, RunFault};
 use mate_steps::machine_of;
-use memory_files::{MemFiles, MemSink};
+use memory_files::MemFiles;
 use report_reading::read;
 use std::alloc::{AllocError, Global};
 use vm_desc::Description;
 use world_reader::world_script;
 use world_script::World;
-use world_sim::{run, run_into};
+use world_sim::run;
 
 /// The most bytes of a script.
 const SCRIPT_MAX: usize = 1_048_576;
@@ -21,17 +22,15 @@ const SCRIPT_MAX: usize = 1_048_576;
 /// The most bytes of a report.
 const REPORT_MAX: usize = 4_000_000_000;
 
-/// A world's script, its machine and its sources by their names, and the report that its run should have. Where its text goes to a
-/// sink that fails at a write, what should be written until then.
+/// A world's script, its machine and its sources by their names, and the report that its run should have.
 #[derive(Drop)]
 pub struct Case {
     name: String,
     files: MemFiles,
     script: String,
     report: String,
-    // the number of the write that fails, from 1, or 0 where the run isn't written
-    fails: u64,
-    written: String,
+    // whether its text goes to a sink that fails, at each write in turn
+    fails: bool,
 }
 
 impl Case {
@@ -42,8 +41,7 @@ impl Case {
             files: MemFiles::new(alloc),
             script: String::new(alloc),
             report: String::new(alloc),
-            fails: 0,
-            written: String::new(alloc),
+            fails: false,
         };
         for (place, part) in block.split("\n-- ").enumerate() {
             if place == 0 {
@@ -59,9 +57,11 @@ impl Case {
     /// A file of the case more.
     fn add(&mut self, alloc: Global, file: &str, text: &str) -> Result<(), AllocError> {
         match file {
-            "report" => self.report = lines_of(alloc, text)?,
-            "written" => self.written = lines_of(alloc, text)?,
-            "fails" => self.fails = text.trim_end().parse().unwrap_or(0),
+            "report" => {
+                let text = text.trim_end_matches('\n');
+                self.report = format!(in alloc; "{text}\n")?;
+            }
+            "each write fails" => self.fails = true,
             "w.txt" => self.script = text.to_string(alloc)?,
             _ => {
                 let _ = self.files.add(file, text.as_bytes());
@@ -78,7 +78,6 @@ impl Case {
             script,
             report,
             fails,
-            written,
         } = self;
         let Ok(desc) = machine_of(alloc, &mut files, "v.toml") else {
             return format!(in alloc; "{name} no machine");
@@ -95,20 +94,12 @@ impl Case {
         if !are_of(&world, &programs) {
             return format!(in alloc; "{name} other programs");
         }
-        let verdict = if fails == 0 {
-            ran(alloc, &desc, &world, &programs, &report)?
-        } else {
-            stopped(alloc, &desc, &world, &programs, &report, fails, &written)?
-        };
+        if fails {
+            let verdict = stopped(alloc, &desc, &world, &programs, &report)?;
+            return format!(in alloc; "{name} {verdict}");
+        }
+        let verdict = ran(alloc, &desc, &world, &programs, &report)?;
         format!(in alloc; "{name} {verdict}")
-    }
-}
-
-/// The lines of a part of a block, or nothing.
-fn lines_of(alloc: Global, text: &str) -> Result<String, AllocError> {
-    match text.trim_end_matches('\n') {
-        "" => Ok(String::new(alloc)),
-        text => format!(in alloc; "{text}\n"),
     }
 }
 
@@ -127,34 +118,6 @@ fn ran(
         Err(RunFault::LogFull(made)) => told(alloc, desc, "full", &made, report),
         Err(RunFault::NoMemory) => "no memory".to_string(alloc),
     }
-}
-
-/// What the run of the world gives, and whether what was written is what was wanted, where a write fails.
-fn stopped(
-    alloc: Global,
-    desc: &Description,
-    world: &World,
-    programs: &Programs,
-    report: &str,
-    fails: u64,
-    written: &str,
-) -> Result<String, AllocError>
-    requires { AreProgramsOfWorld desc.now world.now programs.now }
-{
-    let mut sink = MemSink::new(alloc);
-    let _ = sink.fail_at(fails);
-    let told = match run_into(alloc, desc, world, programs, &mut sink) {
-        Ok(made) => told(alloc, desc, "whole", &made, report)?,
-        Err(IntoFault::LogFull(made)) => told(alloc, desc, "full", &made, report)?,
-        Err(IntoFault::NoMemory(made)) => told(alloc, desc, "no memory", &made, report)?,
-        Err(IntoFault::Sink(made)) => told(alloc, desc, "sink", &made, report)?,
-    };
-    let bytes = if sink.bytes() == written.as_bytes() {
-        "as wanted"
-    } else {
-        "something else"
-    };
-    format!(in alloc; "{told}, written {bytes}")
 }
 
 /// How the run ended, how many records and events its report has, and whether it is the wanted one, where there is one.

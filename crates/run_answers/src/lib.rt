@@ -4,6 +4,7 @@
 mod cases;
 mod programs;
 mod same;
+mod stopped;
 
 use cases::Case;
 use std::alloc::{AllocError, Global};

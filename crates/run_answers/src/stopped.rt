@@ -1,0 +1,136 @@
+//! Runs whose text goes to a sink that fails, and the report that is handed out then.
+
+ghost use Rattle.node_programs.specs.WorldPrograms.{AreProgramsOfWorld};
+
+use crate::same::are_same;
+use mate_journal::{IntoFault, Programs, Report};
+use memory_files::MemSink;
+use report_reading::read;
+use std::alloc::{AllocError, Global};
+use vm_desc::Description;
+use world_script::World;
+use world_sim::run_into;
+
+/// The most bytes of a report.
+const REPORT_MAX: usize = 1_048_576;
+
+/// The most writes of a run.
+const WRITES_MAX: u64 = 100_000;
+
+/// How a run ended whose sink failed at one write.
+#[derive(Clone, Copy)]
+enum Stop {
+    /// It wrote all before.
+    Unstopped,
+    /// It handed out the report of the events that ended, behind the beginning of its text.
+    Rightly,
+    Wrongly,
+}
+
+/// Whether a run hands out the report that it should at whichever write the sink fails, by the text of the whole run.
+pub(crate) fn stopped(
+    alloc: Global,
+    desc: &Description,
+    world: &World,
+    programs: &Programs,
+    text: &str,
+) -> Result<String, AllocError>
+    requires { AreProgramsOfWorld desc.now world.now programs.now }
+{
+    for call in 1..WRITES_MAX {
+        match stopped_at(alloc, desc, world, programs, text, call)? {
+            Stop::Rightly => {}
+            Stop::Unstopped => return "stopped at each write as wanted".to_string(alloc),
+            Stop::Wrongly => return format!(in alloc; "stopped otherwise at write {call}"),
+        }
+    }
+    "too long".to_string(alloc)
+}
+
+/// How the run ends whose sink fails at this write.
+fn stopped_at(
+    alloc: Global,
+    desc: &Description,
+    world: &World,
+    programs: &Programs,
+    text: &str,
+    call: u64,
+) -> Result<Stop, AllocError>
+    requires { AreProgramsOfWorld desc.now world.now programs.now }
+{
+    let mut sink = MemSink::new(alloc);
+    let _ = sink.fail_at(call);
+    let report = match run_into(alloc, desc, world, programs, &mut sink) {
+        Ok(_) if sink.bytes() == text.as_bytes() => return Ok(Stop::Unstopped),
+        Ok(_) => return Ok(Stop::Wrongly),
+        Err(IntoFault::Sink(report)) => report,
+        Err(_) => return Ok(Stop::Wrongly),
+    };
+    let wanted = wanted_text(alloc, text, sink.bytes().len())?;
+    if text.as_bytes().starts_with(sink.bytes()) && is_of(alloc, desc, &report, &wanted) {
+        Ok(Stop::Rightly)
+    } else {
+        Ok(Stop::Wrongly)
+    }
+}
+
+/// Whether the report is the one of this text.
+fn is_of(alloc: Global, desc: &Description, report: &Report, text: &str) -> bool {
+    if text.len() > REPORT_MAX {
+        return false;
+    }
+    match read(alloc, desc, text.as_bytes()) {
+        Ok(wanted) => are_same(alloc, desc, report, &wanted),
+        Err(_) => false,
+    }
+}
+
+/// The text of the report that is handed out where so many bytes were written. The next line that was to be written is of the last event that
+/// ended, and its report has all that this one and those before it told. Behind the events it is the whole report.
+fn wanted_text(alloc: Global, text: &str, written: usize) -> Result<String, AllocError> {
+    let (events, nodes) = counts(text);
+    match event_of(line_at(text, written)) {
+        Some(event) if event <= events => cut(alloc, text, event, nodes),
+        _ => text.to_string(alloc),
+    }
+}
+
+/// The lines of these first events, and the last line of a report that isn't whole.
+fn cut(alloc: Global, text: &str, last: u64, nodes: u64) -> Result<String, AllocError> {
+    let mut lines = String::new(alloc);
+    let mut records: u64 = 0;
+    for line in text.lines() {
+        if event_of(line).is_some_and(|event| event <= last) {
+            lines = format!(in alloc; "{lines}{line}\n")?;
+            records = records.saturating_add(1);
+        }
+    }
+    format!(in alloc; "{lines}full {records} {last} {nodes}\n")
+}
+
+/// The line that a byte of the text is of.
+fn line_at(text: &str, place: usize) -> &str {
+    let mut end: usize = 0;
+    for line in text.lines() {
+        end = end.saturating_add(line.len()).saturating_add(1);
+        if end > place {
+            return line;
+        }
+    }
+    ""
+}
+
+/// The event that a line is of. The last line is of none.
+fn event_of(line: &str) -> Option<u64> {
+    line.split(' ').next()?.parse::<u64>().ok()
+}
+
+/// The events and the nodes of a text's last line.
+fn counts(text: &str) -> (u64, u64) {
+    let last = text.lines().last().unwrap_or("");
+    let mut numbers = last
+        .split(' ')
+        .filter_map(|word| word.parse::<u64>().ok())
+        .skip(1);
+    (numbers.next().unwrap_or(0), numbers.next().unwrap_or(0))
+}
