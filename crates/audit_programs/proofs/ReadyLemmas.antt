@@ -5,6 +5,7 @@ use Rattle.std.proofs.lemmas.Bool.Decides.{same_from_decides}
 use Rattle.arrayvec.specs.ArrayVec.{ArrayVec}
 use Rattle.mate_num.specs.Uses.{Uses, Conflicts}
 use Rattle.mate_num.specs.declared.outcome.Outcome.{Outcome}
+use Rattle.mate_num.specs.declared.resource.Resource.{Resource}
 use Rattle.mate_num.specs.declared.shape.Shape.{Shape}
 use Rattle.mate_num.specs.declared.store.Store.{Store}
 use Rattle.mate_code.specs.CodeUses.{uses_of}
@@ -12,11 +13,12 @@ use Rattle.mate_code.specs.Run.{Code}
 use Rattle.vm_desc.specs.Shapes.{shape_of}
 use Rattle.vm_desc.specs.declared.description.Description.{Description}
 use Rattle.mate_journal.specs.Journal.{Invocation, Reading, answers_of}
-use Rattle.mate_journal.specs.Machine.{HeldProgram}
+use Rattle.mate_journal.specs.Machine.{HeldProgram, Meaning}
 use Rattle.mate_journal.specs.declared.program.Program.{Program}
 use Rattle.node_invariant.specs.Meaning.{code_of}
 use Rattle.node_programs.specs.Right.{AreRightPrograms}
 use Rattle.node_programs.specs.Sources.{meaning_by}
+use Rattle.node_programs.proofs.MeaningLemmas.{meaning_by-right}
 use Rattle.audit_finite.specs.Rerun.{run_on}
 use Rattle.audit_finite.specs.Shown.{HasLengthsOf}
 use Rattle.audit_runs.proofs.ConflictLemmas.{code-TellsConflicts}
@@ -57,3 +59,10 @@ run-lengths d ps store i (Err e) right long is = tt
 -- a program is ready for one that is held with the same image
 pub IsReadyFor-image : (d : Description) (h p : HeldProgram) (r : ReadyProgram) → h.image ≡ p.image → IsReadyFor d h r → IsReadyFor d p r
 IsReadyFor-image d h p r same ready = record { code = subst (λ (image : ArrayVec ℕ). IsCodeOf d image r.code) same ready.code; source = ready.source }
+
+-- what the code writes is what the held program writes
+pub writes-told : (d : Description) (ps : List Program) (h : HeldProgram) (a : ReadyProgram) (at : Resource) → AreRightPrograms d ps → IsReadyFor d h a → (uses_of a.code.shape a.code.code).writes at ≡ ((meaning_by d ps).uses h).writes at
+writes-told d ps h a at right ready =
+    ap (λ (s : Shape). (uses_of s a.code.code).writes at) ready.code.shape
+    ∙ ap (λ (c : Code). (uses_of (shape_of d) c).writes at) ready.code.code
+    ∙ ap (λ (m : Meaning). (m.uses h).writes at) (sym (meaning_by-right d ps right))

@@ -10,7 +10,7 @@ use crate::finding::find_program;
 use crate::trial::Trial;
 use audit_roll::{Roll, Seat};
 use mate_journal::{Entry, Program};
-use mate_num::{Call, HandlerId, NoMemory, Outcome, Store};
+use mate_num::{Call, HandlerId, NoMemory, Outcome, Resource, Store};
 use std::alloc::Global;
 use whole_runs::{ReadyProgram, ReadyPrograms};
 
@@ -48,7 +48,8 @@ pub struct ReadyRoll<'a> {
 }
 
 impl<'a> ReadyRoll<'a> {
-    ghost use Rattle.std.specs.Prelude.{◌≡◌, ◌+◌, ◌<◌, true, length, IfOk, OnOk};
+    ghost use Rattle.std.specs.Prelude.{◌≡◌, ◌+◌, ◌<◌, true, length, IfOk, IsTrue, OnOk};
+    ghost use Rattle.mate_num.specs.Locks.{is_resource};
     ghost use Rattle.mate_journal.specs.Journal.{told_of};
     ghost use Rattle.mate_journal.specs.Tidy.{IsEntryInRange};
     ghost use Rattle.journal_laws.specs.Growth.{IsNamedBelow};
@@ -136,6 +137,17 @@ impl<'a> ReadyRoll<'a> {
     {
         self.program_of(trial, one)
             .conflicts(self.program_of(trial, other))
+    }
+
+    /// Whether the program of a live invocation writes the resource.
+    pub fn writes(&self, trial: &Trial, seat: &Seat, at: Resource) -> bool
+        requires tried { IsTried trial.now }
+        requires ready { IsSeatReady trial.now self.now seat.now }
+        requires known { IsTrue (is_resource at) }
+        ensures { let seat = seat_in trial.now.log.now.images seat.now in
+            result ≡ ((machine_for trial.now).meaning.uses seat.invocation.program).writes at }
+    {
+        self.program_of(trial, seat).writes(at)
     }
 
     /// The whole run of a live invocation on a store, with the answers that it got so far.
