@@ -1,0 +1,68 @@
+-- Live invocations with ready programs: conflicts, and runs.
+use Rattle.std.proofs.Common.{◌≡◌, ℕ, ℤ, Bool, List, None, Result, Ok, Err, sym, ◌∙◌, ap, subst}
+use Rattle.std.specs.Prelude.{Decides, IfOk}
+use Rattle.std.proofs.lemmas.Bool.Decides.{same_from_decides}
+use Rattle.arrayvec.specs.ArrayVec.{ArrayVec}
+use Rattle.mate_num.specs.Uses.{Uses, Conflicts}
+use Rattle.mate_num.specs.declared.outcome.Outcome.{Outcome}
+use Rattle.mate_num.specs.declared.resource.Resource.{Resource}
+use Rattle.mate_num.specs.declared.shape.Shape.{Shape}
+use Rattle.mate_num.specs.declared.store.Store.{Store}
+use Rattle.mate_code.specs.CodeUses.{uses_of}
+use Rattle.mate_code.specs.Run.{Code}
+use Rattle.vm_desc.specs.Shapes.{shape_of}
+use Rattle.vm_desc.specs.declared.description.Description.{Description}
+use Rattle.mate_journal.specs.Journal.{Invocation, Reading, answers_of}
+use Rattle.mate_journal.specs.Machine.{HeldProgram, Meaning}
+use Rattle.mate_journal.specs.declared.program.Program.{Program}
+use Rattle.node_invariant.specs.Meaning.{code_of}
+use Rattle.node_programs.specs.Right.{AreRightPrograms}
+use Rattle.node_programs.specs.Sources.{meaning_by}
+use Rattle.node_programs.proofs.MeaningLemmas.{meaning_by-right}
+use Rattle.audit_finite.specs.Rerun.{run_on}
+use Rattle.audit_finite.specs.Shown.{HasLengthsOf}
+use Rattle.audit_runs.proofs.ConflictLemmas.{code-TellsConflicts}
+use Rattle.audit_rules.specs.Laws.{machine_by}
+use Rattle.audit_rules.specs.Tests.{conflict_of}
+use Rattle.audit_rules.proofs.RightLemmas.{lengths}
+use Rattle.whole_runs.specs.Images.{IsCodeOf}
+use Rattle.whole_runs.specs.Ready.{IsReadyFor}
+use Rattle.whole_runs.specs.declared.ready.ReadyProgram.{ReadyProgram}
+
+-- ready programs conflict where the held ones do
+pub conflict-told : (d : Description) (p q : HeldProgram) (a b : ReadyProgram) (r : Bool) → IsReadyFor d p a → IsReadyFor d q b → Decides r (Conflicts (uses_of a.code.shape a.code.code) (uses_of b.code.shape b.code.code)) → r ≡ conflict_of d p q
+conflict-told d p q a b r of_p of_q told =
+    let shape : Shape = shape_of d in
+    let uses_p : uses_of a.code.shape a.code.code ≡ uses_of shape (code_of shape p.image) = ap (λ (s : Shape). uses_of s a.code.code) of_p.code.shape ∙ ap (λ (c : Code). uses_of shape c) of_p.code.code in
+    let uses_q : uses_of b.code.shape b.code.code ≡ uses_of shape (code_of shape q.image) = ap (λ (s : Shape). uses_of s b.code.code) of_q.code.shape ∙ ap (λ (c : Code). uses_of shape c) of_q.code.code in
+    let P : Uses → Type 0 = λ u. Decides r (Conflicts u (uses_of b.code.shape b.code.code)) in
+    let Q : Uses → Type 0 = λ u. Decides r (Conflicts (uses_of shape (code_of shape p.image)) u) in
+    same_from_decides r (conflict_of d p q) (subst Q uses_q (subst P uses_p told)) (code-TellsConflicts shape (λ h. code_of shape h.image) p q)
+
+-- a run keeps them
+run_on-lengths : (d : Description) (ps : List Program) (store : Store) (i : Invocation) → AreRightPrograms d ps → HasLengthsOf (machine_by d ps) store → HasLengthsOf (machine_by d ps) (run_on (machine_by d ps) store i).store
+run_on-lengths d ps store i right long =
+    let r : Reading = record { serial = store; posts = 0; installed = λ _. None; invocations = λ _. i } in
+    lengths d ps right r 0 long
+
+-- the run of a ready program, with the answers of an invocation
+pub run-told : {E : Type 0} (d : Description) (ps : List Program) (store : Store) (i : Invocation) (answers : List ℤ) (r : Result Outcome E) → answers ≡ answers_of i
+    → IfOk r (λ o. o ≡ (meaning_by d ps).run i.program store i.payload answers d.turns) → IfOk r (λ o. o ≡ run_on (machine_by d ps) store i)
+run-told d ps store i answers (Ok o) same is = is ∙ ap (λ (xs : List ℤ). (meaning_by d ps).run i.program store i.payload xs d.turns) same
+run-told d ps store i answers (Err e) same is = tt
+
+pub run-lengths : {E : Type 0} (d : Description) (ps : List Program) (store : Store) (i : Invocation) (r : Result Outcome E) → AreRightPrograms d ps → HasLengthsOf (machine_by d ps) store
+    → IfOk r (λ o. o ≡ run_on (machine_by d ps) store i) → IfOk r (λ o. HasLengthsOf (machine_by d ps) o.store)
+run-lengths d ps store i (Ok o) right long is = subst (λ (x : Outcome). HasLengthsOf (machine_by d ps) x.store) (sym is) (run_on-lengths d ps store i right long)
+run-lengths d ps store i (Err e) right long is = tt
+
+-- a program is ready for one that is held with the same image
+pub IsReadyFor-image : (d : Description) (h p : HeldProgram) (r : ReadyProgram) → h.image ≡ p.image → IsReadyFor d h r → IsReadyFor d p r
+IsReadyFor-image d h p r same ready = record { code = subst (λ (image : ArrayVec ℕ). IsCodeOf d image r.code) same ready.code; source = ready.source }
+
+-- what the code writes is what the held program writes
+pub writes-told : (d : Description) (ps : List Program) (h : HeldProgram) (a : ReadyProgram) (at : Resource) → AreRightPrograms d ps → IsReadyFor d h a → (uses_of a.code.shape a.code.code).writes at ≡ ((meaning_by d ps).uses h).writes at
+writes-told d ps h a at right ready =
+    ap (λ (s : Shape). (uses_of s a.code.code).writes at) ready.code.shape
+    ∙ ap (λ (c : Code). (uses_of (shape_of d) c).writes at) ready.code.code
+    ∙ ap (λ (m : Meaning). (m.uses h).writes at) (sym (meaning_by-right d ps right))

@@ -1,0 +1,155 @@
+-- A journal that is read entry by entry, with its programs made ready.
+use Rattle.std.proofs.Common.{◌≡◌, ◌<◌, ◌≤◌, ℕ, zero, suc, ◌+◌, Bool, true, List, [], ◌∷◌, length, map, drop, drop-cons, replicate, refl, sym, ◌∙◌, ap, subst, inl, inr, Option, Some, None, arith}
+use Rattle.std.specs.Prelude.{slice_set, slice_index_or, IsSomeAnd, if◌then◌else◌}
+use Rattle.std.proofs.lemmas.Bool.{and_parts}
+use Rattle.std.proofs.lemmas.Bool.Decides.{eqb_tells}
+use Rattle.std.proofs.lemmas.List.{get_or-map, get_or_default, get_or-set_same, get_or-set_other, length-map}
+use Rattle.mate_num.specs.declared.id.HandlerId.{HandlerId}
+use Rattle.mate_journal.specs.Journal.{Installed, Event, journal_of, told_of}
+use Rattle.mate_journal.specs.Log.{Log}
+use Rattle.mate_journal.specs.Machine.{HeldProgram}
+use Rattle.mate_journal.specs.declared.entry.Entry.{Entry}
+use Rattle.mate_journal.specs.declared.entry.Entry.TheVariants as entry
+use Rattle.mate_journal.specs.declared.entry.Stamped.{Stamped}
+use Rattle.mate_journal.specs.Tidy.{IsEntryInRange}
+use Rattle.journal_laws.specs.Growth.{event_of, IsNamedBelow, AreNamedBelow}
+use Rattle.journal_laws.proofs.TidyLemmas.{NamesInLog-numbered}
+use Rattle.vm_desc.specs.declared.description.Description.{Description}
+use Rattle.audit_finite.specs.Roll as told
+use Rattle.audit_finite.specs.Roll.{nobody, rolled, LiveAreInstalled}
+use Rattle.audit_finite.specs.Following.{stamps_rise, may_follow, follow_one_another}
+use Rattle.audit_rules.specs.Tests.{installs_right, images_right}
+use Rattle.audit_roll.specs.Views.{HasHandlerBelow, seat_in, roll_in}
+use Rattle.audit_roll.specs.declared.seat.Seat.{Seat}
+use Rattle.whole_runs.specs.Ready.{IsReadyFor, ready_at}
+use Rattle.whole_runs.specs.declared.ready.ReadyProgram.{ReadyProgram}
+use Rattle.audit_programs.specs.Trials.{machine_for, events_from, no_entry, told_at, IsTried, HasRead, IsSeatReady, AreReady}
+use Rattle.audit_programs.specs.declared.ready_roll.ReadyRoll.{ReadyRoll}
+use Rattle.audit_programs.specs.declared.trial.Trial.{Trial}
+
+-- ---- from one place to the next
+
+-- the entry at a place, and then the others
+pub events-next : (t : Trial) (place : ℕ) → place < length t.log.now.entries → events_from t place ≡ event_of t.log.now (slice_index_or t.log.now.entries place no_entry) ∷ events_from t (place + 1)
+events-next t place within =
+    ap (λ (es : List Stamped). map (event_of t.log.now) es) (drop-cons t.log.now.entries place no_entry within)
+    ∙ ap (λ (k : ℕ). event_of t.log.now (slice_index_or t.log.now.entries place no_entry) ∷ map (event_of t.log.now) (drop k t.log.now.entries)) (let e : suc place ≡ place + 1 = omega arith in e)
+
+-- the entry at the place may follow, and so may the others
+pub follow-parts : (t : Trial) (place : ℕ) (x : told.Roll) → place < length t.log.now.entries → follow_one_another (machine_for t) x (events_from t place) ≡ true
+    → (may_follow (machine_for t) x (told_at t place) ≡ true) × (follow_one_another (machine_for t) (rolled x (told_at t place)) (events_from t (place + 1)) ≡ true)
+follow-parts t place x within follow =
+    and_parts (may_follow (machine_for t) x (told_at t place)) (follow_one_another (machine_for t) (rolled x (told_at t place)) (events_from t (place + 1)))
+    (ap (λ (es : List Event). follow_one_another (machine_for t) x es) (sym (events-next t place within)) ∙ follow)
+
+pub images-parts : (t : Trial) (place : ℕ) (x : told.Roll) → place < length t.log.now.entries → images_right t.programs.now x (events_from t place) ≡ true
+    → (installs_right t.programs.now x (told_at t place) ≡ true) × (images_right t.programs.now (rolled x (told_at t place)) (events_from t (place + 1)) ≡ true)
+images-parts t place x within images =
+    and_parts (installs_right t.programs.now x (told_at t place)) (images_right t.programs.now (rolled x (told_at t place)) (events_from t (place + 1)))
+    (ap (λ (es : List Event). images_right t.programs.now x es) (sym (events-next t place within)) ∙ images)
+
+-- ---- what is installed
+
+-- an entry that installs nothing leaves what is installed
+pub installed-kept : (l : Log) (x : told.Roll) (e : Entry) (h : HandlerId) → ((g : HandlerId) (version image : ℕ) → e ≡ entry.Install g version image → ⊥) → (rolled x (told_of l e)).installed h ≡ x.installed h
+installed-kept l x (entry.Post n g c payload) h other = refl
+installed-kept l x (entry.Dropped g cause) h other = refl
+installed-kept l x (entry.Start n) h other = refl
+installed-kept l x (entry.Ask n f args) h other = refl
+installed-kept l x (entry.Answer n value) h other = refl
+installed-kept l x (entry.Halt n) h other = refl
+installed-kept l x (entry.Fault n kind) h other = refl
+installed-kept l x (entry.Install g version image) h other = absurd (other g version image refl)
+installed-kept l x entry.Reset h other = refl
+installed-kept l x (entry.Seen store) h other = refl
+installed-kept l x (entry.Void cause) h other = refl
+
+same_handler : (g h : HandlerId) → g.0 ≡ h.0 → g ≡ h
+same_handler g h e = ap (λ (n : ℕ). let x : HandlerId = record { 0 = n } in x) e
+
+pub AreReady-installed : (d : Description) (x : told.Roll) (p : HeldProgram) (programs : List (Option ReadyProgram)) (made : ReadyProgram) → p.handler.0 < length programs → IsReadyFor d p made → AreReady d x.installed programs
+    → AreReady d (rolled x (Installed p)).installed (slice_set programs p.handler.0 (Some made))
+AreReady-installed d x p programs made below ready before h q is = elim (eqb_tells h.0 p.handler.0) [
+  | inl t ↦ (let there : Some p ≡ Some q = ap (λ (b : Bool). if b then Some p else x.installed h) (sym t.0) ∙ is in
+      let same : p ≡ q = cc in
+      let found : ready_at (slice_set programs p.handler.0 (Some made)) h ≡ Some made =
+      ap (λ (k : ℕ). slice_index_or (slice_set programs p.handler.0 (Some made)) k None) t.1 ∙ get_or-set_same programs p.handler.0 (Some made) None below in
+      subst (λ (o : Option ReadyProgram). IsSomeAnd o (IsReadyFor d q)) (sym found) (subst (λ (r : HeldProgram). IsReadyFor d r made) same ready))
+  | inr u ↦ (let there : x.installed h ≡ Some q = ap (λ (b : Bool). if b then Some p else x.installed h) (sym u.0) ∙ is in
+      let found : ready_at (slice_set programs p.handler.0 (Some made)) h ≡ ready_at programs h = get_or-set_other programs p.handler.0 h.0 (Some made) None u.1 in
+      subst (λ (o : Option ReadyProgram). IsSomeAnd o (IsReadyFor d q)) (sym found) (before h q there))
+]
+
+pub AreReady-kept : (d : Description) (l : Log) (x : told.Roll) (e : Entry) (programs : List (Option ReadyProgram)) → ((g : HandlerId) (version image : ℕ) → e ≡ entry.Install g version image → ⊥) → AreReady d x.installed programs
+    → AreReady d (rolled x (told_of l e)).installed programs
+AreReady-kept d l x e programs other before h p is = before h p (sym (installed-kept l x e h other) ∙ is)
+
+-- ---- the whole
+
+none-ready : (d : Description) (programs : List (Option ReadyProgram)) → AreReady d nobody.installed programs
+none-ready d programs h p is = cc
+
+pub HasRead-begins : (t : Trial) (x : ReadyRoll) → IsTried t → LiveAreInstalled nobody → roll_in t.log.now.images x.roll ≡ nobody → x.ready.programs.items ≡ replicate 8 None → HasRead t 0 x
+HasRead-begins t x tried nobody_installed is places = record {
+  follow = subst (λ (r : told.Roll). follow_one_another (machine_for t) r (events_from t 0) ≡ true) (sym is)
+      (and_parts (stamps_rise (journal_of t.log.now)) (follow_one_another (machine_for t) nobody (journal_of t.log.now)) tried.follow).1;
+  images = subst (λ (r : told.Roll). images_right t.programs.now r (events_from t 0) ≡ true) (sym is) tried.images;
+  installed = subst LiveAreInstalled (sym is) nobody_installed;
+  places = ap (λ (ps : List (Option ReadyProgram)). length ps) places;
+  ready = subst (λ (r : told.Roll). AreReady t.desc.now r.installed x.ready.programs.items) (sym is) (none-ready t.desc.now x.ready.programs.items);
+}
+
+pub HasRead-next : (t : Trial) (place : ℕ) (x y : ReadyRoll) → place < length t.log.now.entries → HasRead t place x → (may_follow (machine_for t) (roll_in t.log.now.images x.roll) (told_at t place) ≡ true → LiveAreInstalled (roll_in t.log.now.images x.roll) → LiveAreInstalled (rolled (roll_in t.log.now.images x.roll) (told_at t place)))
+    → roll_in t.log.now.images y.roll ≡ rolled (roll_in t.log.now.images x.roll) (told_at t place) → length y.ready.programs.items ≡ 8 → AreReady t.desc.now (rolled (roll_in t.log.now.images x.roll) (told_at t place)).installed y.ready.programs.items
+    → HasRead t (place + 1) y
+HasRead-next t place x y within read goes_on is places ready =
+    let images = t.log.now.images in
+    let follow = follow-parts t place (roll_in images x.roll) within read.follow in
+    let right = images-parts t place (roll_in images x.roll) within read.images in
+    record {
+      follow = subst (λ (r : told.Roll). follow_one_another (machine_for t) r (events_from t (place + 1)) ≡ true) (sym is) follow.1;
+      images = subst (λ (r : told.Roll). images_right t.programs.now r (events_from t (place + 1)) ≡ true) (sym is) right.1;
+      installed = subst LiveAreInstalled (sym is) (goes_on follow.0 read.installed);
+      places = places;
+      ready = subst (λ (r : told.Roll). AreReady t.desc.now r.installed y.ready.programs.items) (sym is) ready;
+    }
+
+-- the program of each live invocation is ready
+pub seats-ready : (t : Trial) (place : ℕ) (x : ReadyRoll) → HasRead t place x → (k : ℕ) (d : Seat) → k < length x.roll.seats.items → IsSeatReady t x (slice_index_or x.roll.seats.items k d)
+seats-ready t place x read k d below =
+    let seats : List Seat = x.roll.seats.items in
+    let s : Seat = slice_index_or seats k d in
+    let images = t.log.now.images in
+    let long = length-map seats (seat_in images) in
+    read.ready s.handler (seat_in images s).invocation.program (read.installed.programs (seat_in images s) (k, omega (arith, long, below), get_or-map (seat_in images) seats k d (seat_in images s) below))
+
+-- ---- the entry at a place
+
+pub entry-at : (t : Trial) (place : ℕ) (e : Stamped) → place < length t.log.now.entries → e ≡ slice_index_or t.log.now.entries place e → told_of t.log.now e.entry ≡ told_at t place
+entry-at t place e within is = ap (λ (s : Stamped). told_of t.log.now s.entry) (is ∙ get_or_default t.log.now.entries place e no_entry within)
+
+pub in-range : (t : Trial) (place : ℕ) (e : Stamped) → IsTried t → place < length t.log.now.entries → e ≡ slice_index_or t.log.now.entries place e → IsEntryInRange t.desc.now e.entry
+in-range t place e tried within is = subst (λ (s : Stamped). IsEntryInRange t.desc.now s.entry) (sym is) (tried.tidy.in_range place e within)
+
+named-at : (images stores : ℕ) (es : List Stamped) (k : ℕ) (d : Stamped) → AreNamedBelow images stores es → k < length es → IsNamedBelow images stores (slice_index_or es k d).entry
+named-at images stores [] k d named below = absurd (omega arith)
+named-at images stores (e ∷ es) zero d named below = named.0
+named-at images stores (e ∷ es) (suc k) d named below = named-at images stores es k d named.1 (omega arith)
+
+pub named-below : (t : Trial) (place : ℕ) (e : Stamped) → IsTried t → place < length t.log.now.entries → e ≡ slice_index_or t.log.now.entries place e → IsNamedBelow (length t.log.now.images) (length t.log.now.stores) e.entry
+named-below t place e tried within is =
+    subst (λ (s : Stamped). IsNamedBelow (length t.log.now.images) (length t.log.now.stores) s.entry) (sym is)
+    (named-at (length t.log.now.images) (length t.log.now.stores) t.log.now.entries place e (NamesInLog-numbered t.log.now tried.tidy.numbered).named within)
+
+pub handler-below : (d : Description) (e : Entry) → length d.handlers.items ≤ 8 → IsEntryInRange d e → HasHandlerBelow 8 e
+handler-below d (entry.Post n h c payload) few within = let low = within.0 in omega (arith, few, low)
+handler-below d (entry.Dropped h cause) few within = tt
+handler-below d (entry.Start n) few within = tt
+handler-below d (entry.Ask n f args) few within = tt
+handler-below d (entry.Answer n value) few within = tt
+handler-below d (entry.Halt n) few within = tt
+handler-below d (entry.Fault n kind) few within = tt
+handler-below d (entry.Install h version image) few within = omega (arith, few, within)
+handler-below d entry.Reset few within = tt
+handler-below d (entry.Seen store) few within = tt
+handler-below d (entry.Void cause) few within = tt

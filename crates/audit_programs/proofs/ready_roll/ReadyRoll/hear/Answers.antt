@@ -1,0 +1,44 @@
+use Rattle.std.proofs.Common.{◌≡◌, ◌∙◌, List, Result, Ok, Err, ap, subst}
+use Rattle.std.specs.Prelude.{OnOk, slice_index_or}
+use Rattle.std.proofs.lemmas.List.{get_or_default}
+use Rattle.mate_journal.specs.Journal.{Told, told_of}
+use Rattle.mate_journal.specs.declared.entry.Stamped.{Stamped}
+use Rattle.audit_finite.specs.Roll.{rolled}
+use Rattle.audit_finite.proofs.InstalledLemmas.{LiveAreInstalled-step}
+use Rattle.audit_roll.specs.Views.{roll_in}
+use Rattle.audit_roll.specs.declared.roll.Roll.{Roll}
+use Rattle.audit_programs.specs.Trials.{AreReady, machine_for, told_at}
+use Rattle.audit_programs.specs.declared.ready_roll.ReadyRoll.{ReadyRoll}
+use Rattle.audit_programs.proofs.TrialLemmas.{HasRead-next, entry-at, named-below}
+use Rattle.audit_programs.proofs.ready_roll.ReadyRoll.hear.Goals as goal
+
+OnOk-map : {A E P Q : Type 0} (r : Result A E) → (P → Q) → OnOk r P → OnOk r Q
+OnOk-map (Ok a) f p = f p
+OnOk-map (Err e) f p = tt
+
+pub make_ready-requires-clause-named : goal.make_ready-requires-clause-named
+make_ready-requires-clause-named c =
+    let t = c.args.trial.now in
+    let entries : List Stamped = t.log.now.entries in
+    let e : Stamped = slice_index_or c.entries.result.now c.args.place c.index-entries-place.result in
+    named-below t c.args.place e c.requires.tried c.requires.within
+    (ap (λ (es : List Stamped). slice_index_or es c.args.place c.index-entries-place.result) c.entries.ensures ∙ get_or_default entries c.args.place c.index-entries-place.result e c.requires.within)
+
+pub returns-clause-read : goal.returns-clause-read
+returns-clause-read c =
+    let t = c.args.trial.now in
+    let l = t.log.now in
+    let entries : List Stamped = l.entries in
+    let place = c.args.place in
+    let e : Stamped = slice_index_or c.entries.result.now place c.index-entries-place.result in
+    let x : ReadyRoll = c.args.self.now in
+    let y : ReadyRoll = record { roll = c.hear.new.self; ready = c.make_ready.new.self.ready } in
+    let told : told_of l e.entry ≡ told_at t place =
+    entry-at t place e c.requires.within
+    (ap (λ (es : List Stamped). slice_index_or es place c.index-entries-place.result) c.entries.ensures ∙ get_or_default entries place c.index-entries-place.result e c.requires.within) in
+    OnOk-map c.hear.result
+    (λ heard.
+    HasRead-next t place x y c.requires.within c.requires.read (λ may live. LiveAreInstalled-step (machine_for t) (roll_in l.images x.roll) (told_at t place) may live)
+    (heard ∙ ap (λ (r : Roll). rolled (roll_in l.images r) (told_of l e.entry)) c.make_ready.ensures.roll ∙ ap (λ (g : Told). rolled (roll_in l.images x.roll) g) told) c.make_ready.ensures.places
+    (subst (λ (g : Told). AreReady t.desc.now (rolled (roll_in l.images x.roll) g).installed y.ready.programs.items) told c.make_ready.ensures.ready))
+    (c.hear.ensures l)

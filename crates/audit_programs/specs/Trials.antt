@@ -1,0 +1,62 @@
+-- What a journal is tried against, and how far it was read.
+use Rattle.std.specs.Prelude.{◌≡◌, ◌≤◌, ℕ, true, List, length, map, drop, Option, Some, IsSomeAnd, slice_index_or}
+use Rattle.mate_num.specs.declared.id.HandlerId.{HandlerId}
+use Rattle.mate_journal.specs.Journal.{Told, Event, journal_of, told_of}
+use Rattle.mate_journal.specs.Machine.{Machine, HeldProgram}
+use Rattle.mate_journal.specs.Tidy.{IsTidyLog}
+use Rattle.mate_journal.specs.declared.entry.Entry.TheVariants as entry
+use Rattle.mate_journal.specs.declared.entry.Stamped.{Stamped}
+use Rattle.journal_laws.specs.Growth.{event_of}
+use Rattle.node_programs.specs.Right.{AreRightPrograms}
+use Rattle.audit_finite.specs.Roll.{LiveAreInstalled, nobody}
+use Rattle.audit_finite.specs.Following.{entries_follow, follow_one_another}
+use Rattle.audit_rules.specs.Laws.{machine_by}
+use Rattle.audit_rules.specs.Tests.{images_right}
+use Rattle.audit_roll.specs.Views.{seat_in, roll_in}
+use Rattle.audit_roll.specs.declared.seat.Seat.{Seat}
+use Rattle.vm_desc.specs.declared.description.Description.{Description}
+use Rattle.whole_runs.specs.Ready.{IsReadyFor, ready_at}
+use Rattle.whole_runs.specs.declared.ready.ReadyProgram.{ReadyProgram}
+use Rattle.audit_programs.specs.declared.ready_roll.ReadyRoll.{ReadyRoll}
+use Rattle.audit_programs.specs.declared.trial.Trial.{Trial}
+
+-- the machine, with what the programs mean
+abbrev pub machine_for : Trial → Machine
+machine_for t = machine_by t.desc.now t.programs.now
+
+-- the events from a place in the log on
+abbrev pub events_from : Trial → ℕ → List Event
+events_from t place = map (event_of t.log.now) (drop place t.log.now.entries)
+
+-- an entry that stands for none
+abbrev pub no_entry : Stamped
+no_entry = record { stamp = record { event = 0; time = 0 }; entry = entry.Reset }
+
+-- what the entry at a place tells
+abbrev pub told_at : Trial → ℕ → Told
+told_at t place = told_of t.log.now (slice_index_or t.log.now.entries place no_entry).entry
+
+-- the log is tidy and the programs are right; the journal keeps the laws before: its entries follow one another, and what is installed is
+-- one of the programs
+pub record IsTried (t : Trial) : Type 0 where
+  pub few : length t.desc.now.handlers.items ≤ 8
+  pub tidy : IsTidyLog t.desc.now t.log.now
+  pub programs : AreRightPrograms t.desc.now t.programs.now
+  pub follow : entries_follow (machine_for t) (journal_of t.log.now) ≡ true
+  pub images : images_right t.programs.now nobody (journal_of t.log.now) ≡ true
+
+-- each program that is installed is ready
+abbrev pub AreReady : Description → (HandlerId → Option HeldProgram) → List (Option ReadyProgram) → Type 0
+AreReady d installed programs = (h : HandlerId) (p : HeldProgram) → installed h ≡ Some p → IsSomeAnd (ready_at programs h) (IsReadyFor d p)
+
+-- the roll is that of the entries before a place, with the program of each handler made ready
+pub record HasRead (t : Trial) (place : ℕ) (x : ReadyRoll) : Type 0 where
+  pub follow : follow_one_another (machine_for t) (roll_in t.log.now.images x.roll) (events_from t place) ≡ true
+  pub images : images_right t.programs.now (roll_in t.log.now.images x.roll) (events_from t place) ≡ true
+  pub installed : LiveAreInstalled (roll_in t.log.now.images x.roll)
+  pub places : length x.ready.programs.items ≡ 8
+  pub ready : AreReady t.desc.now (roll_in t.log.now.images x.roll).installed x.ready.programs.items
+
+-- the program of a live invocation is ready
+abbrev pub IsSeatReady : Trial → ReadyRoll → Seat → Type 0
+IsSeatReady t x s = IsSomeAnd (ready_at x.ready.programs.items s.handler) (IsReadyFor t.desc.now (seat_in t.log.now.images s).invocation.program)

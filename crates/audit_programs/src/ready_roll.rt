@@ -1,0 +1,177 @@
+//! The roll of a journal, with the programs that are installed.
+
+ghost use Rattle.std.specs.Prelude.{◌≡◌, ◌<◌, length, map, IfOk};
+ghost use Rattle.mate_num.specs.declared.call.Call.{Call as Answered};
+ghost use Rattle.node_programs.specs.Right.{IsRightProgram, AreRightPrograms};
+ghost use Rattle.audit_rules.specs.Laws.{IsOneOf};
+ghost use Rattle.audit_programs.specs.Naming.{named_program};
+
+use crate::finding::find_program;
+use crate::trial::Trial;
+use audit_roll::{Roll, Seat};
+use mate_journal::{Entry, Program};
+use mate_num::{Call, HandlerId, NoMemory, Outcome, Resource, Store};
+use std::alloc::Global;
+use whole_runs::{ReadyProgram, ReadyPrograms};
+
+/// The program that an install names.
+fn program_named<'a>(trial: &Trial<'a>, handler: HandlerId, version: u32, image: u32) -> &'a Program
+    requires known { image < length trial.now.log.now.images }
+    requires right { AreRightPrograms trial.now.desc.now trial.now.programs.now }
+    requires given { IsOneOf trial.now.programs.now (named_program trial.now.log.now handler version image) }
+    ensures right { IsRightProgram trial.now.desc.now result.now }
+    ensures image { result.now.image ≡ (named_program trial.now.log.now handler version image).image }
+{
+    let bytes = &trial.log.images()[image as usize];
+    let Some(program) = find_program(trial.programs, handler, version, bytes) else {
+        unreachable!()
+    };
+    program
+}
+
+/// The answers to the calls.
+fn answers_of(alloc: Global, calls: &[Call]) -> Result<Vec<i16>, NoMemory>
+    ensures { IfOk result (λ answers. answers.items ≡ map (λ (call : Answered). call.result) calls.now) }
+{
+    let mut answers = Vec::new(alloc);
+    for call in calls {
+        answers.push(call.result)?;
+    }
+    Ok(answers)
+}
+
+/// The roll of a journal that is read, and the programs that are installed, made ready.
+#[derive(Drop)]
+pub struct ReadyRoll<'a> {
+    pub roll: Roll,
+    ready: ReadyPrograms<'a>,
+}
+
+impl<'a> ReadyRoll<'a> {
+    ghost use Rattle.std.specs.Prelude.{◌≡◌, ◌+◌, ◌<◌, true, length, IfOk, IsTrue, OnOk};
+    ghost use Rattle.mate_num.specs.Locks.{is_resource};
+    ghost use Rattle.mate_journal.specs.Journal.{told_of};
+    ghost use Rattle.mate_journal.specs.Tidy.{IsEntryInRange};
+    ghost use Rattle.journal_laws.specs.Growth.{IsNamedBelow};
+    ghost use Rattle.audit_finite.specs.Roll.{nobody, rolled};
+    ghost use Rattle.audit_finite.specs.Rerun.{run_on};
+    ghost use Rattle.audit_finite.specs.Shown.{HasLengthsOf};
+    ghost use Rattle.audit_rules.specs.Tests.{conflict_of, installs_right};
+    ghost use Rattle.audit_roll.specs.Views.{seat_in, roll_in};
+    ghost use Rattle.whole_runs.specs.Ready.{IsReadyFor};
+    ghost use Rattle.audit_programs.specs.Trials.{IsTried, HasRead, IsSeatReady, AreReady, machine_for, told_at};
+
+    /// Before the first entry.
+    pub fn new(alloc: Global, trial: &Trial<'a>) -> Result<ReadyRoll<'a>, NoMemory>
+        requires { IsTried trial.now }
+        ensures read { IfOk result (HasRead trial.now 0) }
+        ensures nobody { IfOk result (λ x. roll_in trial.now.log.now.images x.roll ≡ nobody) }
+    {
+        let _trial = trial;
+        let roll = Roll::nobody(alloc);
+        let ready = ReadyPrograms::new(alloc)?;
+        Ok(ReadyRoll { roll, ready })
+    }
+
+    /// After the entry at the place.
+    pub fn hear(&mut self, alloc: Global, trial: &Trial<'a>, place: usize) -> Result<(), NoMemory>
+        requires tried { IsTried trial.now }
+        requires within { place < length trial.now.log.now.entries }
+        requires read { HasRead trial.now place self.old }
+        ensures read { OnOk result (HasRead trial.now (place + 1) self.new) }
+        ensures roll { let images = trial.now.log.now.images in
+            OnOk result (roll_in images self.new.roll ≡ rolled (roll_in images self.old.roll) (told_at trial.now place)) }
+    {
+        let entry = &trial.log.entries()[place].entry;
+        self.make_ready(trial, place, entry);
+        self.roll.hear(alloc, entry)
+    }
+
+    /// What the entry installs, if it installs something, is made ready.
+    fn make_ready(&mut self, trial: &Trial<'a>, place: usize, entry: &Entry)
+        requires tried { IsTried trial.now }
+        requires read { HasRead trial.now place self.old }
+        requires range { IsEntryInRange trial.now.desc.now entry.now }
+        requires named { let l = trial.now.log.now in
+            IsNamedBelow (length l.images) (length l.stores) entry.now }
+        requires given { let l = trial.now.log.now in
+            installs_right trial.now.programs.now (roll_in l.images self.old.roll) (told_of l entry.now) ≡ true }
+        ensures roll { self.new.roll ≡ self.old.roll }
+        ensures places { length self.new.ready.programs.items ≡ 8 }
+        ensures ready { let l = trial.now.log.now in
+            AreReady trial.now.desc.now (rolled (roll_in l.images self.old.roll) (told_of l entry.now)).installed self.new.ready.programs.items }
+    {
+        let _place = place;
+        match entry {
+            Entry::Install {
+                handler,
+                version,
+                image,
+            } => {
+                let program = program_named(trial, *handler, *version, *image);
+                self.ready
+                    .install(*handler, ReadyProgram::of(trial.desc, program));
+            }
+            _ => {}
+        }
+    }
+
+    /// The program of a live invocation.
+    pub fn program_of(&self, trial: &Trial, seat: &Seat) -> &ReadyProgram<'a>
+        requires { IsSeatReady trial.now self.now seat.now }
+        ensures { IsReadyFor trial.now.desc.now (seat_in trial.now.log.now.images seat.now).invocation.program result.now }
+    {
+        let _trial = trial;
+        let Some(program) = self.ready.get(seat.handler) else {
+            unreachable!()
+        };
+        program
+    }
+
+    /// Whether the programs of two live invocations conflict.
+    pub fn conflict(&self, trial: &Trial, one: &Seat, other: &Seat) -> bool
+        requires one { IsSeatReady trial.now self.now one.now }
+        requires other { IsSeatReady trial.now self.now other.now }
+        ensures { let images = trial.now.log.now.images in
+            result ≡ conflict_of trial.now.desc.now (seat_in images one.now).invocation.program (seat_in images other.now).invocation.program }
+    {
+        self.program_of(trial, one)
+            .conflicts(self.program_of(trial, other))
+    }
+
+    /// Whether the program of a live invocation writes the resource.
+    pub fn writes(&self, trial: &Trial, seat: &Seat, at: Resource) -> bool
+        requires tried { IsTried trial.now }
+        requires ready { IsSeatReady trial.now self.now seat.now }
+        requires known { IsTrue (is_resource at) }
+        ensures { let seat = seat_in trial.now.log.now.images seat.now in
+            result ≡ ((machine_for trial.now).meaning.uses seat.invocation.program).writes at }
+    {
+        self.program_of(trial, seat).writes(at)
+    }
+
+    /// The whole run of a live invocation on a store, with the answers that it got so far.
+    pub fn run(
+        &self,
+        alloc: Global,
+        trial: &Trial,
+        seat: &Seat,
+        store: &Store,
+    ) -> Result<Outcome, NoMemory>
+        requires tried { IsTried trial.now }
+        requires ready { IsSeatReady trial.now self.now seat.now }
+        requires lengths { HasLengthsOf (machine_for trial.now) store.now }
+        ensures run { let seat = seat_in trial.now.log.now.images seat.now in
+            IfOk result (λ o. o ≡ run_on (machine_for trial.now) store.now seat.invocation) }
+        ensures lengths { IfOk result (λ o. HasLengthsOf (machine_for trial.now) o.store) }
+    {
+        let answers = answers_of(alloc, seat.calls.as_slice())?;
+        self.program_of(trial, seat).run(
+            alloc,
+            store,
+            &seat.payload,
+            answers.as_slice(),
+            trial.desc.turns,
+        )
+    }
+}

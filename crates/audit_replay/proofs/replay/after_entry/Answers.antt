@@ -1,0 +1,28 @@
+use Rattle.std.proofs.Common.{◌≡◌, true, false, sym, subst}
+use Rattle.std.specs.Prelude.{IfOk, MatchOption}
+use Rattle.mate_journal.specs.Journal.{told_of}
+use Rattle.mate_journal.specs.declared.entry.Entry.{Entry}
+use Rattle.audit_finite.specs.Rerun.{runs_right, serial_after}
+use Rattle.audit_finite.specs.Shown.{HasLengthsOf}
+use Rattle.audit_rules.specs.Tests.{conflict_of}
+use Rattle.audit_roll.specs.Views.{roll_in}
+use Rattle.audit_programs.specs.Trials.{machine_for}
+use Rattle.audit_programs.proofs.TrialLemmas.{seats-ready}
+use Rattle.audit_replay.proofs.replay.after_entry.Goals as goal
+
+pub after_end-requires-clause-ready : goal.after_end-requires-clause-ready
+after_end-requires-clause-ready c = seats-ready c.args.trial.now c.args.place c.args.roll.now c.requires.read
+
+pub after_end-requires-in-Fault-clause-ready : goal.after_end-requires-in-Fault-clause-ready
+after_end-requires-in-Fault-clause-ready c = seats-ready c.args.trial.now c.args.place c.args.roll.now c.requires.read
+
+pub returns-in-Fault : goal.returns-in-Fault
+returns-in-Fault c =
+    let t = c.args.trial.now in
+    let m = machine_for t in
+    let conflict = conflict_of t.desc.now in
+    let x = roll_in t.log.now.images c.args.roll.now.roll in
+    let store = c.args.store.now in
+    let E : Entry → Type 0 = λ e. IfOk c.after_end-in-Fault.result (λ found. MatchOption found (runs_right m conflict x store (told_of t.log.now e) ≡ false)
+    (λ next. (runs_right m conflict x store (told_of t.log.now e) ≡ true) × (next ≡ serial_after m x store (told_of t.log.now e)) × HasLengthsOf m next)) in
+    subst E (sym c.in-Fault.is) c.after_end-in-Fault.ensures

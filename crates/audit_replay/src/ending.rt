@@ -1,0 +1,160 @@
+//! The end of an invocation: its run, and the runs of those that conflict with it.
+
+ghost use Rattle.std.specs.Prelude.{◌≡◌, ◌&&◌, true, false, unwrap_or, IfOk, MatchOption};
+ghost use Rattle.std.specs.List.{All, list_all};
+ghost use Rattle.audit_finite.specs.Rerun as told;
+ghost use Rattle.audit_finite.specs.Same.{same_calls as are_one_calls, same_end as are_one_end};
+ghost use Rattle.audit_finite.specs.Shown.{HasLengthsOf};
+ghost use Rattle.audit_rules.specs.Tests.{conflict_of};
+ghost use Rattle.audit_roll.specs.Views.{seat_in, roll_in};
+ghost use Rattle.audit_programs.specs.Trials.{IsTried, IsSeatReady, machine_for};
+
+use crate::rerun::is_so_far;
+use crate::same::{same_calls, same_end};
+use audit_programs::{ReadyRoll, Trial};
+use audit_roll::{Seat, Stage};
+use mate_num::{End, NoMemory, Outcome, Store};
+use std::alloc::Global;
+
+/// The stores before and after the end of an invocation.
+#[derive(Drop)]
+struct Stores<'a> {
+    before: &'a Store,
+    after: &'a Store,
+}
+
+/// Whether one that is started, and conflicts with the one of that number that ended, has its calls so far on the store before the end
+/// and on the one after it.
+fn is_undisturbed(
+    alloc: Global,
+    trial: &Trial,
+    roll: &ReadyRoll,
+    stores: &Stores,
+    ended: &Seat,
+    seat: &Seat,
+) -> Result<bool, NoMemory>
+    requires tried { IsTried trial.now }
+    requires ended { IsSeatReady trial.now roll.now ended.now }
+    requires ready { IsSeatReady trial.now roll.now seat.now }
+    requires before { HasLengthsOf (machine_for trial.now) stores.now.before.now }
+    requires after { HasLengthsOf (machine_for trial.now) stores.now.after.now }
+    ensures { let images = trial.now.log.now.images in
+        IfOk result (λ b. b ≡ told.is_undisturbed (machine_for trial.now) (conflict_of trial.now.desc.now) stores.now.before.now stores.now.after.now
+        ended.now.number (seat_in images ended.now).invocation (seat_in images seat.now)) }
+{
+    if seat.number == ended.number || seat.phase.is(Stage::Queued) {
+        return Ok(true);
+    }
+    if !roll.conflict(trial, ended, seat) {
+        return Ok(true);
+    }
+    if !is_so_far(alloc, trial, roll, seat, stores.before)? {
+        return Ok(false);
+    }
+    is_so_far(alloc, trial, roll, seat, stores.after)
+}
+
+/// Whether that holds of each one.
+fn all_undisturbed(
+    alloc: Global,
+    trial: &Trial,
+    roll: &ReadyRoll,
+    stores: &Stores,
+    ended: &Seat,
+) -> Result<bool, NoMemory>
+    requires tried { IsTried trial.now }
+    requires ended { IsSeatReady trial.now roll.now ended.now }
+    requires ready { All (IsSeatReady trial.now roll.now) roll.now.roll.seats.items }
+    requires before { HasLengthsOf (machine_for trial.now) stores.now.before.now }
+    requires after { HasLengthsOf (machine_for trial.now) stores.now.after.now }
+    ensures { let images = trial.now.log.now.images in
+        IfOk result (λ b. b ≡ list_all (told.is_undisturbed (machine_for trial.now) (conflict_of trial.now.desc.now) stores.now.before.now stores.now.after.now
+        ended.now.number (seat_in images ended.now).invocation) (roll_in images roll.now.roll).seats) }
+{
+    for seat in roll.roll.seats.as_slice() {
+        let undisturbed = is_undisturbed(alloc, trial, roll, stores, ended, seat)?;
+        if !undisturbed {
+            return Ok(false);
+        }
+    }
+    Ok(true)
+}
+
+/// Whether a run ended so, with the calls of the invocation.
+fn ends_so(outcome: &Outcome, how: &End, ended: &Seat) -> bool
+    ensures { result ≡ (are_one_end outcome.now.end how.now && are_one_calls outcome.now.calls ended.now.calls) }
+{
+    same_end(&outcome.end, how) && same_calls(outcome.calls.as_slice(), ended.calls.as_slice())
+}
+
+/// The store that the run of the invocation leaves where it ends so, if the run is right.
+fn end_of(
+    alloc: Global,
+    trial: &Trial,
+    roll: &ReadyRoll,
+    store: &Store,
+    how: &End,
+    ended: &Seat,
+) -> Result<Option<Store>, NoMemory>
+    requires tried { IsTried trial.now }
+    requires ended { IsSeatReady trial.now roll.now ended.now }
+    requires ready { All (IsSeatReady trial.now roll.now) roll.now.roll.seats.items }
+    requires lengths { HasLengthsOf (machine_for trial.now) store.now }
+    ensures { let images = trial.now.log.now.images in
+        let m = machine_for trial.now in
+        let test = told.ends_right m (conflict_of trial.now.desc.now) (roll_in images roll.now.roll) store.now ended.now.number how.now (seat_in images ended.now) in
+        IfOk result (λ found. MatchOption found (test ≡ false) (λ left. (test ≡ true) × (left ≡ (told.run_on m store.now (seat_in images ended.now).invocation).store) × HasLengthsOf m left)) }
+{
+    let outcome = roll.run(alloc, trial, ended, store)?;
+    if !ends_so(&outcome, how, ended) {
+        return Ok(None);
+    }
+    let stores = Stores {
+        before: store,
+        after: &outcome.store,
+    };
+    let undisturbed = all_undisturbed(alloc, trial, roll, &stores, ended)?;
+    if !undisturbed {
+        return Ok(None);
+    }
+    Ok(Some(outcome.store))
+}
+
+/// The serial store after the invocation of that number ended so, if its run is right.
+pub(crate) fn after_end(
+    alloc: Global,
+    trial: &Trial,
+    roll: &ReadyRoll,
+    store: &Store,
+    number: u32,
+    how: &End,
+) -> Result<Option<Store>, NoMemory>
+    requires tried { IsTried trial.now }
+    requires ready { All (IsSeatReady trial.now roll.now) roll.now.roll.seats.items }
+    requires lengths { HasLengthsOf (machine_for trial.now) store.now }
+    ensures { let m = machine_for trial.now in
+        let x = roll_in trial.now.log.now.images roll.now.roll in
+        let test = list_all (told.ends_right m (conflict_of trial.now.desc.now) x store.now number how.now) x.seats in
+        IfOk result (λ found. MatchOption found (test ≡ false) (λ left. (test ≡ true) × (left ≡ told.store_left m store.now number x.seats) × HasLengthsOf m left)) }
+{
+    let mut left: Option<Store> = None;
+    for seat in roll.roll.seats.as_slice() {
+        if seat.number == number {
+            let Some(after) = end_of(alloc, trial, roll, store, how, seat)? else {
+                return Ok(None);
+            };
+            left = Some(first_of(left, after));
+        }
+    }
+    Ok(Some(first_of(left, store.copy())))
+}
+
+/// The first of the two, if it is there.
+fn first_of(left: Option<Store>, after: Store) -> Store
+    ensures { result ≡ unwrap_or left after }
+{
+    match left {
+        Some(store) => store,
+        None => after,
+    }
+}

@@ -1,0 +1,3 @@
+pub mod Goes
+pub mod Images
+pub mod Ready
