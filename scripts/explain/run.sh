@@ -50,6 +50,15 @@ ends_of_report() {
         }'
 }
 
+# Of the invocations of a world that wait for the same, on whatever nodes, the first alone, with the number of the others behind it.
+first_of_each() {
+    awk '
+        { key = $1 == "waits" ? $4 " " $6 : NR }
+        key in at { more[at[key]]++; next }
+        { at[key] = ++count; text[count] = $0 }
+        END { for (i = 1; i <= count; i++) print text[i] (i in more ? " " more[i] : "") }'
+}
+
 # IMAGE: what its code locks.
 locks_of() {
     "$program" check -- "$vm" /dev/stdin <<<"$1" 2>/dev/null | sed -n 's/^locks //p'
@@ -138,12 +147,15 @@ waits_for() {
     listed "${all[@]:-others that use what it uses}"
 }
 
-tell_end() { # STATE NODE INVOCATION HANDLER CONTEXT [FUNCTION, or what is told of a queued one]
-    local who="at the end invocation $3 of \`$4\`, in context $5 of node $2,"
+tell_end() { # STATE NODE INVOCATION HANDLER CONTEXT [FUNCTION MORE, or what is told of a queued one]
+    local who="at the end invocation $3 of \`$4\`, in context $5 of node $2," more=''
     case $1 in
     waits)
         if [ "${words[0]}" = node ]; then echo "$who still waits for the answer of \`$6\`: a line \`answer $5 V\` gives it."
-        else echo "$who still waits for the answer of \`$6\`, which comes later than \`until\`."; fi ;;
+        else
+            [ -z "${7-}" ] || more=" The same holds of $(counted "$7" other)."
+            echo "$who still waits for the answer of \`$6\`, which comes later than \`until\`.$more"
+        fi ;;
     ready) echo "$who is ready and had no turn: a line \`run\`, or \`step $5 N\`, gives it one." ;;
     queued) echo "$who hasn't started: it waits for $(waits_for "${@:6}")." ;;
     esac
@@ -163,12 +175,13 @@ can_run_again() {
 
 # Runs the command once more, as a whole report, and tells its faults, what was dropped and cut, and who is left.
 show_end() {
-    local parts told=0 whole=() word flags=yes script
+    local parts told=0 whole=() word flags=yes script filter=first_of_each
     can_run_again || return 0
     for word in "$@"; do
         [ "$word" != -- ] || flags=''
         [ "$flags$word" = yes--brief ] || whole+=("$word")
     done
+    [ "${words[0]}" != node ] || filter=cat
     while read -ra parts <&3; do
         told=$((told + 1))
         [ $told -le 20 ] || { echo '..'; break; }
@@ -176,5 +189,5 @@ show_end() {
         fault | drop | cut | void) "tell_${parts[0]}" "${parts[@]:1}" ;;
         *) tell_end "${parts[@]}" ;;
         esac
-    done 3< <("$program" "${whole[@]}" 2>/dev/null | ends_of_report)
+    done 3< <("$program" "${whole[@]}" 2>/dev/null | ends_of_report | "$filter")
 }
