@@ -63,7 +63,8 @@ show_cost() {
     show_listing
 }
 
-# The listing of a capsule with the names behind its numbers, which its opcodes tell.
+# The listing of a capsule with the names behind its numbers, which its opcodes tell; and which private names are those of shared
+# variables, too.
 show_listing() {
     local privates=() text kind='' place rest code op note
     for text in "${texts[@]}"; do
@@ -88,4 +89,7 @@ show_listing() {
         fi
         if [ -n "$note" ]; then printf '  %-24s%s\n' "$place $rest" "$note"; else echo "  $place${rest:+ $rest}"; fi
     done < <(tail -n +2 "$room/listing")
+    for text in "${privates[@]}"; do
+        ! is_among "$text" "${shared[@]}" || echo "\`$text\` is private here: it isn't the machine's shared variable of this name."
+    done
 }

@@ -61,6 +61,44 @@ line_without() {
     place=${found[-1]}
 }
 
+# WORD N: of a description with N lines the first table `[[WORD]]` up to whose end it is refused in the same way, into $place.
+line_of_table() {
+    local starts=() at end
+    mapfile -t starts < <(grep -nE '^[[:blank:]]*\[' "$path" | cut -d: -f1 | head -n 40)
+    for ((at = 0; at < ${#starts[@]}; at++)); do
+        end=$((${starts[at + 1]:-$(($2 + 1))} - 1))
+        [[ $(sed -n "${starts[at]}p" "$path") =~ ^[[:blank:]]*'[['[[:blank:]]*$1[[:blank:]]*']]' ]] || continue
+        [ "$(refusal_of_first "$end")" != "$line" ] || { place=${starts[at]}; return; }
+    done
+    return 1
+}
+
+# TABLE: the keys that docs/FORMATS.md has for a table of a description, or without a name those of the whole.
+keys_of() {
+    TABLE=$1 awk -F' *[|] *' '
+        seen && $0 == "" { exit }
+        $2 ~ /^`[a-z.]+`$/ {
+            seen = 1; gsub(/`/, "", $2); count = split($2, part, ".")
+            if (ENVIRON["TABLE"] == "") { if (!told[part[1]]++) print part[1] }
+            else if (count == 2 && part[1] == ENVIRON["TABLE"]) print part[2]
+        }' "$top/docs/FORMATS.md"
+}
+
+# N: which keys may stand where line N, which has a wrong one, stands.
+tell_keys() {
+    local text table='' keys=() key
+    text=$(sed -n "$1{p;q;}" "$path")
+    if [[ ! $text =~ ^[[:blank:]]*'[' ]]; then
+        table=$(head -n "$1" "$path" | sed -nE 's/^[[:blank:]]*\[+[[:blank:]]*([A-Za-z_]+).*/\1/p' | tail -n 1)
+    fi
+    mapfile -t keys < <(keys_of "$table")
+    [ ${#keys[@]} -gt 0 ] || return 0
+    if [ -z "$table" ]; then echo "A description has $(quoted "${keys[@]}")."; return; fi
+    echo "The table \`$table\` has $(quoted "${keys[@]}")."
+    key=$(sed -E 's/^[[:blank:]]*([A-Za-z_]+)[[:blank:]]*=.*/\1/' <<<"$text")
+    ! is_among "$key" vm shared buffers devices turns quantum || echo "\`$key\` stands before the first table."
+}
+
 # KEY: what docs/FORMATS.md says of a key of descriptions.
 key_says() {
     KEY=$1 awk -F' *[|] *' '$2 == "`" ENVIRON["KEY"] "`" { print "`" ENVIRON["KEY"] "` is " $3 ($4 == "required" ? "; it must be there" : $4 == "none" ? "" : "; without it: " $4) "."; found = 1 }
@@ -75,13 +113,18 @@ explain_description() {
     case $line in
     *' toml') line_of_toml "$count" ;;
     *' field unknown') line_of_unknown "$count" ;;
-    *' field '* | *' limit '*) key=${line##* }; line_without "${key##*.}" ;;
+    *' field '* | *' limit '*)
+        key=${line##* }
+        line_without "${key##*.}" || [[ $key != *.* ]] || line_of_table "${key%%.*}" "$count" ;;
     *' duplicate '*) line_without "${line##* }" last ;;
     esac
     [ -z "$place" ] || show_line "$vm" "$place"
     case $line in
-    *' field unknown') echo 'No description has this key here (docs/FORMATS.md).' ;;
-    *' toml') echo 'Up to the line before this one the text is TOML.' ;;
+    *' field unknown') echo 'No description has this key here (docs/FORMATS.md).'; [ -z "$place" ] || tell_keys "$place" ;;
+    *' toml')
+        echo 'Up to the line before this one the text is TOML.'
+        key=$(sed -nE "$place{s/^[[:blank:]]*\\[(handler|function)\\].*/\\1/p;q;}" "$path")
+        [ -z "$key" ] || echo "Write \`[[$key]]\`, with two brackets." ;;
     *' field '* | *' limit '*) key_says "$key" ;;
     *) return 1 ;;
     esac

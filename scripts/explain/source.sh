@@ -13,19 +13,20 @@ tokens() {
         }'
 }
 
-# PLACE: the token that begins there, those before and behind it, in $token, $previous, $next, and all in places and texts.
+# PLACE: the token that begins there, those before and behind it, in $token, $previous, $next, and all in places, rows and texts; the
+# rows of the token (none at the end) and of the one before it in $row and $previous_row.
 find_token() {
-    local place text at=-1
-    places=() texts=() token='' previous='' next=''
+    local place line text at=-1
+    places=() rows=() texts=() token='' previous='' next='' row='' previous_row=''
     [ "$(wc -c <"$path")" -le $longest ] || return 1
-    while read -r place _ text; do
-        places+=("$place") texts+=("$text")
+    while read -r place line text; do
+        places+=("$place") rows+=("$line") texts+=("$text")
         [ "$place" != "$1" ] || at=$((${#places[@]} - 1))
     done < <(tokens)
     index=$at
-    [ "$at" -lt 0 ] && { [ ${#texts[@]} -eq 0 ] || previous=${texts[-1]}; return 1; }
-    token=${texts[at]} next=${texts[at + 1]-}
-    [ "$at" -eq 0 ] || previous=${texts[at - 1]}
+    [ "$at" -lt 0 ] && { [ ${#texts[@]} -eq 0 ] || previous=${texts[-1]} previous_row=${rows[-1]}; return 1; }
+    token=${texts[at]} next=${texts[at + 1]-} row=${rows[at]}
+    [ "$at" -eq 0 ] || previous=${texts[at - 1]} previous_row=${rows[at - 1]}
 }
 
 # TOKEN: whether some script of the language that the command reads begins with the tokens of $before and then this one.
@@ -56,8 +57,23 @@ what_may_stand() {
     [ ${#may[@]} -gt 0 ] && listed "${may[@]}"
 }
 
-# What somebody may have meant who knows another language.
+# WORD: the keyword that this would be in small letters, if it is none as it stands.
+small_keyword() {
+    local small=${1,,} keywords=(shared private buffer if then else end for to step next while and or not size clear msg)
+    [ "$small" != "$1" ] && is_among "$small" "${keywords[@]}" && echo "$small"
+}
+
+# What somebody may have meant who knows another language; fails if nothing is known.
 explain_habit() {
+    local small
+    if [ -n "$previous_row" ] && [[ $(sed -n "$previous_row{p;q;}" "$path") =~ ^[^!]*[^![:blank:]][^!]*!= ]]; then
+        echo "Line $previous_row ends at its \`!\`, which begins a comment: unequal is \`<>\`."
+        return
+    fi
+    if small=$(small_keyword "$token") || small=$(small_keyword "$previous"); then
+        echo "Keywords have small letters: \`$small\`."
+        return
+    fi
     case "$previous $token $next" in
     '= = '*) echo 'Equality is one `=`.' ;;
     'elseif '* | 'elsif '* | 'elif '*) echo 'Write `else`, and an `if` with an end of its own.' ;;
@@ -65,9 +81,40 @@ explain_habit() {
     *' / /') echo 'A comment begins with `!`.' ;;
     *' end for') echo 'A `for` ends with `next` and its variable.' ;;
     *' mod '*) echo 'The remainder is `%`.' ;;
-    'proc '*) [ "${words[0]}" = expand ] || echo 'A source with procedures is expanded first: `mate expand SOURCE` writes the plain one.' ;;
-    'do '*) [ "${words[0]}" = expand ] || echo '`do` is a name here: behind the condition of a `while` stand its statements.' ;;
+    'proc '*) [ "${words[0]}" != expand ] && echo 'A source with procedures is expanded first: `mate expand SOURCE` writes the plain one.' ;;
+    'do '*) [ "${words[0]}" != expand ] && echo '`do` is a name here: behind the condition of a `while` stand its statements.' ;;
+    *' shared '* | *' private '* | *' buffer '*) echo 'Declarations stand at the head, before all else.' ;;
+    *' proc '*) [ "${words[0]}" = expand ] && echo 'Procedures stand behind the declarations and before the statements.' ;;
+    *) return 1 ;;
     esac
+}
+
+# PLACE: of the blocks that are open there the innermost one, `LINE KEYWORD`.
+open_block() {
+    tokens | AT=$1 COMMAND=${words[0]} awk '
+        $1 >= ENVIRON["AT"] + 0 { exit }
+        $3 == "end" || $3 == "next" { depth-- }
+        ($3 ~ /^(if|for|while)$/ || $3 == "proc" && ENVIRON["COMMAND"] == "expand") && before != "end" { block[++depth] = $2 " " $3 }
+        { before = $3 }
+        END { if (depth > 0) print block[depth] }'
+}
+
+# PLACE MAY: what is missing before the place, as far as what may stand there tells.
+explain_missing() {
+    local line block
+    if [[ $token =~ ^(=|'<>'|'<'|'>'|'<='|'>=')$ && $2 == *'an operator'* ]]; then
+        echo 'Comparisons make no chain: write `a < b and b < c`.'
+    elif [[ $2 == *'`;`'* && -n $row && $row != "$previous_row" ]]; then
+        echo "Line $previous_row may lack its \`;\`."
+    elif [[ $token == ';' && $2 == *'a statement'* ]]; then
+        echo 'No `;` stands behind a block or another `;`.'
+    elif [[ $token =~ ^(end|next|else|)$ && $2 == *'a statement'* ]]; then
+        read -r line block < <(open_block "$1") || return 0
+        case $block in
+        for) echo "The \`for\` of line $line is open: it ends with \`next\` and its variable." ;;
+        *) echo "The \`$block\` of line $line is open: it ends with \`end $block\`." ;;
+        esac
+    fi
 }
 
 explain_unexpected() {
@@ -75,7 +122,7 @@ explain_unexpected() {
     find_token "$1"
     may=$(what_may_stand "$1") || return 1
     if [ -n "$token" ]; then echo "\`$token\` doesn't fit here. Here may stand: $may."; else echo "The text ends too early. Here may stand: $may."; fi
-    explain_habit
+    explain_habit || explain_missing "$1" "$may"
 }
 
 explain_byte() {
@@ -85,7 +132,8 @@ explain_byte() {
     case $byte in
     [A-Za-z0-9_])
         if [[ $before =~ [A-Za-z_][A-Za-z0-9_]{15}$ ]]; then echo 'Shorten the name: it has at most 16 bytes.'; else echo 'Put a blank between the number and the letter behind it.'; fi ;;
-    .) echo 'Numbers are whole: no token begins with `.`.' ;;
+    .) if [[ $before =~ [0-9]$ ]]; then echo 'Numbers are whole: no token begins with `.`.'; else echo 'No token begins with `.`.'; fi ;;
+    '#') echo 'No token begins with `#`: in a source a comment begins with `!`.' ;;
     '"' | "'") echo 'There are no texts in TinyScript: no token begins with this sign.' ;;
     '&') echo 'No token begins with `&`: write `and`.' ;;
     '|') echo 'No token begins with `|`: write `or`.' ;;
@@ -149,9 +197,24 @@ explain_kind() {
     fi
 }
 
+# INDEX: how many arguments stand in brackets behind the token with this index.
+arguments_behind() {
+    local at depth=0 given=0
+    for ((at = $1 + 1; at < ${#texts[@]}; at++)); do
+        case ${texts[at]} in
+        '(' | '[') depth=$((depth + 1)) ;;
+        ')' | ']') depth=$((depth - 1)) ;;
+        ,) [ $depth -ne 1 ] || given=$((given + 1)) ;;
+        esac
+        [ $depth -ne 0 ] || break
+    done
+    [ "${texts[$1 + 2]-}" = ')' ] || given=$((given + 1))
+    echo $given
+}
+
 # PLACE: how many arguments the function takes, as tried with each number of them, and how many are here.
 explain_arity() {
-    local args='' at depth=0 given=0 wanted='' count
+    local args='' wanted='' count
     know_machine "$vm" && find_token "$1" || return 1
     if is_among "$token" "${senders[@]}"; then
         wanted=1
@@ -161,16 +224,33 @@ explain_arity() {
             args=${args:+$args,}0
         done
     fi
-    for ((at = index + 1; at < ${#texts[@]}; at++)); do
-        case ${texts[at]} in
-        '(' | '[') depth=$((depth + 1)) ;;
-        ')' | ']') depth=$((depth - 1)) ;;
-        ,) [ $depth -ne 1 ] || given=$((given + 1)) ;;
-        esac
-        [ $depth -ne 0 ] || break
+    [ -n "$wanted" ] && echo "\`$token\` takes $(counted "$wanted" argument), and here it has $(arguments_behind "$index")."
+}
+
+# PLACE: how many parameters the procedure has that stands behind this `do`, and how many arguments are here.
+explain_params() {
+    local at
+    find_token "$1" || return 1
+    for ((at = 0; at < index; at++)); do
+        [ "${texts[at]} ${texts[at + 1]}" != "proc $token" ] || break
     done
-    [ "${texts[index + 2]-}" = ')' ] || given=$((given + 1))
-    [ -n "$wanted" ] && echo "\`$token\` takes $(counted "$wanted" argument), and here it has $given."
+    [ $at -lt "$index" ] || return 1
+    echo "\`$token\` has $(counted "$(arguments_behind $((at + 1)))" parameter), and here it is given $(arguments_behind "$index")."
+}
+
+# PLACE: the procedures that a `do` here may run.
+explain_noproc() {
+    local at before='' procedures=() ended=()
+    find_token "$1" || return 1
+    for ((at = 0; at < index; at++)); do
+        case "$before ${texts[at]}" in
+        'end proc') ended=("${procedures[@]}") ;;
+        *' proc') procedures+=("${texts[at + 1]}") ;;
+        esac
+        before=${texts[at]}
+    done
+    if [ ${#ended[@]} -eq 0 ]; then echo 'A `do` runs a procedure that ends before it, and there is none.'
+    else echo "A \`do\` runs a procedure that ends before it: $(quoted "${ended[@]}")."; fi
 }
 
 # WORD N: the place of the N-th time that a word stands in the source, into $place; for a word of the declarations alone.
@@ -229,7 +309,7 @@ explain_source() {
     esac
     [ -z "$place" ] || show_byte "$name" "$place"
     case $verb in
-    unexpected | byte | deep | kind | arity) "explain_$verb" "$place" ;;
+    unexpected | byte | deep | kind | arity | params | noproc) "explain_$verb" "$place" ;;
     undeclared) explain_undeclared "$word" "$place" ;;
     notinvm) explain_notinvm "$word" ;;
     *) return 1 ;;
