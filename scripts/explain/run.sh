@@ -19,9 +19,10 @@ fault_lines() {
 }
 
 # What a report tells of its faults and its end, a line each: `fault HANDLER VERSION KIND COUNT EVENT TIME NODE INVOCATION`, `drop HANDLER
-# CAUSE COUNT EVENT TIME NODE`, `cut HANDLER BY COUNT EVENT TIME NODE` and `void CAUSE COUNT EVENT TIME NODE` with the first of its kind and
-# how many there were, and `waits NODE INVOCATION HANDLER CONTEXT FUNCTION`, `ready NODE INVOCATION HANDLER CONTEXT` and `queued` with the
-# same, the image of its code, and three words for each live invocation before it: number, handler, image.
+# CAUSE COUNT EVENT TIME NODE`, `cut HANDLER BY COUNT EVENT TIME NODE`, `void CAUSE COUNT EVENT TIME NODE` and, of installs where the store
+# held values, `emptied COUNT EVENT TIME NODE`, with the first of its kind and how many there were; and `waits NODE INVOCATION HANDLER
+# CONTEXT FUNCTION`, `ready NODE INVOCATION HANDLER CONTEXT` and `queued` with the same, the image of its code, and three words for each
+# live invocation before it: number, handler, image.
 ends_of_report() {
     awk '
         function tell(what, where) { if (!count[what]++) { order[++kinds] = what; first[what] = where } }
@@ -36,6 +37,8 @@ ends_of_report() {
         $4 == "install" || $4 == "reset" {
             for (k in state) if (index(k, $3 " ") == 1) { tell("cut " handler[k] " " $4, $1 " " $2 " " $3); delete state[k] }
         }
+        $4 == "seen" { held = $0 ~ /=-?[1-9]|=\[-?[0-9]/ }
+        $4 == "install" && held { tell("emptied", $1 " " $2 " " $3) }
         $4 == "install" { version[$3, $5] = $6; image[$3, $5] = $7 }
         $4 == "void" { tell("void " $5, $1 " " $2 " " $3) }
         function code(k,   part) { split(k, part, " "); return image[part[1], handler[k]] }
@@ -130,6 +133,12 @@ tell_void() { # CAUSE COUNT EVENT TIME NODE
     echo "event $3: $text did nothing on node $5: $why.$times"
 }
 
+tell_emptied() { # COUNT EVENT TIME NODE
+    local times=''
+    [ "$1" -eq 1 ] || times=" The same happened $(counted $(($1 - 1)) 'more time')."
+    echo "event $2: the store of node $4 held values, and the install emptied it.$times"
+}
+
 was() {
     if [ "$1" = 1 ]; then echo was; else echo were; fi
 }
@@ -186,7 +195,7 @@ show_end() {
         told=$((told + 1))
         [ $told -le 20 ] || { echo '..'; break; }
         case ${parts[0]} in
-        fault | drop | cut | void) "tell_${parts[0]}" "${parts[@]:1}" ;;
+        fault | drop | cut | void | emptied) "tell_${parts[0]}" "${parts[@]:1}" ;;
         *) tell_end "${parts[@]}" ;;
         esac
     done 3< <("$program" "${whole[@]}" 2>/dev/null | ends_of_report | "$filter")
