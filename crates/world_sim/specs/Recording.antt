@@ -65,6 +65,6 @@ StaysRecorded None (Some r) = ⊥
 StaysRecorded (Some r) None = ⊥
 StaysRecorded (Some r) (Some s) = IsSameRecord r s
 
-abbrev pub is_kept : Option Record → Bool
-is_kept None = false
-is_kept (Some r) = true
+abbrev pub has_record : Option Record → Bool
+has_record None = false
+has_record (Some r) = true

@@ -3,7 +3,7 @@
 ghost use Rattle.std.specs.Prelude.{◌≡◌, ◌<◌, ◌≤◌, length, MatchResult};
 ghost use Rattle.run_record.specs.Records.{IsSameRecord};
 ghost use Rattle.world_simulation.specs.Reporting.{mote_logs};
-ghost use Rattle.world_sim.specs.Recording.{IsRecordOf, IsRecordBefore, HaveStoresBehind, IsRecorded, IsRecordedBefore, AreStoresBefore, StaysRecorded, is_kept};
+ghost use Rattle.world_sim.specs.Recording.{IsRecordOf, IsRecordBefore, HaveStoresBehind, IsRecorded, IsRecordedBefore, AreStoresBefore, StaysRecorded, has_record};
 
 use mate_num::NoMemory;
 use run_record::Record;
@@ -22,7 +22,7 @@ pub(crate) fn record_event(
     requires node { node < length sim.now.motes.items }
     requires before { IsRecordedBefore records.old sim.now node }
     ensures recorded { MatchResult result (λ _. IsRecorded records.new sim.now) (λ _. StaysRecorded records.old records.new) }
-    ensures kept { is_kept records.new ≡ is_kept records.old }
+    ensures kept { has_record records.new ≡ has_record records.old }
 {
     match records {
         Some(record) => add_event(record, sim, node),
@@ -35,7 +35,7 @@ pub(crate) fn record_stores(records: &mut Option<Record>, sim: &Simulation) -> R
     requires few { length sim.now.motes.items ≤ 64 }
     requires before { AreStoresBefore records.old sim.now }
     ensures recorded { MatchResult result (λ _. IsRecorded records.new sim.now) (λ _. StaysRecorded records.old records.new) }
-    ensures kept { is_kept records.new ≡ is_kept records.old }
+    ensures kept { has_record records.new ≡ has_record records.old }
 {
     match records {
         Some(record) => add_stores(record, sim.motes.as_slice()),

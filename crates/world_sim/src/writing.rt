@@ -16,7 +16,7 @@ ghost use Rattle.world_simulation.specs.Keeping.{IsWhole};
 ghost use Rattle.world_simulation.specs.Reporting.{mote_logs, told_report};
 ghost use Rattle.world_simulation.specs.Running.{StandsAfter, StandsAtNext};
 ghost use Rattle.world_simulation.specs.Telling.{LogsAreKept};
-ghost use Rattle.world_sim.specs.Recording.{IsRecorded, is_kept};
+ghost use Rattle.world_sim.specs.Recording.{IsRecorded, has_record};
 ghost use Rattle.world_sim.specs.Writing.{EndsSo, IsStartWritten, IsStepWritten, StandsAtEnd, StartsRecorded, WritesRecorded};
 ghost use Rattle.world_text.specs.EventText.{store_lines};
 
@@ -117,7 +117,7 @@ fn write_run<S: Sink>(
     requires whole { IsWhole sim.old }
     requires recorded { IsRecorded records.old sim.old }
     ensures gives { WritesRecorded desc.now (IsWorldReport (code_world desc.now world.now programs.now)) (S.written out.old) (S.written out.new) (S.faults out.old) (S.faults out.new) result records.new }
-    ensures kept { is_kept records.new ≡ is_kept records.old }
+    ensures kept { has_record records.new ≡ has_record records.old }
     ensures later { S.faults out.old ≤ S.faults out.new }
 {
     states_are_sound();
@@ -208,7 +208,7 @@ fn write_step<S: Sink>(
     requires recorded { IsRecorded records.old sim.old }
     ensures writes { IsStepWritten desc.now (code_world desc.now world.now programs.now) at.event sim.old sim.new (S.written out.old) (S.faults out.old) (S.written out.new) (S.faults out.new) records.new result }
     ensures plain { OnOk result (effect.new ≡ plain_effect) }
-    ensures kept { is_kept records.new ≡ is_kept records.old }
+    ensures kept { has_record records.new ≡ has_record records.old }
     ensures later { S.faults out.old ≤ S.faults out.new }
 {
     let Ok(node) = sim.step(desc, world, programs, event, at, Written::Forgotten, effect) else {
@@ -239,7 +239,7 @@ fn write_ending<S: Sink>(
     requires few { events < 18446744073709551615 }
     requires recorded { IsRecorded records.old sim.old }
     ensures writes { EndsSo desc.now (code_world desc.now world.now programs.now) sim.old (S.written out.old) (S.faults out.old) (S.written out.new) (S.faults out.new) result records.new }
-    ensures kept { is_kept records.new ≡ is_kept records.old }
+    ensures kept { has_record records.new ≡ has_record records.old }
     ensures later { S.faults out.old ≤ S.faults out.new }
 {
     text_grows_by_events();

@@ -3,7 +3,7 @@ use Rattle.world_states.specs.Coming.{code_world}
 use Rattle.world_step.specs.Motes.{plain_effect}
 use Rattle.world_simulation.specs.Running.{StandsAfter}
 use Rattle.world_simulation.specs.Telling.{LogsAreKept}
-use Rattle.world_sim.specs.Recording.{IsRecorded, is_kept}
+use Rattle.world_sim.specs.Recording.{IsRecorded, has_record}
 use Rattle.world_sim.specs.Writing.{HasWrittenNow}
 use Rattle.world_sim.proofs.writing.write_run.Given as goal
 
@@ -14,5 +14,5 @@ invariant-loop-events g l = record {
   plain : l.effect ≡ plain_effect;
   written : HasWrittenNow l.desc l.sim (g.S.Sink.written l.fn.out) (g.S.Sink.faults l.fn.out) (g.S.Sink.written l.out) (g.S.Sink.faults l.out);
   recorded : IsRecorded l.records l.sim;
-  same : is_kept l.records ≡ is_kept l.fn.records;
+  same : has_record l.records ≡ has_record l.fn.records;
 }
