@@ -8,7 +8,7 @@ ghost use Rattle.audit_finite.specs.Granting as told;
 ghost use Rattle.audit_finite.specs.Roll.{nobody};
 ghost use Rattle.audit_rules.specs.Tests.{conflict_of};
 ghost use Rattle.audit_roll.specs.Views.{roll_in};
-ghost use Rattle.audit_programs.specs.Trials.{IsTried, HasRead};
+ghost use Rattle.audit_programs.specs.Trials.{IsTried, HasReadUpTo};
 
 use crate::waiting::{all_held_back, is_free_to_start};
 use audit_programs::{ReadyRoll, Trial};
@@ -38,7 +38,7 @@ fn start_of(entry: &Entry) -> u32
 /// Whether the entry may stand where it does: at a start the invocation isn't held back, and has a higher number than the one that
 /// the entry before started; at another entry each queued one is held back.
 fn is_granted(trial: &Trial, roll: &ReadyRoll, place: usize, last: u32, entry: &Entry) -> bool
-    requires { HasRead trial.now place roll.now }
+    requires { HasReadUpTo trial.now place roll.now }
     ensures { let l = trial.now.log.now in
         result ≡ told.is_granted (conflict_of trial.now.desc.now) (roll_in l.images roll.now.roll) last (told_of l entry.now) }
 {

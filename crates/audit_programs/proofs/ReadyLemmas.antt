@@ -25,12 +25,12 @@ use Rattle.audit_runs.proofs.ConflictLemmas.{code-TellsConflicts}
 use Rattle.audit_rules.specs.Laws.{machine_by}
 use Rattle.audit_rules.specs.Tests.{conflict_of}
 use Rattle.audit_rules.proofs.RightLemmas.{lengths}
-use Rattle.whole_runs.specs.Images.{IsCodeOf}
-use Rattle.whole_runs.specs.Ready.{IsReadyFor}
+use Rattle.whole_runs.specs.Images.{IsImageCode}
+use Rattle.whole_runs.specs.Ready.{IsReadyAs}
 use Rattle.whole_runs.specs.declared.ready.ReadyProgram.{ReadyProgram}
 
 -- ready programs conflict where the held ones do
-pub conflict-told : (d : Description) (p q : HeldProgram) (a b : ReadyProgram) (r : Bool) → IsReadyFor d p a → IsReadyFor d q b → Decides r (Conflicts (uses_of a.code.shape a.code.code) (uses_of b.code.shape b.code.code)) → r ≡ conflict_of d p q
+pub conflict-told : (d : Description) (p q : HeldProgram) (a b : ReadyProgram) (r : Bool) → IsReadyAs d p a → IsReadyAs d q b → Decides r (Conflicts (uses_of a.code.shape a.code.code) (uses_of b.code.shape b.code.code)) → r ≡ conflict_of d p q
 conflict-told d p q a b r of_p of_q told =
     let shape : Shape = shape_of d in
     let uses_p : uses_of a.code.shape a.code.code ≡ uses_of shape (code_of shape p.image) = ap (λ (s : Shape). uses_of s a.code.code) of_p.code.shape ∙ ap (λ (c : Code). uses_of shape c) of_p.code.code in
@@ -57,11 +57,11 @@ run-lengths d ps store i (Ok o) right long is = subst (λ (x : Outcome). HasLeng
 run-lengths d ps store i (Err e) right long is = tt
 
 -- a program is ready for one that is held with the same image
-pub IsReadyFor-image : (d : Description) (h p : HeldProgram) (r : ReadyProgram) → h.image ≡ p.image → IsReadyFor d h r → IsReadyFor d p r
-IsReadyFor-image d h p r same ready = record { code = subst (λ (image : ArrayVec ℕ). IsCodeOf d image r.code) same ready.code; source = ready.source }
+pub IsReadyAs-image : (d : Description) (h p : HeldProgram) (r : ReadyProgram) → h.image ≡ p.image → IsReadyAs d h r → IsReadyAs d p r
+IsReadyAs-image d h p r same ready = record { code = subst (λ (image : ArrayVec ℕ). IsImageCode d image r.code) same ready.code; source = ready.source }
 
 -- what the code writes is what the held program writes
-pub writes-told : (d : Description) (ps : List Program) (h : HeldProgram) (a : ReadyProgram) (at : Resource) → AreRightPrograms d ps → IsReadyFor d h a → (uses_of a.code.shape a.code.code).writes at ≡ ((meaning_by d ps).uses h).writes at
+pub writes-told : (d : Description) (ps : List Program) (h : HeldProgram) (a : ReadyProgram) (at : Resource) → AreRightPrograms d ps → IsReadyAs d h a → (uses_of a.code.shape a.code.code).writes at ≡ ((meaning_by d ps).uses h).writes at
 writes-told d ps h a at right ready =
     ap (λ (s : Shape). (uses_of s a.code.code).writes at) ready.code.shape
     ∙ ap (λ (c : Code). (uses_of (shape_of d) c).writes at) ready.code.code

@@ -21,9 +21,9 @@ use Rattle.audit_finite.specs.Following.{stamps_rise, may_follow, follow_one_ano
 use Rattle.audit_rules.specs.Tests.{installs_right, images_right}
 use Rattle.audit_roll.specs.Views.{HasHandlerBelow, seat_in, roll_in}
 use Rattle.audit_roll.specs.declared.seat.Seat.{Seat}
-use Rattle.whole_runs.specs.Ready.{IsReadyFor, ready_at}
+use Rattle.whole_runs.specs.Ready.{IsReadyAs, ready_at}
 use Rattle.whole_runs.specs.declared.ready.ReadyProgram.{ReadyProgram}
-use Rattle.audit_programs.specs.Trials.{machine_for, events_from, no_entry, told_at, IsTried, HasRead, IsSeatReady, AreReady}
+use Rattle.audit_programs.specs.Trials.{machine_for, events_from, no_entry, told_at, IsTried, HasReadUpTo, IsSeatReady, AreReady}
 use Rattle.audit_programs.specs.declared.ready_roll.ReadyRoll.{ReadyRoll}
 use Rattle.audit_programs.specs.declared.trial.Trial.{Trial}
 
@@ -67,17 +67,17 @@ installed-kept l x (entry.Void cause) h other = refl
 same_handler : (g h : HandlerId) → g.0 ≡ h.0 → g ≡ h
 same_handler g h e = ap (λ (n : ℕ). let x : HandlerId = record { 0 = n } in x) e
 
-pub AreReady-installed : (d : Description) (x : told.Roll) (p : HeldProgram) (programs : List (Option ReadyProgram)) (made : ReadyProgram) → p.handler.0 < length programs → IsReadyFor d p made → AreReady d x.installed programs
+pub AreReady-installed : (d : Description) (x : told.Roll) (p : HeldProgram) (programs : List (Option ReadyProgram)) (made : ReadyProgram) → p.handler.0 < length programs → IsReadyAs d p made → AreReady d x.installed programs
     → AreReady d (rolled x (Installed p)).installed (slice_set programs p.handler.0 (Some made))
 AreReady-installed d x p programs made below ready before h q is = elim (eqb_tells h.0 p.handler.0) [
   | inl t ↦ (let there : Some p ≡ Some q = ap (λ (b : Bool). if b then Some p else x.installed h) (sym t.0) ∙ is in
       let same : p ≡ q = cc in
       let found : ready_at (slice_set programs p.handler.0 (Some made)) h ≡ Some made =
       ap (λ (k : ℕ). slice_index_or (slice_set programs p.handler.0 (Some made)) k None) t.1 ∙ get_or-set_same programs p.handler.0 (Some made) None below in
-      subst (λ (o : Option ReadyProgram). IsSomeAnd o (IsReadyFor d q)) (sym found) (subst (λ (r : HeldProgram). IsReadyFor d r made) same ready))
+      subst (λ (o : Option ReadyProgram). IsSomeAnd o (IsReadyAs d q)) (sym found) (subst (λ (r : HeldProgram). IsReadyAs d r made) same ready))
   | inr u ↦ (let there : x.installed h ≡ Some q = ap (λ (b : Bool). if b then Some p else x.installed h) (sym u.0) ∙ is in
       let found : ready_at (slice_set programs p.handler.0 (Some made)) h ≡ ready_at programs h = get_or-set_other programs p.handler.0 h.0 (Some made) None u.1 in
-      subst (λ (o : Option ReadyProgram). IsSomeAnd o (IsReadyFor d q)) (sym found) (before h q there))
+      subst (λ (o : Option ReadyProgram). IsSomeAnd o (IsReadyAs d q)) (sym found) (before h q there))
 ]
 
 pub AreReady-kept : (d : Description) (l : Log) (x : told.Roll) (e : Entry) (programs : List (Option ReadyProgram)) → ((g : HandlerId) (version image : ℕ) → e ≡ entry.Install g version image → ⊥) → AreReady d x.installed programs
@@ -89,8 +89,8 @@ AreReady-kept d l x e programs other before h p is = before h p (sym (installed-
 none-ready : (d : Description) (programs : List (Option ReadyProgram)) → AreReady d nobody.installed programs
 none-ready d programs h p is = cc
 
-pub HasRead-begins : (t : Trial) (x : ReadyRoll) → IsTried t → LiveAreInstalled nobody → roll_in t.log.now.images x.roll ≡ nobody → x.ready.programs.items ≡ replicate 8 None → HasRead t 0 x
-HasRead-begins t x tried nobody_installed is places = record {
+pub HasReadUpTo-begins : (t : Trial) (x : ReadyRoll) → IsTried t → LiveAreInstalled nobody → roll_in t.log.now.images x.roll ≡ nobody → x.ready.programs.items ≡ replicate 8 None → HasReadUpTo t 0 x
+HasReadUpTo-begins t x tried nobody_installed is places = record {
   follow = subst (λ (r : told.Roll). follow_one_another (machine_for t) r (events_from t 0) ≡ true) (sym is)
       (and_parts (stamps_rise (journal_of t.log.now)) (follow_one_another (machine_for t) nobody (journal_of t.log.now)) tried.follow).1;
   images = subst (λ (r : told.Roll). images_right t.programs.now r (events_from t 0) ≡ true) (sym is) tried.images;
@@ -99,10 +99,10 @@ HasRead-begins t x tried nobody_installed is places = record {
   ready = subst (λ (r : told.Roll). AreReady t.desc.now r.installed x.ready.programs.items) (sym is) (none-ready t.desc.now x.ready.programs.items);
 }
 
-pub HasRead-next : (t : Trial) (place : ℕ) (x y : ReadyRoll) → place < length t.log.now.entries → HasRead t place x → (may_follow (machine_for t) (roll_in t.log.now.images x.roll) (told_at t place) ≡ true → LiveAreInstalled (roll_in t.log.now.images x.roll) → LiveAreInstalled (rolled (roll_in t.log.now.images x.roll) (told_at t place)))
+pub HasReadUpTo-next : (t : Trial) (place : ℕ) (x y : ReadyRoll) → place < length t.log.now.entries → HasReadUpTo t place x → (may_follow (machine_for t) (roll_in t.log.now.images x.roll) (told_at t place) ≡ true → LiveAreInstalled (roll_in t.log.now.images x.roll) → LiveAreInstalled (rolled (roll_in t.log.now.images x.roll) (told_at t place)))
     → roll_in t.log.now.images y.roll ≡ rolled (roll_in t.log.now.images x.roll) (told_at t place) → length y.ready.programs.items ≡ 8 → AreReady t.desc.now (rolled (roll_in t.log.now.images x.roll) (told_at t place)).installed y.ready.programs.items
-    → HasRead t (place + 1) y
-HasRead-next t place x y within read goes_on is places ready =
+    → HasReadUpTo t (place + 1) y
+HasReadUpTo-next t place x y within read goes_on is places ready =
     let images = t.log.now.images in
     let follow = follow-parts t place (roll_in images x.roll) within read.follow in
     let right = images-parts t place (roll_in images x.roll) within read.images in
@@ -115,7 +115,7 @@ HasRead-next t place x y within read goes_on is places ready =
     }
 
 -- the program of each live invocation is ready
-pub seats-ready : (t : Trial) (place : ℕ) (x : ReadyRoll) → HasRead t place x → (k : ℕ) (d : Seat) → k < length x.roll.seats.items → IsSeatReady t x (slice_index_or x.roll.seats.items k d)
+pub seats-ready : (t : Trial) (place : ℕ) (x : ReadyRoll) → HasReadUpTo t place x → (k : ℕ) (d : Seat) → k < length x.roll.seats.items → IsSeatReady t x (slice_index_or x.roll.seats.items k d)
 seats-ready t place x read k d below =
     let seats : List Seat = x.roll.seats.items in
     let s : Seat = slice_index_or seats k d in
@@ -131,7 +131,7 @@ entry-at t place e within is = ap (λ (s : Stamped). told_of t.log.now s.entry) 
 pub in-range : (t : Trial) (place : ℕ) (e : Stamped) → IsTried t → place < length t.log.now.entries → e ≡ slice_index_or t.log.now.entries place e → IsEntryInRange t.desc.now e.entry
 in-range t place e tried within is = subst (λ (s : Stamped). IsEntryInRange t.desc.now s.entry) (sym is) (tried.tidy.in_range place e within)
 
-named-at : (images stores : ℕ) (es : List Stamped) (k : ℕ) (d : Stamped) → AreNamedBelow images stores es → k < length es → IsNamedBelow images stores (slice_index_or es k d).entry
+pub named-at : (images stores : ℕ) (es : List Stamped) (k : ℕ) (d : Stamped) → AreNamedBelow images stores es → k < length es → IsNamedBelow images stores (slice_index_or es k d).entry
 named-at images stores [] k d named below = absurd (omega arith)
 named-at images stores (e ∷ es) zero d named below = named.0
 named-at images stores (e ∷ es) (suc k) d named below = named-at images stores es k d named.1 (omega arith)

@@ -15,7 +15,7 @@ use Rattle.audit_rules.specs.Tests.{images_right}
 use Rattle.audit_roll.specs.Views.{seat_in, roll_in}
 use Rattle.audit_roll.specs.declared.seat.Seat.{Seat}
 use Rattle.vm_desc.specs.declared.description.Description.{Description}
-use Rattle.whole_runs.specs.Ready.{IsReadyFor, ready_at}
+use Rattle.whole_runs.specs.Ready.{IsReadyAs, ready_at}
 use Rattle.whole_runs.specs.declared.ready.ReadyProgram.{ReadyProgram}
 use Rattle.audit_programs.specs.declared.ready_roll.ReadyRoll.{ReadyRoll}
 use Rattle.audit_programs.specs.declared.trial.Trial.{Trial}
@@ -47,10 +47,10 @@ pub record IsTried (t : Trial) : Type 0 where
 
 -- each program that is installed is ready
 abbrev pub AreReady : Description → (HandlerId → Option HeldProgram) → List (Option ReadyProgram) → Type 0
-AreReady d installed programs = (h : HandlerId) (p : HeldProgram) → installed h ≡ Some p → IsSomeAnd (ready_at programs h) (IsReadyFor d p)
+AreReady d installed programs = (h : HandlerId) (p : HeldProgram) → installed h ≡ Some p → IsSomeAnd (ready_at programs h) (IsReadyAs d p)
 
 -- the roll is that of the entries before a place, with the program of each handler made ready
-pub record HasRead (t : Trial) (place : ℕ) (x : ReadyRoll) : Type 0 where
+pub record HasReadUpTo (t : Trial) (place : ℕ) (x : ReadyRoll) : Type 0 where
   pub follow : follow_one_another (machine_for t) (roll_in t.log.now.images x.roll) (events_from t place) ≡ true
   pub images : images_right t.programs.now (roll_in t.log.now.images x.roll) (events_from t place) ≡ true
   pub installed : LiveAreInstalled (roll_in t.log.now.images x.roll)
@@ -59,4 +59,4 @@ pub record HasRead (t : Trial) (place : ℕ) (x : ReadyRoll) : Type 0 where
 
 -- the program of a live invocation is ready
 abbrev pub IsSeatReady : Trial → ReadyRoll → Seat → Type 0
-IsSeatReady t x s = IsSomeAnd (ready_at x.ready.programs.items s.handler) (IsReadyFor t.desc.now (seat_in t.log.now.images s).invocation.program)
+IsSeatReady t x s = IsSomeAnd (ready_at x.ready.programs.items s.handler) (IsReadyAs t.desc.now (seat_in t.log.now.images s).invocation.program)

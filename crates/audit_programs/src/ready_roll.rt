@@ -58,13 +58,13 @@ impl<'a> ReadyRoll<'a> {
     ghost use Rattle.audit_finite.specs.Shown.{HasLengthsOf};
     ghost use Rattle.audit_rules.specs.Tests.{conflict_of, installs_right};
     ghost use Rattle.audit_roll.specs.Views.{seat_in, roll_in};
-    ghost use Rattle.whole_runs.specs.Ready.{IsReadyFor};
-    ghost use Rattle.audit_programs.specs.Trials.{IsTried, HasRead, IsSeatReady, AreReady, machine_for, told_at};
+    ghost use Rattle.whole_runs.specs.Ready.{IsReadyAs};
+    ghost use Rattle.audit_programs.specs.Trials.{IsTried, HasReadUpTo, IsSeatReady, AreReady, machine_for, told_at};
 
     /// Before the first entry.
     pub fn new(alloc: Global, trial: &Trial<'a>) -> Result<ReadyRoll<'a>, NoMemory>
         requires { IsTried trial.now }
-        ensures read { IfOk result (HasRead trial.now 0) }
+        ensures read { IfOk result (HasReadUpTo trial.now 0) }
         ensures nobody { IfOk result (λ x. roll_in trial.now.log.now.images x.roll ≡ nobody) }
     {
         let _trial = trial;
@@ -77,8 +77,8 @@ impl<'a> ReadyRoll<'a> {
     pub fn hear(&mut self, alloc: Global, trial: &Trial<'a>, place: usize) -> Result<(), NoMemory>
         requires tried { IsTried trial.now }
         requires within { place < length trial.now.log.now.entries }
-        requires read { HasRead trial.now place self.old }
-        ensures read { OnOk result (HasRead trial.now (place + 1) self.new) }
+        requires read { HasReadUpTo trial.now place self.old }
+        ensures read { OnOk result (HasReadUpTo trial.now (place + 1) self.new) }
         ensures roll { let images = trial.now.log.now.images in
             OnOk result (roll_in images self.new.roll ≡ rolled (roll_in images self.old.roll) (told_at trial.now place)) }
     {
@@ -90,7 +90,7 @@ impl<'a> ReadyRoll<'a> {
     /// What the entry installs, if it installs something, is made ready.
     fn make_ready(&mut self, trial: &Trial<'a>, place: usize, entry: &Entry)
         requires tried { IsTried trial.now }
-        requires read { HasRead trial.now place self.old }
+        requires read { HasReadUpTo trial.now place self.old }
         requires range { IsEntryInRange trial.now.desc.now entry.now }
         requires named { let l = trial.now.log.now in
             IsNamedBelow (length l.images) (length l.stores) entry.now }
@@ -119,7 +119,7 @@ impl<'a> ReadyRoll<'a> {
     /// The program of a live invocation.
     pub fn program_of(&self, trial: &Trial, seat: &Seat) -> &ReadyProgram<'a>
         requires { IsSeatReady trial.now self.now seat.now }
-        ensures { IsReadyFor trial.now.desc.now (seat_in trial.now.log.now.images seat.now).invocation.program result.now }
+        ensures { IsReadyAs trial.now.desc.now (seat_in trial.now.log.now.images seat.now).invocation.program result.now }
     {
         let _trial = trial;
         let Some(program) = self.ready.get(seat.handler) else {

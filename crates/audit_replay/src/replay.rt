@@ -8,7 +8,7 @@ ghost use Rattle.audit_finite.specs.Roll.{nobody};
 ghost use Rattle.audit_finite.specs.Shown.{HasLengthsOf};
 ghost use Rattle.audit_rules.specs.Tests.{conflict_of};
 ghost use Rattle.audit_roll.specs.Views.{roll_in};
-ghost use Rattle.audit_programs.specs.Trials.{IsTried, HasRead, machine_for};
+ghost use Rattle.audit_programs.specs.Trials.{IsTried, HasReadUpTo, machine_for};
 
 use crate::ending::after_end;
 use crate::rerun::all_so_far;
@@ -35,7 +35,7 @@ fn after_era(
     store: &Store,
 ) -> Result<Option<Store>, NoMemory>
     requires tried { IsTried trial.now }
-    requires read { HasRead trial.now place roll.now }
+    requires read { HasReadUpTo trial.now place roll.now }
     requires lengths { HasLengthsOf (machine_for trial.now) store.now }
     ensures { let m = machine_for trial.now in
         let test = told.all_so_far m (roll_in trial.now.log.now.images roll.now.roll) store.now in
@@ -59,7 +59,7 @@ fn after_entry(
     entry: &Entry,
 ) -> Result<Option<Store>, NoMemory>
     requires tried { IsTried trial.now }
-    requires read { HasRead trial.now place roll.now }
+    requires read { HasReadUpTo trial.now place roll.now }
     requires lengths { HasLengthsOf (machine_for trial.now) store.now }
     ensures { let l = trial.now.log.now in
         let m = machine_for trial.now in

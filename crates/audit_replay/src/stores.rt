@@ -9,7 +9,7 @@ ghost use Rattle.audit_finite.specs.Roll.{nobody};
 ghost use Rattle.audit_finite.specs.Shown as told;
 ghost use Rattle.audit_finite.specs.Shown.{HasLengthsOf};
 ghost use Rattle.audit_roll.specs.Views.{roll_in};
-ghost use Rattle.audit_programs.specs.Trials.{IsTried, HasRead, IsSeatReady, machine_for};
+ghost use Rattle.audit_programs.specs.Trials.{IsTried, HasReadUpTo, IsSeatReady, machine_for};
 
 use crate::replay::zero_store;
 use crate::showing::is_store_shown;

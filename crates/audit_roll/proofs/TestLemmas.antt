@@ -14,7 +14,7 @@ use Rattle.journal_laws.specs.Growth.{event_of}
 use Rattle.audit_finite.specs.Roll as told
 use Rattle.audit_finite.specs.Following.{not_before, is_in_time, stamps_rise, is_taken, is_context_of, may_follow}
 use Rattle.audit_roll.specs.Stamps.{rise_from, rise}
-use Rattle.audit_roll.specs.Views.{stands_at, sits_at, has_context, phase_in, held_in, seat_in, roll_in}
+use Rattle.audit_roll.specs.Views.{stands_at, sits_at, has_context, phase_in, installed_in, seat_in, roll_in}
 use Rattle.audit_roll.specs.declared.phase.Phase.{Phase}
 use Rattle.audit_roll.specs.declared.phase.Phase.TheVariants as phase
 use Rattle.audit_roll.specs.declared.phase.Stage.TheVariants as stage
@@ -53,7 +53,7 @@ at_waiting images n x = any-in images (sits_at n stage.Waiting) (λ s. (s.number
 pub taken-in : (images : List (ArrayVec ℕ)) (c : ContextId) (x : Roll) → list_any (has_context c) x.seats.items ≡ is_taken (roll_in images x) c
 taken-in images c x = any-in images (has_context c) (λ s. s.invocation.context.0 == c.0) (λ s. refl) x.seats.items
 
-pub held-in : (images : List (ArrayVec ℕ)) (h : HandlerId) (o : Option InstalledImage) → is_some o ≡ is_some (held_in images h o)
+pub held-in : (images : List (ArrayVec ℕ)) (h : HandlerId) (o : Option InstalledImage) → is_some o ≡ is_some (installed_in images h o)
 held-in images h None = refl
 held-in images h (Some v) = refl
 

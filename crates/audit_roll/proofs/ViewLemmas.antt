@@ -11,7 +11,7 @@ use Rattle.mate_journal.specs.Machine.{HeldProgram}
 use Rattle.mate_journal.specs.Journal as journal
 use Rattle.mate_journal.specs.Journal.{Told, Posted, Started, Asked, Answered, Ended, Installed, Reset, Invocation, in_phase, no_image, no_program}
 use Rattle.audit_finite.specs.Roll as told
-use Rattle.audit_roll.specs.Views.{come_to, calls_after, seat_answered, answered_at, keeps_seat, phase_in, held_in, seat_in, roll_in}
+use Rattle.audit_roll.specs.Views.{come_to, calls_after, seat_answered, answered_at, keeps_seat, phase_in, installed_in, seat_in, roll_in}
 use Rattle.audit_roll.specs.declared.phase.Phase.{Phase}
 use Rattle.audit_roll.specs.declared.phase.Phase.TheVariants as phase
 use Rattle.audit_roll.specs.declared.roll.InstalledImage.{InstalledImage}
@@ -58,31 +58,31 @@ filter-in images n (s ∷ xs) = by (s.number == n) (filter-in images n xs) where
 pub moved-in : (images : List (ArrayVec ℕ)) (x y : Roll) (n : ℕ) (p : Phase) → y.posts ≡ x.posts → y.installed ≡ x.installed → y.seats.items ≡ map (come_to n p) x.seats.items
     → roll_in images y ≡ told.roll_changed n (in_phase (phase_in p)) (roll_in images x)
 moved-in images x y n p posts installed seats =
-    same_roll (roll_in images y) (told.roll_changed n (in_phase (phase_in p)) (roll_in images x)) posts (λ h. ap (λ xs. held_in images h (slice_index_or xs h.0 None)) installed)
+    same_roll (roll_in images y) (told.roll_changed n (in_phase (phase_in p)) (roll_in images x)) posts (λ h. ap (λ xs. installed_in images h (slice_index_or xs h.0 None)) installed)
     (ap (map (seat_in images)) seats ∙ map-map (come_to n p) (told.seat_changed n (in_phase (phase_in p))) images (come_to-in images n p) x.seats.items)
 
 pub answer-in : (images : List (ArrayVec ℕ)) (x y : Roll) (n : ℕ) (value : ℤ) → y.posts ≡ x.posts → y.installed ≡ x.installed → y.seats.items ≡ map (answered_at n value) x.seats.items
     → roll_in images y ≡ told.roll_changed n (told.with_answer value) (roll_in images x)
 answer-in images x y n value posts installed seats =
-    same_roll (roll_in images y) (told.roll_changed n (told.with_answer value) (roll_in images x)) posts (λ h. ap (λ xs. held_in images h (slice_index_or xs h.0 None)) installed)
+    same_roll (roll_in images y) (told.roll_changed n (told.with_answer value) (roll_in images x)) posts (λ h. ap (λ xs. installed_in images h (slice_index_or xs h.0 None)) installed)
     (ap (map (seat_in images)) seats ∙ map-map (answered_at n value) (told.seat_changed n (told.with_answer value)) images (seat_answered-in images n value) x.seats.items)
 
 pub ended-in : (images : List (ArrayVec ℕ)) (x y : Roll) (n : ℕ) (how : End) → y.posts ≡ x.posts → y.installed ≡ x.installed → y.seats.items ≡ kept (keeps_seat n) x.seats.items
     → roll_in images y ≡ told.rolled (roll_in images x) (Ended n how)
 ended-in images x y n how posts installed seats =
-    same_roll (roll_in images y) (told.rolled (roll_in images x) (Ended n how)) posts (λ h. ap (λ xs. held_in images h (slice_index_or xs h.0 None)) installed)
+    same_roll (roll_in images y) (told.rolled (roll_in images x) (Ended n how)) posts (λ h. ap (λ xs. installed_in images h (slice_index_or xs h.0 None)) installed)
     (ap (map (seat_in images)) seats ∙ filter-in images n x.seats.items)
 
 pub posted-in : (images : List (ArrayVec ℕ)) (x y : Roll) (n : ℕ) (h : HandlerId) (c : ContextId) (payload : ArrayVec ℤ) → y.posts ≡ n → y.installed ≡ x.installed
     → y.seats.items ≡ x.seats.items ++ record { number = n; handler = h; context = c; held = slice_index_or x.installed h.0 None; payload = payload; calls = []; phase = phase.Queued } ∷ []
     → roll_in images y ≡ told.rolled (roll_in images x) (Posted n h c payload)
 posted-in images x y n h c payload posts installed seats =
-    same_roll (roll_in images y) (told.rolled (roll_in images x) (Posted n h c payload)) posts (λ h. ap (λ xs. held_in images h (slice_index_or xs h.0 None)) installed)
+    same_roll (roll_in images y) (told.rolled (roll_in images x) (Posted n h c payload)) posts (λ h. ap (λ xs. installed_in images h (slice_index_or xs h.0 None)) installed)
     (ap (map (seat_in images)) seats ∙ map-append (seat_in images) x.seats.items _)
 
 pub reset-in : (images : List (ArrayVec ℕ)) (x y : Roll) → y.posts ≡ x.posts → y.installed ≡ x.installed → y.seats.items ≡ [] → roll_in images y ≡ told.rolled (roll_in images x) Reset
 reset-in images x y posts installed seats =
-    same_roll (roll_in images y) (told.rolled (roll_in images x) Reset) posts (λ h. ap (λ xs. held_in images h (slice_index_or xs h.0 None)) installed) (ap (map (seat_in images)) seats)
+    same_roll (roll_in images y) (told.rolled (roll_in images x) Reset) posts (λ h. ap (λ xs. installed_in images h (slice_index_or xs h.0 None)) installed) (ap (map (seat_in images)) seats)
 
 -- a handler by its number
 same_handler : (g h : HandlerId) → g.0 ≡ h.0 → g ≡ h
@@ -96,15 +96,15 @@ installed-in images x y h v low posts installed seats =
       program = record { handler = h; version = v.version; image = slice_index_or images v.image no_image }
 
       -- by the numbers of the two handlers
-      here : (g : HandlerId) → g.0 ≡ h.0 → held_in images g (slice_index_or (slice_set x.installed h.0 (Some v)) g.0 None) ≡ Some program
+      here : (g : HandlerId) → g.0 ≡ h.0 → installed_in images g (slice_index_or (slice_set x.installed h.0 (Some v)) g.0 None) ≡ Some program
       here g e =
-          subst (λ (k : HandlerId). held_in images k (slice_index_or (slice_set x.installed h.0 (Some v)) k.0 None) ≡ Some program) (sym (same_handler g h e))
-          (ap (held_in images h) (get_or-set_same x.installed h.0 (Some v) None low))
+          subst (λ (k : HandlerId). installed_in images k (slice_index_or (slice_set x.installed h.0 (Some v)) k.0 None) ≡ Some program) (sym (same_handler g h e))
+          (ap (installed_in images h) (get_or-set_same x.installed h.0 (Some v) None low))
 
-      each : (g : HandlerId) → held_in images g (slice_index_or y.installed g.0 None) ≡ (if g.0 == h.0 then Some program else held_in images g (slice_index_or x.installed g.0 None))
+      each : (g : HandlerId) → installed_in images g (slice_index_or y.installed g.0 None) ≡ (if g.0 == h.0 then Some program else installed_in images g (slice_index_or x.installed g.0 None))
       each g =
-          ap (λ xs. held_in images g (slice_index_or xs g.0 None)) installed
+          ap (λ xs. installed_in images g (slice_index_or xs g.0 None)) installed
           ∙ elim (eqb_tells g.0 h.0) [
             | inl t ↦ rw t.0 (here g t.1)
-            | inr u ↦ rw u.0 (ap (held_in images g) (get_or-set_other x.installed h.0 g.0 (Some v) None (λ e. u.1 e)))
+            | inr u ↦ rw u.0 (ap (installed_in images g) (get_or-set_other x.installed h.0 g.0 (Some v) None (λ e. u.1 e)))
           ]

@@ -67,16 +67,16 @@ phase_in phase.Queued = journal.Queued
 phase_in phase.Ready = journal.Ready
 phase_in (phase.Waiting f args) = journal.Waiting f args
 
-abbrev pub held_in : List (ArrayVec ℕ) → HandlerId → Option InstalledImage → Option HeldProgram
-held_in images h None = None
-held_in images h (Some v) = Some (record { handler = h; version = v.version; image = slice_index_or images v.image no_image })
+abbrev pub installed_in : List (ArrayVec ℕ) → HandlerId → Option InstalledImage → Option HeldProgram
+installed_in images h None = None
+installed_in images h (Some v) = Some (record { handler = h; version = v.version; image = slice_index_or images v.image no_image })
 
 abbrev pub seat_in : List (ArrayVec ℕ) → Seat → told.Seat
 seat_in images s =
     told.seat s.number (record {
       handler = s.handler;
       context = s.context;
-      program = unwrap_or (held_in images s.handler s.held) no_program;
+      program = unwrap_or (installed_in images s.handler s.held) no_program;
       payload = s.payload;
       calls = s.calls;
       phase = phase_in s.phase;
@@ -85,6 +85,6 @@ seat_in images s =
 abbrev pub roll_in : List (ArrayVec ℕ) → Roll → told.Roll
 roll_in images x = record {
   posts = x.posts;
-  installed = λ h. held_in images h (slice_index_or x.installed h.0 None);
+  installed = λ h. installed_in images h (slice_index_or x.installed h.0 None);
   seats = map (seat_in images) x.seats.items;
 }

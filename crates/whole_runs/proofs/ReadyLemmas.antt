@@ -36,7 +36,7 @@ use Rattle.node_invariant.specs.Meaning.{code_of, code_in}
 use Rattle.node_programs.specs.Right.{IsSourceOf, IsRightProgram, AreRightPrograms}
 use Rattle.node_programs.specs.Sources.{meaning_by}
 use Rattle.node_programs.proofs.MeaningLemmas.{meaning_by-right}
-use Rattle.whole_runs.specs.Images.{IsCodeOf}
+use Rattle.whole_runs.specs.Images.{IsImageCode}
 
 -- ---- from an image to code
 
@@ -61,9 +61,9 @@ code-if false n shape code marks (Err (BadOpcode place)) is = cc
 code-if false n shape code marks (Err (CutShort place)) is = cc
 
 -- the code of the capsule is that of the image
-pub IsCodeOf-verified : (d : Description) (p : Program) (right : IsRightProgram d p) (code : List ℕ) (v : VerifiedCode) → code ≡ right.capsule.code → IsVerificationOf (shape_of d) code v → IsCodeOf d p.image v
+pub IsImageCode-verified : (d : Description) (p : Program) (right : IsRightProgram d p) (code : List ℕ) (v : VerifiedCode) → code ≡ right.capsule.code → IsVerificationOf (shape_of d) code v → IsImageCode d p.image v
 unfolding code_of
-IsCodeOf-verified d p right code v same is =
+IsImageCode-verified d p right code v same is =
     let shape : Shape = shape_of d in
     let S : Shape → Type 0 = λ s. bytes_verification s v.bytes ≡ Ok (v.code, marks_of v) in
     let B : List ℕ → Type 0 = λ bs. bytes_verification shape bs ≡ Ok (v.code, marks_of v) in
@@ -76,7 +76,7 @@ IsCodeOf-verified d p right code v same is =
     }
 
 -- the program's source is that of the code
-pub source-kept : (d : Description) (p : Program) (v : VerifiedCode) → IsRightProgram d p → IsCodeOf d p.image v → IfSome p.source (IsSourceOf v.shape v.code)
+pub source-kept : (d : Description) (p : Program) (v : VerifiedCode) → IsRightProgram d p → IsImageCode d p.image v → IfSome p.source (IsSourceOf v.shape v.code)
 source-kept d p v right is =
     let S : Shape → Type 0 = λ shape. IfSome p.source (IsSourceOf shape v.code) in
     let C : Code → Type 0 = λ code. IfSome p.source (IsSourceOf (shape_of d) code) in
@@ -97,7 +97,7 @@ source-run shape code (Some s) source store payload answers turns of_source is =
     sym ((subst (λ (x : Checked). IsSourceOf shape code x) same of_source).runs store payload answers turns)
 
 -- the run of the code is what the held program means
-pub code-means : (d : Description) (ps : List Program) (h : HeldProgram) (v : VerifiedCode) (store : Store) (payload : ArrayVec ℤ) (answers : List ℤ) (turns : ℕ) → AreRightPrograms d ps → IsCodeOf d h.image v
+pub code-means : (d : Description) (ps : List Program) (h : HeldProgram) (v : VerifiedCode) (store : Store) (payload : ArrayVec ℤ) (answers : List ℤ) (turns : ℕ) → AreRightPrograms d ps → IsImageCode d h.image v
     → code_run v.shape v.code store payload answers turns ≡ (meaning_by d ps).run h store payload answers turns
 code-means d ps h v store payload answers turns right is =
     ap (λ (shape : Shape). code_run shape v.code store payload answers turns) is.shape

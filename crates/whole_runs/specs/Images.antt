@@ -7,6 +7,6 @@ use Rattle.vm_desc.specs.Shapes.{shape_of}
 use Rattle.vm_desc.specs.declared.description.Description.{Description}
 
 -- it is the image's code, verified by the description's shape
-pub record IsCodeOf (d : Description) (image : ArrayVec ℕ) (v : VerifiedCode) : Type 0 where
+pub record IsImageCode (d : Description) (image : ArrayVec ℕ) (v : VerifiedCode) : Type 0 where
   pub shape : v.shape ≡ shape_of d
   pub code : v.code ≡ code_of (shape_of d) image

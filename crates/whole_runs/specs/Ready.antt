@@ -4,7 +4,7 @@ use Rattle.mate_num.specs.declared.id.HandlerId.{HandlerId}
 use Rattle.mate_journal.specs.Machine.{HeldProgram}
 use Rattle.node_programs.specs.Right.{IsSourceOf}
 use Rattle.vm_desc.specs.declared.description.Description.{Description}
-use Rattle.whole_runs.specs.Images.{IsCodeOf}
+use Rattle.whole_runs.specs.Images.{IsImageCode}
 use Rattle.whole_runs.specs.declared.ready.ReadyProgram.{ReadyProgram}
 
 -- its source, if it has one, is that of its code
@@ -12,8 +12,8 @@ abbrev pub HasItsSource : ReadyProgram → Type 0
 HasItsSource r = IfSome r.program.now.source (IsSourceOf r.code.shape r.code.code)
 
 -- its code is that of the held program's image
-pub record IsReadyFor (d : Description) (h : HeldProgram) (r : ReadyProgram) : Type 0 where
-  pub code : IsCodeOf d h.image r.code
+pub record IsReadyAs (d : Description) (h : HeldProgram) (r : ReadyProgram) : Type 0 where
+  pub code : IsImageCode d h.image r.code
   pub source : HasItsSource r
 
 -- the program of a handler, by its number

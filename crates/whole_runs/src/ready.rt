@@ -2,7 +2,7 @@
 
 ghost use Rattle.lock_inference.specs.Locks.{AreLocksOf};
 ghost use Rattle.node_programs.specs.Right.{IsRightProgram};
-ghost use Rattle.whole_runs.specs.Images.{IsCodeOf};
+ghost use Rattle.whole_runs.specs.Images.{IsImageCode};
 
 use crate::filling::heap_of;
 use crate::going::whole_run;
@@ -28,7 +28,7 @@ pub struct ReadyProgram<'a> {
 /// The code of the program's image.
 fn code_of(desc: &Description, program: &Program) -> Verified
     requires { IsRightProgram desc.now program.now }
-    ensures { IsCodeOf desc.now program.now.image result }
+    ensures { IsImageCode desc.now program.now.image result }
 {
     let decoded = decode(desc, program.image.as_slice());
     let capsule = match &decoded {
@@ -54,12 +54,12 @@ impl<'a> ReadyProgram<'a> {
     ghost use Rattle.mate_journal.specs.declared.program.Program.{Program as Given};
     ghost use Rattle.node_programs.specs.Right.{AreRightPrograms};
     ghost use Rattle.node_programs.specs.Sources.{meaning_by, held_as};
-    ghost use Rattle.whole_runs.specs.Ready.{IsReadyFor, HasItsSource};
+    ghost use Rattle.whole_runs.specs.Ready.{IsReadyAs, HasItsSource};
 
     /// The right program, made ready.
     pub fn of(desc: &Description, program: &'a Program) -> ReadyProgram<'a>
         requires { IsRightProgram desc.now program.now }
-        ensures { IsReadyFor desc.now (held_as program.now) result }
+        ensures { IsReadyAs desc.now (held_as program.now) result }
     {
         let code = code_of(desc, program);
         ReadyProgram {
@@ -97,7 +97,7 @@ impl<'a> ReadyProgram<'a> {
         requires lengths { HasLengths self.now.code.shape store.now }
         requires source { HasItsSource self.now }
         ensures code { IfOk result (λ o. o ≡ code_run self.now.code.shape self.now.code.code store.now payload.now answers.now turns) }
-        ensures means { (d : Machine) (ps : List Given) (h : HeldProgram) → AreRightPrograms d ps → IsReadyFor d h self.now →
+        ensures means { (d : Machine) (ps : List Given) (h : HeldProgram) → AreRightPrograms d ps → IsReadyAs d h self.now →
             IfOk result (λ o. o ≡ (meaning_by d ps).run h store.now payload.now answers.now turns) }
     {
         match &self.program.source {

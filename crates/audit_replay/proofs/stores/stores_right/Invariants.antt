@@ -3,12 +3,12 @@ use Rattle.mate_journal.specs.Journal.{journal_of}
 use Rattle.audit_finite.specs.Roll.{nobody}
 use Rattle.audit_finite.specs.Shown.{HasLengthsOf, stores_right}
 use Rattle.audit_roll.specs.Views.{roll_in}
-use Rattle.audit_programs.specs.Trials.{HasRead, machine_for, events_from}
+use Rattle.audit_programs.specs.Trials.{HasReadUpTo, machine_for, events_from}
 use Rattle.audit_replay.proofs.stores.stores_right.Given as goal
 
 abbrev pub invariant-loop-place : goal.invariant-loop-place
 invariant-loop-place l = record {
-  read : HasRead l.trial l.place l.roll;
+  read : HasReadUpTo l.trial l.place l.roll;
   rest : stores_right (machine_for l.trial) (roll_in l.trial.log.now.images l.roll.roll) l.store (events_from l.trial l.place) ≡ stores_right (machine_for l.trial) nobody (machine_for l.trial).zero_store (journal_of l.trial.log.now);
   lengths : HasLengthsOf (machine_for l.trial) l.store;
 }

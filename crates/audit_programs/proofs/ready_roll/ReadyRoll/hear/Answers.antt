@@ -9,7 +9,7 @@ use Rattle.audit_roll.specs.Views.{roll_in}
 use Rattle.audit_roll.specs.declared.roll.Roll.{Roll}
 use Rattle.audit_programs.specs.Trials.{AreReady, machine_for, told_at}
 use Rattle.audit_programs.specs.declared.ready_roll.ReadyRoll.{ReadyRoll}
-use Rattle.audit_programs.proofs.TrialLemmas.{HasRead-next, entry-at, named-below}
+use Rattle.audit_programs.proofs.TrialLemmas.{HasReadUpTo-next, entry-at, named-below}
 use Rattle.audit_programs.proofs.ready_roll.ReadyRoll.hear.Goals as goal
 
 OnOk-map : {A E P Q : Type 0} (r : Result A E) → (P → Q) → OnOk r P → OnOk r Q
@@ -38,7 +38,7 @@ returns-clause-read c =
     (ap (λ (es : List Stamped). slice_index_or es place c.index-entries-place.result) c.entries.ensures ∙ get_or_default entries place c.index-entries-place.result e c.requires.within) in
     OnOk-map c.hear.result
     (λ heard.
-    HasRead-next t place x y c.requires.within c.requires.read (λ may live. LiveAreInstalled-step (machine_for t) (roll_in l.images x.roll) (told_at t place) may live)
+    HasReadUpTo-next t place x y c.requires.within c.requires.read (λ may live. LiveAreInstalled-step (machine_for t) (roll_in l.images x.roll) (told_at t place) may live)
     (heard ∙ ap (λ (r : Roll). rolled (roll_in l.images r) (told_of l e.entry)) c.make_ready.ensures.roll ∙ ap (λ (g : Told). rolled (roll_in l.images x.roll) g) told) c.make_ready.ensures.places
     (subst (λ (g : Told). AreReady t.desc.now (rolled (roll_in l.images x.roll) g).installed y.ready.programs.items) told c.make_ready.ensures.ready))
     (c.hear.ensures l)

@@ -9,7 +9,7 @@ use Rattle.audit_roll.specs.Views.{roll_in}
 use Rattle.whole_runs.specs.declared.ready.ReadyProgram.{ReadyProgram}
 use Rattle.audit_programs.specs.Naming.{named_program}
 use Rattle.audit_programs.specs.Trials.{AreReady}
-use Rattle.audit_programs.proofs.ReadyLemmas.{IsReadyFor-image}
+use Rattle.audit_programs.proofs.ReadyLemmas.{IsReadyAs-image}
 use Rattle.audit_programs.proofs.TrialLemmas.{AreReady-installed}
 use Rattle.audit_programs.proofs.ready_roll.ReadyRoll.make_ready.Goals as goal
 
@@ -27,4 +27,4 @@ returns-in-Install-clause-ready c =
     let places = c.requires.read.places in
     subst E (sym c.in-Install.is) (subst R (sym c.install.ensures)
     (AreReady-installed d x p c.args.self.now.ready.programs.items c.of.result (omega (arith, low, few, places))
-    (IsReadyFor-image d (held_as c.program_named-program.result.now) p c.of.result c.program_named-program.ensures.image c.of.ensures) c.requires.read.ready))
+    (IsReadyAs-image d (held_as c.program_named-program.result.now) p c.of.result c.program_named-program.ensures.image c.of.ensures) c.requires.read.ready))
