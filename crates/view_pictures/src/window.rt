@@ -1,0 +1,45 @@
+//! The part of a report that is drawn.
+
+use mate_num::Stamp;
+
+/// Which part of a report is drawn.
+#[derive(Clone, Copy)]
+pub struct Window {
+    /// The first and the last place: times in ms, or numbers of events where `by_events` says so.
+    pub from: u64,
+    pub to: u64,
+    /// A bit a node.
+    pub nodes: u64,
+    /// Whether places are numbers of events.
+    pub by_events: bool,
+}
+
+/// A bit for each node that a report may have.
+pub fn all_nodes() -> u64 {
+    u64::MAX
+}
+
+impl Window {
+    /// Whether a node is drawn.
+    pub fn has_node(&self, node: u8) -> bool {
+        if node < 64 {
+            (self.nodes >> node) & 1 == 1
+        } else {
+            false
+        }
+    }
+
+    /// Where something is on the scale.
+    pub fn place(&self, stamp: Stamp) -> u64 {
+        if self.by_events {
+            stamp.event
+        } else {
+            u64::from(stamp.time)
+        }
+    }
+
+    /// Whether what lasts so long is seen.
+    pub fn has_span(&self, from: Stamp, to: Stamp) -> bool {
+        self.place(from) <= self.to && self.from <= self.place(to)
+    }
+}

@@ -1,0 +1,60 @@
+//! Packets on their way.
+
+use crate::fault::ViewFault;
+use mate_num::Stamp;
+use std::alloc::Global;
+use std::collections::VecDeque;
+
+/// The longest that a packet is on its way, in ms: the most that `radio.delay` may be.
+const LONGEST_FLIGHT: u32 = 10_000;
+
+/// A packet that was sent: its number, its sender and when.
+#[derive(Clone, Copy)]
+pub struct Flight {
+    pub number: u32,
+    pub node: u8,
+    pub sent: Stamp,
+}
+
+/// The packets that may still come to a receiver, in the order in which they were sent.
+#[derive(Drop)]
+pub struct Flights {
+    flights: VecDeque<Flight>,
+}
+
+impl Flights {
+    /// No packet.
+    pub fn new(alloc: Global) -> Flights {
+        Flights {
+            flights: VecDeque::new(alloc),
+        }
+    }
+
+    /// A packet is sent. Those that no longer are on their way are forgotten.
+    pub fn send(&mut self, flight: Flight) -> Result<(), ViewFault> {
+        self.forget(flight.sent.time);
+        self.flights.push_back(flight)?;
+        Ok(())
+    }
+
+    /// Forgets what was sent too long ago to come to anyone now.
+    fn forget(&mut self, now: u32) {
+        for _ in 0..self.flights.len() {
+            match self.flights.front() {
+                Some(flight) if now.saturating_sub(flight.sent.time) > LONGEST_FLIGHT => {}
+                Some(_) | None => return,
+            }
+            let _ = self.flights.pop_front();
+        }
+    }
+
+    /// The packet of this number, where it may still be on its way.
+    pub fn find(&self, number: u32) -> Option<Flight> {
+        for flight in self.flights.iter().rev() {
+            if flight.number == number {
+                return Some(*flight);
+            }
+        }
+        None
+    }
+}

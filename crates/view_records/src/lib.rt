@@ -1,0 +1,19 @@
+//! A report as views need it: its lines one by one, from a reader, and what is known of nodes and invocations between them.
+#![tactic(auto)]
+
+pub mod fault;
+pub mod flights;
+pub mod ink;
+pub mod lines;
+pub mod nodes;
+pub mod order;
+pub mod source;
+pub mod stretch;
+pub mod words;
+
+pub use fault::ViewFault;
+pub use flights::{Flight, Flights};
+pub use ink::Ink;
+pub use nodes::Nodes;
+pub use source::Source;
+pub use stretch::{Live, Phase, Stretch, StretchEnd};

@@ -1,0 +1,281 @@
+//! What is known of the nodes of a report between two of its lines.
+
+use crate::fault::ViewFault;
+use crate::stretch::{Live, Phase, Stretch, StretchEnd};
+use mate_journal::Entry;
+use mate_num::{CONTEXTS_MAX, HANDLERS_MAX, Stamp};
+use report_reader::{Line, Told};
+use std::alloc::Global;
+
+/// The most nodes that a report has.
+pub const NODES_MAX: u8 = 64;
+
+/// The invocations that live, by node and context, and the versions that nodes hold.
+#[derive(Drop)]
+pub struct Nodes {
+    live: Vec<Option<Live>>,
+    versions: Vec<u32>,
+    /// When the last line was.
+    pub now: Stamp,
+}
+
+impl Nodes {
+    /// Nodes on which nothing has happened.
+    pub fn new(alloc: Global) -> Result<Nodes, ViewFault> {
+        let mut live = Vec::new(alloc);
+        for _ in 0..usize::from(NODES_MAX) * CONTEXTS_MAX {
+            live.push(None)?;
+        }
+        let mut versions = Vec::new(alloc);
+        for _ in 0..usize::from(NODES_MAX) * HANDLERS_MAX {
+            versions.push(0)?;
+        }
+        Ok(Nodes {
+            live,
+            versions,
+            now: Stamp { event: 0, time: 0 },
+        })
+    }
+
+    /// The place of a node's invocation that lives.
+    fn place_of(&self, node: u8, inv: u32) -> Option<usize> {
+        let first = usize::from(node) * CONTEXTS_MAX;
+        for place in first..first + CONTEXTS_MAX {
+            if let Some(Some(live)) = self.live.get(place) {
+                if live.inv == inv {
+                    return Some(place);
+                }
+            }
+        }
+        None
+    }
+
+    /// A node's invocation, where it lives.
+    pub fn live(&self, node: u8, inv: u32) -> Option<Live> {
+        let place = self.place_of(node, inv)?;
+        self.at(place)
+    }
+
+    fn at(&self, place: usize) -> Option<Live> {
+        match self.live.get(place) {
+            Some(live) => *live,
+            None => None,
+        }
+    }
+
+    fn set(&mut self, place: usize, live: Option<Live>) {
+        if place < self.live.len() {
+            self.live[place] = live;
+        }
+    }
+
+    /// The version of a handler that a node holds; 0 for none.
+    pub fn version(&self, node: u8, handler: u8) -> u32 {
+        let place = usize::from(node) * HANDLERS_MAX + usize::from(handler);
+        match self.versions.get(place) {
+            Some(version) => *version,
+            None => 0,
+        }
+    }
+
+    fn install(&mut self, node: u8, handler: u8, version: u32) {
+        let place = usize::from(node) * HANDLERS_MAX + usize::from(handler);
+        if usize::from(handler) < HANDLERS_MAX && place < self.versions.len() {
+            self.versions[place] = version;
+        }
+    }
+
+    /// The newest version of a handler that any node holds; 0 for none.
+    pub fn newest(&self, handler: u8) -> u32 {
+        let mut newest = 0;
+        for node in 0..NODES_MAX {
+            newest = self.version(node, handler).max(newest);
+        }
+        newest
+    }
+
+    /// How many nodes hold this version of a handler.
+    pub fn holders(&self, handler: u8, version: u32) -> u64 {
+        let mut count = 0u64;
+        for node in 0..NODES_MAX {
+            if self.version(node, handler) == version {
+                count = count.saturating_add(1);
+            }
+        }
+        count
+    }
+
+    /// Follows the next line. The stretches that end there are put behind those in `ended`.
+    pub fn follow(&mut self, line: &Line, ended: &mut Vec<Stretch>) -> Result<(), ViewFault> {
+        self.now = line.stamp;
+        match &line.told {
+            Told::Made(entry) => self.entry(line.stamp, line.node, entry, ended),
+            Told::Installed {
+                handler,
+                version,
+                image: _,
+            } => {
+                self.install(line.node, handler.0, *version);
+                self.cut(line.node, line.stamp, StretchEnd::Cut, ended)
+            }
+            Told::OnAir(_) | Told::Shown(_) => Ok(()),
+        }
+    }
+
+    fn entry(
+        &mut self,
+        now: Stamp,
+        node: u8,
+        entry: &Entry,
+        ended: &mut Vec<Stretch>,
+    ) -> Result<(), ViewFault> {
+        match entry {
+            Entry::Post {
+                inv,
+                handler,
+                ctx,
+                payload: _,
+            } => {
+                let live = Live {
+                    inv: *inv,
+                    handler: *handler,
+                    ctx: *ctx,
+                    phase: Phase::Waiting,
+                    since: now,
+                };
+                self.open(node, live, ended)
+            }
+            Entry::Start { inv } => {
+                self.go_on(node, *inv, now, Phase::Running, StretchEnd::Next, ended)
+            }
+            Entry::Ask { inv, fun, args: _ } => {
+                self.go_on(
+                    node,
+                    *inv,
+                    now,
+                    Phase::Asking(*fun),
+                    StretchEnd::Next,
+                    ended,
+                )
+            }
+            Entry::Answer { inv, value } => {
+                let end = StretchEnd::Answered(*value);
+                self.go_on(node, *inv, now, Phase::Running, end, ended)
+            }
+            Entry::Halt { inv } => self.close(node, *inv, now, StretchEnd::Halted, ended),
+            Entry::Fault { inv, kind } => {
+                self.close(node, *inv, now, StretchEnd::Faulted(*kind), ended)
+            }
+            Entry::Reset => self.cut(node, now, StretchEnd::Cut, ended),
+            Entry::Dropped { .. }
+            | Entry::Install { .. }
+            | Entry::Seen { .. }
+            | Entry::Void { .. } => Ok(()),
+        }
+    }
+
+    /// An invocation begins; one that has its context still is cut.
+    fn open(&mut self, node: u8, live: Live, ended: &mut Vec<Stretch>) -> Result<(), ViewFault> {
+        let ctx = usize::from(live.ctx.0);
+        if ctx >= CONTEXTS_MAX {
+            return Ok(());
+        }
+        let place = usize::from(node) * CONTEXTS_MAX + ctx;
+        self.end_at(place, node, live.since, StretchEnd::Cut, ended)?;
+        self.set(place, Some(live));
+        Ok(())
+    }
+
+    /// The stretch of an invocation ends, and another begins.
+    fn go_on(
+        &mut self,
+        node: u8,
+        inv: u32,
+        now: Stamp,
+        phase: Phase,
+        end: StretchEnd,
+        ended: &mut Vec<Stretch>,
+    ) -> Result<(), ViewFault> {
+        let Some(place) = self.place_of(node, inv) else {
+            return Ok(());
+        };
+        let Some(live) = self.at(place) else {
+            return Ok(());
+        };
+        ended.push(Stretch {
+            node,
+            live,
+            to: now,
+            end,
+        })?;
+        self.set(
+            place,
+            Some(Live {
+                phase,
+                since: now,
+                ..live
+            }),
+        );
+        Ok(())
+    }
+
+    /// An invocation ends.
+    fn close(
+        &mut self,
+        node: u8,
+        inv: u32,
+        now: Stamp,
+        end: StretchEnd,
+        ended: &mut Vec<Stretch>,
+    ) -> Result<(), ViewFault> {
+        match self.place_of(node, inv) {
+            Some(place) => self.end_at(place, node, now, end, ended),
+            None => Ok(()),
+        }
+    }
+
+    /// What lives at a place ends.
+    fn end_at(
+        &mut self,
+        place: usize,
+        node: u8,
+        now: Stamp,
+        end: StretchEnd,
+        ended: &mut Vec<Stretch>,
+    ) -> Result<(), ViewFault> {
+        if let Some(live) = self.at(place) {
+            ended.push(Stretch {
+                node,
+                live,
+                to: now,
+                end,
+            })?;
+            self.set(place, None);
+        }
+        Ok(())
+    }
+
+    /// All that lives on a node ends.
+    fn cut(
+        &mut self,
+        node: u8,
+        now: Stamp,
+        end: StretchEnd,
+        ended: &mut Vec<Stretch>,
+    ) -> Result<(), ViewFault> {
+        let first = usize::from(node) * CONTEXTS_MAX;
+        for place in first..first + CONTEXTS_MAX {
+            self.end_at(place, node, now, end, ended)?;
+        }
+        Ok(())
+    }
+
+    /// The report ends: all that lives is put behind the stretches in `ended`.
+    pub fn finish(&mut self, ended: &mut Vec<Stretch>) -> Result<(), ViewFault> {
+        let now = self.now;
+        for node in 0..NODES_MAX {
+            self.cut(node, now, StretchEnd::Open, ended)?;
+        }
+        Ok(())
+    }
+}

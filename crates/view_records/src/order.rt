@@ -1,0 +1,67 @@
+//! Which lines are a report's: each fits after those before it, and the last one counts them.
+
+use crate::fault::ViewFault;
+use crate::nodes::NODES_MAX;
+use mate_journal::Air;
+use report_reader::{Line, Told};
+use report_reading::last_line::LastLine;
+use report_reading::place::{Place, admits_next, place_after};
+
+/// How far the lines of a report have come.
+#[derive(Drop)]
+pub struct Order {
+    place: Option<Place>,
+    /// How many lines were read.
+    pub count: u64,
+    /// A number above each node number in them.
+    pub nodes: u64,
+}
+
+impl Order {
+    /// Before the first line.
+    pub fn new() -> Order {
+        Order {
+            place: None,
+            count: 0,
+            nodes: 0,
+        }
+    }
+
+    /// The line so many behind those that were read is bad.
+    pub fn bad_line(&self, behind: u64) -> ViewFault {
+        ViewFault::BadLine {
+            line: self.count.saturating_add(behind),
+        }
+    }
+
+    /// Takes the next line; it is bad where it doesn't fit after those before it.
+    pub fn take(&mut self, line: &Line) -> Result<(), ViewFault> {
+        if !admits_next(&self.place, line) {
+            return Err(self.bad_line(1));
+        }
+        let place = place_after(&self.place, line);
+        self.place = Some(place);
+        self.count = self.count.saturating_add(1);
+        self.nodes = self.nodes.max(nodes_in(line));
+        Ok(())
+    }
+
+    /// Takes the last line; it is bad where it doesn't count those before it.
+    pub fn end(&self, last: &LastLine) -> Result<(), ViewFault> {
+        let fits = last.records == self.count
+            && 1 <= last.nodes
+            && last.nodes <= u64::from(NODES_MAX)
+            && self.nodes <= last.nodes;
+        if fits { Ok(()) } else { Err(self.bad_line(1)) }
+    }
+}
+
+/// A number above each node number of a line.
+fn nodes_in(line: &Line) -> u64 {
+    let named = match &line.told {
+        Told::OnAir(Air::Lost { number: _, to }) => *to,
+        Told::OnAir(Air::Got { number: _, from }) => *from,
+        Told::OnAir(_) | Told::Made(_) | Told::Installed { .. } | Told::Shown(_) => 0,
+    };
+    u64::from(line.node.max(named)) + 1
+}

@@ -1,0 +1,81 @@
+//! A report that is read line by line.
+
+use crate::fault::ViewFault;
+use crate::lines::{Lines, Next};
+use crate::order::Order;
+use report_reader::{Line, line_of};
+use report_reading::last_line::{LastLine, last_line_of};
+use std::alloc::Global;
+use std::io::Read;
+use vm_desc::Description;
+
+/// A report of any length that is read line by line, by the rules of `report_reading`.
+#[derive(Drop)]
+pub struct Source<R> {
+    lines: Lines<R>,
+    order: Order,
+    last: Option<LastLine>,
+}
+
+impl<R: Read> Source<R> {
+    /// The report that a reader gives.
+    pub fn new(alloc: Global, reader: R) -> Source<R> {
+        Source {
+            lines: Lines::new(alloc, reader),
+            order: Order::new(),
+            last: None,
+        }
+    }
+
+    /// The next line; None once the last line was read, behind which nothing stands. `BadLine` names the first line that is none of
+    /// a report, at its number.
+    pub fn next(&mut self, desc: &Description) -> Result<Option<Line>, ViewFault> {
+        if self.last.is_some() {
+            return Ok(None);
+        }
+        let Next::Line { length } = self.lines.peek()? else {
+            return Err(self.order.bad_line(1));
+        };
+        let told = line_of(desc, self.lines.line(length));
+        match told {
+            Some(line) => {
+                self.order.take(&line)?;
+                self.lines.take(length);
+                Ok(Some(line))
+            }
+            None => {
+                self.end(length)?;
+                Ok(None)
+            }
+        }
+    }
+
+    /// Takes the last line, of this length.
+    fn end(&mut self, length: usize) -> Result<(), ViewFault> {
+        let Some(last) = last_line_of(self.lines.line(length)) else {
+            return Err(self.order.bad_line(1));
+        };
+        self.order.end(&last)?;
+        self.lines.take(length);
+        let Next::End = self.lines.peek()? else {
+            return Err(self.order.bad_line(2));
+        };
+        self.last = Some(last);
+        Ok(())
+    }
+
+    /// How many lines were read, without the last one.
+    pub fn count(&self) -> u64 {
+        self.order.count
+    }
+
+    /// A number above each node number in the lines so far.
+    pub fn nodes(&self) -> u64 {
+        self.order.nodes
+    }
+
+    /// The last line, once it was read.
+    pub fn last(&self) -> Option<LastLine> {
+        self.last
+    }
+}

@@ -1,0 +1,62 @@
+//! What an invocation does between two records of it.
+
+use mate_num::{ContextId, FaultKind, FunId, HandlerId, Stamp};
+
+/// What an invocation is doing.
+#[derive(Clone, Copy)]
+pub enum Phase {
+    /// It was posted, and waits for its locks.
+    Waiting,
+    /// It has its locks, and no call that waits.
+    Running,
+    /// It waits for the answer of this function.
+    Asking(FunId),
+}
+
+/// An invocation that has not ended, and since when it does what it is doing.
+#[derive(Clone, Copy)]
+pub struct Live {
+    pub inv: u32,
+    pub handler: HandlerId,
+    pub ctx: ContextId,
+    pub phase: Phase,
+    pub since: Stamp,
+}
+
+/// What ended a stretch.
+#[derive(Clone, Copy)]
+pub enum StretchEnd {
+    /// The invocation was granted its locks, or it asked a function.
+    Next,
+    /// A call was answered by this value.
+    Answered(i16),
+    /// The invocation halted.
+    Halted,
+    /// The invocation was stopped.
+    Faulted(FaultKind),
+    /// An install or a reset cut the invocation.
+    Cut,
+    /// The report ends before.
+    Open,
+}
+
+/// What an invocation did without a break.
+#[derive(Clone, Copy)]
+pub struct Stretch {
+    pub node: u8,
+    pub live: Live,
+    pub to: Stamp,
+    pub end: StretchEnd,
+}
+
+impl Stretch {
+    /// How long it took, in ms.
+    pub fn ms(&self) -> u64 {
+        u64::from(self.to.time.saturating_sub(self.live.since.time))
+    }
+
+    /// How many events came from its first to its last one.
+    pub fn events(&self) -> u64 {
+        self.to.event.saturating_sub(self.live.since.event)
+    }
+}
