@@ -1,0 +1,38 @@
+use Rattle.std.proofs.Common.{Option, sym, subst}
+use Rattle.std.specs.Prelude.{IsSomeAnd}
+use Rattle.mate_journal.specs.Log.{Log}
+use Rattle.mate_journal.specs.Tidy.{IsTidyLog}
+use Rattle.audit_programs.proofs.LoopLemmas.{shown, of-all}
+use Rattle.audit_rules.specs.Tests.{failed_by}
+use Rattle.audit_rules.specs.Verdicts.{LogFails}
+use Rattle.audit_rules.proofs.TestLemmas.{failed-told}
+use Rattle.report_audit.proofs.AuditLemmas.{at-node, keeps-more, found-none, found-law}
+use Rattle.report_audit.proofs.auditing.audit.Goals as goal
+
+pub returns-in-Some : goal.returns-in-Some
+returns-in-Some c =
+    let d = c.args.desc.now in
+    let ps = c.args.programs.now in
+    let nodes = c.args.report.now.nodes in
+    let k = c.loop-node.node in
+    let l : Log = c.index-nodes-node.result in
+    let r = shown nodes c.nodes-nodes.result.now k l c.nodes-nodes.ensures c.loop-node-test.true c.index-nodes-node.is in
+    let tidy = of-all (IsTidyLog d) nodes k l c.requires.tidy.logs r.0 r.1 in
+    let at = at-node nodes c.nodes-nodes.result.now k l c.nodes-nodes.ensures c.loop-node-test.true c.index-nodes-node.is in (
+      c.loop-node.invariant,
+      subst (λ (o : Option Log). IsSomeAnd o (λ x. LogFails d ps x c.in-Some.law)) (sym at)
+          (found-law d ps l (failed_by d ps l) c.in_ok-failed.failed c.in-Some.law c.in_ok-failed.ensures c.in-Some.is (failed-told d ps l c.requires.right tidy)),
+    )
+
+pub loop-node-preserved : goal.loop-node-preserved
+loop-node-preserved c =
+    let d = c.args.desc.now in
+    let ps = c.args.programs.now in
+    let nodes = c.args.report.now.nodes in
+    let k = c.loop-node.node in
+    let l : Log = c.index-nodes-node.result in
+    let r = shown nodes c.nodes-nodes.result.now k l c.nodes-nodes.ensures c.loop-node-test.true c.index-nodes-node.is in
+    let tidy = of-all (IsTidyLog d) nodes k l c.requires.tidy.logs r.0 r.1 in
+    let at = at-node nodes c.nodes-nodes.result.now k l c.nodes-nodes.ensures c.loop-node-test.true c.index-nodes-node.is in
+    keeps-more d ps c.args.report.now k l c.loop-node.invariant at
+    (found-none d ps l (failed_by d ps l) c.in_ok-failed.failed c.in_ok-failed.ensures c.in_default.is (failed-told d ps l c.requires.right tidy))

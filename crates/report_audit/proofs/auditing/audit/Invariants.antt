@@ -1,0 +1,5 @@
+use Rattle.audit_rules.specs.Verdicts.{NodesKeep}
+use Rattle.report_audit.proofs.auditing.audit.Given as goal
+
+abbrev pub invariant-loop-node : goal.invariant-loop-node
+invariant-loop-node l = NodesKeep l.desc l.programs l.report l.node

@@ -1,0 +1,94 @@
+//! The audit of a report.
+
+ghost use Rattle.std.specs.Prelude.{◌≡◌, IfOk};
+ghost use Rattle.mate_journal.specs.Tidy.{IsTidyLog};
+ghost use Rattle.node_programs.specs.Right.{AreRightPrograms};
+ghost use Rattle.report_text.specs.Tidy.{IsTidy};
+ghost use Rattle.audit_rules.specs.Tests.{failed_by};
+ghost use Rattle.audit_rules.specs.Verdicts.{IsVerdict};
+ghost use Rattle.audit_programs.specs.Trials.{IsTried};
+
+use crate::images::images_right;
+use audit_grants::grants_in_order;
+use audit_programs::Trial;
+use audit_replay::{replays_right, stores_right};
+use audit_roll::entries_follow;
+use audit_rules::{Law, Verdict};
+use mate_journal::{NodeLog, Programs, Report};
+use mate_num::NoMemory;
+use std::alloc::Global;
+use vm_desc::Description;
+
+/// The first law that the log of a node fails, by the tests in their order.
+fn first_failed(
+    alloc: Global,
+    desc: &Description,
+    programs: &Programs,
+    log: &NodeLog,
+) -> Result<Option<Law>, NoMemory>
+    requires tidy { IsTidyLog desc.now log.now }
+    requires right { AreRightPrograms desc.now programs.now }
+    ensures { IfOk result (λ law. law ≡ failed_by desc.now programs.now log.now) }
+{
+    let _handlers = desc.handlers.len();
+    let follow = entries_follow(alloc, desc, log)?;
+    if !follow {
+        return Ok(Some(Law::D7));
+    }
+    let images = images_right(alloc, desc, programs, log)?;
+    if !images {
+        return Ok(Some(Law::Image));
+    }
+    let trial = Trial {
+        desc,
+        programs,
+        log,
+    };
+    first_failed_of(alloc, &trial)
+}
+
+/// The first law that a log fails whose entries follow one another and whose installs are of the programs.
+fn first_failed_of(alloc: Global, trial: &Trial) -> Result<Option<Law>, NoMemory>
+    requires { IsTried trial.now }
+    ensures { IfOk result (λ law. law ≡ failed_by trial.now.desc.now trial.now.programs.now trial.now.log.now) }
+{
+    let serial = replays_right(alloc, trial)?;
+    if !serial {
+        return Ok(Some(Law::D8));
+    }
+    let shown = stores_right(alloc, trial)?;
+    if !shown {
+        return Ok(Some(Law::D9));
+    }
+    let granted = grants_in_order(alloc, trial)?;
+    if !granted {
+        return Ok(Some(Law::D10));
+    }
+    Ok(None)
+}
+
+/// Whether a report shows serial behaviour of the programs: `Serial` exactly where each node's journal keeps each law, and else the least
+/// node whose journal fails one, with the first that it fails in their order. `NoMemory` comes only where memory is refused, for what is
+/// live on a node at a time, for programs that are made ready, and for the calls of runs.
+pub fn audit(
+    alloc: Global,
+    desc: &Description,
+    programs: &Programs,
+    report: &Report,
+) -> Result<Verdict, NoMemory>
+    requires tidy { IsTidy desc.now report.now }
+    requires right { AreRightPrograms desc.now programs.now }
+    ensures { IfOk result (λ v. IsVerdict desc.now programs.now report.now v) }
+{
+    let nodes = report.nodes();
+    for node in 0..nodes.len() {
+        let failed = first_failed(alloc, desc, programs, &nodes[node])?;
+        if let Some(law) = failed {
+            return Ok(Verdict::Refuted {
+                node: node as u8,
+                law,
+            });
+        }
+    }
+    Ok(Verdict::Serial)
+}

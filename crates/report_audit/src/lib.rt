@@ -1,0 +1,8 @@
+//! The audit of a report: whether it shows serial behaviour of programs, whoever wrote it.
+#![tactic(auto)]
+
+pub mod auditing;
+pub mod images;
+
+pub use audit_rules::{Law, Verdict};
+pub use auditing::audit;
