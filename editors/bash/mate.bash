@@ -20,20 +20,20 @@ _mate() {
         case ${COMP_WORDS[i]} in --brief | --fold | --) ;; *) words+=("${COMP_WORDS[i]}") ;; esac
     done
     if [[ $word == -* ]]; then
-        case ${words[0]-} in table | check | expand | feed) flags= ;; compile) flags=--fold ;; esac
+        case ${words[0]-} in table | check | expand | feed) flags= ;; compile | audit) flags=--fold ;; esac
         mapfile -t COMPREPLY < <(compgen -W "$flags" -- "$word")
         return
     fi
     case ${#words[@]}:${words[0]-} in
-        0:*) mapfile -t COMPREPLY < <(compgen -W 'node sim gen table compile check expand feed' -- "$word") ;;
-        1:node | 1:sim | 1:table | 1:compile | 1:check | 1:feed | 2:gen) machine=yes ;;
+        0:*) mapfile -t COMPREPLY < <(compgen -W 'node sim gen table compile check expand feed audit' -- "$word") ;;
+        1:node | 1:sim | 1:table | 1:compile | 1:check | 1:feed | 1:audit | 2:gen) machine=yes ;;
         1:gen | 3:compile) mapfile -t COMPREPLY < <(compgen -W 1 -- "$word") ;;
         2:compile)
             while IFS= read -r name; do
                 [[ $name =~ ^[A-Za-z_][A-Za-z0-9_]*$ && $name == "$word"* ]] && COMPREPLY+=("$name")
             done < <(_mate_handlers "${words[1]}") ;;
         4:compile | 1:expand) mapfile -t COMPREPLY < <(compgen -f -X '!*.ts' -- "$word"; compgen -d -- "$word") ;;
-        2:node | 2:sim | 2:check | 2:feed) mapfile -t COMPREPLY < <(compgen -f -- "$word") ;;
+        2:node | 2:sim | 2:check | 2:feed | [23]:audit) mapfile -t COMPREPLY < <(compgen -f -- "$word") ;;
     esac
     # a machine: its file, or the built-in one
     [[ -z $machine ]] || mapfile -t COMPREPLY < <(compgen -W builtin -- "$word"; compgen -f -X '!*.toml' -- "$word"; compgen -d -- "$word")

@@ -48,7 +48,7 @@ sentence() {
             row = $3; gsub(/`/, "", row)
             count = split(row, part, " ")
             rest = " " ENVIRON["LINE"] " "; fits = 1
-            for (i = 1; i <= count; i++) if (part[i] ~ /^[a-z]+$/) {
+            for (i = 1; i <= count; i++) if (part[i] ~ /^[a-z]+[0-9]*$/) {
                 at = index(rest, " " part[i] " ")
                 if (!at) { fits = 0; break }
                 rest = substr(rest, at + length(part[i]) + 1)

@@ -18,7 +18,7 @@ use crate::machines::Machines;
 use std::{fs, io};
 
 /// The tables of cases; those of refusals begin with `bad-`.
-const TABLES: [&str; 22] = [
+const TABLES: [&str; 24] = [
     "table",
     "bad-table",
     "compile",
@@ -31,6 +31,8 @@ const TABLES: [&str; 22] = [
     "bad-check",
     "feed",
     "bad-feed",
+    "audit",
+    "bad-audit",
     "expand",
     "bad-expand",
     "expansions",

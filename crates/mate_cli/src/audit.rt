@@ -22,11 +22,7 @@ use world_programs::programs_named;
 
 /// That the report shows serial behaviour of what the script runs; or why it doesn't.
 #[inline(never)]
-pub fn output<F: Files>(
-    alloc: Global,
-    files: &mut F,
-    words: Audit<'_>,
-) -> Result<Output, Refusal>
+pub fn output<F: Files>(alloc: Global, files: &mut F, words: Audit<'_>) -> Result<Output, Refusal>
     ensures does { audit (record { told = F.contents files.old; steady = F.steady files.old }) words.entry.fold words.entry.machine.now words.entry.script.now words.entry.report.now result }
     ensures reads { ReadsFiles (F.contents files.old) (F.steady files.old) (F.faults files.old) (F.contents files.new) (F.steady files.new) (F.faults files.new) result }
     ensures writable { IfOk result CanBeWritten }

@@ -31,7 +31,7 @@ use Rattle.script_programs.specs.Scripts.{IsBadScript, script_text, script}
 
 -- ---- the script
 
-script_text_agrees : (d : Description) (bytes : List ℕ) → AnswersAgree ◌≡◌ (script_text d bytes) (script_text d bytes)
+pub script_text_agrees : (d : Description) (bytes : List ℕ) → AnswersAgree ◌≡◌ (script_text d bytes) (script_text d bytes)
 script_text_agrees d bytes = judged_agrees ◌≡◌ _ _ _ one not same where
   one : (a b : NodeScript) → node_script_in d bytes ≡ Ok a → node_script_in d bytes ≡ Ok b → a ≡ b
   one a b p q = cc

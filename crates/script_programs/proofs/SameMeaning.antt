@@ -60,17 +60,18 @@ steps-same s ps qs same = ap (λ (f : Step → node.Step). map f s.steps) (same_
 
 -- ---- meaning
 
+-- they are held as the same programs
+pub is_held-same : (p q : Program) → SameProgram p q → (h : HeldProgram) → is_held_as h p ≡ is_held_as h q
+is_held-same p q same h =
+    ap (λ (x : HandlerId). (h.handler.0 == x.0) && ((h.version == p.version) && bytes_eq h.image.items p.image.items)) same.handler
+    ∙ ap (λ (n : ℕ). (h.handler.0 == q.handler.0) && ((h.version == n) && bytes_eq h.image.items p.image.items)) same.version
+    ∙ ap (λ (i : ArrayVec ℕ). (h.handler.0 == q.handler.0) && ((h.version == q.version) && bytes_eq h.image.items i.items)) same.image
+
 source-same : (ps qs : List Program) → SamePrograms ps qs → (h : HeldProgram) → SameSource (source_in ps h) (source_in qs h)
 source-same [] [] same h = tt
 source-same [] (q ∷ qs) same h = absurd same
 source-same (p ∷ ps) [] same h = absurd same
-source-same (p ∷ ps) (q ∷ qs) same h = by (is_held_as h p) (is_held_as h q) held (source-same ps qs same.1 h) where
-  held : is_held_as h p ≡ is_held_as h q
-  held =
-      ap (λ (x : HandlerId). (h.handler.0 == x.0) && ((h.version == p.version) && bytes_eq h.image.items p.image.items)) same.0.handler
-      ∙ ap (λ (n : ℕ). (h.handler.0 == q.handler.0) && ((h.version == n) && bytes_eq h.image.items p.image.items)) same.0.version
-      ∙ ap (λ (i : ArrayVec ℕ). (h.handler.0 == q.handler.0) && ((h.version == q.version) && bytes_eq h.image.items i.items)) same.0.image
-
+source-same (p ∷ ps) (q ∷ qs) same h = by (is_held_as h p) (is_held_as h q) (is_held-same p q same.0 h) (source-same ps qs same.1 h) where
   by : (a b : Bool) → a ≡ b → SameSource (source_in ps h) (source_in qs h) → SameSource (if a then p.source else source_in ps h) (if b then q.source else source_in qs h)
   by true true is later = same.0.source
   by true false is later = cc

@@ -45,6 +45,11 @@ returns-in-Feed-clause-does g c =
     let f : Folder = record { told = g.F.Files.contents c.args.files.now; steady = g.F.Files.steady c.args.files.now } in
     subst (λ (t : Command). command f (task_held t) c.output-in-Feed.result) (sym c.in-Feed.is) c.output-in-Feed.ensures.does
 
+pub returns-in-Audit-clause-does : goal.returns-in-Audit-clause-does
+returns-in-Audit-clause-does g c =
+    let f : Folder = record { told = g.F.Files.contents c.args.files.now; steady = g.F.Files.steady c.args.files.now } in
+    subst (λ (t : Command). command f (task_held t) c.output-in-Audit.result) (sym c.in-Audit.is) c.output-in-Audit.ensures.does
+
 pub returns-in-Node-clause-reads : goal.returns-in-Node-clause-reads
 returns-in-Node-clause-reads g c = c.output.ensures.reads
 
@@ -92,3 +97,9 @@ returns-in-Feed-clause-reads g c = c.output-in-Feed.ensures.reads
 
 pub returns-in-Feed-clause-writable : goal.returns-in-Feed-clause-writable
 returns-in-Feed-clause-writable g c = c.output-in-Feed.ensures.writable
+
+pub returns-in-Audit-clause-reads : goal.returns-in-Audit-clause-reads
+returns-in-Audit-clause-reads g c = c.output-in-Audit.ensures.reads
+
+pub returns-in-Audit-clause-writable : goal.returns-in-Audit-clause-writable
+returns-in-Audit-clause-writable g c = c.output-in-Audit.ensures.writable
