@@ -1,5 +1,5 @@
 -- A report that is read back has the same journals.
-use Rattle.std.proofs.Common.{◌≡◌, ℕ, List, [], ◌∷◌, map, refl, sym, ◌∙◌, ap}
+use Rattle.std.proofs.Common.{◌≡◌, ◌≤◌, ℕ, List, [], ◌∷◌, length, map, refl, sym, ◌∙◌, ap}
 use Rattle.std.specs.Prelude.{Result, Ok, Err}
 use Rattle.std.specs.List.{AllZip}
 use Rattle.arrayvec.specs.ArrayVec.{ArrayVec}
@@ -7,6 +7,7 @@ use Rattle.mate_num.specs.declared.store.Store.{Store}
 use Rattle.vm_desc.specs.declared.description.Description.{Description}
 use Rattle.mate_journal.specs.Journal.{Event, journal_of}
 use Rattle.mate_journal.specs.Log.{Log, IsSameLog}
+use Rattle.mate_journal.specs.Ranges.{HasReportRanges}
 use Rattle.mate_journal.specs.declared.entry.Stamped.{Stamped}
 use Rattle.mate_journal.specs.declared.program.Program.{Program}
 use Rattle.mate_journal.specs.declared.report.Report.{Report}
@@ -14,7 +15,7 @@ use Rattle.report_text.specs.Text.{text}
 use Rattle.report_text.specs.Tidy.{IsTidy}
 use Rattle.report_reading.specs.Parts.{IsSameReport}
 use Rattle.report_reading.specs.Reads.{ReadsReport}
-use Rattle.report_reading.specs.Written.{HasReportRanges, GivesBack}
+use Rattle.report_reading.specs.Written.{GivesBack}
 use Rattle.report_reading.specs.declared.fault.TextFault.{TextFault}
 use Rattle.report_reading.specs.declared.fault.TextFault.TheVariants.{BadLine, NoMemory}
 use Rattle.report_reading.proofs.TripLemmas.{gives_back}
@@ -34,7 +35,8 @@ same-journal a b same =
     let stores : told a.entries a.images b.stores ≡ told a.entries a.images a.stores = ap (λ (xs : List Store). told a.entries a.images xs) (sym same.stores) in
     entries ∙ images ∙ stores
 
-same-journals : (xs bs : List Log) → AllZip IsSameLog xs bs → map journal_of bs ≡ map journal_of xs
+-- logs that are the same but for their room have the same journals
+pub same-journals : (xs bs : List Log) → AllZip IsSameLog xs bs → map journal_of bs ≡ map journal_of xs
 same-journals [] [] same = refl
 same-journals [] (b ∷ bs) same = absurd same
 same-journals (a ∷ rest) [] same = absurd same
@@ -50,5 +52,5 @@ read-with d ps r v (Ok x) is same = read-back d ps x r v same is
 read-with d ps r v (Err (BadLine line)) is none = none
 read-with d ps r v (Err NoMemory) is wanting = tt
 
-pub read-text : (d : Description) (ps : List Program) (r : Report) (v : Verdict) (answer : Result Report TextFault) → IsTidy d r → HasReportRanges r → IsVerdict d ps r v → ReadsReport d (text d r) answer → IsReadWith d ps v answer
-read-text d ps r v answer tidy ranges is reads = read-with d ps r v answer is (gives_back d (text d r) answer reads r tidy ranges refl)
+pub read-text : (d : Description) (ps : List Program) (r : Report) (v : Verdict) (answer : Result Report TextFault) → length (text d r) ≤ 4000000000 → IsTidy d r → HasReportRanges r → IsVerdict d ps r v → ReadsReport d (text d r) answer → IsReadWith d ps v answer
+read-text d ps r v answer short tidy ranges is reads = read-with d ps r v answer is (gives_back d (text d r) answer short reads r tidy ranges refl)

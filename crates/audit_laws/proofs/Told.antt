@@ -76,7 +76,8 @@ install-right ps k m r q x told one is =
 
 -- ---- each law
 
-weaker : (P Q : Reading → Told → Type 0) (m : Machine) (r : Reading) (es : List Event) → ((r : Reading) (t : Told) → P r t → Q r t) → AtEachEntry P m r es → AtEachEntry Q m r es
+-- a rule that follows from another at each entry
+pub weaker : (P Q : Reading → Told → Type 0) (m : Machine) (r : Reading) (es : List Event) → ((r : Reading) (t : Told) → P r t → Q r t) → AtEachEntry P m r es → AtEachEntry Q m r es
 weaker P Q m r [] each h = tt
 weaker P Q m r (e ∷ es) each h = (each r e.told h.0, weaker P Q m (heard m r e.told) es each h.1)
 

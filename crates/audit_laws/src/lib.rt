@@ -1,10 +1,11 @@
 //! What a node and a world tell of their runs is found serial.
 #![tactic(auto)]
 
-ghost use Rattle.std.specs.Prelude.{List, Result};
+ghost use Rattle.std.specs.Prelude.{◌≤◌, length, List, Result};
 ghost use Rattle.vm_desc.specs.declared.description.Description.{Description};
 ghost use Rattle.mate_journal.specs.NodeReport.{IsNodeReport};
 ghost use Rattle.mate_journal.specs.NodeScript.{Step, RunEnd};
+ghost use Rattle.mate_journal.specs.Ranges.{HasReportRanges};
 ghost use Rattle.mate_journal.specs.Turns.{Clock};
 ghost use Rattle.mate_journal.specs.declared.program.Program.{Program};
 ghost use Rattle.mate_journal.specs.declared.report.Report.{Report};
@@ -17,7 +18,6 @@ ghost use Rattle.report_text.specs.Text.{text};
 ghost use Rattle.report_text.specs.Tidy.{IsTidy};
 ghost use Rattle.report_reading.specs.Parts.{IsSameReport};
 ghost use Rattle.report_reading.specs.Reads.{ReadsReport};
-ghost use Rattle.report_reading.specs.Written.{HasReportRanges};
 ghost use Rattle.report_reading.specs.declared.fault.TextFault.{TextFault};
 ghost use Rattle.world_rules.specs.Report.{IsWorldReport};
 ghost use Rattle.world_sources.specs.SourceWorld.{source_world};
@@ -42,9 +42,9 @@ pub fn world_reports_are_serial()
 {}
 
 /// A report that is read back from its text has the verdict that it had; and the text of a tidy report whose numbers are in the ranges of
-/// their types is read, but for want of memory.
+/// their types is read, where it has at most 4,000,000,000 bytes, but for want of memory.
 pub fn verdicts_are_read_back()
     ensures same { (d : Description) (ps : List Program) (x r : Report) (v : Verdict) → IsSameReport x r → IsVerdict d ps r v → IsVerdict d ps x v }
     ensures text { (d : Description) (ps : List Program) (r : Report) (v : Verdict) (answer : Result Report TextFault) →
-        IsTidy d r → HasReportRanges r → IsVerdict d ps r v → ReadsReport d (text d r) answer → IsReadWith d ps v answer }
+        length (text d r) ≤ 4000000000 → IsTidy d r → HasReportRanges r → IsVerdict d ps r v → ReadsReport d (text d r) answer → IsReadWith d ps v answer }
 {}
