@@ -1,0 +1,95 @@
+//! A view of a report, from what is asked for to what is written.
+
+use crate::request::{Request, Rows, View};
+use crate::stop::Stop;
+use mate_files::{Files, Sink};
+use mate_steps::machine_of;
+use std::alloc::Global;
+use std::io::Read;
+use view_pictures::{Window, draw_spread, draw_timeline};
+use view_records::{Ink, Source};
+use view_tables::{Form, write_calls, write_events, write_spread, write_stats};
+use vm_desc::Description;
+use world_programs::world_of;
+
+/// Makes a view of the report that `reader` gives. Files are read first, then the report. Rows are written as they are read; all else
+/// once the report is read whole, so that nothing is written of one with a bad line.
+pub fn view<F: Files, R: Read, S: Sink>(
+    alloc: Global,
+    request: &Request<'_>,
+    files: &mut F,
+    reader: R,
+    ink: &mut Ink<S>,
+) -> Result<(), Stop>
+where
+    R: Drop,
+{
+    let desc = machine_of(alloc, files, request.machine)?;
+    match request.view {
+        View::Timeline(window) => timeline(alloc, &desc, &window, reader, ink),
+        View::Spread { world, window } => {
+            spread(alloc, &desc, world, &window, files, reader, ink)
+        }
+        View::Csv { rows, form } => csv(alloc, &desc, rows, form, reader, ink),
+        View::Stats { json } => stats(alloc, &desc, json, reader, ink),
+    }
+}
+
+fn timeline<R: Read + Drop, S: Sink>(
+    alloc: Global,
+    desc: &Description,
+    window: &Window,
+    reader: R,
+    ink: &mut Ink<S>,
+) -> Result<(), Stop> {
+    let mut source = Source::new(alloc, reader);
+    draw_timeline(alloc, desc, window, &mut source, ink)?;
+    Ok(())
+}
+
+fn spread<F: Files, R: Read + Drop, S: Sink>(
+    alloc: Global,
+    desc: &Description,
+    world: Option<&str>,
+    window: &Window,
+    files: &mut F,
+    reader: R,
+    ink: &mut Ink<S>,
+) -> Result<(), Stop> {
+    let world = match world {
+        Some(name) => Some(world_of(alloc, files, desc, name)?),
+        None => None,
+    };
+    let mut source = Source::new(alloc, reader);
+    draw_spread(alloc, desc, world.as_ref(), window, &mut source, ink)?;
+    Ok(())
+}
+
+fn csv<R: Read + Drop, S: Sink>(
+    alloc: Global,
+    desc: &Description,
+    rows: Rows,
+    form: Form,
+    reader: R,
+    ink: &mut Ink<S>,
+) -> Result<(), Stop> {
+    let mut source = Source::new(alloc, reader);
+    match rows {
+        Rows::Events => write_events(alloc, desc, form, &mut source, ink)?,
+        Rows::Spread => write_spread(alloc, desc, form, &mut source, ink)?,
+        Rows::Calls => write_calls(alloc, desc, form, &mut source, ink)?,
+    }
+    Ok(())
+}
+
+fn stats<R: Read + Drop, S: Sink>(
+    alloc: Global,
+    desc: &Description,
+    json: bool,
+    reader: R,
+    ink: &mut Ink<S>,
+) -> Result<(), Stop> {
+    let mut source = Source::new(alloc, reader);
+    write_stats(alloc, desc, json, &mut source, ink)?;
+    Ok(())
+}

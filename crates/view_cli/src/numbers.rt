@@ -1,0 +1,37 @@
+//! Numbers and lists of nodes in words.
+
+use report_fields::numbers::{below, unsigned};
+
+/// The number in a word, below 2^64, with no sign and no 0 before it; where there is no word, the one that stands for it.
+pub fn number_or(word: Option<&str>, none: u64) -> Option<u64> {
+    match word {
+        Some(word) => unsigned(word.as_bytes()),
+        None => Some(none),
+    }
+}
+
+/// The nodes of a list as `0,3,8-15`, a bit each.
+pub fn nodes_of(word: &str) -> Option<u64> {
+    let mut nodes = 0u64;
+    for part in word.split(',') {
+        let (first, last) = part.split_once('-').unwrap_or((part, part));
+        nodes |= nodes_between(node_of(first)?, node_of(last)?);
+    }
+    Some(nodes)
+}
+
+/// The number of a node, below 64.
+fn node_of(word: &str) -> Option<u64> {
+    below(word.as_bytes(), 64)
+}
+
+/// The nodes from one to another, a bit each.
+fn nodes_between(first: u64, last: u64) -> u64 {
+    let mut nodes = 0u64;
+    for node in 0..64u64 {
+        if first <= node && node <= last {
+            nodes |= 1 << node;
+        }
+    }
+    nodes
+}

@@ -1,0 +1,57 @@
+//! Why a view isn't made, as the program tells it.
+
+use mate_files::{Pen, Sink};
+use mate_refusals::{Refusal, Status};
+use view_records::ViewFault;
+
+/// Why a view isn't made.
+#[derive(Drop)]
+pub enum Stop {
+    /// For a cause that `mate` has, too.
+    Refused(Refusal),
+    /// The report's first line, counted from 1, that doesn't fit after the lines before it.
+    BadReport { line: u64 },
+    /// The report can't be read.
+    Unread,
+}
+
+impl From<Refusal> for Stop {
+    fn from(refusal: Refusal) -> Stop {
+        Stop::Refused(refusal)
+    }
+}
+
+impl From<ViewFault> for Stop {
+    fn from(fault: ViewFault) -> Stop {
+        match fault {
+            ViewFault::BadLine { line } => Stop::BadReport { line },
+            ViewFault::Unread => Stop::Unread,
+            ViewFault::Unwritten => Stop::Refused(Refusal::SinkFault),
+            ViewFault::NoMemory => Stop::Refused(Refusal::NoMemory),
+        }
+    }
+}
+
+impl Stop {
+    /// Writes the line that tells why, and answers the status: 11 for a bad line of a report, and else that of `mate`. `report` is the
+    /// name of the report's file.
+    pub fn tell<E: Sink>(&self, report: &str, err: &mut E) -> Status {
+        match self {
+            Stop::Refused(refusal) => refusal.refuse(err),
+            Stop::BadReport { line } => {
+                let mut pen = Pen::new();
+                pen.text(err, "bad report line ");
+                pen.number(err, *line);
+                pen.text(err, "\n");
+                Status::Refuted
+            }
+            Stop::Unread => {
+                let mut pen = Pen::new();
+                pen.text(err, "file fault ");
+                pen.text(err, report);
+                pen.text(err, "\n");
+                Status::FileFault
+            }
+        }
+    }
+}
