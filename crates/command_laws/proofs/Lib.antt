@@ -2,6 +2,7 @@ mod OneCommand
 mod OneOutput
 mod OneNode
 mod OneWorld
+mod OneAudit
 mod OneText
 mod OneCall
 mod Steady

@@ -1,9 +1,10 @@
 -- Words have one answer, so what is owed comes.
 use Rattle.std.proofs.Common.{◌≡◌, ℕ, Bool, true, false, inl, inr, List, Ok, Err, refl, subst}
-use Rattle.command_line.specs.Commands.{Task, Node, Sim, Gen, Table, Compile, Check, Expand, Feed}
+use Rattle.command_line.specs.Commands.{Task, Node, Sim, Gen, Table, Compile, Check, Expand, Feed, Audit}
 use Rattle.command_laws.specs.Completed.{IsUnhindered, Completes, whole, full, wanting}
 use Rattle.command_laws.specs.SameText.{SameText}
 use Rattle.command_laws.specs.Texts.{run_end, IsTextOf, IsRunText}
+use Rattle.command_laws.proofs.OneAudit.{audit_agrees}
 use Rattle.command_laws.proofs.OneCommand.{table_agrees, compile_agrees, check_agrees, expand_agrees, feed_agrees, task_agrees}
 use Rattle.command_laws.proofs.OneNode.{node_agrees}
 use Rattle.command_laws.proofs.OneText.{WorldsHaveOneReport}
@@ -38,6 +39,7 @@ command_agrees law names (Compile fold vm h version name) = compile_agrees names
 command_agrees law names (Check vm name) = check_agrees names vm name
 command_agrees law names (Expand name) = expand_agrees names name
 command_agrees law names (Feed vm name) = feed_agrees names vm name
+command_agrees law names (Audit fold vm script report) = audit_agrees names fold vm script report
 
 pub owes_agree : WorldsHaveOneReport → (names : Names) (words : List (List ℕ)) → AnswersAgree SameText (Owes (steady names) words) (Owes (steady names) words)
 owes_agree law names words =

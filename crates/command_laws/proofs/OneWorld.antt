@@ -67,7 +67,7 @@ module _ (law : WorldsHaveOneReport) (d : Description) (w : World) (ps qs : List
 
 -- ---- sim
 
-world_text_agrees : (d : Description) (bytes : List ℕ) → AnswersAgree ◌≡◌ (world_text d bytes) (world_text d bytes)
+pub world_text_agrees : (d : Description) (bytes : List ℕ) → AnswersAgree ◌≡◌ (world_text d bytes) (world_text d bytes)
 world_text_agrees d bytes = judged_agrees ◌≡◌ _ _ _ one not same where
   one : (a b : World) → world_script_in d bytes ≡ Ok a → world_script_in d bytes ≡ Ok b → a ≡ b
   one a b p q = cc

@@ -1,8 +1,9 @@
 -- What is owed of files that tell their bytes is owed of steady ones, but where a file could not be read.
-use Rattle.std.proofs.Common.{◌≡◌, ◌⊎◌, inl, inr, ℕ, Bool, List, [], ◌∷◌, ◌++◌, Option, Some, None, option_to_list, Result, Ok, Err, sym, subst}
+use Rattle.std.proofs.Common.{◌≡◌, ◌⊎◌, inl, inr, ℕ, Bool, true, false, List, [], ◌∷◌, ◌++◌, Option, Some, None, option_to_list, Result, Ok, Err, sym, subst}
 use Rattle.std.specs.Prelude.{IsTrue}
 use Rattle.std.specs.Global.{Vec}
-use Rattle.command_line.specs.Commands.{Task, Node, Sim, Gen, Table, Compile, Check, Expand, Feed}
+use Rattle.command_line.specs.Commands.{Task, Node, Sim, Gen, Table, Compile, Check, Expand, Feed, Audit}
+use Rattle.mate_cli.specs.Audit.{audit}
 use Rattle.mate_cli.specs.Ends.{command, task, Owes}
 use Rattle.mate_cli.specs.Node.{node}
 use Rattle.mate_cli.specs.Worlds.{sim, made_run}
@@ -28,6 +29,7 @@ use Rattle.script_reader.specs.declared.steps.Step.{Step}
 use Rattle.script_reader.specs.declared.steps.Step.TheVariants as step
 use Rattle.vm_desc.specs.declared.description.Description.{Description}
 use Rattle.world_programs.specs.Injected.{installs}
+use Rattle.world_programs.specs.Named.{is_of_world, programs_by, programs_named}
 use Rattle.world_programs.specs.WorldFiles.{world}
 
 -- ---- steps
@@ -105,6 +107,13 @@ module _ (f : Folder) (names : Names) (told : f.told ≡ Some names) where
   programs_stay d fold files ps [] = stays _
   programs_stay d fold files ps (x ∷ xs) = then_stays _ _ _ _ (step_stays d fold files x) (λ o. programs_stay d fold files (ps ++ option_to_list o) xs)
 
+  programs_by_stay : (d : Description) (fold of_world : Bool) (bytes : List ℕ) → Stays (programs_by of_world f d fold bytes) (programs_by of_world (steady names) d fold bytes)
+  programs_by_stay d fold true bytes = then_stays _ _ _ _ (stays _) (λ w. programs_stay d fold w.files [] (installs w).steps)
+  programs_by_stay d fold false bytes = then_stays _ _ _ _ (stays _) (λ s. programs_stay d fold s.files [] s.steps)
+
+  named_stay : (d : Description) (fold : Bool) (name : List ℕ) → Stays (programs_named f d fold name) (programs_named (steady names) d fold name)
+  named_stay d fold name = then_stays _ _ _ _ (file_stays name) (λ bytes. programs_by_stay d fold (is_of_world bytes.items) bytes.items)
+
   -- ---- commands
 
   node_stays : (fold short : Bool) (vm name : List ℕ) → Stays (node f fold short vm name) (node (steady names) fold short vm name)
@@ -131,6 +140,11 @@ module _ (f : Folder) (names : Names) (told : f.told ≡ Some names) where
   feed_stays : (vm name : List ℕ) → Stays (feed f vm name) (feed (steady names) vm name)
   feed_stays vm name = then_stays _ _ _ _ (machine_stays vm) (λ d. then_stays _ _ _ _ (file_stays name) (λ bytes. stays _))
 
+  audit_stays : (fold : Bool) (vm script report : List ℕ) → Stays (audit f fold vm script report) (audit (steady names) fold vm script report)
+  audit_stays fold vm script report =
+      then_stays _ _ _ _ (machine_stays vm)
+      (λ d. then_stays _ _ _ _ (named_stay d fold script) (λ ps. then_stays _ _ _ _ (then_stays _ _ _ _ (file_stays report) (λ bytes. stays _)) (λ r. stays _)))
+
   command_stays : (t : Task) → Stays (command f t) (command (steady names) t)
   command_stays (Node fold short vm name) = node_stays fold short vm name
   command_stays (Sim fold short vm name) = sim_stays fold short vm name
@@ -140,6 +154,7 @@ module _ (f : Folder) (names : Names) (told : f.told ≡ Some names) where
   command_stays (Check vm name) = check_stays vm name
   command_stays (Expand name) = expand_stays name
   command_stays (Feed vm name) = feed_stays vm name
+  command_stays (Audit fold vm script report) = audit_stays fold vm script report
 
   owes_stay : (words : List (List ℕ)) → Stays (Owes f words) (Owes (steady names) words)
   owes_stay words = then_stays _ _ _ _ (stays (task words)) command_stays

@@ -7,6 +7,7 @@ ghost use Rattle.mate_documents.specs.Compile.{compile};
 ghost use Rattle.command_laws.specs.Completed.{Completes, IsUnhindered};
 ghost use Rattle.mate_documents.specs.Expand.{expand};
 ghost use Rattle.mate_documents.specs.Feed.{feed};
+ghost use Rattle.mate_cli.specs.Audit.{audit};
 ghost use Rattle.mate_cli.specs.Ends.{CallEnds, Owes, Sinks, task};
 ghost use Rattle.mate_documents.specs.declared.output.Output.{Output};
 ghost use Rattle.mate_refusals.specs.declared.status.Status.{Status};
@@ -68,6 +69,12 @@ pub fn made_run_has_one_answer()
 {
     script_has_one_report();
 }
+
+/// The command `audit` has one answer but for want of memory, where the files are steady: programs that can't be told apart judge the same
+/// journals alike, whatever room is left in the logs that were read.
+pub fn audit_has_one_answer()
+    ensures { (names : Names) (fold : Bool) (vm script report : List ℕ) → AnswersAgree SameText (audit (steady names) fold vm script report) (audit (steady names) fold vm script report) }
+{}
 
 /// So words have: what they and steady files are owed is one output or one refusal, but for want of memory.
 pub fn words_have_one_answer()
