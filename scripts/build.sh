@@ -1,5 +1,5 @@
-# Read by ./mate, ./explain and scripts/build: `build_program TOP` builds the program of the checkout TOP where that is needed, and
-# puts its path into $program.
+# Read by ./mate, ./mate-view, ./explain and scripts/build: `build_program TOP [CRATE]` builds a program of the checkout TOP, that of the crate
+# `mate` where none is named, if that is needed, and puts its path into $program.
 #
 # A program is named by a sum over all that it is made from: the texts of the crates that it stands on, HANDLES and the
 # kit. So one that exists under its name is never old, whatever the times of files say, and all checkouts of a user share it.
@@ -167,7 +167,7 @@ clean_cache() {
 "
     for look in "$cache"/checkouts/*/look; do
         { top_of=$(cat "${look%/look}/top") && read -r sum_seen <"$look"; } 2>/dev/null || continue
-        if [ -x "$top_of/$name" ]; then
+        if [ -x "$top_of/mate" ]; then
             used="$used$sum_seen
 $(cat "$cache/programs/$sum_seen/libraries" 2>/dev/null)
 "
@@ -222,12 +222,13 @@ build_locked() {
 }
 
 build_program() {
-    top=$1
+    top=$1 name=${2:-mate}
     find_cache || return
     # (a path is a file's name with other signs between its folders, or too long for one)
     seen=$top
     # shellcheck disable=SC2086 (it is split at its slashes)
     if [ ${#seen} -gt 200 ]; then seen=$(printf %s "$seen" | cksum); else seen=$(IFS=/; set -f; set -- $seen; IFS=%; printf '%s\n' "$*"); fi
+    [ "$name" = mate ] || seen=$seen,$name
     seen=$cache/checkouts/$seen
     is_as_seen && return
     find_kit

@@ -1,6 +1,7 @@
-# Read by scripts/install and scripts/package: `lay_out TOP PROGRAM VERSION PREFIX` puts all that a user needs below PREFIX, and
-# `take_away PREFIX` removes it.
+# Read by scripts/install and scripts/package: `lay_out TOP PROGRAM VERSION PREFIX VIEW` puts all that a user needs below PREFIX, and
+# `take_away PREFIX` removes it. VIEW is the program `mate-view`, or empty where it isn't there.
 #   bin/mate, bin/mate-explain            the program, and the one that explains
+#   bin/mate-view                         the program that makes pictures and tables of reports
 #   share/mate/                           documents, examples and editors, with links, so that what they show runs there
 #   share/man, share/bash-completion      the manual page, and completion for bash
 set -u
@@ -24,14 +25,19 @@ lay_out() {
         ln -sf ../share/mate/explain "$4/bin/mate-explain" && ln -sf ../../bin/mate "$share/mate" || exit
         mv "$share/docs/mate.1" "$4/share/man/man1/mate.1" && ln -s ../../man/man1/mate.1 "$share/docs/mate.1" || exit
         mv "$share/editors/bash/mate.bash" "$completions/mate" && ln -s ../../../bash-completion/completions/mate "$share/editors/bash/mate.bash" || exit
-        ln -sf mate "$completions/mate-explain"
+        ln -sf mate "$completions/mate-explain" && mv "$share/docs/mate-view.1" "$4/share/man/man1/mate-view.1" &&
+            ln -s ../../man/man1/mate-view.1 "$share/docs/mate-view.1" || exit
+        [ -z "$5" ] || {
+            cp --no-preserve=all "$5" "$4/bin/mate-view.new" && chmod 755 "$4/bin/mate-view.new" && mv "$4/bin/mate-view.new" "$4/bin/mate-view" &&
+                ln -sf ../../bin/mate-view "$share/mate-view" && ln -sf mate "$completions/mate-view"
+        }
     )
 }
 
 take_away() {
     [ -f "$1/share/mate/VERSION" ] || { echo "there is no mate below $1" >&2; return 1; }
-    rm -rf "$1/share/mate" && rm -f "$1/bin/mate" "$1/bin/mate-explain" "$1/share/man/man1/mate.1" \
-        "$1/share/bash-completion/completions/mate" "$1/share/bash-completion/completions/mate-explain" || return
+    rm -rf "$1/share/mate" && rm -f "$1/bin/mate" "$1/bin/mate-explain" "$1/bin/mate-view" "$1/share/man/man1/mate.1" \
+        "$1/share/man/man1/mate-view.1" "$1/share/bash-completion/completions/mate-view" "$1/share/bash-completion/completions/mate" "$1/share/bash-completion/completions/mate-explain" || return
     # (folders that held nothing else)
     (cd "$1" && rmdir -p share/man/man1 share/bash-completion/completions bin 2>/dev/null)
     return 0

@@ -1,4 +1,4 @@
-# Completion of mate's commands, flags, machines, handlers and file names, for bash: `source editors/bash/mate.bash`.
+# Completion of mate's commands, flags, machines, handlers and file names, and of mate-view's words, for bash: `source editors/bash/mate.bash`.
 # Nothing that a file holds is ever expanded: a line of a description is offered only where it gives a whole name, and
 # names are compared here and not by `compgen -W`, which expands its words.
 
@@ -38,4 +38,33 @@ _mate() {
     # a machine: its file, or the built-in one
     [[ -z $machine ]] || mapfile -t COMPREPLY < <(compgen -W builtin -- "$word"; compgen -f -X '!*.toml' -- "$word"; compgen -d -- "$word")
 }
+# Completion of mate-view's views, options and file names.
+_mate_view() {
+    local LC_ALL=C word=${COMP_WORDS[COMP_CWORD]} before=${COMP_WORDS[COMP_CWORD - 1]} view='' i
+    COMPREPLY=()
+    for ((i = 1; i < COMP_CWORD; i++)); do
+        case ${COMP_WORDS[i]} in timeline | spread | csv | stats) view=${COMP_WORDS[i]}; break ;; esac
+    done
+    case $before in
+        --vm) mapfile -t COMPREPLY < <(compgen -W builtin -- "$word"; compgen -f -X '!*.toml' -- "$word"; compgen -d -- "$word"); return ;;
+        --what) mapfile -t COMPREPLY < <(compgen -W 'events spread calls' -- "$word"); return ;;
+        --world) mapfile -t COMPREPLY < <(compgen -f -- "$word"); return ;;
+        --from | --to | --nodes) return ;;
+    esac
+    if [[ $word == -* ]]; then
+        local options='--vm'
+        case $view in
+            timeline) options='--vm --from --to --nodes --events' ;;
+            spread) options='--vm --world --from --to --nodes --events' ;;
+            csv) options='--vm --what --json' ;;
+            stats) options='--vm --json' ;;
+        esac
+        mapfile -t COMPREPLY < <(compgen -W "$options" -- "$word")
+    elif [[ -z $view ]]; then
+        mapfile -t COMPREPLY < <(compgen -W 'timeline spread csv stats' -- "$word")
+    else
+        mapfile -t COMPREPLY < <(compgen -f -- "$word")
+    fi
+}
+complete -o filenames -F _mate_view mate-view ./mate-view
 complete -o filenames -F _mate mate ./mate explain ./explain mate-explain

@@ -1,0 +1,79 @@
+//! The program `mate-view`: pictures and tables of the reports that `mate` writes.
+#![tactic(auto)]
+
+use mate_files::{OsFiles, OsSink, Sink, SinkFault};
+use mate_refusals::{Refusal, Status};
+use std::alloc::Global;
+use std::io::{BufWriter, ErrorKind, Read, Write};
+use std::process::ExitCode;
+use std::rt::{Env, Files};
+use std::{env, fs, io};
+use view_cli::{Request, Stop, read, view};
+use view_records::Ink;
+
+/// How many bytes are written to the output at once.
+const OUT_BLOCK: usize = 65_536;
+
+fn main(rt: HostRuntime) -> ExitCode {
+    let mut err = OsSink::new(rt.stderr());
+    let status = match words(&rt) {
+        Ok(words) => match read(rt.alloc(), &words) {
+            Ok(request) => run(&rt, &request, &mut err),
+            Err(refusal) => refusal.refuse(&mut err),
+        },
+        Err(refusal) => refusal.refuse(&mut err),
+    };
+    ExitCode::from(status.code())
+}
+
+/// The words of the command line, without the program's own name. Words that aren't UTF-8 ask for nothing.
+#[inline(never)]
+fn words(rt: &(impl Env + AllocGlobal)) -> Result<Vec<String>, Refusal> {
+    let args = match env::args(rt) {
+        Ok(args) => args,
+        Err(error) if error.kind() == ErrorKind::OutOfMemory => return Err(Refusal::NoMemory),
+        Err(_) => return Err(Refusal::Usage),
+    };
+    let mut words = Vec::new(rt.alloc());
+    for word in args.skip(1) {
+        words.push(word).map_err(|_| Refusal::NoMemory)?;
+    }
+    Ok(words)
+}
+
+/// Opens the report, and makes the view of it.
+fn run<E: Sink>(
+    rt: &(impl Files + Input + Print + AllocGlobal),
+    request: &Request<'_>,
+    err: &mut E,
+) -> Status {
+    if request.report == "-" {
+        return written(rt, request, rt.reader(), err);
+    }
+    match fs::open(rt, request.report) {
+        Ok(file) => written(rt, request, file, err),
+        Err(_) => Stop::Unread.tell(request.report, err),
+    }
+}
+
+/// Writes the view to standard output.
+fn written<T: Files + Print + AllocGlobal, R: Read + Drop, E: Sink>(
+    rt: &T,
+    request: &Request<'_>,
+    reader: R,
+    err: &mut E,
+) -> Status {
+    let Ok(writer) = BufWriter::with_capacity(rt.alloc(), OUT_BLOCK, io::writer(rt)) else {
+        return Refusal::NoMemory.refuse(err);
+    };
+    let mut files = OsFiles::new(rt.alloc(), rt);
+    let mut ink = Ink::new(OsSink::new(writer));
+    let made = view(rt.alloc(), request, &mut files, reader, &mut ink);
+    let mut writer = ink.into_sink().into_inner();
+    let flushed = writer.flush().is_ok();
+    match made {
+        Ok(()) if flushed => Status::Ok,
+        Ok(()) => Refusal::SinkFault.refuse(err),
+        Err(stop) => stop.tell(request.report, err),
+    }
+}
