@@ -36,23 +36,43 @@ fits() {
     [[ ! $answer =~ ' unexpected '([0-9]+)$ || ${BASH_REMATCH[1]} -ne $((${#before} + 1)) ]]
 }
 
+# Adds to $may whether a statement begins behind $before, or which do.
+begins_statement() {
+    local word
+    if fits clear; then may+=('a statement'); else for word in if while; do fits $word && may+=("\`$word\`"); done; fi
+}
+
+# TOKEN: what a token that was tried stands for.
+named() { if [ "$1" = x ]; then echo 'a name'; else echo "\`$1\`"; fi; }
+
 # PLACE: what may stand there in place of what does, tried token by token.
 what_may_stand() {
-    local may=() word reading=(compile builtin main 1) before
+    local may=() rest=() word reading=(compile builtin main 1) before fitting
     [ "$1" -le $longest ] || return 1
     before=$(head -c "$1" -- "$path" | tr '\000' ' '; echo .) && before=${before%.}
     [ "${words[0]}" != expand ] || reading=(expand)
-    fits shared && may+=('a declaration')
-    if fits clear; then may+=('a statement'); else for word in if while; do fits $word && may+=("\`$word\`"); done; fi
-    if fits 7; then
-        if fits '('; then may+=('an expression'); else may+=('a number' '`-`'); fi
+    # (behind an operand neither a declaration nor an operand begins, and where an expression begins no statement does)
+    if fits '*'; then
+        begins_statement
+        for word in x '('; do fits "$word" && [[ $word != x || ${may[*]-} != *'a statement'* ]] && may+=("$(named "$word")"); done
+        may+=('an operator')
     else
-        if fits x && ! fits clear; then may+=('a name'); fi
-        for word in '(' msg; do fits "$word" && may+=("\`$word\`"); done
+        fits shared && may+=('a declaration')
+        if fits 7; then
+            if fits '('; then may+=('an expression'); else may+=('a number' '`-`'); fi
+        else
+            begins_statement
+            for word in x '(' msg; do fits "$word" && [[ $word != x || ${may[*]-} != *'a statement'* ]] && may+=("$(named "$word")"); done
+            if fits '<'; then may+=('a comparison'); elif fits '='; then may+=('`=`'); fi
+        fi
     fi
-    if fits '*'; then may+=('an operator'); elif fits '<'; then may+=('a comparison'); elif fits '='; then may+=('`=`'); fi
     for word in ';' ',' ')' '[' ']' 'then' 'else' end to step next 'do' proc; do
-        [[ $word =~ ^(do|proc)$ && ${words[0]} != expand ]] || ! fits "$word" || may+=("\`$word\`")
+        [[ $word =~ ^(do|proc)$ && ${words[0]} != expand ]] || rest+=("$word")
+    done
+    # (these are many, so they are tried side by side)
+    fitting=$'\n'$(for word in "${rest[@]}"; do { ! fits "$word" || echo "$word"; } & done; wait)$'\n'
+    for word in "${rest[@]}"; do
+        [[ $fitting != *$'\n'"$word"$'\n'* ]] || may+=("\`$word\`")
     done
     [ ${#may[@]} -gt 0 ] && listed "${may[@]}"
 }
