@@ -31,8 +31,8 @@ use std::alloc::Global;
 /// - `expand SOURCE` writes the plain script that the source with procedures stands for, its tokens in one line.
 /// - `feed VM STREAM` cuts the bytes of the file `STREAM` into frames (RFC 1055), and writes what a new node of such a machine
 ///   answers to each, which should be a capsule that it installs.
-/// - `audit VM SCRIPT REPORT` says whether the report in the file `REPORT` shows serial behaviour of what the script in the file `SCRIPT`, of a node or
-///   of a world, runs on such a machine: it writes `serial`, or refuses with the first line that fits no report, or with the
+/// - `audit VM SCRIPT REPORT` says whether the report in the file `REPORT` shows serial behaviour of the programs that the script in the file `SCRIPT`, of a node or
+///   of a world, names for such a machine: it writes `serial`, or refuses with the first line that fits no report, or with the
 ///   lowest node whose journal fails a law, and the first law that it fails.
 ///
 /// For any other status than `Ok` one line goes to `err`, and, but for `LogFull`, a fault of `out` and want of memory,
