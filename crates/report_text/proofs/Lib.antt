@@ -1,4 +1,3 @@
-pub mod WordLemmas
 pub mod ChunkLemmas
 pub mod PrintLemmas
 pub mod EventLemmas
@@ -8,3 +7,4 @@ pub mod QuietReport
 pub mod PieceLemmas
 pub mod NodeLemmas
 pub mod BriefLemmas
+pub mod CountLemmas

@@ -3,4 +3,6 @@ pub mod Text
 pub mod Tidy
 pub mod Progress
 pub mod Pieces
+pub mod Chunk
 pub mod Brief
+pub mod Counts

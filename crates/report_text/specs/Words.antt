@@ -1,5 +1,5 @@
 -- The words of the lines of a report.
-use Rattle.std.specs.Prelude.{ℕ, List, [], ◌∷◌, ◌++◌, ℤ, codes, decimal, flat_map, slice_get, Option, None, Some}
+use Rattle.std.specs.Prelude.{ℕ, List, [], ◌∷◌, ◌++◌, ℤ, codes, decimal, flat_map, slice_get, Option, None, Some, ⊤}
 use Rattle.std.specs.List.{zip}
 use Rattle.std.specs.Option.{option_map}
 use Rattle.std.specs.Fmt.{signed_decimal}
@@ -94,6 +94,12 @@ image_of (Some image) = image.items
 abbrev pub seen_words : Description → Option Store → List ℕ
 seen_words d None = []
 seen_words d (Some s) = store_words d s
+
+-- an entry that shows neither an image nor a store
+abbrev pub IsShort : Entry → Type 0
+IsShort (entry.Install h version image) = ⊥
+IsShort (entry.Seen store) = ⊥
+IsShort _ = ⊤
 
 -- the words of an entry, each after a space
 abbrev pub entry_words : Description → Log → Entry → List ℕ

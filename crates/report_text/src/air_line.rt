@@ -1,12 +1,13 @@
 //! The line of what happened on the air.
 
-ghost use Rattle.std.specs.Prelude.{◌≡◌, ◌≤◌, ◌++◌, codes, length};
+ghost use Rattle.std.specs.Prelude.{◌≤◌, length};
 ghost use Rattle.mate_files.specs.Pen.{Prints};
-ghost use Rattle.report_text.specs.Words.{number, stamp_words, air_words};
+ghost use Rattle.report_text.specs.Chunk.{IsInFront};
+ghost use Rattle.report_text.specs.Words.{air_words};
 ghost use Rattle.report_text.specs.Text.{air_line};
 
 use crate::chunk::Chunk;
-use crate::words::{number, stamp_in_front, stamp_words};
+use crate::front::{LINE, numbered, place_in_front, print_line};
 use mate_files::{Pen, Sink};
 use mate_journal::{Air, Aired};
 
@@ -14,71 +15,37 @@ use mate_journal::{Air, Aired};
 pub fn air_line<S: Sink>(pen: &mut Pen, out: &mut S, aired: &Aired)
     ensures { Prints (S.written out.old) (S.faults out.old) pen.old.result (S.written out.new) (S.faults out.new) pen.new.result (air_line aired.now) }
 {
-    match &aired.air {
-        Air::Lost { number, to } => numbers_line(pen, out, aired, " lost", *number, *to),
-        Air::Got { number, from } => numbers_line(pen, out, aired, " got", *number, *from),
-        air => {
-            stamp_words(pen, out, aired.stamp, aired.node);
-            air_words(pen, out, air);
-            pen.text(out, "\n");
-        }
-    }
+    let mut line: Chunk<LINE> = Chunk::new();
+    line.byte(b'\n');
+    air_in_front(&mut line, &aired.air);
+    print_line(pen, out, &mut line, aired.stamp, aired.node);
 }
 
-/// The line of a verb and two numbers.
-fn numbers_line<S: Sink>(
-    pen: &mut Pen,
-    out: &mut S,
-    aired: &Aired,
-    verb: &str,
-    first: u32,
-    second: u8,
-)
-    requires { length verb.now ≤ 16 }
-    ensures { Prints (S.written out.old) (S.faults out.old) pen.old.result (S.written out.new) (S.faults out.new) pen.new.result
-        (stamp_words aired.now.stamp aired.now.node ++ (verb.now ++ number first ++ number second) ++ codes "\n") }
-{
-    let mut chunk = Chunk::new();
-    chunk.byte(b'\n');
-    chunk.number(second as u64);
-    chunk.byte(b' ');
-    chunk.number(first as u64);
-    chunk.byte(b' ');
-    chunk.text(verb.as_bytes());
-    stamp_in_front(&mut chunk, aired.stamp, aired.node);
-    pen.bytes(out, chunk.as_slice());
-}
-
-fn air_words<S: Sink>(pen: &mut Pen, out: &mut S, air: &Air)
-    ensures { Prints (S.written out.old) (S.faults out.old) pen.old.result (S.written out.new) (S.faults out.new) pen.new.result (air_words air.now) }
+/// The words of what happened on the air, in front of the end of the line.
+fn air_in_front(line: &mut Chunk<LINE>, air: &Air)
+    requires { length line.old ≤ 1 }
+    ensures adds { IsInFront line.old line.new (air_words air.now) }
+    ensures fits { length line.new ≤ 150 }
 {
     match air {
-        Air::Interval { length } => numbered(pen, out, " interval", *length),
-        Air::Keep => pen.text(out, " keep"),
+        Air::Interval { length } => numbered(line, b" interval", *length),
+        Air::Keep => line.text(b" keep"),
         Air::Sent { number, bytes } => {
-            numbered(pen, out, " sent", *number);
-            pen.text(out, " ");
-            pen.hex(out, bytes.as_slice());
+            line.hex(bytes.as_slice());
+            line.byte(b' ');
+            numbered(line, b" sent", *number);
         }
-        Air::Lost { number: sent, to } => {
-            numbered(pen, out, " lost", *sent);
-            number(pen, out, *to as u64);
+        Air::Lost { number, to } => {
+            place_in_front(line, *to);
+            numbered(line, b" lost", *number);
         }
-        Air::Got { number: sent, from } => {
-            numbered(pen, out, " got", *sent);
-            number(pen, out, *from as u64);
+        Air::Got { number, from } => {
+            place_in_front(line, *from);
+            numbered(line, b" got", *number);
         }
         Air::Noise { bytes } => {
-            pen.text(out, " noise ");
-            pen.hex(out, bytes.as_slice());
+            line.hex(bytes.as_slice());
+            line.text(b" noise ");
         }
     }
-}
-
-/// A verb and a number.
-fn numbered<S: Sink>(pen: &mut Pen, out: &mut S, verb: &str, n: u32)
-    ensures { Prints (S.written out.old) (S.faults out.old) pen.old.result (S.written out.new) (S.faults out.new) pen.new.result (verb.now ++ number n) }
-{
-    pen.text(out, verb);
-    number(pen, out, n as u64);
 }

@@ -1,18 +1,21 @@
 //! The line of an entry.
 
-ghost use Rattle.std.specs.Prelude.{◌≡◌, ◌≤◌, ◌++◌, codes, length, slice_get};
+ghost use Rattle.std.specs.Prelude.{◌≡◌, ◌+◌, ◌*◌, ◌≤◌, ◌++◌, codes, length, slice_get};
 ghost use Rattle.mate_files.specs.Pen.{Prints};
-ghost use Rattle.report_text.specs.Words.{handler_name, function_name, number, value, values, word, drop_word, fault_word, image_word, image_of, seen_words, stamp_words, entry_words};
+ghost use Rattle.mate_journal.specs.Log.{Log};
+ghost use Rattle.report_text.specs.Chunk.{IsInFront};
+ghost use Rattle.report_text.specs.Words.{handler_name, function_name, number, word, values, void_words, image_word, image_of, seen_words, stamp_words, entry_words, IsShort};
 ghost use Rattle.report_text.specs.Text.{entry_line};
 
 use crate::chunk::Chunk;
-use crate::store_words::store_words;
-use crate::words::{
-    drop_word, fault_word, image_word, number, stamp_in_front, stamp_words, value, values,
-    void_words, word,
+use crate::front::{
+    LINE, number_in_front, numbered, place_in_front, print_line, value_in_front, values_in_front,
+    word_in_front,
 };
+use crate::store_words::{STORE_LINE, store_in_front};
+use crate::words::{drop_word, fault_word, image_word};
 use mate_files::{Pen, Sink};
-use mate_journal::{Entry, NodeLog, Stamped};
+use mate_journal::{Entry, NodeLog, Stamped, VoidCause};
 use mate_num::{ContextId, FunId, HandlerId, Stamp};
 use vm_desc::Description;
 
@@ -28,24 +31,49 @@ pub fn entry_line<S: Sink>(
     ensures { Prints (S.written out.old) (S.faults out.old) pen.old.result (S.written out.new) (S.faults out.new) pen.new.result (entry_line desc.now log.now node stamped.now) }
 {
     match &stamped.entry {
-        Entry::Start { inv } => invocation_line(pen, out, stamped.stamp, node, " start", *inv),
-        Entry::Halt { inv } => invocation_line(pen, out, stamped.stamp, node, " halt", *inv),
-        entry => {
-            stamp_words(pen, out, stamped.stamp, node);
-            entry_words(pen, out, desc, log, entry);
-            pen.text(out, "\n");
-        }
+        Entry::Install {
+            handler,
+            version,
+            image,
+        } => install_line(
+            pen,
+            out,
+            stamped.stamp,
+            node,
+            handler_name(desc, *handler),
+            *version,
+            image_at(log, *image),
+        ),
+        Entry::Seen { store } => seen_line(pen, out, desc, log, stamped.stamp, node, *store),
+        entry => short_line(pen, out, desc, stamped.stamp, node, entry),
     }
 }
 
-fn entry_words<S: Sink>(
+/// The line of an entry that shows neither an image nor a store.
+fn short_line<S: Sink>(
     pen: &mut Pen,
     out: &mut S,
     desc: &Description,
-    log: &NodeLog,
+    stamp: Stamp,
+    node: u8,
     entry: &Entry,
 )
-    ensures { Prints (S.written out.old) (S.faults out.old) pen.old.result (S.written out.new) (S.faults out.new) pen.new.result (entry_words desc.now log.now entry.now) }
+    requires { IsShort entry.now }
+    ensures { (log : Log) → Prints (S.written out.old) (S.faults out.old) pen.old.result (S.written out.new) (S.faults out.new) pen.new.result
+        (stamp_words stamp node ++ entry_words desc.now log entry.now ++ codes "\n") }
+{
+    let mut line: Chunk<LINE> = Chunk::new();
+    line.byte(b'\n');
+    short_in_front(&mut line, desc, entry);
+    print_line(pen, out, &mut line, stamp, node);
+}
+
+/// The words of an entry that shows neither an image nor a store, in front of the end of the line.
+fn short_in_front(line: &mut Chunk<LINE>, desc: &Description, entry: &Entry)
+    requires short { IsShort entry.now }
+    requires few { length line.old ≤ 1 }
+    ensures adds { (log : Log) → IsInFront line.old line.new (entry_words desc.now log entry.now) }
+    ensures fits { length line.new ≤ 120 }
 {
     match entry {
         Entry::Post {
@@ -54,150 +82,198 @@ fn entry_words<S: Sink>(
             ctx,
             payload,
         } => {
-            post_words(
-                pen,
-                out,
-                *inv,
-                handler_name(desc, *handler),
-                *ctx,
-                payload.as_slice(),
-            );
+            values_in_front(line, payload.as_slice());
+            post_in_front(line, *inv, handler_name(desc, *handler), *ctx);
         }
         Entry::Dropped { handler, cause } => {
-            pen.text(out, " drop");
-            word(pen, out, handler_name(desc, *handler));
-            word(pen, out, drop_word(*cause).as_bytes());
+            word_in_front(line, drop_word(*cause).as_bytes());
+            word_in_front(line, handler_name(desc, *handler));
+            line.text(b" drop");
         }
-        Entry::Start { inv } => invocation(pen, out, " start", *inv),
+        Entry::Start { inv } => numbered(line, b" start", *inv),
         Entry::Ask { inv, fun, args } => {
-            ask_words(pen, out, *inv, function_name(desc, *fun), args.as_slice());
+            values_in_front(line, args.as_slice());
+            word_in_front(line, function_name(desc, *fun));
+            numbered(line, b" ask", *inv);
         }
-        Entry::Answer { inv, value: answer } => {
-            invocation(pen, out, " answer", *inv);
-            value(pen, out, *answer);
+        Entry::Answer { inv, value } => {
+            value_in_front(line, *value);
+            numbered(line, b" answer", *inv);
         }
-        Entry::Halt { inv } => invocation(pen, out, " halt", *inv),
+        Entry::Halt { inv } => numbered(line, b" halt", *inv),
         Entry::Fault { inv, kind } => {
-            invocation(pen, out, " fault", *inv);
-            word(pen, out, fault_word(*kind).as_bytes());
+            word_in_front(line, fault_word(*kind).as_bytes());
+            numbered(line, b" fault", *inv);
         }
-        Entry::Install {
-            handler,
-            version,
-            image,
-        } => {
-            install_words(
-                pen,
-                out,
-                handler_name(desc, *handler),
-                *version,
-                image_at(log, *image),
-            );
-        }
-        Entry::Reset => pen.text(out, " reset"),
-        Entry::Seen { store } => {
-            pen.text(out, " seen");
-            seen_words(pen, out, desc, log, *store);
-        }
+        Entry::Reset => line.text(b" reset"),
         Entry::Void { cause } => {
-            pen.text(out, " void");
-            void_words(pen, out, *cause);
+            void_in_front(line, *cause);
+            line.text(b" void");
         }
+        Entry::Install { .. } => unreachable!(),
+        Entry::Seen { .. } => unreachable!(),
     }
 }
 
-/// A verb and the number of an invocation.
-fn invocation<S: Sink>(pen: &mut Pen, out: &mut S, verb: &str, inv: u32)
-    requires { length verb.now ≤ 16 }
-    ensures { Prints (S.written out.old) (S.faults out.old) pen.old.result (S.written out.new) (S.faults out.new) pen.new.result (verb.now ++ number inv) }
+/// What a post has before its values.
+fn post_in_front(line: &mut Chunk<LINE>, inv: u32, handler: &[u8], ctx: ContextId)
+    requires handler { length handler.now ≤ 16 }
+    requires few { length line.old ≤ 80 }
+    ensures adds { IsInFront line.old line.new (codes " post" ++ number inv ++ word handler.now ++ number ctx.0) }
+    ensures fits { length line.new ≤ length line.old + 37 }
 {
-    let mut chunk = Chunk::new();
-    chunk.number(inv as u64);
-    chunk.byte(b' ');
-    chunk.text(verb.as_bytes());
-    pen.bytes(out, chunk.as_slice());
+    place_in_front(line, ctx.0);
+    word_in_front(line, handler);
+    numbered(line, b" post", inv);
 }
 
-/// The line of a verb and the number of an invocation.
-fn invocation_line<S: Sink>(
+/// What a step of a script could not do.
+fn void_in_front(line: &mut Chunk<LINE>, cause: VoidCause)
+    requires { length line.old ≤ 1 }
+    ensures adds { IsInFront line.old line.new (void_words cause) }
+    ensures fits { length line.new ≤ 40 }
+{
+    match cause {
+        VoidCause::NotReady => line.text(b" notready"),
+        VoidCause::NotWaiting => line.text(b" notwaiting"),
+        VoidCause::NotNewer { held } => numbered(line, b" notnewer", held),
+    }
+}
+
+/// What the line of an install has before its image.
+fn install_head<S: Sink>(
     pen: &mut Pen,
     out: &mut S,
     stamp: Stamp,
     node: u8,
-    verb: &str,
-    inv: u32,
+    handler: &[u8],
+    version: u32,
 )
-    requires { length verb.now ≤ 16 }
-    ensures { Prints (S.written out.old) (S.faults out.old) pen.old.result (S.written out.new) (S.faults out.new) pen.new.result
-        (stamp_words stamp node ++ (verb.now ++ number inv) ++ codes "\n") }
-{
-    let mut chunk = Chunk::new();
-    chunk.byte(b'\n');
-    chunk.number(inv as u64);
-    chunk.byte(b' ');
-    chunk.text(verb.as_bytes());
-    stamp_in_front(&mut chunk, stamp, node);
-    pen.bytes(out, chunk.as_slice());
-}
-
-/// What a post has before its values.
-fn post_head<S: Sink>(pen: &mut Pen, out: &mut S, inv: u32, handler: &[u8], ctx: ContextId)
     requires { length handler.now ≤ 16 }
     ensures { Prints (S.written out.old) (S.faults out.old) pen.old.result (S.written out.new) (S.faults out.new) pen.new.result
-        (codes " post" ++ number inv ++ word handler.now ++ number ctx.0) }
+        (stamp_words stamp node ++ (codes " install" ++ word handler.now ++ number version ++ codes " ")) }
 {
-    let mut chunk = Chunk::new();
-    chunk.number(ctx.0 as u64);
-    chunk.byte(b' ');
-    chunk.text(handler);
-    chunk.byte(b' ');
-    chunk.number(inv as u64);
-    chunk.text(b" post ");
-    pen.bytes(out, chunk.as_slice());
+    let mut line: Chunk<LINE> = Chunk::new();
+    line.byte(b' ');
+    number_in_front(&mut line, version);
+    word_in_front(&mut line, handler);
+    line.text(b" install");
+    print_line(pen, out, &mut line, stamp, node);
 }
 
-fn post_words<S: Sink>(
+fn install_line<S: Sink>(
     pen: &mut Pen,
     out: &mut S,
-    inv: u32,
+    stamp: Stamp,
+    node: u8,
     handler: &[u8],
-    ctx: ContextId,
-    payload: &[i16],
+    version: u32,
+    image: &[u8],
 )
     requires { length handler.now ≤ 16 }
     ensures { Prints (S.written out.old) (S.faults out.old) pen.old.result (S.written out.new) (S.faults out.new) pen.new.result
-        (codes " post" ++ number inv ++ word handler.now ++ number ctx.0 ++ values payload.now) }
+        (stamp_words stamp node ++ (codes " install" ++ word handler.now ++ number version ++ word (image_word image.now)) ++ codes "\n") }
 {
-    post_head(pen, out, inv, handler, ctx);
-    values(pen, out, payload);
-}
-
-fn ask_words<S: Sink>(pen: &mut Pen, out: &mut S, inv: u32, function: &[u8], args: &[i16])
-    ensures { Prints (S.written out.old) (S.faults out.old) pen.old.result (S.written out.new) (S.faults out.new) pen.new.result
-        (codes " ask" ++ number inv ++ word function.now ++ values args.now) }
-{
-    invocation(pen, out, " ask", inv);
-    word(pen, out, function);
-    values(pen, out, args);
-}
-
-fn install_words<S: Sink>(pen: &mut Pen, out: &mut S, handler: &[u8], version: u32, image: &[u8])
-    ensures { Prints (S.written out.old) (S.faults out.old) pen.old.result (S.written out.new) (S.faults out.new) pen.new.result
-        (codes " install" ++ word handler.now ++ number version ++ word (image_word image.now)) }
-{
-    pen.text(out, " install");
-    word(pen, out, handler);
-    number(pen, out, version as u64);
-    pen.text(out, " ");
+    install_head(pen, out, stamp, node, handler, version);
     image_word(pen, out, image);
+    pen.text(out, "\n");
 }
 
-fn seen_words<S: Sink>(pen: &mut Pen, out: &mut S, desc: &Description, log: &NodeLog, store: u32)
+/// The line of a store that is shown.
+fn seen_line<S: Sink>(
+    pen: &mut Pen,
+    out: &mut S,
+    desc: &Description,
+    log: &NodeLog,
+    stamp: Stamp,
+    node: u8,
+    store: u32,
+)
     ensures { Prints (S.written out.old) (S.faults out.old) pen.old.result (S.written out.new) (S.faults out.new) pen.new.result
-        (seen_words desc.now (slice_get log.now.stores store)) }
+        (stamp_words stamp node ++ (codes " seen" ++ seen_words desc.now (slice_get log.now.stores store)) ++ codes "\n") }
+{
+    if store_room(desc) <= LINE {
+        small_seen_line(pen, out, desc, log, stamp, node, store);
+    } else {
+        large_seen_line(pen, out, desc, log, stamp, node, store);
+    }
+}
+
+/// The bytes that a line which shows a store takes at most.
+fn store_room(desc: &Description) -> usize
+    ensures value { result ≡ 24 * length desc.now.shared.items + 89 * length desc.now.buffers.items + 41 }
+    ensures most { result ≤ 1137 }
+{
+    24 * desc.shared.len() + 89 * desc.buffers.len() + 41
+}
+
+fn small_seen_line<S: Sink>(
+    pen: &mut Pen,
+    out: &mut S,
+    desc: &Description,
+    log: &NodeLog,
+    stamp: Stamp,
+    node: u8,
+    store: u32,
+)
+    requires { 24 * length desc.now.shared.items + 89 * length desc.now.buffers.items + 41 ≤ 192 }
+    ensures { Prints (S.written out.old) (S.faults out.old) pen.old.result (S.written out.new) (S.faults out.new) pen.new.result
+        (stamp_words stamp node ++ (codes " seen" ++ seen_words desc.now (slice_get log.now.stores store)) ++ codes "\n") }
+{
+    let mut line: Chunk<LINE> = Chunk::new();
+    line.byte(b'\n');
+    seen_in_front(&mut line, desc, log, store);
+    print_line(pen, out, &mut line, stamp, node);
+}
+
+/// The same where a store is large. It stands for itself, so that only such a line has its room on the stack.
+#[inline(never)]
+fn large_seen_line<S: Sink>(
+    pen: &mut Pen,
+    out: &mut S,
+    desc: &Description,
+    log: &NodeLog,
+    stamp: Stamp,
+    node: u8,
+    store: u32,
+)
+    requires { 24 * length desc.now.shared.items + 89 * length desc.now.buffers.items + 41 ≤ 1137 }
+    ensures { Prints (S.written out.old) (S.faults out.old) pen.old.result (S.written out.new) (S.faults out.new) pen.new.result
+        (stamp_words stamp node ++ (codes " seen" ++ seen_words desc.now (slice_get log.now.stores store)) ++ codes "\n") }
+{
+    let mut line: Chunk<STORE_LINE> = Chunk::new();
+    line.byte(b'\n');
+    seen_in_front(&mut line, desc, log, store);
+    print_line(pen, out, &mut line, stamp, node);
+}
+
+/// The words of a store that is shown, in front of the end of the line.
+fn seen_in_front<const ROOM: usize>(
+    line: &mut Chunk<ROOM>,
+    desc: &Description,
+    log: &NodeLog,
+    store: u32,
+)
+    requires { length line.old + 24 * length desc.now.shared.items + 89 * length desc.now.buffers.items + 5 ≤ ROOM }
+    ensures adds { IsInFront line.old line.new (codes " seen" ++ seen_words desc.now (slice_get log.now.stores store)) }
+    ensures fits { length line.new ≤ length line.old + 24 * length desc.now.shared.items + 89 * length desc.now.buffers.items + 5 }
+{
+    shown_in_front(line, desc, log, store);
+    line.text(b" seen");
+}
+
+fn shown_in_front<const ROOM: usize>(
+    line: &mut Chunk<ROOM>,
+    desc: &Description,
+    log: &NodeLog,
+    store: u32,
+)
+    requires { length line.old + 24 * length desc.now.shared.items + 89 * length desc.now.buffers.items ≤ ROOM }
+    ensures adds { IsInFront line.old line.new (seen_words desc.now (slice_get log.now.stores store)) }
+    ensures fits { length line.new ≤ length line.old + 24 * length desc.now.shared.items + 89 * length desc.now.buffers.items }
 {
     if let Some(store) = log.stores().get(store as usize) {
-        store_words(pen, out, desc, store);
+        store_in_front(line, desc, store);
     }
 }
 
@@ -214,7 +290,8 @@ pub fn handler_name(desc: &Description, handler: HandlerId) -> &[u8]
 
 /// The name of a function, and no bytes where the description has no such function.
 fn function_name(desc: &Description, fun: FunId) -> &[u8]
-    ensures { result.now ≡ function_name desc.now fun }
+    ensures value { result.now ≡ function_name desc.now fun }
+    ensures fits { length result.now ≤ 16 }
 {
     match desc.functions.as_slice().get(fun.0 as usize) {
         Some(function) => function.name.as_bytes(),

@@ -3,7 +3,9 @@
 
 pub mod air_line;
 mod chunk;
+mod counts;
 pub mod entry_line;
+mod front;
 pub mod laws;
 mod store_words;
 pub mod summary;

@@ -1,66 +1,84 @@
-//! The words of a store, each after a space.
+//! The words of a store, each put after a space in front of what stands there.
 
-ghost use Rattle.std.specs.Prelude.{◌≡◌, ◌++◌, codes, flat_map};
+ghost use Rattle.std.specs.Prelude.{◌+◌, ◌*◌, ◌≤◌, flat_map, length};
 ghost use Rattle.std.specs.List.{zip};
-ghost use Rattle.mate_files.specs.Pen.{Prints};
-ghost use Rattle.report_text.specs.Words.{shared_word, buffer_word, store_words};
+ghost use Rattle.report_text.specs.Chunk.{IsInFront};
+ghost use Rattle.report_text.specs.Words.{spaced, shared_word, buffer_word, store_words};
 
 use crate::chunk::Chunk;
-use crate::words::spaced;
-use mate_files::{Pen, Sink};
+use crate::front::values_in_front;
 use mate_num::{Name, Payload, Store};
 use vm_desc::Description;
 
+/// Room for each line that shows a store: 24 bytes a shared variable, 89 a buffer, and 41.
+pub const STORE_LINE: usize = 1144;
+
 /// `NAME=V` per shared variable, and then `NAME=[V V]` per buffer.
-pub fn store_words<S: Sink>(pen: &mut Pen, out: &mut S, desc: &Description, store: &Store)
-    ensures { Prints (S.written out.old) (S.faults out.old) pen.old.result (S.written out.new) (S.faults out.new) pen.new.result (store_words desc.now store.now) }
+pub fn store_in_front<const ROOM: usize>(line: &mut Chunk<ROOM>, desc: &Description, store: &Store)
+    requires { length line.old + 24 * length desc.now.shared.items + 89 * length desc.now.buffers.items ≤ ROOM }
+    ensures adds { IsInFront line.old line.new (store_words desc.now store.now) }
+    ensures fits { length line.new ≤ length line.old + 24 * length desc.now.shared.items + 89 * length desc.now.buffers.items }
 {
-    shared_words(pen, out, desc.shared.as_slice(), store.shared.as_slice());
-    buffer_words(pen, out, desc.buffers.as_slice(), store.buffers.as_slice());
+    buffers_in_front(line, desc.buffers.as_slice(), store.buffers.as_slice());
+    shared_in_front(line, desc.shared.as_slice(), store.shared.as_slice());
 }
 
-fn shared_words<S: Sink>(pen: &mut Pen, out: &mut S, names: &[Name], values: &[i16])
-    ensures { Prints (S.written out.old) (S.faults out.old) pen.old.result (S.written out.new) (S.faults out.new) pen.new.result (flat_map shared_word (zip names.now values.now)) }
+fn shared_in_front<const ROOM: usize>(line: &mut Chunk<ROOM>, names: &[Name], values: &[i16])
+    requires { length line.old + 24 * length names.now ≤ ROOM }
+    ensures adds { IsInFront line.old line.new (flat_map shared_word (zip names.now values.now)) }
+    ensures fits { length line.new ≤ length line.old + 24 * length names.now }
 {
-    for (name, value) in names.iter().zip(values) {
-        shared_word(pen, out, name, *value);
+    let mut left = names.len().min(values.len());
+    while left > 0 {
+        left -= 1;
+        shared_word(line, &names[left], values[left]);
     }
 }
 
-fn shared_word<S: Sink>(pen: &mut Pen, out: &mut S, name: &Name, value: i16)
-    ensures { Prints (S.written out.old) (S.faults out.old) pen.old.result (S.written out.new) (S.faults out.new) pen.new.result (shared_word (name.now, value)) }
+fn shared_word<const ROOM: usize>(line: &mut Chunk<ROOM>, name: &Name, value: i16)
+    requires { length line.old + 24 ≤ ROOM }
+    ensures adds { IsInFront line.old line.new (shared_word (name.now, value)) }
+    ensures fits { length line.new ≤ length line.old + 24 }
 {
-    let mut chunk = Chunk::new();
-    chunk.value(value);
-    chunk.byte(b'=');
-    chunk.text(name.as_bytes());
-    chunk.byte(b' ');
-    pen.bytes(out, chunk.as_slice());
+    line.value(value);
+    line.byte(b'=');
+    line.text(name.as_bytes());
+    line.byte(b' ');
 }
 
-fn buffer_words<S: Sink>(pen: &mut Pen, out: &mut S, names: &[Name], buffers: &[Payload])
-    ensures { Prints (S.written out.old) (S.faults out.old) pen.old.result (S.written out.new) (S.faults out.new) pen.new.result (flat_map buffer_word (zip names.now buffers.now)) }
+fn buffers_in_front<const ROOM: usize>(line: &mut Chunk<ROOM>, names: &[Name], buffers: &[Payload])
+    requires { length line.old + 89 * length names.now ≤ ROOM }
+    ensures adds { IsInFront line.old line.new (flat_map buffer_word (zip names.now buffers.now)) }
+    ensures fits { length line.new ≤ length line.old + 89 * length names.now }
 {
-    for (name, buffer) in names.iter().zip(buffers) {
-        buffer_word(pen, out, name, buffer);
+    let mut left = names.len().min(buffers.len());
+    while left > 0 {
+        left -= 1;
+        buffer_word(line, &names[left], &buffers[left]);
     }
 }
 
-fn buffer_word<S: Sink>(pen: &mut Pen, out: &mut S, name: &Name, buffer: &Payload)
-    ensures { Prints (S.written out.old) (S.faults out.old) pen.old.result (S.written out.new) (S.faults out.new) pen.new.result (buffer_word (name.now, buffer.now)) }
+fn buffer_word<const ROOM: usize>(line: &mut Chunk<ROOM>, name: &Name, buffer: &Payload)
+    requires { length line.old + 89 ≤ ROOM }
+    ensures adds { IsInFront line.old line.new (buffer_word (name.now, buffer.now)) }
+    ensures fits { length line.new ≤ length line.old + 89 }
 {
-    buffer_head(pen, out, name);
-    spaced(pen, out, buffer.as_slice());
-    pen.text(out, "]");
+    line.byte(b']');
+    spaced_in_front(line, buffer.as_slice());
+    line.text(b"=[");
+    line.text(name.as_bytes());
+    line.byte(b' ');
 }
 
-/// What a buffer has before its values.
-fn buffer_head<S: Sink>(pen: &mut Pen, out: &mut S, name: &Name)
-    ensures { Prints (S.written out.old) (S.faults out.old) pen.old.result (S.written out.new) (S.faults out.new) pen.new.result (codes " " ++ name.now ++ codes "=[") }
+/// The values with a space between two.
+fn spaced_in_front<const ROOM: usize>(line: &mut Chunk<ROOM>, vs: &[i16])
+    requires few { length vs.now ≤ 10 }
+    requires room { length line.old + 69 ≤ ROOM }
+    ensures adds { IsInFront line.old line.new (spaced vs.now) }
+    ensures fits { length line.new ≤ length line.old + 69 }
 {
-    let mut chunk = Chunk::new();
-    chunk.text(b"=[");
-    chunk.text(name.as_bytes());
-    chunk.byte(b' ');
-    pen.bytes(out, chunk.as_slice());
+    if let Some((first, rest)) = vs.split_first() {
+        values_in_front(line, rest);
+        line.value(*first);
+    }
 }

@@ -1,17 +1,19 @@
 //! The summary of a report.
 
-ghost use Rattle.std.specs.Prelude.{◌≡◌, ◌≤◌, ◌*◌, ◌^◌, length, max, fold, flat_map, count_by};
+ghost use Rattle.std.specs.Prelude.{◌≡◌, ◌==◌, if◌then◌else◌, ◌+◌, ◌<◌, ◌≤◌, ◌^◌, length, max, fold, flat_map, count_by};
 ghost use Rattle.mate_files.specs.Pen.{Prints};
 ghost use Rattle.mate_files.specs.Sink.{Puts};
 ghost use Rattle.mate_journal.specs.Tidy.{below};
 ghost use Rattle.report_text.specs.Tidy.{IsTidy};
-ghost use Rattle.report_text.specs.Brief.{is_entry, is_air, entries_of, air_of, installed, versions, newest, last, holders, count_line, newest_line, count_lines, brief};
+ghost use Rattle.report_text.specs.Brief.{installed, versions, newest, last, count_line, newest_line, count_lines, brief};
+ghost use Rattle.report_text.specs.Counts.{holders_after};
 
+use crate::counts::{AirCounts, EntryCounts};
 use crate::entry_line::handler_name;
 use crate::text::{count_records, end_word};
 use crate::words::{number, word};
 use mate_files::{Pen, Sink, SinkFault};
-use mate_journal::{Air, Aired, Entry, NodeLog, Report, Stamped};
+use mate_journal::{Entry, NodeLog, Report};
 use mate_num::HandlerId;
 use vm_desc::Description;
 
@@ -54,24 +56,19 @@ fn count_lines<S: Sink>(pen: &mut Pen, out: &mut S, report: &Report)
     requires { length report.now.nodes ≤ 64 }
     ensures { Prints (S.written out.old) (S.faults out.old) pen.old.result (S.written out.new) (S.faults out.new) pen.new.result (count_lines report.now) }
 {
-    let nodes = report.nodes();
-    let air = report.air();
-    count_line(pen, out, "nodes", nodes.len() as u64);
+    let counts = EntryCounts::of(report.nodes());
+    let aired = AirCounts::of(report.air());
+    count_line(pen, out, "nodes", report.nodes().len() as u64);
     count_line(pen, out, "events", report.events());
     count_line(pen, out, "records", count_records(report));
-    count_line(pen, out, "posts", count_entries(nodes, EntryKind::Post));
-    count_line(pen, out, "drops", count_entries(nodes, EntryKind::Drop));
-    count_line(pen, out, "halts", count_entries(nodes, EntryKind::Halt));
-    count_line(pen, out, "faults", count_entries(nodes, EntryKind::Fault));
-    count_line(
-        pen,
-        out,
-        "installs",
-        count_entries(nodes, EntryKind::Install),
-    );
-    count_line(pen, out, "sent", count_air(air, AirKind::Sent));
-    count_line(pen, out, "got", count_air(air, AirKind::Got));
-    count_line(pen, out, "lost", count_air(air, AirKind::Lost));
+    count_line(pen, out, "posts", counts.posts);
+    count_line(pen, out, "drops", counts.drops);
+    count_line(pen, out, "halts", counts.halts);
+    count_line(pen, out, "faults", counts.faults);
+    count_line(pen, out, "installs", counts.installs);
+    count_line(pen, out, "sent", aired.sent);
+    count_line(pen, out, "got", aired.got);
+    count_line(pen, out, "lost", aired.lost);
 }
 
 fn count_line<S: Sink>(pen: &mut Pen, out: &mut S, name: &str, n: u64)
@@ -102,122 +99,80 @@ fn newest_line<S: Sink>(
 {
     pen.text(out, "newest");
     word(pen, out, handler_name(desc, handler));
-    number(pen, out, newest(logs, handler) as u64);
-    number(pen, out, holders(logs, handler));
+    let newest = newest(logs, handler);
+    number(pen, out, newest.version as u64);
+    number(pen, out, newest.held_by());
     pen.text(out, "\n");
 }
 
-/// How many entries of a kind the logs have.
-fn count_entries(logs: &[NodeLog], kind: EntryKind) -> u64
-    requires { length logs.now ≤ 64 }
-    ensures value { result ≡ entries_of kind logs.now }
-    ensures fits { result ≤ length logs.now * 2 ^ 57 }
+/// The greatest version that was installed for a handler, 0 for none.
+#[derive(Clone, Copy)]
+struct NewestVersion {
+    version: u32,
+    // How many nodes have it as their last one, also where it is 0.
+    holders: u64,
+}
+
+impl NewestVersion {
+    /// How many nodes have it as their last one; 0 where there is none.
+    fn held_by(&self) -> u64
+        ensures { result ≡ (if self.now.version == 0 then 0 else self.now.holders) }
+    {
+        if self.version == 0 { 0 } else { self.holders }
+    }
+}
+
+fn newest(logs: &[NodeLog], handler: HandlerId) -> NewestVersion
+    ensures version { result.version ≡ newest handler.0 logs.now }
+    ensures holders { result.holders ≡ count_by (λ l. last handler.0 l == newest handler.0 logs.now) logs.now }
 {
-    let mut count = 0;
+    let mut version = 0;
+    let mut holders = 0;
     for log in logs {
-        count += count_in(log.entries(), kind);
+        let versions = versions_in(log, handler, version);
+        holders = holders_after(version, holders, versions);
+        version = versions.newest;
     }
-    count
+    NewestVersion { version, holders }
 }
 
-fn count_in(entries: &[Stamped], kind: EntryKind) -> u64
-    ensures value { result ≡ count_by (λ e. is_entry kind e.entry) entries.now }
-    ensures fits { result ≤ 2 ^ 57 }
+/// How many nodes have the newest version as their last one, with a log more.
+fn holders_after(version: u32, holders: u64, versions: Versions) -> u64
+    requires { holders < 2 ^ 63 }
+    ensures value { result ≡ holders_after version holders versions.newest versions.last }
+    ensures most { result ≤ holders + 1 }
 {
-    let mut count = 0;
-    for stamped in entries {
-        if is_entry(&stamped.entry, kind) {
-            count += 1;
-        }
-    }
-    count
-}
-
-fn count_air(air: &[Aired], kind: AirKind) -> u64
-    ensures { result ≡ air_of kind air.now }
-{
-    let mut count = 0;
-    for aired in air {
-        if is_air(&aired.air, kind) {
-            count += 1;
-        }
-    }
-    count
-}
-
-fn is_entry(entry: &Entry, kind: EntryKind) -> bool
-    ensures { result ≡ is_entry kind entry.now }
-{
-    match kind {
-        EntryKind::Post => matches!(entry, Entry::Post { .. }),
-        EntryKind::Drop => matches!(entry, Entry::Dropped { .. }),
-        EntryKind::Halt => matches!(entry, Entry::Halt { .. }),
-        EntryKind::Fault => matches!(entry, Entry::Fault { .. }),
-        EntryKind::Install => matches!(entry, Entry::Install { .. }),
+    let kept = if versions.newest == version {
+        holders
+    } else {
+        0
+    };
+    if versions.last == versions.newest {
+        kept + 1
+    } else {
+        kept
     }
 }
 
-fn is_air(air: &Air, kind: AirKind) -> bool
-    ensures { result ≡ is_air kind air.now }
-{
-    match kind {
-        AirKind::Sent => matches!(air, Air::Sent { .. }),
-        AirKind::Got => matches!(air, Air::Got { .. }),
-        AirKind::Lost => matches!(air, Air::Lost { .. }),
-    }
+/// The greatest of a version and those that a node installed for a handler, and the last of these; 0 for none.
+#[derive(Clone, Copy)]
+struct Versions {
+    newest: u32,
+    last: u32,
 }
 
-/// The greatest version that was installed for a handler; 0 for none.
-fn newest(logs: &[NodeLog], handler: HandlerId) -> u32
-    ensures { result ≡ newest handler.0 logs.now }
-{
-    let mut newest = 0;
-    for log in logs {
-        newest = newest_in(log, handler, newest);
-    }
-    newest
-}
-
-/// The greatest of a version and those that a node installed for a handler.
-fn newest_in(log: &NodeLog, handler: HandlerId, mut newest: u32) -> u32
-    ensures { result ≡ fold max newest (versions handler.0 log.now) }
-{
-    for stamped in log.entries() {
-        if let Some(version) = installed(&stamped.entry, handler) {
-            newest = newest.max(version);
-        }
-    }
-    newest
-}
-
-/// The version that a node installed last for a handler; 0 for none.
-fn last(log: &NodeLog, handler: HandlerId) -> u32
-    ensures { result ≡ last handler.0 log.now }
+fn versions_in(log: &NodeLog, handler: HandlerId, mut newest: u32) -> Versions
+    ensures newest { result.newest ≡ fold max newest (versions handler.0 log.now) }
+    ensures last { result.last ≡ last handler.0 log.now }
 {
     let mut last = 0;
     for stamped in log.entries() {
         if let Some(version) = installed(&stamped.entry, handler) {
+            newest = newest.max(version);
             last = version;
         }
     }
-    last
-}
-
-/// How many nodes have a handler's newest version as their last one; 0 where there is none.
-fn holders(logs: &[NodeLog], handler: HandlerId) -> u64
-    ensures { result ≡ holders handler.0 logs.now }
-{
-    let newest = newest(logs, handler);
-    if newest == 0 {
-        return 0;
-    }
-    let mut count = 0;
-    for log in logs {
-        if last(log, handler) == newest {
-            count += 1;
-        }
-    }
-    count
+    Versions { newest, last }
 }
 
 /// The version that an entry installs for a handler.

@@ -1,7 +1,0 @@
-use Rattle.std.proofs.Common.{◌≡◌, take, ℕ}
-use Rattle.std.specs.Prelude.{fold, filter_map}
-use Rattle.report_text.specs.Brief.{installed}
-use Rattle.report_text.proofs.summary.last.Given as goal
-
-abbrev pub invariant-loop-stamped : goal.invariant-loop-stamped
-invariant-loop-stamped l = l.last ≡ fold (λ (before version : ℕ). version) 0 (filter_map (λ e. installed l.handler.0 e.entry) (take l.stamped-index l.log.entries))
