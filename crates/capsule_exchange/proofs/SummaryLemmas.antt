@@ -13,8 +13,8 @@ use Rattle.capsule_exchange.specs.Sound.{AreSound}
 use Rattle.capsule_exchange.specs.Steps.{no_state, aimed, state_at, aimed_each, asks_upto}
 use Rattle.capsule_exchange.specs.Summary.{IsSummaryOf, AreKept}
 
-pub kept_now : (states seen : List HandlerState) (s : Summary) → seen ≡ states → AreSound states → IsSummaryOf seen s → AreKept states s
-kept_now states seen s same sound sums = record { sound = sound; summed = subst (λ (ss : List HandlerState). IsSummaryOf ss s) same sums }
+pub kept_now : (states seen : List HandlerState) (s : Summary) → seen ≡ states → length seen ≤ 8 → AreSound states → IsSummaryOf seen s → AreKept states s
+kept_now states seen s same few sound sums = record { few = subst (λ (ss : List HandlerState). length ss ≤ 8) same few; sound = sound; summed = subst (λ (ss : List HandlerState). IsSummaryOf ss s) same sums }
 
 -- ---- a Vector of the versions that are held
 

@@ -1,5 +1,5 @@
 -- What the states of all handlers say together.
-use Rattle.std.specs.Prelude.{◌≡◌, List, length, map, is_some}
+use Rattle.std.specs.Prelude.{◌≡◌, ◌≤◌, List, length, map, is_some}
 use Rattle.std.specs.List.{find}
 use Rattle.capsule_exchange.specs.declared.handler_state.HandlerState.{HandlerState}
 use Rattle.capsule_exchange.specs.declared.summary.Summary.{Summary}
@@ -12,7 +12,8 @@ pub record IsSummaryOf (states : List HandlerState) (summary : Summary) : Type 0
   pub held : summary.held.items ≡ map (λ (s : HandlerState). s.held) states
   pub owes : summary.owes ≡ is_some (find (is_marked_in states) (slots_from (length states) 0))
 
--- the states are sound, and the summary is theirs
+-- the states of a machine's handlers are sound, and the summary is theirs
 pub record AreKept (states : List HandlerState) (summary : Summary) : Type 0 where
+  pub few : length states ≤ 8
   pub sound : AreSound states
   pub summed : IsSummaryOf states summary

@@ -1,6 +1,6 @@
 //! The exchange of one node.
 
-ghost use Rattle.std.specs.Prelude.{◌≡◌, ◌*◌, ◌/◌, ◌%◌, ◌<◌, ◌≤◌, ◌↔◌, [], length, map, IsTrue, IfSome, is_some, All};
+ghost use Rattle.std.specs.Prelude.{◌≡◌, ◌*◌, ◌/◌, ◌%◌, ◌<◌, ◌≤◌, ◌↔◌, [], length, map, IsTrue, IfOk, IfSome, is_some, All};
 ghost use Rattle.std.specs.List.{list_any};
 ghost use Rattle.std.specs.Option.{option_map};
 ghost use Rattle.packet_codec.specs.declared.packet.Packet.TheVariants.{Vector};
@@ -15,8 +15,9 @@ use crate::handlers::{aim_each, ask_each, forget_each, held_versions, next_slot}
 use crate::summary::Summary;
 use arrayvec::ArrayVec;
 use capsule_codec::Piece;
-use mate_num::{HandlerId, Image};
+use mate_num::{HandlerId, Image, NoMemory};
 use packet_codec::Packet;
+use std::alloc::Global;
 use std::marker::Model;
 
 /// What a node does about a packet that it heard.
@@ -46,7 +47,7 @@ impl Heard {
 /// Contracts speak of the happenings that led here: they see what the node knows after them.
 #[derive(Drop)]
 pub struct Exchange {
-    handlers: ArrayVec<HandlerState, 8>,
+    handlers: Vec<HandlerState>,
     last: Option<u8>,
     summary: Summary,
 }
@@ -63,22 +64,22 @@ impl Model for Exchange {
 }
 
 impl Exchange {
-    /// Nothing is held, collected or owed.
-    pub fn new(handlers: u8) -> Exchange
+    /// Nothing is held, collected or owed of so many handlers. No other call takes memory.
+    pub fn new(alloc: Global, handlers: u8) -> Result<Exchange, NoMemory>
         requires low { 1 ≤ handlers }
         requires high { handlers ≤ 8 }
-        ensures { result ≡ knowledge handlers [] }
+        ensures { IfOk result (λ exchange. exchange ≡ knowledge handlers []) }
     {
-        let mut states: ArrayVec<HandlerState, 8> = ArrayVec::new();
+        let mut states = Vec::with_capacity(alloc, usize::from(handlers))?;
         for _ in 0..handlers {
-            states.push(HandlerState::default());
+            states.push(HandlerState::default())?;
         }
         let summary = Summary::of(states.as_slice());
-        Exchange {
+        Ok(Exchange {
             handlers: states,
             last: None,
             summary,
-        }
+        })
     }
 
     /// How many handlers there are.

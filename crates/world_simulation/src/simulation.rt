@@ -174,7 +174,7 @@ fn begin_motes(
     requires now { radio.old.agenda.now ≡ 0 }
     ensures { IfOk result (λ motes. (ps : List ProgramOfFile) → HaveBegun (code_world desc.now world.now ps) world.now.nodes radio.old radio.new motes.items) }
 {
-    let mut motes = Vec::new(alloc);
+    let mut motes = Vec::with_capacity(alloc, usize::from(world.nodes))?;
     for node in 0..world.nodes {
         motes.push(begin_mote(alloc, desc, world.random, node, radio)?)?;
     }

@@ -46,7 +46,7 @@ impl Mote {
         Ok(Mote {
             node: OpenNode::new(alloc, desc)?,
             timer: Trickle::start(desc.trickle, random, node, 0),
-            exchange: Exchange::new(desc.handlers.len() as u8),
+            exchange: Exchange::new(alloc, desc.handlers.len() as u8)?,
             pumps: false,
             calls: Calls::new(desc, random, node),
         })

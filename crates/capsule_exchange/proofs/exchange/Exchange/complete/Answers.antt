@@ -1,5 +1,4 @@
-use Rattle.std.proofs.Common.{◌≡◌, ℕ, List, get_or, ap, subst, ◌∙◌}
-use Rattle.capsule_exchange.specs.declared.handler_state.HandlerState.{HandlerState}
+use Rattle.std.proofs.Common.{◌≡◌, ℕ, get_or, ap, subst, ◌∙◌}
 use Rattle.capsule_exchange.specs.Knowledge.{Knowledge}
 use Rattle.capsule_exchange.specs.Sound.{AreSound}
 use Rattle.capsule_exchange.proofs.AnswerLemmas.{collected_is}
@@ -8,11 +7,10 @@ use Rattle.capsule_exchange.proofs.exchange.Exchange.complete.Goals as goal
 pub returns : goal.returns
 returns c =
     let h = c.args.handler.0 in
-    let state = c.index-deref-from.result in
+    let state = c.index.result.now in
     let sound = subst (λ (k : Knowledge). AreSound k.handlers) c.self.view_is c.self.invariant.sound in
     let read : state ≡ get_or c.args.self.now.handlers h state =
-    c.index-deref-from.is
-    ∙ ap (λ (k : ℕ). get_or c.deref.result.now k state) c.from.ensures
-    ∙ ap (λ (ss : List HandlerState). get_or ss h state) c.deref.ensures.0
+    c.index.ensures
+    ∙ ap (λ (k : ℕ). get_or c.self.inside.handlers.items k state) c.from.ensures
     ∙ ap (λ (k : Knowledge). get_or k.handlers h state) c.self.view_is in
     collected_is c.args.self.now h state c.collected.result sound c.requires read c.collected.ensures

@@ -1,4 +1,4 @@
-use Rattle.std.proofs.Common.{rules}
+use Rattle.std.proofs.Common.{◌≤◌, length, rules, arith}
 use Rattle.capsule_exchange.specs.Steps.{hears_status}
 use Rattle.capsule_exchange.proofs.SoundLemmas.{changed_one, hears_status_sound}
 use Rattle.capsule_exchange.proofs.SummaryLemmas.{kept_now}
@@ -8,6 +8,7 @@ pub invariant_of-self : goal.invariant_of-self
 invariant_of-self c =
     let version = c.args.version in
     let missing = c.args.missing in
-    kept_now _ c.as_slice.result.now c.of-self-inside.result c.as_slice.ensures.value
-    (changed_one c.self.inside.handlers.items c.as_mut_slice.result.now c.from.result c.index-as_mut_slice-from.result c.hear_status.new.self (hears_status version missing)
-    c.as_mut_slice.ensures.value (search rules) c.hear_status.ensures (hears_status_sound version missing) c.self.invariant.sound) c.of-self-inside.ensures
+    let few : length c.as_slice.result.now ≤ 8 = omega (arith, c.as_slice.ensures.len, c.self.inside.handlers.ok.0, c.self.invariant.few) in
+    kept_now _ c.as_slice.result.now c.of-self-inside.result c.as_slice.ensures.value few
+    (changed_one c.self.inside.handlers.len c.self.inside.handlers.items c.as_mut_slice.result.now c.from.result c.index-as_mut_slice-from.result c.hear_status.new.self (hears_status version missing)
+    c.self.inside.handlers.ok.0 c.as_mut_slice.ensures.value (search rules) c.hear_status.ensures (hears_status_sound version missing) c.self.invariant.sound) c.of-self-inside.ensures

@@ -1,4 +1,4 @@
-use Rattle.std.proofs.Common.{◌≡◌, ℕ, List, length, get_or, sym, ap, ◌∙◌}
+use Rattle.std.proofs.Common.{◌≡◌, ℕ, ◌≤◌, List, length, get_or, sym, ap, ◌∙◌, arith}
 use Rattle.std.specs.List.{refill}
 use Rattle.std.proofs.lemmas.List.Elements.{All-same}
 use Rattle.capsule_exchange.specs.declared.handler_state.HandlerState.{HandlerState}
@@ -9,24 +9,26 @@ use Rattle.capsule_exchange.proofs.SummaryLemmas.{kept_now, held_in, told_held, 
 use Rattle.capsule_exchange.proofs.exchange.Exchange.hear_vector.Goals as goal
 
 -- the states that `aim_each` leaves
-aimed_sound_all : (states lent after : List HandlerState) (versions told : List ℕ) → lent ≡ states → told ≡ versions → after ≡ aimed_each told lent → AreSound states → AreSound (refill (length states) states after)
-aimed_sound_all states lent after versions told same known is sound =
-    changed_each states after (λ h. aimed (get_or versions h 0)) (is ∙ ap (aimed_each told) same ∙ ap (λ (vs : List ℕ). aimed_each vs states) known) (λ h s. aimed_sound (get_or versions h 0) s) sound
+aimed_sound_all : (n : ℕ) (states lent after : List HandlerState) (versions told : List ℕ) → n ≡ length states → lent ≡ states → told ≡ versions → after ≡ aimed_each told lent → AreSound states
+    → AreSound (refill n states after)
+aimed_sound_all n states lent after versions told long same known is sound =
+    changed_each n states after (λ h. aimed (get_or versions h 0)) long (is ∙ ap (aimed_each told) same ∙ ap (λ (vs : List ℕ). aimed_each vs states) known) (λ h s. aimed_sound (get_or versions h 0) s) sound
 
 pub ask_each-requires-clause-sound : goal.ask_each-requires-clause-sound
 ask_each-requires-clause-sound c =
-    All-same IsSoundState c.as_slice-4.result.now (refill (length c.self.inside.handlers.items) c.self.inside.handlers.items c.aim_each.new.states) c.as_slice-4.ensures.value
-    (aimed_sound_all c.self.inside.handlers.items c.as_mut_slice.result.now c.aim_each.new.states c.args.versions.now.items c.as_slice-3.result.now c.as_mut_slice.ensures.value c.as_slice-3.ensures.value c.aim_each.ensures c.self.invariant.sound)
+    All-same IsSoundState c.as_slice-4.result.now (refill c.self.inside.handlers.len c.self.inside.handlers.items c.aim_each.new.states) c.as_slice-4.ensures.value
+    (aimed_sound_all c.self.inside.handlers.len c.self.inside.handlers.items c.as_mut_slice.result.now c.aim_each.new.states c.args.versions.now.items c.as_slice-3.result.now c.self.inside.handlers.ok.0 c.as_mut_slice.ensures.value c.as_slice-3.ensures.value c.aim_each.ensures c.self.invariant.sound)
 
 pub invariant_of-self : goal.invariant_of-self
 invariant_of-self c =
-    kept_now _ c.as_slice-6.result.now c.of-self-inside.result c.as_slice-6.ensures.value
-    (aimed_sound_all c.self.inside.handlers.items c.as_mut_slice.result.now c.aim_each.new.states c.args.versions.now.items c.as_slice-3.result.now c.as_mut_slice.ensures.value c.as_slice-3.ensures.value c.aim_each.ensures
+    let few : length c.as_slice-6.result.now ≤ 8 = omega (arith, c.as_slice-6.ensures.len, c.self.inside.handlers.ok.0, c.self.invariant.few) in
+    kept_now _ c.as_slice-6.result.now c.of-self-inside.result c.as_slice-6.ensures.value few
+    (aimed_sound_all c.self.inside.handlers.len c.self.inside.handlers.items c.as_mut_slice.result.now c.aim_each.new.states c.args.versions.now.items c.as_slice-3.result.now c.self.inside.handlers.ok.0 c.as_mut_slice.ensures.value c.as_slice-3.ensures.value c.aim_each.ensures
     c.self.invariant.sound) c.of-self-inside.ensures
 
 pub returns-clause-sound : goal.returns-clause-sound
 returns-clause-sound c =
-    aimed_sound_all c.self.inside.handlers.items c.as_mut_slice.result.now c.aim_each.new.states c.args.versions.now.items c.as_slice-3.result.now c.as_mut_slice.ensures.value c.as_slice-3.ensures.value c.aim_each.ensures
+    aimed_sound_all c.self.inside.handlers.len c.self.inside.handlers.items c.as_mut_slice.result.now c.aim_each.new.states c.args.versions.now.items c.as_slice-3.result.now c.self.inside.handlers.ok.0 c.as_mut_slice.ensures.value c.as_slice-3.ensures.value c.aim_each.ensures
     c.self.invariant.sound
 
 pub returns-then-eq-clause-aimed : goal.returns-then-eq-clause-aimed

@@ -14,16 +14,17 @@ loop-preserved c =
     let n = c.loop.counter in
     let before = c.loop.invariant in
     record {
-      so_far = c.push.ensures.items
+      so_far = c.in_ok-push.ensures.items
           ∙ ap (λ (ss : List HandlerState). ss ++ c.default.result ∷ []) before.so_far
           ∙ ap (λ (s : HandlerState). map (state_after []) (range_with_len 0 n) ++ s ∷ []) c.default.ensures
           ∙ sym (map-range_with_len_more (state_after []) 0 n n (omega arith));
-      few = (let e = c.push.ensures.len in let h = before.few in omega arith);
+      few = (let e = c.in_ok-push.ensures.len in let h = before.few in omega arith);
     }
 
 pub invariant_of-result : goal.invariant_of-result
 invariant_of-result c =
     kept_now c.loop.states.items c.as_slice.result.now c.of-summary.result c.as_slice.ensures.value
+    (let few = c.loop.invariant.few in omega (arith, c.as_slice.ensures.len, c.loop.states.ok.0))
     (All-same IsSoundState c.loop.states.items (map (state_after []) (range_with_len 0 c.loop.counter)) c.loop.invariant.so_far
     (All-map IsSoundState (state_after []) (range_with_len 0 c.loop.counter) (λ k d below. no_state_sound))) c.of-summary.ensures
 

@@ -13,7 +13,7 @@ returns c = record {
   gone = c.in_ok-new.ensures.3;
   pace = c.in_ok-new.ensures.2;
   timer = c.start.ensures.first;
-  exchange = c.new-2.ensures ∙ ap (λ (n : ℕ). knowledge n []) c.len.ensures.value;
+  exchange = c.in_ok-new-2.ensures ∙ ap (λ (n : ℕ). knowledge n []) c.len.ensures.value;
   pumps = refl;
   calls = c.new-3.ensures;
 }
