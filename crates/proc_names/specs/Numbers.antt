@@ -1,12 +1,14 @@
 -- What a table of names says.
-use Rattle.std.specs.Prelude.{◌≡◌, ℕ, Bool, true, false, List, Option, Some, None, bytes_eq}
-use Rattle.std.specs.HashMap as hash
+use Rattle.std.specs.Prelude.{◌≡◌, ℕ, Bool, true, false, List, Option, Some, None}
+use Rattle.std.specs.Ordering.{nat_cmp}
+use Rattle.std.specs.Cmp.Lexicographic.{slice_cmp}
+use Rattle.std.specs.BTreeMap as tree
 use Rattle.proc_names.specs.declared.name_table.NameTable.{NameTable}
 use Rattle.proc_names.specs.Places.{place_of_name}
 
 -- the number of a name in a table
 abbrev pub number_of_name : NameTable → List ℕ → Option ℕ
-number_of_name table name = hash.get_by (λ k. bytes_eq name k.now) table.numbers
+number_of_name table name = tree.get_by (λ k. slice_cmp nat_cmp name k.now) table.numbers
 
 -- the table has the first place of each of these names
 abbrev pub Tabulates : NameTable → List (List ℕ) → Type 0

@@ -6,14 +6,14 @@ ghost use Rattle.proc_names.specs.Places.{place_below};
 
 use mate_num::{Name, NoMemory};
 use std::alloc::Global;
-use std::collections::HashMap;
+use std::collections::BTreeMap;
 use ts_syntax::{Proc, Word};
 
-/// The first place of each of some names, counted from 0. It borrows the names, and finds one by the hash of its text: how long
-/// that takes doesn't grow with their number, but for names that are made to hash alike.
+/// The first place of each of some names, counted from 0. It borrows the names, and finds one by the order of their texts: how long
+/// that takes grows with the logarithm of their number, whatever the names are.
 #[derive(Drop)]
 pub struct NameTable<'a> {
-    numbers: HashMap<&'a str, usize>,
+    numbers: BTreeMap<&'a str, usize>,
 }
 
 impl<'a> NameTable<'a> {
@@ -22,19 +22,20 @@ impl<'a> NameTable<'a> {
     ghost use Rattle.proc_names.specs.Places.{place_of_name};
     ghost use Rattle.proc_names.specs.Numbers.{number_of_name, kept_or, Tabulates};
 
-    // An empty table with room for so many names.
-    fn with_room(alloc: Global, count: usize) -> Result<NameTable<'a>, NoMemory>
-        ensures { IfOk result (λ table. (name : List ℕ) → number_of_name table name ≡ None) }
+    // An empty table. It takes no memory.
+    fn new(alloc: Global) -> NameTable<'a>
+        ensures { (name : List ℕ) → number_of_name result name ≡ None }
     {
-        let numbers = HashMap::with_capacity(alloc, count)?;
-        Ok(NameTable { numbers })
+        NameTable {
+            numbers: BTreeMap::new(alloc),
+        }
     }
 
     /// The table of the names of parameters.
     pub fn of_words(alloc: Global, words: &'a [Word]) -> Result<NameTable<'a>, NoMemory>
         ensures { IfOk result (λ table. Tabulates table (map (λ w. w.name) words.now)) }
     {
-        let mut table = NameTable::with_room(alloc, words.len())?;
+        let mut table = NameTable::new(alloc);
         for (place, word) in words.iter().enumerate() {
             table.add(&word.name, place)?;
         }
@@ -45,7 +46,7 @@ impl<'a> NameTable<'a> {
     pub fn of_procs(alloc: Global, procs: &'a [Proc]) -> Result<NameTable<'a>, NoMemory>
         ensures { IfOk result (λ table. Tabulates table (map (λ p. p.name.name) procs.now)) }
     {
-        let mut table = NameTable::with_room(alloc, procs.len())?;
+        let mut table = NameTable::new(alloc);
         for (place, proc) in procs.iter().enumerate() {
             table.add(&proc.name.name, place)?;
         }

@@ -13,10 +13,9 @@ use ts_syntax::Word;
 #[derive(Drop)]
 pub struct Parameters<'a> {
     pub words: &'a [Word],
-    /// Where each stands, unless they are so few that they are gone through one by one. It is boxed: it is far larger than the
-    /// rest, and seldom there.
-    places: Option<Box<NameTable<'a>>>,
-    ghost tabulated: { ForSome places (λ table. Tabulates table.value (map (λ w. w.name) words.now)) },
+    /// Where each stands, unless they are so few that they are gone through one by one.
+    places: Option<NameTable<'a>>,
+    ghost tabulated: { ForSome places (λ table. Tabulates table (map (λ w. w.name) words.now)) },
 }
 
 impl<'a> Parameters<'a> {
@@ -30,7 +29,7 @@ impl<'a> Parameters<'a> {
         ensures { IfOk result (λ parameters. parameters.words.now ≡ words.now) }
     {
         let places = if words.len() > Parameters::FEW {
-            Some(Box::new(alloc, NameTable::of_words(alloc, words)?)?)
+            Some(NameTable::of_words(alloc, words)?)
         } else {
             None
         };

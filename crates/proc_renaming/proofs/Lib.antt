@@ -1,2 +1,3 @@
 pub mod RenamingLemmas
 pub mod WrittenLemmas
+pub mod NothingLemmas

@@ -5,20 +5,11 @@ ghost use Rattle.ts_syntax.specs.Seen.{tree_of, trees_of};
 ghost use Rattle.proc_renaming.specs.Renaming.{renamed, renamed_expr, renamed_args};
 ghost use Rattle.proc_renaming.specs.Hidden.{hiding_of};
 
+use crate::copies::same;
 use crate::hidden::Hidden;
 use mate_num::NoMemory;
 use std::alloc::Global;
-use ts_syntax::{Args, Expr, ForHead, Word};
-
-/// A name that stays.
-pub(crate) fn same(word: &Word) -> Word
-    ensures { result ≡ word.now }
-{
-    Word {
-        name: word.name.copy(),
-        place: word.place,
-    }
-}
+use ts_syntax::{Args, Expr, ForHead};
 
 // It becomes a part of `boxed`, so that a node takes one call.
 #[cycle(expression)]

@@ -5,11 +5,12 @@
 
 ghost use Rattle.std.specs.Prelude.{◌≡◌, ◌≤◌, ◌+◌, ◌++◌, ◌∷◌, ◌^◌, [], length, map, OnOk};
 ghost use Rattle.ts_syntax.specs.Seen.{tree_of, trees_of, act_of, acts_of};
-ghost use Rattle.ts_syntax.specs.Tree.{if_then as if_then_act, if_else as if_else_act, for_next as for_next_act, while_do as while_do_act};
-ghost use Rattle.proc_renaming.specs.Renaming.{renamed, renamed_expr, renamed_simple, assigned};
+ghost use Rattle.ts_syntax.specs.Tree.{if_then as if_then_act, if_else as if_else_act, for_next as for_next_act, while_do as while_do_act, run_procedure};
+ghost use Rattle.proc_renaming.specs.Renaming.{renamed, renamed_expr, renamed_args, renamed_simple, assigned};
 ghost use Rattle.proc_renaming.specs.Hidden.{hiding_of};
 
-use crate::expressions::{arguments, expression, for_head, same};
+use crate::copies::same;
+use crate::expressions::{arguments, expression, for_head};
 use crate::hidden::Hidden;
 use crate::numbers::parameter_name;
 use mate_num::NoMemory;
@@ -135,4 +136,19 @@ pub fn while_do(
 {
     let test = expression(alloc, hidden, test)?;
     written.push(Stmt::While(test, body))
+}
+
+/// A `do` of a procedure, whose name stays.
+#[inline(never)]
+pub fn run(
+    alloc: Global,
+    hidden: &Hidden,
+    name: &Word,
+    args: &[Expr],
+    written: &mut Block,
+) -> Result<(), NoMemory>
+    ensures { OnOk result (map act_of written.new ≡ map act_of written.old ++ run_procedure name.now (renamed_args (hiding_of hidden.now) (trees_of args.now)) ∷ []) }
+{
+    let args = arguments(alloc, hidden, args)?;
+    written.push(Stmt::Run(same(name), args))
 }
