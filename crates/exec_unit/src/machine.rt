@@ -1,6 +1,6 @@
 //! The machine: what an invocation of a handler has of its own.
 
-ghost use Rattle.std.specs.Prelude.{◌≡◌};
+ghost use Rattle.std.specs.Prelude.{◌≡◌, ◌≤◌, length, reverse};
 ghost use Rattle.code_verifier.specs.Verified.{VerifiedCode, IsVerifiedCode, Fits};
 
 use crate::registers::{Memory, Registers};
@@ -48,5 +48,56 @@ impl Machine {
                 msg,
             },
         }
+    }
+
+    /// The place of the next instruction.
+    #[tactic(auto, unfolding(crate::specs::Machine::private_in))]
+    pub fn place(&self) -> u32
+        ensures { result ≡ self.now.pc }
+    {
+        self.registers.place
+    }
+
+    /// The turns that are left.
+    #[tactic(auto, unfolding(crate::specs::Machine::private_in))]
+    pub fn turns(&self) -> u32
+        ensures { result ≡ self.now.turns }
+    {
+        self.registers.turns
+    }
+
+    /// The values on the stack, the top last.
+    #[tactic(auto, unfolding(crate::specs::Machine::private_in))]
+    pub fn stack(&self) -> &[i16]
+        ensures value { reverse result.now ≡ self.now.stack }
+        ensures fits { length result.now ≤ 16 }
+    {
+        &self.memory.stack[..self.registers.depth]
+    }
+
+    /// The private variables.
+    #[tactic(auto, unfolding(crate::specs::Machine::private_in))]
+    pub fn privates(&self) -> &[i16]
+        ensures value { result.now ≡ self.now.privates }
+        ensures eight { length result.now ≡ 8 }
+    {
+        &self.memory.privates
+    }
+
+    /// Goes on at the place, with so many turns, and with these values on the stack, the top last, and in the private
+    /// variables. The message stays.
+    #[tactic(auto, unfolding(crate::specs::Machine::private_in))]
+    pub fn move_to(&mut self, place: u32, turns: u32, stack: &[i16], privates: &[i16])
+        requires few { length stack.now ≤ 16 }
+        requires eight { length privates.now ≡ 8 }
+        ensures { self.new ≡ record { pc = place; stack = reverse stack.now; privates = privates.now; msg = self.old.msg; turns = turns } }
+    {
+        self.memory.stack[..stack.len()].copy_from_slice(stack);
+        self.memory.privates.copy_from_slice(privates);
+        self.registers = Registers {
+            place,
+            depth: stack.len(),
+            turns,
+        };
     }
 }

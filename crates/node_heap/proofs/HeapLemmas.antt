@@ -3,7 +3,8 @@ use Rattle.std.proofs.Common.{◌≡◌, ℕ, ◌+◌, ◌*◌, ◌<◌, ◌≤�
 use Rattle.std.specs.Prelude.{nat_lt, if◌then◌else◌}
 use Rattle.std.proofs.lemmas.Bool.Decides.{nat_tests}
 use Rattle.std.specs.List.{All}
-use Rattle.std.proofs.lemmas.List.{take-replicate, drop-drop, drop-set-add, drop-set-lt, length-take-le, length-drop, set-set, take-take, take_more_set, get_or-take, take-set-le}
+use Rattle.std.proofs.lemmas.Slice.{drop-put_mid}
+use Rattle.std.proofs.lemmas.List.{take_at, take-replicate, drop-drop, drop-set-add, drop-set-lt, length-take-le, length-drop, set-set, take-take, take_more_set, get_or-take, take-set-le}
 use Rattle.std.proofs.Math.Seq.{take-set-lt}
 use Rattle.std.proofs.lemmas.List.Elements.{All-take}
 use Rattle.arrayvec.specs.ArrayVec.{ArrayVec}
@@ -63,6 +64,13 @@ module _ (h : Inside) (o : Opened h (store_of h)) where
       let e = length-shared in
       let small = below-16 v lt in
       parts (take-set-lt h.shared h.values v x (omega arith)) (ap (λ (ys : List ℤ). rows (take h.buffers h.lengths) ys) (drop-set-lt 16 h.values v x small))
+
+  store_of-put_all : (xs : List ℤ) → length xs ≡ length (store_of h).shared.items → store_of (record h { values = xs ++ drop (length xs) h.values }) ≡ record (store_of h) { shared = record { items = xs } }
+  store_of-put_all xs len =
+      let e = length-shared in
+      let small : h.shared ≤ 16 = o.is.shared_fits in
+      parts (take_at xs (drop (length xs) h.values) h.shared (omega arith))
+      (ap (λ (ys : List ℤ). rows (take h.buffers h.lengths) ys) (drop-put_mid 0 (length xs) h.values xs 16 (omega arith) (omega arith) refl))
 
   first_lengths_fit : All (λ n. n ≤ 10) (take h.buffers h.lengths)
   first_lengths_fit = All-take (λ (n : ℕ). n ≤ 10) h.buffers h.lengths o.is.lengths_fit
@@ -166,6 +174,12 @@ module _ {h : Inside} {s : Store} (o : Opened h s) where
     with_fewer m le =
         let P : Store → Type 0 = λ s. store_of (record h { lengths = set h.lengths b m }) ≡ set_buffer s b (take m (buffer_at s b)) in
         subst P o.view (store_of-shorter h its_own b m within le)
+
+  pub with_values : (xs ys : List ℤ) → ys ≡ xs → length xs ≡ length s.shared.items → store_of (record h { values = ys ++ drop (length xs) h.values }) ≡ record s { shared = record { items = xs } }
+  with_values xs ys same len =
+      let P : Store → Type 0 = λ s. length xs ≡ length s.shared.items → store_of (record h { values = xs ++ drop (length xs) h.values }) ≡ record s { shared = record { items = xs } } in
+      let Q : List ℤ → Type 0 = λ zs. store_of (record h { values = zs ++ drop (length xs) h.values }) ≡ record s { shared = record { items = xs } } in
+      subst Q (sym same) (subst P o.view (store_of-put_all h its_own xs) len)
 
   pub with_value : (v : ℕ) (x : ℤ) → v < length s.shared.items → store_of (record h { values = set h.values v x }) ≡ set_value s v x
   with_value v x lt =

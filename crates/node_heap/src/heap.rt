@@ -67,7 +67,7 @@ impl Heap {
         requires { var.0 < length self.now.shared.items }
         ensures { result ≡ value_at self.now var.0 }
     {
-        self.shared_values()[usize::from(var.0)]
+        self.variables()[usize::from(var.0)]
     }
 
     /// Sets a shared variable.
@@ -143,6 +143,14 @@ impl Heap {
         self.lengths[usize::from(buf.0)] = 0;
     }
 
+    /// Sets every shared variable.
+    pub fn set_variables(&mut self, values: &[i16])
+        requires { length values.now ≡ length self.old.shared.items }
+        ensures { self.new ≡ record self.old { shared = record { items = values.now } } }
+    {
+        self.values[..values.len()].copy_from_slice(values);
+    }
+
     /// How many values are in a buffer, from 0 to 10.
     pub fn size(&self, buf: BufId) -> i16
         requires { buf.0 < length self.now.buffers.items }
@@ -166,7 +174,7 @@ impl Heap {
     pub fn store(&self) -> Store
         ensures { result ≡ self.now }
     {
-        let Ok(shared) = ArrayVec::try_from(self.shared_values()) else {
+        let Ok(shared) = ArrayVec::try_from(self.variables()) else {
             unreachable!()
         };
         let mut buffers: ArrayVec<Payload, 8> = ArrayVec::new();
@@ -184,8 +192,8 @@ impl Heap {
         self.buffers
     }
 
-    /// The values of the shared variables.
-    fn shared_values(&self) -> &[i16]
+    /// The values of the shared variables, in their order.
+    pub fn variables(&self) -> &[i16]
         ensures value { result.now ≡ self.now.shared.items }
         ensures fits { length result.now ≤ 16 }
     {
