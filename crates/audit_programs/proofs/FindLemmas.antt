@@ -1,11 +1,10 @@
--- The first program that is held so.
-use Rattle.std.proofs.Common.{◌≡◌, ◌<◌, ℕ, length, ◌∙◌, Bool, true, false, cond, List, [], ◌∷◌, None, Some, refl, sym, ap, subst}
-use Rattle.std.specs.Prelude.{find, slice_index_or, ◌&&◌, ◌||◌, ◌==◌}
-use Rattle.std.specs.List.{list_any}
+-- A program that is held so, where it stands.
+use Rattle.std.proofs.Common.{◌≡◌, ◌<◌, ℕ, length, ◌∙◌, true, List, get_or, Option, None, Some, refl, sym, ap, subst}
+use Rattle.std.specs.Prelude.{slice_index_or, slice_get, IsSomeAnd, ◌&&◌, ◌==◌}
 use Rattle.std.specs.Str.{bytes_eq}
 use Rattle.std.proofs.lemmas.Bool.{and_parts}
 use Rattle.std.proofs.lemmas.List.{get_or_default}
-use Rattle.std.proofs.lemmas.List.Elements.{All-head, All-tail}
+use Rattle.std.proofs.lemmas.Option.{slice_get_read, slice_get_within}
 use Rattle.std.proofs.lemmas.Slice.Eq.{bytes_eq-Decides}
 use Rattle.arrayvec.specs.ArrayVec.{ArrayVec}
 use Rattle.vm_desc.specs.declared.description.Description.{Description}
@@ -14,26 +13,20 @@ use Rattle.mate_journal.specs.Machine.{HeldProgram}
 use Rattle.mate_journal.specs.declared.program.Program.{Program}
 use Rattle.node_programs.specs.Right.{IsRightProgram, AreRightPrograms}
 use Rattle.node_programs.specs.Sources.{is_held_as}
+use Rattle.audit_programs.specs.Naming.{IsHeldAt}
 
--- where one is held so, it is found
-pub never-missing : (h : HeldProgram) (ps : List Program) → list_any (is_held_as h) ps ≡ true → find (is_held_as h) ps ≡ None → ⊥
-never-missing h [] some none = cc
-never-missing h (p ∷ ps) some none = by (is_held_as h p) some none (never-missing h ps) where
-  by : (b : Bool) → (b || list_any (is_held_as h) ps) ≡ true → cond b (Some p) (find (is_held_as h) ps) ≡ None
-      → (list_any (is_held_as h) ps ≡ true → find (is_held_as h) ps ≡ None → ⊥) → ⊥
-  by true is absent later = cc
-  by false is absent later = later is absent
+pub IsHeldAt-below : (h : HeldProgram) (ps : List Program) (place : ℕ) → IsHeldAt h ps place → place < length ps
+IsHeldAt-below h ps place held = by (slice_get ps place) refl held where
+  by : (o : Option Program) → slice_get ps place ≡ o → IsSomeAnd o (λ p. is_held_as h p ≡ true) → place < length ps
+  by (Some p) is held = slice_get_within ps place p is
+  by None is held = absurd held
 
 -- it is held so, and right
-pub found-right : (d : Description) (h : HeldProgram) (ps : List Program) (p : Program) → AreRightPrograms d ps → find (is_held_as h) ps ≡ Some p → IsRightProgram d p × (is_held_as h p ≡ true)
-found-right d h [] p right is = cc
-found-right d h (q ∷ ps) p right is = by (is_held_as h q) refl is (found-right d h ps p (All-tail (IsRightProgram d) q ps right)) where
-  by : (b : Bool) → is_held_as h q ≡ b → cond b (Some q) (find (is_held_as h) ps) ≡ Some p → (find (is_held_as h) ps ≡ Some p → IsRightProgram d p × (is_held_as h p ≡ true))
-      → IsRightProgram d p × (is_held_as h p ≡ true)
-  by true here found later =
-      let same : q ≡ p = cc in
-      subst (λ (x : Program). IsRightProgram d x × (is_held_as h x ≡ true)) same (All-head (IsRightProgram d) q ps right, here)
-  by false here found later = later found
+pub found-right : (d : Description) (h : HeldProgram) (ps : List Program) (place : ℕ) (p : Program) → AreRightPrograms d ps → IsHeldAt h ps place → p ≡ get_or ps place p → IsRightProgram d p × (is_held_as h p ≡ true)
+found-right d h ps place p right held is =
+    let low = IsHeldAt-below h ps place held in
+    let at : slice_get ps place ≡ Some p = slice_get_read ps (length ps) place p refl low is in
+    (subst (IsRightProgram d) (sym is) (right place p low), subst (λ (o : Option Program). IsSomeAnd o (λ x. is_held_as h x ≡ true)) at held)
 
 -- one that is held so has the same image
 pub held_image : (h : HeldProgram) (p : Program) → is_held_as h p ≡ true → p.image ≡ h.image

@@ -1,24 +1,42 @@
 //! The program that an install names.
 
-ghost use Rattle.std.specs.Prelude.{◌≡◌, find};
-ghost use Rattle.std.specs.Option.{option_copied};
+ghost use Rattle.std.specs.Prelude.{◌≡◌, is_some, IfSome};
+ghost use Rattle.std.specs.List.{list_any};
 ghost use Rattle.node_programs.specs.Sources.{is_held_as};
+ghost use Rattle.audit_programs.specs.Naming.{IsHeldAt};
 
 use mate_journal::{Program, Programs};
 use mate_num::{HandlerId, Image};
 
-/// The first program with the handler, the version and the image; None exactly where there is none.
-pub fn find_program<'a>(
-    programs: &'a Programs,
+/// The position of a program with the handler, the version and the image; None exactly where there is none. They are looked
+/// at from `from` on, and then from the first one: journals mostly install programs in their order, so the next one that is
+/// sought stands close behind the last one that was found.
+pub fn find_program(
+    programs: &Programs,
+    from: usize,
     handler: HandlerId,
     version: u32,
     image: &Image,
-) -> Option<&'a Program>
-    ensures { option_copied result ≡ find (is_held_as record { handler = handler; version = version; image = image.now }) programs.now }
+) -> Option<usize>
+    ensures held { IfSome result (IsHeldAt (record { handler = handler; version = version; image = image.now }) programs.now) }
+    ensures any { is_some result ≡ list_any (is_held_as record { handler = handler; version = version; image = image.now }) programs.now }
 {
-    for program in programs.as_slice() {
-        if is_held_as(program, handler, version, image) {
-            return Some(program);
+    let list = programs.as_slice();
+    let (before, behind) = list.split_at(from.min(list.len()));
+    match place_in(behind, handler, version, image) {
+        Some(place) => Some(before.len() + place),
+        None => place_in(before, handler, version, image),
+    }
+}
+
+/// The position of the first of these programs with the handler, the version and the image.
+fn place_in(programs: &[Program], handler: HandlerId, version: u32, image: &Image) -> Option<usize>
+    ensures held { IfSome result (IsHeldAt (record { handler = handler; version = version; image = image.now }) programs.now) }
+    ensures any { is_some result ≡ list_any (is_held_as record { handler = handler; version = version; image = image.now }) programs.now }
+{
+    for place in 0..programs.len() {
+        if is_held_as(&programs[place], handler, version, image) {
+            return Some(place);
         }
     }
     None

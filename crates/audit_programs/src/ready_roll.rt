@@ -14,8 +14,14 @@ use mate_num::{Call, HandlerId, NoMemory, Outcome, Resource, Store};
 use std::alloc::Global;
 use whole_runs::{ReadyProgram, ReadyPrograms};
 
-/// The program that an install names.
-fn program_named<'a>(trial: &Trial<'a>, handler: HandlerId, version: u32, image: u32) -> &'a Program
+/// The program that an install names, looked for from `place` on; `place` then is its own.
+fn program_named<'a>(
+    trial: &Trial<'a>,
+    place: &mut usize,
+    handler: HandlerId,
+    version: u32,
+    image: u32,
+) -> &'a Program
     requires known { image < length trial.now.log.now.images }
     requires right { AreRightPrograms trial.now.desc.now trial.now.programs.now }
     requires given { IsOneOf trial.now.programs.now (named_program trial.now.log.now handler version image) }
@@ -23,10 +29,11 @@ fn program_named<'a>(trial: &Trial<'a>, handler: HandlerId, version: u32, image:
     ensures image { result.now.image ≡ (named_program trial.now.log.now handler version image).image }
 {
     let bytes = &trial.log.images()[image as usize];
-    let Some(program) = find_program(trial.programs, handler, version, bytes) else {
+    let Some(found) = find_program(trial.programs, *place, handler, version, bytes) else {
         unreachable!()
     };
-    program
+    *place = found;
+    &trial.programs.as_slice()[found]
 }
 
 /// The answers to the calls.
@@ -45,6 +52,8 @@ fn answers_of(alloc: Global, calls: &[Call]) -> Result<Vec<i16>, NoMemory>
 pub struct ReadyRoll<'a> {
     pub roll: Roll,
     ready: ReadyPrograms<'a>,
+    /// The position of the program that was installed last.
+    last: usize,
 }
 
 impl<'a> ReadyRoll<'a> {
@@ -70,7 +79,11 @@ impl<'a> ReadyRoll<'a> {
         let _trial = trial;
         let roll = Roll::nobody(alloc);
         let ready = ReadyPrograms::new(alloc)?;
-        Ok(ReadyRoll { roll, ready })
+        Ok(ReadyRoll {
+            roll,
+            ready,
+            last: 0,
+        })
     }
 
     /// After the entry at the place.
@@ -108,7 +121,7 @@ impl<'a> ReadyRoll<'a> {
                 version,
                 image,
             } => {
-                let program = program_named(trial, *handler, *version, *image);
+                let program = program_named(trial, &mut self.last, *handler, *version, *image);
                 self.ready
                     .install(*handler, ReadyProgram::of(trial.desc, program));
             }

@@ -1,8 +1,6 @@
 -- The first law that a log fails, and the verdict on a report, step by step.
-use Rattle.std.proofs.Common.{◌≡◌, ◌<◌, ◌≤◌, ◌⊎◌, ℕ, ◌+◌, Bool, true, false, cond, Bor, List, [], ◌∷◌, length, Option, None, Some, refl, sym, ◌∙◌, ap, subst, inl, inr, arith}
-use Rattle.std.specs.Prelude.{IfSome, MatchOption, find, is_some, slice_get, slice_index_or, ◌||◌, if◌then◌else◌}
-use Rattle.std.specs.List.{list_any}
-use Rattle.std.specs.Option.{option_copied}
+use Rattle.std.proofs.Common.{◌≡◌, ◌<◌, ◌≤◌, ◌⊎◌, ℕ, ◌+◌, Bool, true, false, List, [], ◌∷◌, length, Option, None, Some, refl, sym, ◌∙◌, ap, subst, inl, inr, arith}
+use Rattle.std.specs.Prelude.{IfSome, MatchOption, slice_get, slice_index_or, if◌then◌else◌}
 use Rattle.std.proofs.lemmas.Bool.{cases_lt}
 use Rattle.std.proofs.lemmas.Option.{slice_get-get_or}
 use Rattle.vm_desc.specs.declared.description.Description.{Description}
@@ -66,16 +64,3 @@ found-none d ps l failed o same none told = subst (λ (x : Option Law). MatchOpt
 
 pub found-law : (d : Description) (ps : List Program) (l : Log) (failed o : Option Law) (a : Law) → o ≡ failed → o ≡ Some a → MatchOption failed (LogKeepsAll d ps l) (LogFails d ps l) → LogFails d ps l a
 found-law d ps l failed o a same some told = subst (λ (x : Option Law). MatchOption x (LogKeepsAll d ps l) (LogFails d ps l)) (sym same ∙ some) told
-
--- ---- programs
-
-pub copied-some : {A : Type 0} (o : Option (Bor A)) → is_some o ≡ is_some (option_copied o)
-copied-some None = refl
-copied-some (Some b) = refl
-
-pub found-any : {A : Type 0} (test : A → Bool) (xs : List A) → is_some (find test xs) ≡ list_any test xs
-found-any test [] = refl
-found-any {A} test (x ∷ xs) = by (test x) (found-any test xs) where
-  by : (b : Bool) → is_some (find test xs) ≡ list_any test xs → is_some (cond b (Some x) (find test xs)) ≡ (b || list_any test xs)
-  by true rest = refl
-  by false rest = rest

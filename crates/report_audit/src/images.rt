@@ -19,11 +19,24 @@ use mate_num::{HandlerId, Image, NoMemory};
 use std::alloc::Global;
 use vm_desc::Description;
 
-/// Whether one of the programs has the handler, the version and the image.
-fn is_one_of(programs: &Programs, handler: HandlerId, version: u32, image: &Image) -> bool
+/// Whether one of the programs has the handler, the version and the image. It is looked for from `place` on, which then is its
+/// own.
+fn is_one_of(
+    programs: &Programs,
+    place: &mut usize,
+    handler: HandlerId,
+    version: u32,
+    image: &Image,
+) -> bool
     ensures { result ≡ list_any (is_held_as record { handler = handler; version = version; image = image.now }) programs.now }
 {
-    find_program(programs, handler, version, image).is_some()
+    match find_program(programs, *place, handler, version, image) {
+        Some(found) => {
+            *place = found;
+            true
+        }
+        None => false,
+    }
 }
 
 /// The version that is installed, 0 for none.
@@ -36,8 +49,15 @@ fn version_of(installed: Option<InstalledImage>) -> u32
     }
 }
 
-/// Whether what the entry installs, if it installs something, is one of the programs, and newer than what was installed.
-fn installs_right(programs: &Programs, log: &NodeLog, roll: &Roll, entry: &Entry) -> bool
+/// Whether what the entry installs, if it installs something, is one of the programs, and newer than what was installed. It is
+/// looked for from `place` on.
+fn installs_right(
+    programs: &Programs,
+    place: &mut usize,
+    log: &NodeLog,
+    roll: &Roll,
+    entry: &Entry,
+) -> bool
     requires range { HasHandlerBelow 8 entry.now }
     requires named { IsNamedBelow (length log.now.images) (length log.now.stores) entry.now }
     ensures { result ≡ told.installs_right programs.now (roll_in log.now.images roll.now) (told_of log.now entry.now) }
@@ -48,7 +68,8 @@ fn installs_right(programs: &Programs, log: &NodeLog, roll: &Roll, entry: &Entry
             version,
             image,
         } => {
-            is_one_of(programs, *handler, *version, &log.images()[*image as usize])
+            let bytes = &log.images()[*image as usize];
+            is_one_of(programs, place, *handler, *version, bytes)
                 && version_of(roll.installed[usize::from(handler.0)]) < *version
         }
         Entry::Post { .. }
@@ -78,8 +99,9 @@ pub(crate) fn images_right(
 {
     let _desc = desc;
     let mut roll = Roll::nobody(alloc);
+    let mut place = 0;
     for stamped in log.entries() {
-        if !installs_right(programs, log, &roll, &stamped.entry) {
+        if !installs_right(programs, &mut place, log, &roll, &stamped.entry) {
             return Ok(false);
         }
         roll.hear(alloc, &stamped.entry)?;

@@ -32,7 +32,7 @@ returns-clause-read c =
     let place = c.args.place in
     let e : Stamped = slice_index_or c.entries.result.now place c.index-entries-place.result in
     let x : ReadyRoll = c.args.self.now in
-    let y : ReadyRoll = record { roll = c.hear.new.self; ready = c.make_ready.new.self.ready } in
+    let y : ReadyRoll = record { roll = c.hear.new.self; ready = c.make_ready.new.self.ready; last = c.make_ready.new.self.last } in
     let told : told_of l e.entry ≡ told_at t place =
     entry-at t place e c.requires.within
     (ap (λ (es : List Stamped). slice_index_or es place c.index-entries-place.result) c.entries.ensures ∙ get_or_default entries place c.index-entries-place.result e c.requires.within) in
