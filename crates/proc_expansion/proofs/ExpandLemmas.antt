@@ -10,6 +10,7 @@ use Rattle.proc_renaming.specs.Renaming.{Hiding, nothing_hidden, parameter_decls
 use Rattle.proc_expansion.specs.Expansion.{Callee, callees, expanded_acts, expansion}
 use Rattle.proc_expansion.specs.Extent.{acts_depth}
 use Rattle.proc_expansion.specs.Extents.{extent_of}
+use Rattle.proc_expansion.specs.Live.{BecomesSame}
 use Rattle.proc_expansion.specs.Plan.{bodies_of}
 use Rattle.proc_expansion.proofs.ExtentLemmas.{acts_depth-le, bodies_all}
 
@@ -25,6 +26,13 @@ whole_is procs n h b s past hides is_body are =
     ∙ ap (λ (h : Hiding). expanded_acts (bodies_of procs) h b) hides
     ∙ ap (λ (b : Acts). expanded_acts (bodies_of procs) nothing_hidden b) is_body
     ∙ ap (λ (ps : List Procedure). expanded_acts (callees ps) nothing_hidden s.body) are
+
+-- and those of procedures and statements that become the same
+pub whole_same : (procs : List Proc) (n : ℕ) (h : Hiding) (b : Acts) (s : ProcedureSource) → length procs ≤ n → h ≡ nothing_hidden → BecomesSame (callees s.procs) b s.body
+    → bodies_of procs ≡ callees s.procs → expanded_acts (take n (bodies_of procs)) h b ≡ whole_of s
+whole_same procs n h b s past hides becomes same =
+    ap (λ (known : List (List ℕ × Callee)). expanded_acts known h b) (bodies_all procs n past ∙ same)
+    ∙ ap (λ (h : Hiding). expanded_acts (callees s.procs) h b) hides ∙ becomes nothing_hidden
 
 -- within the first limit, the depth is exact
 pub exact_depth : (xs : List Act) (e : Extent) → e ≡ extent_of xs → e.count ≤ 10000 → e.depth ≡ acts_depth (acts xs)

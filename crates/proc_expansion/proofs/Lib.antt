@@ -4,3 +4,5 @@ pub mod CalleeLemmas
 pub mod ExtentLemmas
 pub mod WritingLemmas
 pub mod ExpandLemmas
+pub mod LiveLemmas
+pub mod TargetLemmas

@@ -1,15 +1,19 @@
 //! The expansion of a whole script.
 
 ghost use Rattle.std.specs.Prelude.{◌≡◌, ◌≤◌, min, map, IfOk};
-ghost use Rattle.ts_syntax.specs.Seen.{procedure_of, source_of};
+ghost use Rattle.ts_syntax.specs.Seen.{acts_of, procedure_of, source_of};
+ghost use Rattle.proc_names.specs.Heads.{parameter_count};
 ghost use Rattle.proc_names.specs.Named.{written_of};
 ghost use Rattle.proc_expansion.specs.declared.expanding.TheConstants.{STATEMENTS_MAX, DEPTH_MAX};
 ghost use Rattle.proc_expansion.specs.declared.extent.TheConstants.{COUNT_MAX};
 ghost use Rattle.proc_expansion.specs.Answer.{Expands};
-ghost use Rattle.proc_expansion.specs.Expansion.{expansion};
+ghost use Rattle.proc_expansion.specs.Expansion.{callees, expansion};
 ghost use Rattle.proc_expansion.specs.Extent.{acts_count, acts_depth};
+ghost use Rattle.proc_expansion.specs.Live.{BecomesSame};
+ghost use Rattle.proc_expansion.specs.Plan.{bodies_of};
 
 use crate::extent::{Extent, block_extent};
+use crate::live::{live_block, live_procs};
 use crate::plan::Plan;
 use crate::statements::block;
 use mate_num::NoMemory;
@@ -17,7 +21,7 @@ use proc_names::{PScript, ProcFault};
 use proc_renaming::Hidden;
 use proc_renaming::numbers::declarations;
 use std::alloc::Global;
-use ts_syntax::Script;
+use ts_syntax::{Script, Stmt};
 
 /// The greatest number of statements of an expansion, those inside blocks counted.
 pub const STATEMENTS_MAX: u32 = 10_000;
@@ -47,7 +51,32 @@ pub fn expand(alloc: Global, script: &PScript) -> Result<Script, ProcFault>
             depth: extent.depth,
         });
     }
-    Ok(written(alloc, &plan, script)?)
+    let has_empty = plan.extents.iter().any(|body| body.count == 0);
+    let has_passing = plan
+        .heads
+        .procs
+        .iter()
+        .any(|proc| matches!(proc.body.as_slice(), [Stmt::Run(_, _)]));
+    if has_empty || has_passing {
+        return Ok(shortened(alloc, &plan, script)?);
+    }
+    Ok(written(alloc, &plan, script, script.body().as_slice())?)
+}
+
+// The plain script, by procedures and statements with shorter calls.
+fn shortened(alloc: Global, plan: &Plan, script: &PScript) -> Result<Script, NoMemory>
+    requires planned { map procedure_of plan.now.heads.procs.now ≡ (written_of script.now).procs }
+    requires shallow { acts_depth (expansion (written_of script.now)).body ≤ DEPTH_MAX }
+    ensures { IfOk result (λ new. source_of new ≡ expansion (written_of script.now)) }
+{
+    let hidden = Hidden::of(alloc, 0, &[])?;
+    let live = live_procs(alloc, plan, &hidden)?;
+    let targets = live.1.as_slice();
+    let count = plan.heads.procs.len();
+    let body = live_block(alloc, plan, targets, count, &hidden, script.body())?;
+    let procs = live.0.as_slice();
+    let shorter = Plan::of(alloc, procs)?;
+    written(alloc, &shorter, script, body.as_slice())
 }
 
 // How large the expansion is, by a plan of the script's procedures.
@@ -64,9 +93,16 @@ fn whole_extent(plan: &Plan, script: &PScript) -> Extent
     )
 }
 
-// The plain script, by a plan of the script's procedures.
-fn written<'a>(alloc: Global, plan: &Plan<'a>, script: &'a PScript) -> Result<Script, NoMemory>
-    requires planned { map procedure_of plan.now.heads.procs.now ≡ (written_of script.now).procs }
+// The plain script, by a plan of procedures and by statements that become the same as the script's.
+fn written<'a>(
+    alloc: Global,
+    plan: &Plan<'a>,
+    script: &PScript,
+    body: &'a [Stmt],
+) -> Result<Script, NoMemory>
+    requires planned { bodies_of plan.now.heads.procs.now ≡ callees (written_of script.now).procs }
+    requires same { BecomesSame (callees (written_of script.now).procs) (acts_of body.now) (written_of script.now).body }
+    requires counted { plan.now.parameters ≡ parameter_count (written_of script.now).procs }
     requires shallow { acts_depth (expansion (written_of script.now)).body ≤ DEPTH_MAX }
     ensures { IfOk result (λ new. source_of new ≡ expansion (written_of script.now)) }
 {
@@ -78,7 +114,7 @@ fn written<'a>(alloc: Global, plan: &Plan<'a>, script: &'a PScript) -> Result<Sc
         DEPTH_MAX + 1,
         plan.heads.procs.len(),
         &hidden,
-        script.body().as_slice(),
+        body,
     )?;
     Ok(Script { decls, body })
 }

@@ -4,9 +4,11 @@
 mod calls;
 pub mod expanding;
 mod extent;
+mod live;
 mod pending;
 mod plan;
 mod stack;
 mod statements;
+mod targets;
 
 pub use expanding::expand;

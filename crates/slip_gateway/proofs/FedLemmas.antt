@@ -11,7 +11,7 @@ use Rattle.std.proofs.lemmas.List.{length-append}
 use Rattle.arrayvec.specs.ArrayVec.{ArrayVec}
 use Rattle.mate_num.specs.declared.bounds.TheConstants.{IMAGE_MAX}
 use Rattle.slip_gateway.specs.Stream.{is_end_byte, with_byte, unescaped, whole_frame, framed, frame_of, rest_behind, unfinished, frames_behind, frames}
-use Rattle.slip_gateway.specs.Fed.{fresh_slip, is_nil, is_fresh, added, replaced, pushed, frame_given, frame_left, unescaped_in, framed_behind, IsBehind, HasFed}
+use Rattle.slip_gateway.specs.Fed.{fresh_slip, is_nil, is_fresh_in, is_fresh, added, replaced, pushed, frame_given, frame_left, unescaped_in, framed_behind, IsBehind, HasFed}
 use Rattle.slip_gateway.proofs.StreamLemmas.{rest_behind-append, frames_behind-append, rest-append, frames-append}
 use Rattle.slip_gateway.specs.declared.frames.Frame.{Frame}
 use Rattle.slip_gateway.specs.declared.frames.Frame.TheVariants as frame
@@ -241,3 +241,13 @@ fed_byte old new fed byte reads h = record { behind = subst (λ (p : List ℕ). 
 pub frame_of_byte : (old : Slip) (closed : List Frame) (fed : List ℕ) (byte : ℕ) → ((begun : List ℕ) → IsBehind old begun → closed ≡ frames_behind begun (byte ∷ [])) → HasFed old fed
     → frames (fed ++ byte ∷ []) ≡ frames fed ++ closed
 frame_of_byte old closed fed byte reads h = frames-append fed (byte ∷ []) ∙ ap (λ (xs : List Frame). frames fed ++ xs) (sym (reads (unfinished fed) h.behind))
+
+-- a reader of a frame without bytes has nothing else to forget
+fresh_parts : (image : List ℕ) (escapes : Escapes) → is_fresh_in escapes image ≡ true → of (record { items = image }) false escapes ≡ fresh_slip
+fresh_parts [] Whole is = refl
+fresh_parts (b ∷ bs) Whole is = absurd (cc)
+fresh_parts image Open is = absurd (cc)
+fresh_parts image Broken is = absurd (cc)
+
+pub fresh-left : (s new : Slip) → is_fresh s ≡ true → new ≡ record s { too_long = false } → new ≡ fresh_slip
+fresh-left s new is made = made ∙ fresh_parts s.image.items s.escapes is

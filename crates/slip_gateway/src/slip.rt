@@ -165,11 +165,13 @@ impl Slip {
         ensures after { self.new ≡ fresh_slip }
         ensures fits { length self.old.image.items ≤ IMAGE_MAX }
     {
-        let begun = mem::replace(self, Slip::new());
-        let _fits = begun.image.is_full();
-        if begun.is_fresh() {
+        let _fits = self.image.is_full();
+        // (nothing is moved where a frame has no bytes)
+        if self.is_fresh() {
+            self.too_long = false;
             return None;
         }
+        let begun = mem::replace(self, Slip::new());
         Some(match begun.escapes {
             Escapes::Whole if begun.too_long => Frame::TooLong,
             Escapes::Whole => Frame::Whole(begun.image),
