@@ -9,7 +9,9 @@ use Rattle.std.proofs.lemmas.List.Elements.{filter-append}
 use Rattle.std.proofs.lemmas.Option.{get_or_from_slice_get, slice_get_within}
 use Rattle.event_queue.specs.declared.wheel.Entry.{Entry}
 use Rattle.event_queue.specs.declared.wheel.Wheel.{Wheel}
+use Rattle.event_queue.specs.declared.marks.Marks.{Marks}
 use Rattle.event_queue.specs.Links.{Places, list_at}
+use Rattle.event_queue.specs.Marks.{mark_at}
 use Rattle.event_queue.specs.Group.{is_group, is_in}
 use Rattle.event_queue.specs.Wheel.{is_current, cleared, cleared_item, IsPast, live_item, live, live_entry, timed_entry, items_at, items_timed, near, far, near_due, far_due, wheel_due, IsPastItem, IsWheel, Cancels}
 use Rattle.event_queue.proofs.WheelLemmas.{due_here, due_ahead}
@@ -97,8 +99,8 @@ live_next {T} group g n gens generation (Some x) within is past =
 left : {T : Type 0} (group : T → Option ℕ) (g : ℕ) (w v : Wheel T) → IsWheel group w → v.at ≡ w.at → v.chains ≡ w.chains → length v.entries.items ≡ length w.entries.items
     → ((p : ℕ) → live_entry group v.generations (slice_get v.entries.items p) ≡ keep_option (λ x. not (is_in group g x)) (live_entry group w.generations (slice_get w.entries.items p)))
     → ((offset p : ℕ) → timed_entry group v.generations offset (slice_get v.entries.items p) ≡ keep_option (λ x. not (is_in group g x)) (timed_entry group w.generations offset (slice_get w.entries.items p)))
-    → All (λ (e : Entry T). IsPastItem group v.generations e.generation e.item) v.entries.items → Cancels group w g v
-left {T} group g w v right at chains long lives timeds timely =
+    → All (λ (e : Entry T). IsPastItem group v.generations e.generation e.item) v.entries.items → v.marks ≡ w.marks → Cancels group w g v
+left {T} group g w v right at chains long lives timeds timely marks =
     let block : v.at / 2048 ≡ w.at / 2048 = ap (λ (k : ℕ). k / 2048) at in
     let keep : T → Bool = λ x. not (is_in group g x) in
     let near_left : (t : ℕ) → near_due group v t ≡ filter keep (near_due group w t) = λ t.
@@ -122,6 +124,7 @@ left {T} group g w v right at chains long lives timeds timely =
           spread = λ b low. ap (λ (c : Places). list_at c (2049 + b)) chains ∙ right.turning.spread b (omega (arith, low, block));
           past = λ t low. kept t ∙ ap (filter keep) (right.turning.past t (omega (arith, low, at)));
           timely = timely;
+          marked = λ t free. ap (λ (c : Places). list_at c (near t)) chains ∙ right.turning.marked t (ap (λ (m : Marks). mark_at m (t % 2048)) (sym marks) ∙ free);
         };
         current = ap (λ (c : Places). list_at c (far v.at)) chains ∙ ap (λ (b : ℕ). list_at w.chains (2049 + b)) block ∙ right.current;
       };
@@ -149,8 +152,8 @@ past_item_next group g n gens generation (Some x) within is past = past_next gen
 
 -- the next generation of a group
 pub cancels_next : {T : Type 0} (group : T → Option ℕ) (g n : ℕ) (w v : Wheel T) → IsWheel group w → g < length w.generations → n ≡ get_or w.generations g 0
-    → v.at ≡ w.at → v.chains ≡ w.chains → v.entries.items ≡ w.entries.items → v.generations ≡ set w.generations g (n + 1) → Cancels group w g v
-cancels_next {T} group g n w v right within is at chains entries generations =
+    → v.at ≡ w.at → v.chains ≡ w.chains → v.entries.items ≡ w.entries.items → v.generations ≡ set w.generations g (n + 1) → v.marks ≡ w.marks → Cancels group w g v
+cancels_next {T} group g n w v right within is at chains entries generations marks =
     let gens : List ℕ = w.generations in
     let past : (p : ℕ) (e : Entry T) → slice_get w.entries.items p ≡ Some e → IsPastItem group gens e.generation e.item =
     λ p e. All_at (λ (x : Entry T). IsPastItem group gens x.generation x.item) w.entries.items p e right.turning.timely in
@@ -161,7 +164,7 @@ cancels_next {T} group g n w v right within is at chains entries generations =
     ∙ next_timed group g n gens (slice_get w.entries.items p) within is (past p) offset)
     (subst (λ (gs : List ℕ). All (λ (e : Entry T). IsPastItem group gs e.generation e.item) v.entries.items) (sym generations)
     (subst (λ (es : List (Entry T)). All (λ (e : Entry T). IsPastItem group (set gens g (n + 1)) e.generation e.item) es) (sym entries)
-    (λ k d low. past_item_next group g n gens (get_or w.entries.items k d).generation (get_or w.entries.items k d).item within is (right.turning.timely k d low))))
+    (λ k d low. past_item_next group g n gens (get_or w.entries.items k d).generation (get_or w.entries.items k d).item within is (right.turning.timely k d low)))) marks
 
 -- the generations of a group begin anew, after its items were cleared
 
@@ -221,8 +224,8 @@ All_map P Q f (x ∷ xs) step all zero d low = step x (all 0 x (omega arith))
 All_map P Q f (x ∷ xs) step all (suc k) d low = All_map P Q f xs step (λ j e lower. all (suc j) e (omega (arith, lower))) k d (omega (arith, low))
 
 pub cancels_anew : {T : Type 0} (group : T → Option ℕ) (g : ℕ) (w v : Wheel T) → IsWheel group w
-    → v.at ≡ w.at → v.chains ≡ w.chains → v.entries.items ≡ map (cleared group g) w.entries.items → v.generations ≡ set w.generations g 0 → Cancels group w g v
-cancels_anew {T} group g w v right at chains entries generations =
+    → v.at ≡ w.at → v.chains ≡ w.chains → v.entries.items ≡ map (cleared group g) w.entries.items → v.generations ≡ set w.generations g 0 → v.marks ≡ w.marks → Cancels group w g v
+cancels_anew {T} group g w v right at chains entries generations marks =
     let gens : List ℕ = w.generations in
     left group g w v right at chains (ap (λ (es : List (Entry T)). length es) entries ∙ length-map w.entries.items (cleared group g))
     (λ p. ap (λ (gs : List ℕ). live_entry group gs (slice_get v.entries.items p)) generations
@@ -232,7 +235,7 @@ cancels_anew {T} group g w v right at chains entries generations =
     (subst (λ (gs : List ℕ). All (λ (e : Entry T). IsPastItem group gs e.generation e.item) v.entries.items) (sym generations)
     (subst (λ (es : List (Entry T)). All (λ (e : Entry T). IsPastItem group (set gens g 0) e.generation e.item) es) (sym entries)
     (All_map (λ (e : Entry T). IsPastItem group gens e.generation e.item) (λ (e : Entry T). IsPastItem group (set gens g 0) e.generation e.item) (cleared group g) w.entries.items
-    (λ e past. past_cleared group g gens e.generation e.item past) right.turning.timely)))
+    (λ e past. past_cleared group g gens e.generation e.item past) right.turning.timely))) marks
 
 -- an entry that was read and written without the item of the group
 pub cleared_written : {T : Type 0} (group : T → Option ℕ) (g : ℕ) (es : List (Entry T)) (i : ℕ) (e : Entry T) (item : Option T) → e ≡ get_or es i e → item ≡ cleared_item group g (get_or es i e).item

@@ -1,3 +1,4 @@
+pub mod MarkLemmas
 pub mod LinkLemmas
 pub mod WheelLemmas
 pub mod CancelLemmas

@@ -1,5 +1,5 @@
 -- The queue's calls, on the lists that clauses see.
-use Rattle.std.proofs.Common.{◌≡◌, ℕ, suc, ◌+◌, ◌<◌, ◌≤◌, Bool, true, false, List, [], ◌∷◌, ◌++◌, refl, sym, ◌∙◌, ap, subst, arith, inl, inr}
+use Rattle.std.proofs.Common.{◌≡◌, ℕ, suc, ◌<◌, ◌≤◌, Bool, true, false, List, [], ◌∷◌, ◌++◌, refl, sym, ◌∙◌, ap, subst, arith, inl, inr}
 use Rattle.std.specs.Prelude.{if◌then◌else◌, Option, Some, None, filter, not, is_some, IfNone, Result, Ok, Err, MatchResult, OnOk}
 use Rattle.std.proofs.lemmas.Bool.{cases_lt, cases_eq, le-leb, lt-leb, false≢true}
 use Rattle.event_queue.specs.declared.queue.Timed.{Timed}
@@ -82,12 +82,12 @@ pub record Sought {T : Type 0} (group : T → Option ℕ) (until : ℕ) (old w :
 pub sought_start : {T : Type 0} (group : T → Option ℕ) (until : ℕ) (w : Wheel T) → IsWheel group w → w.at ≤ until → Sought group until w w
 sought_start group until w right ahead = record { right = right; from = omega arith; to = ahead; same = λ t. refl }
 
--- a ms on, after nothing was taken
-pub sought_more : {T : Type 0} (group : T → Option ℕ) (until : ℕ) (old w u v : Wheel T) (item : Option T) → Sought group until old w → TakesFirst group w item u → item ≡ None → u.at < until → Turns group u (u.at + 1) v → Sought group until old v
-sought_more group until old w u v item so_far takes nothing low turned =
+-- on, after nothing was taken
+pub sought_more : {T : Type 0} (group : T → Option ℕ) (until : ℕ) (old w u v : Wheel T) (item : Option T) → Sought group until old w → TakesFirst group w item u → item ≡ None → u.at < v.at → v.at ≤ until → Turns group u v.at v → Sought group until old v
+sought_more group until old w u v item so_far takes nothing on within turned =
     let kept = keeps_dropped group w u item takes nothing in
-    let at = takes.at in let next = turned.at in let from = so_far.from in
-    record { right = turned.right; from = omega (arith, at, next, from); to = omega (arith, next, low); same = λ t. turned.same t ∙ kept.same t ∙ so_far.same t }
+    let at = takes.at in let from = so_far.from in
+    record { right = turned.right; from = omega (arith, at, on, from); to = within; same = λ t. turned.same t ∙ kept.same t ∙ so_far.same t }
 
 pub found : {T : Type 0} (group : T → Option ℕ) (until : ℕ) (old w v : Wheel T) (item : Option T) → Sought group until old w → TakesFirst group w item v → is_some item ≡ true → Seeks group until old item v
 found group until old w v None so_far takes some = absurd (false≢true some)

@@ -1,14 +1,16 @@
 -- What is due, after an item is put, taken or cancelled, and when the wheel turns.
-use Rattle.std.proofs.Common.{◌≡◌, ◌≢◌, ℕ, zero, suc, ◌+◌, ◌*◌, ◌/◌, ◌%◌, ◌<◌, ◌≤◌, ◌⊎◌, Bool, true, false, List, [], ◌∷◌, ◌++◌, length, get_or, set, refl, sym, ◌∙◌, ap, subst, arith, inl, inr, append_assoc}
+use Rattle.std.proofs.Common.{◌≡◌, ◌≢◌, ℕ, zero, suc, ◌+◌, ◌-◌, ◌*◌, ◌/◌, ◌%◌, ◌<◌, ◌≤◌, ◌⊎◌, Bool, true, false, List, [], ◌∷◌, ◌++◌, length, get_or, set, refl, sym, ◌∙◌, ap, subst, arith, inl, inr, append_assoc}
 use Rattle.std.specs.Prelude.{◌==◌, if◌then◌else◌, Option, Some, None, slice_get, is_some, unwrap_or}
 use Rattle.std.specs.List.{All, filter_map, cons_option}
-use Rattle.std.proofs.lemmas.Bool.{cases_eq, false≢true}
+use Rattle.std.proofs.lemmas.Bool.{cases_eq, cases_lt, false≢true}
 use Rattle.std.proofs.lemmas.Bool.Decides.{eqb_tells}
 use Rattle.std.proofs.lemmas.List.{length-set, length-append, append-nil}
 use Rattle.std.proofs.lemmas.List.Elements.{filter_map-append, All-set, All-push}
 use Rattle.event_queue.specs.declared.wheel.Entry.{Entry}
 use Rattle.event_queue.specs.declared.wheel.Wheel.{Wheel}
+use Rattle.event_queue.specs.declared.marks.Marks.{Marks}
 use Rattle.event_queue.specs.Links.{Places, list_at, IsOutside, MovesFirst, MakesRoom}
+use Rattle.event_queue.specs.Marks.{mark_at}
 use Rattle.event_queue.specs.Wheel.{is_current, live_item, live, live_entry, timed_entry, items_at, items_timed, near, far, list_for, near_due, far_due, wheel_due, IsPastItem, IsTurning, IsWheel, PutsLast, PutsAll, KeepsView, TakesFirst, Turns}
 
 -- lists of places, by what waits there
@@ -59,8 +61,8 @@ same_due {T} group w v t block near_same far_same = elim (cases_eq (t / 2048) (w
 -- a wheel that stands where it stood, and whose items of the past are those of the old one
 right_again : {T : Type 0} (group : T → Option ℕ) (w v : Wheel T) → IsWheel group w → v.at ≡ w.at → length v.chains.lists ≡ length w.chains.lists → v.chains.total ≤ length v.entries.items
     → ((block : ℕ) → block ≤ w.at / 2048 → list_at v.chains (2049 + block) ≡ list_at w.chains (2049 + block)) → ((t : ℕ) → t < w.at → wheel_due group v t ≡ wheel_due group w t)
-    → All (λ (e : Entry T). IsPastItem group v.generations e.generation e.item) v.entries.items → IsWheel group v
-right_again {T} group w v right at lists room slots past timely =
+    → All (λ (e : Entry T). IsPastItem group v.generations e.generation e.item) v.entries.items → ((t : ℕ) → mark_at v.marks (t % 2048) ≡ 0 → list_at v.chains (near t) ≡ []) → IsWheel group v
+right_again {T} group w v right at lists room slots past timely marked =
     let block : v.at / 2048 ≡ w.at / 2048 = ap (λ (t : ℕ). t / 2048) at in
     record {
       turning = record {
@@ -70,6 +72,7 @@ right_again {T} group w v right at lists room slots past timely =
         spread = λ b low. slots b (omega (arith, low, block)) ∙ right.turning.spread b (omega (arith, low, block));
         past = λ t low. past t (omega (arith, low, at)) ∙ right.turning.past t (omega (arith, low, at));
         timely = timely;
+        marked = marked;
       };
       current = ap (λ (b : ℕ). list_at v.chains (2049 + b)) block ∙ slots (w.at / 2048) (omega arith) ∙ right.current;
     }
@@ -102,8 +105,8 @@ same_slots : {T : Type 0} (group : T → Option ℕ) (w v : Wheel T) → IsWheel
     → ((s : ℕ) → s ≢ 0 → list_at v.chains s ≡ list_at w.chains s)
     → ((p : ℕ) → live_entry group w.generations (slice_get v.entries.items p) ≡ live_entry group w.generations (slice_get w.entries.items p))
     → ((offset p : ℕ) → timed_entry group w.generations offset (slice_get v.entries.items p) ≡ timed_entry group w.generations offset (slice_get w.entries.items p))
-    → All (λ (e : Entry T). IsPastItem group w.generations e.generation e.item) v.entries.items → KeepsView group w v
-same_slots {T} group w v right at generations lists room slots lives timeds timely =
+    → All (λ (e : Entry T). IsPastItem group w.generations e.generation e.item) v.entries.items → v.marks ≡ w.marks → KeepsView group w v
+same_slots {T} group w v right at generations lists room slots lives timeds timely marks =
     let same : (t : ℕ) → wheel_due group v t ≡ wheel_due group w t = λ t.
     same_due group w v t (ap (λ (k : ℕ). k / 2048) at)
     (λ here. ap (λ (gs : List ℕ). items_at group gs v.entries.items (list_at v.chains (near t))) generations
@@ -115,27 +118,28 @@ same_slots {T} group w v right at generations lists room slots lives timeds time
     in
     record {
       right = right_again group w v right at lists room (λ block low. slots (2049 + block) (omega arith)) (λ t low. same t)
-          (subst (λ (gs : List ℕ). All (λ (e : Entry T). IsPastItem group gs e.generation e.item) v.entries.items) (sym generations) timely);
+          (subst (λ (gs : List ℕ). All (λ (e : Entry T). IsPastItem group gs e.generation e.item) v.entries.items) (sym generations) timely)
+          (λ t free. slots (near t) (omega arith) ∙ right.turning.marked t (ap (λ (m : Marks). mark_at m (t % 2048)) (sym marks) ∙ free));
       at = at;
       same = same;
     }
 
 -- nothing changed
-pub keeps_all : {T : Type 0} (group : T → Option ℕ) (w v : Wheel T) → IsWheel group w → v.at ≡ w.at → v.generations ≡ w.generations → v.chains ≡ w.chains → v.entries.items ≡ w.entries.items → KeepsView group w v
-keeps_all {T} group w v right at generations chains entries =
+pub keeps_all : {T : Type 0} (group : T → Option ℕ) (w v : Wheel T) → IsWheel group w → v.at ≡ w.at → v.generations ≡ w.generations → v.chains ≡ w.chains → v.entries.items ≡ w.entries.items → v.marks ≡ w.marks → KeepsView group w v
+keeps_all {T} group w v right at generations chains entries marks =
     let room = right.turning.room in
     let total : v.chains.total ≡ w.chains.total = ap (λ (c : Places). c.total) chains in
     let long : length v.entries.items ≡ length w.entries.items = ap (λ (es : List (Entry T)). length es) entries in
     same_slots group w v right at generations (ap (λ (c : Places). length c.lists) chains) (omega (arith, room, total, long)) (λ s n. ap (λ (c : Places). list_at c s) chains)
     (λ p. ap (λ (es : List (Entry T)). live_entry group w.generations (slice_get es p)) entries)
     (λ offset p. ap (λ (es : List (Entry T)). timed_entry group w.generations offset (slice_get es p)) entries)
-    (subst (λ (es : List (Entry T)). All (λ (e : Entry T). IsPastItem group w.generations e.generation e.item) es) (sym entries) right.turning.timely)
+    (subst (λ (es : List (Entry T)). All (λ (e : Entry T). IsPastItem group w.generations e.generation e.item) es) (sym entries) right.turning.timely) marks
 
 -- a further entry, at which nothing waits
 pub keeps_blank : {T : Type 0} (group : T → Option ℕ) (w v : Wheel T) → IsWheel group w → v.at ≡ w.at → v.generations ≡ w.generations → v.chains ≡ w.chains
-    → v.entries.items ≡ w.entries.items ++ record { time = 0; generation = 0; item = None } ∷ [] → KeepsView group w v
+    → v.entries.items ≡ w.entries.items ++ record { time = 0; generation = 0; item = None } ∷ [] → v.marks ≡ w.marks → KeepsView group w v
 unfolding blank
-keeps_blank {T} group w v right at generations chains entries =
+keeps_blank {T} group w v right at generations chains entries marks =
     let room = right.turning.room in
     let total : v.chains.total ≡ w.chains.total = ap (λ (c : Places). c.total) chains in
     let long : length v.entries.items ≡ length w.entries.items + 1 = ap (λ (es : List (Entry T)). length es) entries ∙ length-append w.entries.items (blank ∷ []) in
@@ -143,17 +147,17 @@ keeps_blank {T} group w v right at generations chains entries =
     (λ p. ap (λ (es : List (Entry T)). live_entry group w.generations (slice_get es p)) entries ∙ blank_live group w.generations w.entries.items p)
     (λ offset p. ap (λ (es : List (Entry T)). timed_entry group w.generations offset (slice_get es p)) entries ∙ blank_timed group w.generations offset w.entries.items p)
     (subst (λ (es : List (Entry T)). All (λ (e : Entry T). IsPastItem group w.generations e.generation e.item) es) (sym entries)
-    (All-push (λ (e : Entry T). IsPastItem group w.generations e.generation e.item) w.entries.items blank right.turning.timely tt))
+    (All-push (λ (e : Entry T). IsPastItem group w.generations e.generation e.item) w.entries.items blank right.turning.timely tt)) marks
 
 -- a free place came
-pub keeps_grown : {T : Type 0} (group : T → Option ℕ) (w v : Wheel T) → IsWheel group w → w.chains.total < length w.entries.items → v.at ≡ w.at → v.generations ≡ w.generations → MakesRoom w.chains v.chains 0 → v.entries.items ≡ w.entries.items → KeepsView group w v
-keeps_grown {T} group w v right free at generations grows entries =
+pub keeps_grown : {T : Type 0} (group : T → Option ℕ) (w v : Wheel T) → IsWheel group w → w.chains.total < length w.entries.items → v.at ≡ w.at → v.generations ≡ w.generations → MakesRoom w.chains v.chains 0 → v.entries.items ≡ w.entries.items → v.marks ≡ w.marks → KeepsView group w v
+keeps_grown {T} group w v right free at generations grows entries marks =
     let total = grows.total in
     let long : length v.entries.items ≡ length w.entries.items = ap (λ (es : List (Entry T)). length es) entries in
     same_slots group w v right at generations grows.lists (omega (arith, free, total, long)) grows.others
     (λ p. ap (λ (es : List (Entry T)). live_entry group w.generations (slice_get es p)) entries)
     (λ offset p. ap (λ (es : List (Entry T)). timed_entry group w.generations offset (slice_get es p)) entries)
-    (subst (λ (es : List (Entry T)). All (λ (e : Entry T). IsPastItem group w.generations e.generation e.item) es) (sym entries) right.turning.timely)
+    (subst (λ (es : List (Entry T)). All (λ (e : Entry T). IsPastItem group w.generations e.generation e.item) es) (sym entries) right.turning.timely) marks
 
 -- one after the other
 pub keeps_both : {T : Type 0} (group : T → Option ℕ) (u v w : Wheel T) → KeepsView group u v → KeepsView group v w → KeepsView group u w
@@ -182,6 +186,8 @@ pub record Fills {T : Type 0} (w v : Wheel T) (list place : ℕ) (e : Entry T) :
   pub at : v.at ≡ w.at
   pub generations : v.generations ≡ w.generations
   pub entries : v.entries.items ≡ set w.entries.items place e
+  pub marks : (s : ℕ) → mark_at v.marks s ≡ 0 → mark_at w.marks s ≡ 0
+  pub mark : list ≤ 2048 → mark_at v.marks (list - 1) ≡ 1
 
 -- places of lists that the place isn't in show what they showed
 pub unmoved_near : {T : Type 0} (group : T → Option ℕ) (w v : Wheel T) (place : ℕ) (e : Entry T) (ps : List ℕ) → v.generations ≡ w.generations → v.entries.items ≡ set w.entries.items place e → IsOutside place ps
@@ -213,6 +219,24 @@ last_far {T} group w v place e offset ps generations entries within lacks =
     ∙ filter_map_last (λ p. timed_entry group w.generations offset (slice_get (set w.entries.items place e) p)) (λ p. timed_entry group w.generations offset (slice_get w.entries.items p)) place ps lacks
     (λ p n. ap (timed_entry group w.generations offset) (slice_get_set_other w.entries.items place p e n))
     ∙ ap (λ (o : Option (Entry T)). items_timed group w.generations w.entries.items offset ps ++ cons_option (timed_entry group w.generations offset o) []) (slice_get_set_same w.entries.items place e within)
+
+cons_some : (x : ℕ) (xs : List ℕ) → x ∷ xs ≢ []
+cons_some x xs none = let long : suc (length xs) ≡ 0 = ap (λ (zs : List ℕ). length zs) none in omega (arith, long)
+
+-- a place went to the end of a list, which is marked if it is near
+marked_moved : {T : Type 0} (w v : Wheel T) (from list place : ℕ) → ((t : ℕ) → mark_at w.marks (t % 2048) ≡ 0 → list_at w.chains (near t) ≡ []) → MovesFirst w.chains v.chains from list place → list ≢ 0
+    → ((s : ℕ) → mark_at v.marks s ≡ 0 → mark_at w.marks s ≡ 0) → (list ≤ 2048 → mark_at v.marks (list - 1) ≡ 1) → (t : ℕ) → mark_at v.marks (t % 2048) ≡ 0 → list_at v.chains (near t) ≡ []
+marked_moved w v from list place marked moves some marks mark t free = elim (cases_eq (near t) list) [
+  | inl here ↦ (
+      let set = mark (omega (arith, here)) in
+      let slot : t % 2048 ≡ list - 1 = omega (arith, here) in
+      let unset : mark_at v.marks (list - 1) ≡ 0 = ap (λ (s : ℕ). mark_at v.marks s) (sym slot) ∙ free in
+      absurd (omega (arith, set, unset)))
+  | inr other ↦ elim (cases_eq (near t) from) [
+    | inl left ↦ absurd (cons_some _ _ (sym moves.first ∙ ap (list_at w.chains) (sym left) ∙ marked t (marks (t % 2048) free)))
+    | inr apart ↦ moves.others (near t) apart other ∙ marked t (marks (t % 2048) free)
+  ]
+]
 
 -- an item put last at its time
 pub puts : {T : Type 0} (group : T → Option ℕ) (w v : Wheel T) (list place time : ℕ) (e : Entry T) (item : T) → IsWheel group w → w.at ≤ time → list ≡ list_for w.at time → Fills w v list place e
@@ -270,7 +294,8 @@ puts {T} group w v list place time e item right ahead list_is fills time_is live
           (λ t low. others t (λ same. omega (arith, same, low, ahead)))
           (subst (λ (gs : List ℕ). All (λ (x : Entry T). IsPastItem group gs x.generation x.item) v.entries.items) (sym fills.generations)
           (subst (λ (es : List (Entry T)). All (λ (x : Entry T). IsPastItem group w.generations x.generation x.item) es) (sym fills.entries)
-          (All-set (λ (x : Entry T). IsPastItem group w.generations x.generation x.item) w.entries.items place e timely right.turning.timely)));
+          (All-set (λ (x : Entry T). IsPastItem group w.generations x.generation x.item) w.entries.items place e timely right.turning.timely)))
+          (marked_moved w v 0 list place right.turning.marked fills.moves not_free fills.marks fills.mark);
       at = fills.at;
       last = last;
       others = others;
@@ -304,8 +329,8 @@ cons_option-append (Some x) xs ys = refl
 
 -- the first place of the wheel's time, emptied
 pub pops : {T : Type 0} (group : T → Option ℕ) (w v : Wheel T) (place : ℕ) (e : Entry T) (item : Option T) → IsWheel group w → MovesFirst w.chains v.chains (near w.at) 0 place → v.at ≡ w.at → v.generations ≡ w.generations
-    → v.entries.items ≡ set w.entries.items place (record { time = e.time; generation = e.generation; item = None }) → slice_get w.entries.items place ≡ Some e → item ≡ live group w.generations e → TakesFirst group w item v
-pops {T} group w v place e item right moved at generations entries was live_is =
+    → v.entries.items ≡ set w.entries.items place (record { time = e.time; generation = e.generation; item = None }) → slice_get w.entries.items place ≡ Some e → item ≡ live group w.generations e → v.marks ≡ w.marks → TakesFirst group w item v
+pops {T} group w v place e item right moved at generations entries was live_is marks =
     let empty : Entry T = record { time = e.time; generation = e.generation; item = None } in
     let block : v.at / 2048 ≡ w.at / 2048 = ap (λ (k : ℕ). k / 2048) at in
     let near_else : (t : ℕ) → near t ≢ near w.at → near_due group v t ≡ near_due group w t = λ t other.
@@ -328,7 +353,11 @@ pops {T} group w v place e item right moved at generations entries was live_is =
           (λ t low. others t (λ same. omega (arith, same, low)))
           (subst (λ (gs : List ℕ). All (λ (x : Entry T). IsPastItem group gs x.generation x.item) v.entries.items) (sym generations)
           (subst (λ (es : List (Entry T)). All (λ (x : Entry T). IsPastItem group w.generations x.generation x.item) es) (sym entries)
-          (All-set (λ (x : Entry T). IsPastItem group w.generations x.generation x.item) w.entries.items place empty tt right.turning.timely)));
+          (All-set (λ (x : Entry T). IsPastItem group w.generations x.generation x.item) w.entries.items place empty tt right.turning.timely)))
+          (λ t free. let unset : mark_at w.marks (t % 2048) ≡ 0 = ap (λ (m : Marks). mark_at m (t % 2048)) (sym marks) ∙ free in elim (cases_eq (near t) (near w.at)) [
+            | inl here ↦ absurd (cons_some _ _ (sym moved.first ∙ ap (list_at w.chains) (sym here) ∙ right.turning.marked t unset))
+            | inr other ↦ moved.others (near t) other (omega arith) ∙ right.turning.marked t unset
+          ]);
       at = at;
       first = due_here group w w.at refl ∙ ap (λ (xs : List T). xs ++ far_due group w w.at) near_first ∙ cons_option-append item (near_due group v w.at) (far_due group w w.at)
           ∙ ap (cons_option item) (ap (λ (xs : List T). near_due group v w.at ++ xs) (sym (far_else w.at)) ∙ sym (due_here group v w.at (sym block)));
@@ -384,6 +413,22 @@ takes_none group u w kept = record { right = kept.right; at = kept.at; first = s
 pub keeps_start : {T : Type 0} (group : T → Option ℕ) (w : Wheel T) → IsWheel group w → KeepsView group w w
 keeps_start group w right = record { right = right; at = refl; same = λ t. refl }
 
+-- the mark of the wheel's time is taken, where its slot is empty
+pub unmarks : {T : Type 0} (group : T → Option ℕ) (w v : Wheel T) → IsWheel group w → slice_get (list_at w.chains (near w.at)) 0 ≡ None
+    → ((s : ℕ) → s ≢ w.at % 2048 → mark_at v.marks s ≡ mark_at w.marks s) → v ≡ record w { marks = v.marks } → KeepsView group w v
+unmarks {T} group w v right none marks is =
+    let next : Wheel T = record w { marks = v.marks } in
+    let marked : (t : ℕ) → mark_at v.marks (t % 2048) ≡ 0 → list_at w.chains (near t) ≡ [] = λ t free. elim (cases_eq (t % 2048) (w.at % 2048)) [
+      | inl here ↦ ap (λ (o : ℕ). list_at w.chains (1 + o)) here ∙ none_first (list_at w.chains (near w.at)) none
+      | inr other ↦ right.turning.marked t (sym (marks (t % 2048) other) ∙ free)
+    ] in
+    let same : (t : ℕ) → wheel_due group next t ≡ wheel_due group w t = λ t. same_due group w next t refl (λ here. refl) refl in
+    subst (λ (u : Wheel T). KeepsView group w u) (sym is) (record {
+      right = right_again group w next right refl refl right.turning.room (λ block low. refl) (λ t low. same t) right.turning.timely marked;
+      at = refl;
+      same = same;
+    })
+
 -- nothing waits in the slot of the wheel's time
 pub due_none : {T : Type 0} (group : T → Option ℕ) (w : Wheel T) → IsWheel group w → slice_get (list_at w.chains (near w.at)) 0 ≡ None → wheel_due group w w.at ≡ []
 due_none {T} group w right none =
@@ -411,23 +456,36 @@ far_none group w t nothing = elim (cases_eq (t / 2048) (w.at / 2048)) [
   | inr ahead ↦ sym (due_ahead group w t ahead) ∙ nothing
 ]
 
--- a ms later, in the same block
-pub ticks : {T : Type 0} (group : T → Option ℕ) (w v : Wheel T) → IsWheel group w → wheel_due group w w.at ≡ [] → w.at + 1 < 4194304 → v ≡ record w { at = w.at + 1 } → v.at % 2048 ≢ 0 → Turns group w (w.at + 1) v
-ticks {T} group w v right done below is inside =
-    let next : Wheel T = record w { at = w.at + 1 } in
-    let at : v.at ≡ w.at + 1 = ap (λ (u : Wheel T). u.at) is in
-    let within : (w.at + 1) % 2048 ≢ 0 = λ z. inside (ap (λ (k : ℕ). k % 2048) at ∙ z) in
-    let block : (w.at + 1) / 2048 ≡ w.at / 2048 = omega (arith, within) in
+-- nothing is marked in the wheel's block behind its time and before another one
+abbrev pub NoneMarked : {T : Type 0} → Wheel T → ℕ → Type 0
+NoneMarked w now = (s : ℕ) → w.at % 2048 < s → s < w.at % 2048 + (now - w.at) → mark_at w.marks s ≡ 0
+
+-- so nothing is due there
+quiet : {T : Type 0} (group : T → Option ℕ) (w : Wheel T) (now t : ℕ) → IsWheel group w → wheel_due group w w.at ≡ [] → NoneMarked w now → t < now → t / 2048 ≤ w.at / 2048 → wheel_due group w t ≡ []
+quiet {T} group w now t right done none before near_by = elim (cases_lt w.at t) [
+  | inl after ↦ (
+      let here : t / 2048 ≡ w.at / 2048 = omega (arith, after, near_by) in
+      let empty : list_at w.chains (near t) ≡ [] = right.turning.marked t (none (t % 2048) (omega (arith, after, here)) (omega (arith, after, here, before))) in
+      due_here group w t here ∙ ap (λ (xs : List T). xs ++ far_due group w t) (ap (items_at group w.generations w.entries.items) empty)
+      ∙ ap (λ (b : ℕ). items_timed group w.generations w.entries.items (t % 2048) (list_at w.chains (2049 + b))) here ∙ ap (items_timed group w.generations w.entries.items (t % 2048)) right.current)
+  | inr past ↦ elim (cases_eq t w.at) [ inl here ↦ ap (λ (k : ℕ). wheel_due group w k) here ∙ done | inr other ↦ right.turning.past t (omega (arith, past, other)) ]
+]
+
+-- on, in the same block
+pub ticks : {T : Type 0} (group : T → Option ℕ) (w v : Wheel T) (now : ℕ) → IsWheel group w → wheel_due group w w.at ≡ [] → NoneMarked w now → w.at < now → now / 2048 ≡ w.at / 2048 → now < 4194304 → v ≡ record w { at = now } → Turns group w now v
+ticks {T} group w v now right done none on block below is =
+    let next : Wheel T = record w { at = now } in
     let same : (t : ℕ) → wheel_due group next t ≡ wheel_due group w t = λ t. same_due group w next t block (λ here. refl) refl in
-    subst (λ (u : Wheel T). Turns group w (w.at + 1) u) (sym is) (record {
+    subst (λ (u : Wheel T). Turns group w now u) (sym is) (record {
       right = record {
         turning = record {
           lists = right.turning.lists;
           room = right.turning.room;
           below = below;
           spread = λ b low. right.turning.spread b (omega (arith, low, block));
-          past = λ t low. same t ∙ elim (cases_eq t w.at) [ inl here ↦ ap (λ (k : ℕ). wheel_due group w k) here ∙ done | inr other ↦ right.turning.past t (omega (arith, low, other)) ];
+          past = λ t low. same t ∙ quiet group w now t right done none low (omega (arith, low, block));
           timely = right.turning.timely;
+          marked = right.turning.marked;
         };
         current = ap (λ (b : ℕ). list_at w.chains (2049 + b)) block ∙ right.current;
       };
@@ -435,22 +493,19 @@ ticks {T} group w v right done below is inside =
       same = same;
     })
 
--- a ms later, in the next block
+-- on, to the next block
 pub record Crosses {T : Type 0} (group : T → Option ℕ) (w v : Wheel T) : Type 0 where
   pub turning : IsTurning group v
   pub same : (t : ℕ) → wheel_due group v t ≡ wheel_due group w t
 
-pub crosses : {T : Type 0} (group : T → Option ℕ) (w v : Wheel T) → IsWheel group w → wheel_due group w w.at ≡ [] → w.at + 1 < 4194304 → v ≡ record w { at = w.at + 1 } → v.at % 2048 ≡ 0 → Crosses group w v
-crosses {T} group w v right done below is end_of =
-    let next : Wheel T = record w { at = w.at + 1 } in
-    let at : v.at ≡ w.at + 1 = ap (λ (u : Wheel T). u.at) is in
-    let over : (w.at + 1) % 2048 ≡ 0 = ap (λ (k : ℕ). k % 2048) (sym at) ∙ end_of in
-    let block : (w.at + 1) / 2048 ≡ w.at / 2048 + 1 = omega (arith, over) in
-    let passed : (s : ℕ) → s / 2048 ≡ w.at / 2048 → wheel_due group w s ≡ [] = λ s here.
-    elim (cases_eq s w.at) [ inl e ↦ ap (λ (k : ℕ). wheel_due group w k) e ∙ done | inr other ↦ right.turning.past s (omega (arith, here, over, other)) ] in
+pub crosses : {T : Type 0} (group : T → Option ℕ) (w v : Wheel T) (now : ℕ) → IsWheel group w → wheel_due group w w.at ≡ [] → NoneMarked w now → now ≡ (w.at / 2048 + 1) * 2048 → now < 4194304 → v ≡ record w { at = now } → Crosses group w v
+crosses {T} group w v now right done none over below is =
+    let next : Wheel T = record w { at = now } in
+    let block : now / 2048 ≡ w.at / 2048 + 1 = omega (arith, over) in
+    let passed : (s : ℕ) → s / 2048 ≡ w.at / 2048 → wheel_due group w s ≡ [] = λ s here. quiet group w now s right done none (omega (arith, here, over)) (omega (arith, here)) in
     let far_same : (t : ℕ) → far_due group next t ≡ far_due group w t = λ t. refl in
     let same : (t : ℕ) → wheel_due group next t ≡ wheel_due group w t = λ t.
-    elim (cases_eq (t / 2048) ((w.at + 1) / 2048)) [
+    elim (cases_eq (t / 2048) (now / 2048)) [
       | inl here ↦ due_here group next t here ∙ ap (λ (xs : List T). xs ++ far_due group w t) (drained group w passed t) ∙ sym (due_ahead group w t (λ same. omega (arith, same, here, block)))
       | inr ahead ↦ due_ahead group next t ahead ∙ elim (cases_eq (t / 2048) (w.at / 2048)) [
         | inl old ↦ far_none group w t (passed t old) ∙ sym (passed t old)
@@ -463,14 +518,15 @@ crosses {T} group w v right done below is end_of =
         room = right.turning.room;
         below = below;
         spread = λ b low. elim (cases_eq b (w.at / 2048)) [ inl e ↦ ap (λ (k : ℕ). list_at w.chains (2049 + k)) e ∙ right.current | inr other ↦ right.turning.spread b (omega (arith, low, block, other)) ];
-        past = λ t low. same t ∙ elim (cases_eq t w.at) [ inl here ↦ ap (λ (k : ℕ). wheel_due group w k) here ∙ done | inr other ↦ right.turning.past t (omega (arith, low, other)) ];
+        past = λ t low. same t ∙ quiet group w now t right done none low (omega (arith, low, over));
         timely = right.turning.timely;
+        marked = right.turning.marked;
       };
       same = same;
     })
 
-pub turns_spread : {T : Type 0} (group : T → Option ℕ) (w u v : Wheel T) → Crosses group w u → u.at ≡ w.at + 1 → Turns group u u.at v → Turns group w (w.at + 1) v
-turns_spread group w u v crossed at turned = record { right = turned.right; at = turned.at ∙ at; same = λ t. turned.same t ∙ crossed.same t }
+pub turns_spread : {T : Type 0} (group : T → Option ℕ) (w u v : Wheel T) → Crosses group w u → Turns group u u.at v → Turns group w v.at v
+turns_spread group w u v crossed turned = record { right = turned.right; at = refl; same = λ t. turned.same t ∙ crossed.same t }
 
 -- as far as a far slot is spread
 pub record Spreads {T : Type 0} (group : T → Option ℕ) (w v : Wheel T) : Type 0 where
@@ -523,8 +579,8 @@ moved_due {T} group w v place e at generations entries moved was t =
     ]
 
 pub spreads_more : {T : Type 0} (group : T → Option ℕ) (u w v : Wheel T) (place : ℕ) (e : Entry T) → Spreads group u w → v.at ≡ w.at → v.generations ≡ w.generations → v.entries.items ≡ w.entries.items
-    → MovesFirst w.chains v.chains (far w.at) (near e.time) place → slice_get w.entries.items place ≡ Some e → Spreads group u v
-spreads_more {T} group u w v place e so_far at generations entries moved was =
+    → MovesFirst w.chains v.chains (far w.at) (near e.time) place → slice_get w.entries.items place ≡ Some e → ((s : ℕ) → mark_at v.marks s ≡ 0 → mark_at w.marks s ≡ 0) → (near e.time ≤ 2048 → mark_at v.marks (near e.time - 1) ≡ 1) → Spreads group u v
+spreads_more {T} group u w v place e so_far at generations entries moved was marks mark =
     let turning = so_far.turning in
     let same : (t : ℕ) → wheel_due group v t ≡ wheel_due group w t = moved_due group w v place e at generations entries moved was in
     let block : v.at / 2048 ≡ w.at / 2048 = ap (λ (k : ℕ). k / 2048) at in
@@ -537,6 +593,7 @@ spreads_more {T} group u w v place e so_far at generations entries moved was =
         past = λ t low. same t ∙ turning.past t (omega (arith, low, at));
         timely = subst (λ (gs : List ℕ). All (λ (x : Entry T). IsPastItem group gs x.generation x.item) v.entries.items) (sym generations)
             (subst (λ (es : List (Entry T)). All (λ (x : Entry T). IsPastItem group w.generations x.generation x.item) es) (sym entries) turning.timely);
+        marked = marked_moved w v (far w.at) (near e.time) place turning.marked moved (λ zero_list. omega (arith, zero_list)) marks mark;
       };
       at = at ∙ so_far.at;
       same = λ t. same t ∙ so_far.same t;
@@ -566,6 +623,7 @@ rewinds {T} group w v now right nothing back is =
           spread = λ b low. right.turning.spread b (omega (arith, low, back));
           past = λ t low. same t ∙ nothing t;
           timely = right.turning.timely;
+          marked = right.turning.marked;
         };
         current = elim (cases_eq (now / 2048) (w.at / 2048)) [ inl e ↦ ap (λ (b : ℕ). list_at w.chains (2049 + b)) e ∙ right.current | inr other ↦ right.turning.spread (now / 2048) (omega (arith, back, other)) ];
       };

@@ -1,5 +1,6 @@
 pub mod Links
 pub mod Group
+pub mod Marks
 pub mod Wheel
 pub mod Agenda
 pub mod View

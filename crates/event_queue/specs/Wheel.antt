@@ -5,6 +5,7 @@ use Rattle.event_queue.specs.declared.wheel.Entry.{Entry}
 use Rattle.event_queue.specs.declared.wheel.Wheel.{Wheel}
 use Rattle.event_queue.specs.Links.{list_at}
 use Rattle.event_queue.specs.Group.{is_in}
+use Rattle.event_queue.specs.Marks.{mark_at}
 
 -- the item's group has the generation that it had when the item came
 abbrev pub is_current : List ℕ → Option ℕ → ℕ → Bool
@@ -71,6 +72,7 @@ pub record IsTurning {T : Type 0} (group : T → Option ℕ) (w : Wheel T) : Typ
   pub spread : (block : ℕ) → block < w.at / 2048 → list_at w.chains (2049 + block) ≡ []
   pub past : (t : ℕ) → t < w.at → wheel_due group w t ≡ []
   pub timely : All (λ (e : Entry T). IsPastItem group w.generations e.generation e.item) w.entries.items
+  pub marked : (t : ℕ) → mark_at w.marks (t % 2048) ≡ 0 → list_at w.chains (near t) ≡ []
 
 -- what the wheel keeps
 pub record IsWheel {T : Type 0} (group : T → Option ℕ) (w : Wheel T) : Type 0 where

@@ -3,6 +3,7 @@
 
 mod chains;
 pub mod group;
+mod marks;
 pub mod queue;
 mod wheel;
 

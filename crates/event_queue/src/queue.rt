@@ -124,6 +124,6 @@ fn seek<T: Grouped>(wheel: &mut Wheel<T>, until: u32) -> Option<T>
         if wheel.at >= until {
             return None;
         }
-        wheel.advance();
+        wheel.advance(until);
     }
 }

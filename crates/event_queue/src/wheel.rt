@@ -8,6 +8,7 @@ ghost use Rattle.event_queue.specs.Wheel.{is_current, live_item, list_for, IsPas
 
 use crate::chains::Chains;
 use crate::group::{GROUPS, Grouped};
+use crate::marks::Marks;
 use mate_num::NoMemory;
 use std::alloc::Global;
 use std::collections::VecDeque;
@@ -37,6 +38,8 @@ pub struct Wheel<T: Grouped> {
     pub entries: Vec<Entry<T>>,
     /// How often each group was cancelled.
     pub generations: [u32; GROUPS],
+    /// The near slots where something may wait.
+    pub marks: Marks,
 }
 
 /// The list of the near slot of a time.
@@ -118,6 +121,7 @@ impl<T: Grouped> Wheel<T> {
             chains,
             entries: Vec::new(alloc),
             generations: [0; GROUPS],
+            marks: Marks::new(),
         })
     }
 
@@ -178,7 +182,9 @@ impl<T: Grouped> Wheel<T> {
         ensures free { length (list_at self.old.chains 0) ≡ length (list_at self.new.chains 0) + 1 }
     {
         let generation = generation_of(&self.generations, item.group());
-        let place = self.chains.move_first(FREE, list_for(self.at, time));
+        let list = list_for(self.at, time);
+        let place = self.chains.move_first(FREE, list);
+        self.marks.set_list(list);
         self.entries[place as usize] = Entry {
             time,
             generation,
@@ -246,18 +252,29 @@ impl<T: Grouped> Wheel<T> {
                 return item;
             }
         }
+        self.marks.clear(self.at % SLOTS);
         None
     }
 
-    /// Goes on by a ms, where nothing is due at the time at which the wheel stands.
-    pub fn advance(&mut self)
+    /// Goes on to the next time at which something may be due, at most `until`, where nothing is due at the time at which
+    /// the wheel stands.
+    pub fn advance(&mut self, until: u32)
         requires right { IsWheel T.group_of self.old }
         requires done { wheel_due T.group_of self.old self.old.at ≡ [] }
-        requires room { self.old.at + 1 < 4194304 }
-        ensures { Turns T.group_of self.old (self.old.at + 1) self.new }
+        requires ahead { self.old.at < until }
+        requires below { until < 4194304 }
+        ensures turns { Turns T.group_of self.old self.new.at self.new }
+        ensures on { self.old.at < self.new.at }
+        ensures within { self.new.at ≤ until }
     {
-        self.at += 1;
-        if self.at % SLOTS == 0 {
+        let slot = self.at % SLOTS;
+        let next = self.at - slot + self.marks.next(slot);
+        if next > until {
+            self.at = until;
+            return;
+        }
+        self.at = next;
+        if next % SLOTS == 0 {
             self.spread();
         }
     }
@@ -271,6 +288,7 @@ impl<T: Grouped> Wheel<T> {
         while let Some(place) = self.chains.first(from) {
             let to = near_list(self.entries[place as usize].time);
             self.chains.move_first(from, to);
+            self.marks.set_list(to);
         }
     }
 

@@ -18,4 +18,4 @@ returns-clause-takes g c =
     pops group w _ place e c.live.result c.requires.right moved refl refl
     (ap (λ (o : Option g.row.T.Denot). set w.entries.items place (record { time = e.time; generation = e.generation; item = o })) c.take-item.ensures.after)
     (read_at w.entries.items place e within c.index_mut-entry.ensures.value)
-    (c.live.ensures ∙ ap (λ (o : Option g.row.T.Denot). live_item group w.generations e.generation o) c.take-item.ensures.value)
+    (c.live.ensures ∙ ap (λ (o : Option g.row.T.Denot). live_item group w.generations e.generation o) c.take-item.ensures.value) refl

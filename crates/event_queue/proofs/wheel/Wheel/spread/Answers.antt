@@ -1,5 +1,6 @@
-use Rattle.std.proofs.Common.{◌≡◌, ◌<◌, ◌∙◌, sym, ap, ℕ, rules, arith, length, refl, subst}
+use Rattle.std.proofs.Common.{◌≡◌, ◌<◌, ◌≤◌, ◌-◌, ◌∙◌, sym, ap, ℕ, rules, arith, length, refl, subst}
 use Rattle.event_queue.specs.Links.{list_at, MovesFirst}
+use Rattle.event_queue.specs.Marks.{mark_at}
 use Rattle.event_queue.specs.Wheel.{far, near}
 use Rattle.event_queue.proofs.WheelLemmas.{first_moved, read_at, spreads_more, spreads_all}
 use Rattle.std.specs.Prelude.{Some, slice_get}
@@ -28,7 +29,8 @@ loop-place-preserved g c =
     let moved_1 = subst (λ (s : ℕ). MovesFirst w.chains c.move_first.new.self s c.near_list-to.result c.move_first.result) from c.move_first.ensures in
     let moved_2 = subst (λ (s : ℕ). MovesFirst w.chains c.move_first.new.self (far w.at) s c.move_first.result) c.near_list-to.ensures.value moved_1 in
     let moved = subst (λ (p : ℕ). MovesFirst w.chains c.move_first.new.self (far w.at) (near e.time) p) is moved_2 in
-    spreads_more group c.args.self.now w _ place e so_far refl refl refl moved (read_at w.entries.items place e within c.index.ensures)
+    let mark = subst (λ (s : ℕ). s ≤ 2048 → mark_at c.set_list.new.self (s - 1) ≡ 1) c.near_list-to.ensures.value c.set_list.ensures.set in
+    spreads_more group c.args.self.now w _ place e so_far refl refl refl moved (read_at w.entries.items place e within c.index.ensures) c.set_list.ensures.others mark
 
 pub returns : goal.returns
 returns g c =

@@ -1,9 +1,17 @@
-use Rattle.std.proofs.Common.{◌≡◌, ◌∙◌, sym, ap, ℕ}
+use Rattle.std.proofs.Common.{◌≡◌, ◌∙◌, sym, ap, refl, ℕ}
 use Rattle.std.specs.Prelude.{slice_get, None}
 use Rattle.event_queue.specs.Links.{list_at}
 use Rattle.event_queue.specs.Wheel.{near, wheel_due}
-use Rattle.event_queue.proofs.WheelLemmas.{due_none, not_some}
+use Rattle.event_queue.proofs.WheelLemmas.{due_none, not_some, keeps_both, takes_none, unmarks}
 use Rattle.event_queue.proofs.wheel.Wheel.take_first.Goals as goal
+
+pub returns-clause-takes : goal.returns-clause-takes
+returns-clause-takes g c =
+    let w = c.loop-self.self in
+    let group = g.T.Grouped.group_of in
+    let nothing : slice_get (list_at w.chains (near w.at)) 0 ≡ None =
+    ap (λ (s : ℕ). slice_get (list_at w.chains s) 0) (sym c.near_list.ensures.value) ∙ sym c.first.ensures.value ∙ not_some c.first.result c.loop-self-test.ensures in
+    takes_none group c.args.self.now _ (keeps_both group c.args.self.now w _ c.loop-self.invariant (unmarks group w _ c.loop-self.invariant.right nothing c.clear.ensures refl))
 
 pub returns-clause-none : goal.returns-clause-none
 returns-clause-none g c =
