@@ -6,7 +6,7 @@ ghost use Rattle.packet_codec.specs.Packet.{IsRight};
 
 use arrayvec::ArrayVec;
 use capsule_exchange::{Exchange, Heard};
-use mate_num::{HandlerId, Image};
+use mate_num::{HandlerId, Image, NoMemory};
 use packet_codec::Packet;
 use std::alloc::{AllocError, Global};
 
@@ -14,7 +14,9 @@ pub fn answer(alloc: Global, case: &str) -> Result<String, AllocError> {
     let Ok(state) = case.parse::<u32>() else {
         return "no number".to_string(alloc);
     };
-    let mut air = Air::new(state);
+    let Ok(mut air) = Air::new(alloc, state) else {
+        return Err(AllocError);
+    };
     for number in 0..300 {
         if air.turn(number).is_none() {
             return format!(in alloc; "stopped at {number}");
@@ -194,9 +196,9 @@ struct Air {
 
 impl Air {
     // Two nodes that hold nothing, and the stream that begins with a number.
-    fn new(state: u32) -> Air {
-        Air {
-            nodes: [Exchange::new(2), Exchange::new(2)],
+    fn new(alloc: Global, state: u32) -> Result<Air, NoMemory> {
+        Ok(Air {
+            nodes: [Exchange::new(alloc, 2)?, Exchange::new(alloc, 2)?],
             draws: Draws { state },
             tally: Tally {
                 asks: 0,
@@ -205,7 +207,7 @@ impl Air {
                 complete: 0,
                 sum: state,
             },
-        }
+        })
     }
 
     // A new version of a handler comes to a node.

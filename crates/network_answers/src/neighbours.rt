@@ -15,7 +15,13 @@ pub fn answer(alloc: Global, desc: &Description, case: &str) -> Result<String, A
     if handlers < 1 || handlers > 8 {
         return "no handlers".to_string(alloc);
     }
-    let mut nodes = [Exchange::new(handlers as u8), Exchange::new(handlers as u8)];
+    let (Ok(one), Ok(other)) = (
+        Exchange::new(alloc, handlers as u8),
+        Exchange::new(alloc, handlers as u8),
+    ) else {
+        return Err(AllocError);
+    };
+    let mut nodes = [one, other];
     let mut line = String::new(alloc);
     for step in case.split(", ") {
         let answer = taken(alloc, desc, &mut nodes, step)?;

@@ -29,7 +29,7 @@ pub struct Case {
     files: MemFiles,
     script: String,
     report: String,
-    // whether its text goes to a sink that fails, at each write in turn
+    // whether its text goes to a sink that fails, or that memory is refused to, at each write in turn
     fails: bool,
 }
 

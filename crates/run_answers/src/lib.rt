@@ -4,6 +4,7 @@
 mod cases;
 mod programs;
 mod same;
+mod scarce;
 mod stopped;
 
 use cases::Case;

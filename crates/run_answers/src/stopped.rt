@@ -1,8 +1,10 @@
-//! Runs whose text goes to a sink that fails, and the report that is handed out then.
+//! Runs whose text goes to a sink that fails or that memory is refused to, and the report that is handed out then.
 
+ghost use Rattle.std.specs.Prelude.{◌≤◌};
 ghost use Rattle.node_programs.specs.WorldPrograms.{AreProgramsOfWorld};
 
 use crate::same::are_same;
+use crate::scarce::ScarceSink;
 use mate_journal::{IntoFault, Programs, Report};
 use memory_files::MemSink;
 use report_reading::read;
@@ -17,7 +19,7 @@ const REPORT_MAX: usize = 1_048_576;
 /// The most writes of a run.
 const WRITES_MAX: u64 = 100_000;
 
-/// How a run ended whose sink failed at one write.
+/// How a run ended whose sink refused one write.
 #[derive(Clone, Copy)]
 enum Stop {
     /// It wrote all before.
@@ -27,7 +29,26 @@ enum Stop {
     Wrongly,
 }
 
-/// Whether a run hands out the report that it should at whichever write the sink fails, by the text of the whole run.
+impl Stop {
+    /// Whether the text that was written is the beginning of the whole, and the report that of the events that ended.
+    fn by(
+        alloc: Global,
+        desc: &Description,
+        text: &str,
+        written: &[u8],
+        report: &Report,
+    ) -> Result<Stop, AllocError> {
+        let wanted = wanted_text(alloc, text, written.len())?;
+        if text.as_bytes().starts_with(written) && is_of(alloc, desc, report, &wanted) {
+            Ok(Stop::Rightly)
+        } else {
+            Ok(Stop::Wrongly)
+        }
+    }
+}
+
+/// Whether a run hands out the report that it should at whichever write the sink fails, or memory is refused to it, by the
+/// text of the whole run.
 pub(crate) fn stopped(
     alloc: Global,
     desc: &Description,
@@ -38,17 +59,21 @@ pub(crate) fn stopped(
     requires { AreProgramsOfWorld desc.now world.now programs.now }
 {
     for call in 1..WRITES_MAX {
-        match stopped_at(alloc, desc, world, programs, text, call)? {
-            Stop::Rightly => {}
-            Stop::Unstopped => return "stopped at each write as wanted".to_string(alloc),
-            Stop::Wrongly => return format!(in alloc; "stopped otherwise at write {call}"),
+        let failed = failed_at(alloc, desc, world, programs, text, call)?;
+        let refused = refused_at(alloc, desc, world, programs, text, call)?;
+        match (failed, refused) {
+            (Stop::Rightly, Stop::Rightly) => {}
+            (Stop::Unstopped, Stop::Unstopped) => {
+                return "stopped at each write as wanted".to_string(alloc);
+            }
+            _ => return format!(in alloc; "stopped otherwise at write {call}"),
         }
     }
     "too long".to_string(alloc)
 }
 
 /// How the run ends whose sink fails at this write.
-fn stopped_at(
+fn failed_at(
     alloc: Global,
     desc: &Description,
     world: &World,
@@ -60,17 +85,30 @@ fn stopped_at(
 {
     let mut sink = MemSink::new(alloc);
     let _ = sink.fail_at(call);
-    let report = match run_into(alloc, desc, world, programs, &mut sink) {
-        Ok(_) if sink.bytes() == text.as_bytes() => return Ok(Stop::Unstopped),
-        Ok(_) => return Ok(Stop::Wrongly),
-        Err(IntoFault::Sink(report)) => report,
-        Err(_) => return Ok(Stop::Wrongly),
-    };
-    let wanted = wanted_text(alloc, text, sink.bytes().len())?;
-    if text.as_bytes().starts_with(sink.bytes()) && is_of(alloc, desc, &report, &wanted) {
-        Ok(Stop::Rightly)
-    } else {
-        Ok(Stop::Wrongly)
+    match run_into(alloc, desc, world, programs, &mut sink) {
+        Ok(_) if sink.bytes() == text.as_bytes() => Ok(Stop::Unstopped),
+        Err(IntoFault::Sink(report)) => Stop::by(alloc, desc, text, sink.bytes(), &report),
+        _ => Ok(Stop::Wrongly),
+    }
+}
+
+/// How the run ends to whose sink memory is refused from this write on.
+fn refused_at(
+    alloc: Global,
+    desc: &Description,
+    world: &World,
+    programs: &Programs,
+    text: &str,
+    call: u64,
+) -> Result<Stop, AllocError>
+    requires programs { AreProgramsOfWorld desc.now world.now programs.now }
+    requires first { 1 ≤ call }
+{
+    let mut sink = ScarceSink::new(alloc, call - 1);
+    match run_into(alloc, desc, world, programs, &mut sink) {
+        Ok(_) if sink.bytes() == text.as_bytes() => Ok(Stop::Unstopped),
+        Err(IntoFault::NoMemory(report)) => Stop::by(alloc, desc, text, sink.bytes(), &report),
+        _ => Ok(Stop::Wrongly),
     }
 }
 
