@@ -1,5 +1,5 @@
 -- What is at hand of a log, and its lines.
-use Rattle.std.proofs.Common.{◌≡◌, ◌+◌, ℕ, zero, suc, List, [], ◌∷◌, ◌++◌, refl, sym, ◌∙◌, ap, arith, map, drop, codes}
+use Rattle.std.proofs.Common.{◌≡◌, ◌+◌, ℕ, zero, suc, List, [], ◌∷◌, ◌++◌, refl, sym, ◌∙◌, ap, subst, arith, map, drop, codes}
 use Rattle.std.specs.Prelude.{flat_map, slice_get}
 use Rattle.arrayvec.specs.ArrayVec.{ArrayVec}
 use Rattle.mate_num.specs.declared.store.Store.{Store}
@@ -8,8 +8,18 @@ use Rattle.mate_journal.specs.Log.{Log}
 use Rattle.mate_journal.specs.declared.entry.Entry.{Entry}
 use Rattle.mate_journal.specs.declared.entry.Entry.TheVariants as entry
 use Rattle.mate_journal.specs.declared.entry.Stamped.{Stamped}
-use Rattle.mate_journal.specs.OpenLog.{Gone, OpenView, entry_behind, stamped_behind, IsKept}
-use Rattle.open_node.specs.View.{NodeView, IsSameNode}
+use Rattle.mate_journal.specs.Journal.{Told, Event}
+use Rattle.mate_journal.specs.Pace.{Pace}
+use Rattle.mate_num.specs.declared.call.Stamp.{Stamp}
+use Rattle.mate_journal.specs.OpenLog.{Gone, OpenView, gone_of, entry_behind, stamped_behind, IsKept}
+use Rattle.journal_laws.proofs.GoesOnLemmas.{GoesOn-journal}
+use Rattle.node_invariant.specs.Meaning.{machine_in}
+use Rattle.node_invariant.specs.Keeps.{event_at}
+use Rattle.open_node.specs.Journal.{KeepsJournal}
+use Rattle.open_node.specs.View.{NodeView, IsSameNode, Tells}
+use Rattle.report_ranges.specs.Growth.{IsSizeOf, IsInRangeFrom, IsInRange}
+use Rattle.report_ranges.specs.declared.growth.LogSize.{LogSize}
+use Rattle.report_ranges.proofs.GrowthLemmas.{same-in-range, forgotten-in-range, log-goes-on}
 use Rattle.open_node.proofs.KeptLemmas.{entries-kept}
 use Rattle.report_text.specs.Words.{stamp_words, handler_name, number, word, image_word, image_of, seen_words, entry_words}
 use Rattle.report_text.specs.Text.{entry_line, event_piece}
@@ -42,6 +52,37 @@ same-then a b c f g = record {
   counts = g.counts ∙ f.counts;
   room = let x = f.room in let y = g.room in omega (arith, x, y);
 }
+
+-- ---- ranges
+
+-- a node as it is seen in another place
+abbrev InRange : NodeView → Type 0
+InRange v = IsInRange v.log v.gone
+
+pub ranges-same : (old mid new : NodeView) → old ≡ mid → IsSameNode mid new → InRange old → InRange new
+ranges-same old mid new is same has = same-in-range new.log mid.log mid.gone new.gone same.log same.gone (subst InRange is has)
+
+pub ranges-forgotten : (old mid new : NodeView) → old ≡ mid → IsSameNode (record mid { gone = gone_of mid.log }) new → InRange old → InRange new
+ranges-forgotten old mid new is same has = let h : InRange mid = subst InRange is has in forgotten-in-range new.log mid.log new.gone same.log same.gone h.ranges
+
+-- an event is told, and what is told is in range
+pub ranges-told : (old new : NodeView) (kept kept' : Log) (size : LogSize) (at : Stamp) (Rule : Pace → List Told → Pace → Type 0) → KeepsJournal old.description (machine_in old.description) old.log
+    → KeepsJournal new.description (machine_in new.description) new.log → IsKept (record { all = old.log; gone = old.gone }) kept → IsSizeOf size kept → Tells old new at Rule
+    → IsKept (record { all = new.log; gone = new.gone }) kept' → IsInRangeFrom size kept' → InRange old → InRange new
+ranges-told old new kept kept' size at Rule keeps keeps' held sized t held' rest has =
+    let front : List Event = map (event_at at) t.told in
+    log-goes-on old.log new.log kept kept' old.gone new.gone size held sized (GoesOn-journal old.log new.log front keeps.tidy.numbered keeps'.tidy.numbered t.grows.journal) t.gone held' rest has
+
+-- the same, of the node as it is seen where it is read and where it is called
+pub ranges-told-as : (self first old new last : NodeView) → self ≡ first → self ≡ old → new ≡ last → (kept kept' : Log) (size : LogSize) (at : Stamp) (Rule : Pace → List Told → Pace → Type 0)
+    → KeepsJournal first.description (machine_in first.description) first.log → KeepsJournal last.description (machine_in last.description) last.log → IsKept (record { all = first.log; gone = first.gone }) kept → IsSizeOf size kept
+    → Tells old new at Rule → IsKept (record { all = last.log; gone = last.gone }) kept' → IsInRangeFrom size kept' → InRange self → InRange new
+ranges-told-as self first old new last a b e kept kept' size at Rule keeps keeps' held sized t held' rest has =
+    let keeps_old : KeepsJournal old.description (machine_in old.description) old.log = subst (λ (v : NodeView). KeepsJournal v.description (machine_in v.description) v.log) (sym a ∙ b) keeps in
+    let keeps_new : KeepsJournal new.description (machine_in new.description) new.log = subst (λ (v : NodeView). KeepsJournal v.description (machine_in v.description) v.log) (sym e) keeps' in
+    let held_old : IsKept (record { all = old.log; gone = old.gone }) kept = subst (λ (v : NodeView). IsKept (record { all = v.log; gone = v.gone }) kept) (sym a ∙ b) held in
+    let held_new : IsKept (record { all = new.log; gone = new.gone }) kept' = subst (λ (v : NodeView). IsKept (record { all = v.log; gone = v.gone }) kept') (sym e) held' in
+    ranges-told old new kept kept' size at Rule keeps_old keeps_new held_old sized t held_new rest (subst InRange b has)
 
 -- ---- the lines of what is at hand
 

@@ -1,6 +1,7 @@
 -- The run of a node script grows by an event, and ends.
-use Rattle.std.proofs.Common.{◌≡◌, ◌<◌, ◌≤◌, ◌+◌, ℕ, suc, List, [], ◌∷◌, ◌++◌, false, Result, Ok, Err, refl, sym, ◌∙◌, ap, subst, arith, length, map, take, drop, append-nil, length-append, length-drop, length-take-le, ◌-◌, zero}
+use Rattle.std.proofs.Common.{◌≡◌, ◌<◌, ◌≤◌, ◌+◌, ◌^◌, ℕ, suc, lit<, List, [], ◌∷◌, ◌++◌, false, Result, Ok, Err, refl, sym, ◌∙◌, ap, subst, arith, length, map, take, drop, append-nil, length-append, length-drop, length-take-le, ◌-◌, zero}
 use Rattle.std.specs.Prelude.{slice_index_or, slice_set, is_err, OnOk}
+use Rattle.std.proofs.lemmas.List.Elements.{All-nil, All-cons}
 use Rattle.mate_num.specs.declared.no_memory.NoMemory.{NoMemory}
 use Rattle.std.proofs.lemmas.List.{length-map, take-append-drop, take_all}
 use Rattle.mate_num.specs.declared.call.Stamp.{Stamp}
@@ -16,6 +17,8 @@ use Rattle.mate_journal.specs.WellFormed.{NotBefore, start}
 use Rattle.mate_journal.specs.NodeScript as node
 use Rattle.mate_journal.specs.NodeScript.{RunEnd, Whole, Full, Cut, Makes, HaveMade, AreOfEvent, EndsRun, IsRunOf, ShowsOnce}
 use Rattle.mate_journal.specs.NodeReport.{IsNodeReport, is_whole}
+use Rattle.mate_journal.specs.OpenLog.{Gone, nothing_gone}
+use Rattle.mate_journal.specs.Ranges.{HasStampRange, HasLogRanges, HasAiredRanges, HasReportRanges}
 use Rattle.mate_journal.specs.declared.program.Program.{Program}
 use Rattle.mate_journal.specs.declared.entry.Stamped.{Stamped}
 use Rattle.mate_journal.specs.declared.report.Report.{Report}
@@ -32,8 +35,10 @@ use Rattle.node_invariant.specs.Keeps.{reading, event_at, IsTimely}
 use Rattle.open_node.specs.View.{NodeView, heard_of, HasPace, Tells}
 use Rattle.open_node.specs.Calls.{Pacing}
 use Rattle.open_node.specs.Journal.{KeepsJournal}
-use Rattle.node_programs.specs.Right.{AreRightPrograms}
+use Rattle.report_ranges.specs.Growth.{IsInRange}
+use Rattle.report_ranges.proofs.GrowthLemmas.{none-in-range}
 use Rattle.node_programs.specs.ScriptSteps.{AreProgramsOf, step_of, steps_of}
+use Rattle.node_programs.specs.Sources.{meaning_by}
 use Rattle.node_programs.proofs.MeaningLemmas.{meaning_by-right}
 use Rattle.run_steps.specs.Running.{MakesOn, at_event, HasRun, IsReportOf}
 
@@ -59,8 +64,8 @@ same-timely at a b same t =
 
 -- ---- the run
 
-pub HasRun-new : (d : Description) (ps : List Program) (v : NodeView) → v.description ≡ d → IsEmpty v.log → HasPace v no_pace → HasRun d ps [] v
-HasRun-new d ps v is empty has =
+pub HasRun-new : (d : Description) (ps : List Program) (v : NodeView) → v.description ≡ d → IsEmpty v.log → HasPace v no_pace → v.gone ≡ nothing_gone → HasRun d ps [] v
+HasRun-new d ps v is empty has gone =
     let none : journal_of v.log ≡ [] = journal_of-empty v.log empty in
     record {
       description = is;
@@ -70,11 +75,14 @@ HasRun-new d ps v is empty has =
       timely =
           let P : List Event → Type 0 = λ es. NotBefore (last_stamp start es) (at_event 0) in
           record { after_last = subst P (sym none) (record { event = omega arith; time = omega arith; same = λ _. refl }) };
+      ranges = subst (λ (g : Gone). IsInRange v.log g) (sym gone) (none-in-range v.log empty);
+      few = lit< tt;
     }
 
 -- it stays where nothing but room changes
-pub HasRun-same : (d : Description) (ps : List Program) (done : List Step) (old new : NodeView) → new.description ≡ old.description → IsSameLog new.log old.log → ((p : Pace) → HasPace old p → HasPace new p) → HasRun d ps done old → HasRun d ps done new
-HasRun-same d ps done old new described same paces h =
+pub HasRun-same : (d : Description) (ps : List Program) (done : List Step) (old new : NodeView) → new.description ≡ old.description → IsSameLog new.log old.log → ((p : Pace) → HasPace old p → HasPace new p)
+    → (IsInRange old.log old.gone → IsInRange new.log new.gone) → HasRun d ps done old → HasRun d ps done new
+HasRun-same d ps done old new described same paces ranges h =
     let journals : journal_of new.log ≡ journal_of old.log = journal_of-same old.log new.log same in
     record {
       description = described ∙ h.description;
@@ -83,6 +91,8 @@ HasRun-same d ps done old new described same paces h =
       made =
           subst (λ (es : List Event). HaveMade (clock_of d) (machine_in d) 0 1 (nothing_heard (machine_in d)) no_pace (map (step_of ps) done) es h.pace) (sym journals) h.made;
       timely = same-timely (at_event (length done)) new.log old.log same h.timely;
+      ranges = ranges h.ranges;
+      few = h.few;
     }
 
 map-append : {A B : Type 0} (f : A → B) (xs ys : List A) → map f (xs ++ ys) ≡ map f xs ++ map f ys
@@ -95,8 +105,8 @@ heard-is d v is = ap (λ (x : Description). reading x v.log) is
 
 -- one more step
 one-more : (d : Description) (ps : List Program) (done : List Step) (step : Step) (old new : NodeView) → HasRun d ps done old → length old.log.entries < RECORDS_MAX
-    → Tells old new (at_event (suc (length done))) (MakesOn old (step_of ps step)) → HasRun d ps (done ++ step ∷ []) new
-one-more d ps done step old new h few t =
+    → Tells old new (at_event (suc (length done))) (MakesOn old (step_of ps step)) → (IsInRange old.log old.gone → IsInRange new.log new.gone) → HasStampRange (at_event (suc (length done))) → HasRun d ps (done ++ step ∷ []) new
+one-more d ps done step old new h few t ranges stamp =
     let made = t.paces h.pace h.has in
     let at : Stamp = at_event (suc (length done)) in
     let front : List Event = map (event_at at) t.told in
@@ -121,6 +131,8 @@ one-more d ps done step old new h few t =
           (omega (arith, few, entries))
           (subst (λ (n : ℕ). AreOfEvent n front) event (AreOfEvent-at (suc (length done)) t.told)) makes));
       timely = subst (λ (n : ℕ). IsTimely (at_event n) new.log) (sym long) t.grows.timely;
+      ranges = ranges h.ranges;
+      few = subst (λ (n : ℕ). n < 2 ^ 64) (sym long) stamp.event;
     }
 
 taken : (list : List Step) (i : ℕ) → i ≤ length list → length (take i list) ≡ i
@@ -136,18 +148,23 @@ take-next (y ∷ list) (suc i) x below is =
 
 -- one more step of a list, as the next event
 pub HasRun-step : (d : Description) (ps : List Program) (list : List Step) (i event : ℕ) (step : Step) (old new : NodeView) → HasRun d ps (take i list) old → i < length list → event ≡ i
-    → step ≡ slice_index_or list i step → length old.log.entries < RECORDS_MAX → Tells old new (at_event (event + 1)) (MakesOn old (step_of ps step)) → HasRun d ps (take (i + 1) list) new
-HasRun-step d ps list i event step old new h below same is few t =
+    → step ≡ slice_index_or list i step → length old.log.entries < RECORDS_MAX → Tells old new (at_event (event + 1)) (MakesOn old (step_of ps step))
+    → (IsInRange old.log old.gone → IsInRange new.log new.gone) → HasStampRange (at_event (event + 1)) → HasRun d ps (take (i + 1) list) new
+HasRun-step d ps list i event step old new h below same is few t ranges stamp =
     let len : length (take i list) ≡ i = taken list i (omega (arith, below)) in
     let number : event + 1 ≡ suc (length (take i list)) = omega (arith, same, len) in
     subst (λ (done : List Step). HasRun d ps done new) (take-next list i step below is)
-    (one-more d ps (take i list) step old new h few (subst (λ (n : ℕ). Tells old new (at_event n) (MakesOn old (step_of ps step))) number t))
+    (one-more d ps (take i list) step old new h few (subst (λ (n : ℕ). Tells old new (at_event n) (MakesOn old (step_of ps step))) number t) ranges (subst (λ (n : ℕ). HasStampRange (at_event n)) number stamp))
 
 -- an event of the last step's number may come
 pub timely-at : (d : Description) (ps : List Program) (list : List Step) (i event : ℕ) (v : NodeView) → HasRun d ps (take i list) v → i ≤ length list → event ≡ i → IsTimely (at_event event) v.log
 timely-at d ps list i event v h within same =
     let len : length (take i list) ≡ i = taken list i within in
     subst (λ (n : ℕ). IsTimely (at_event n) v.log) (len ∙ sym same) h.timely
+
+-- 64 bits count the events
+pub few-events : (d : Description) (ps : List Program) (list : List Step) (i event : ℕ) (v : NodeView) → HasRun d ps (take i list) v → i ≤ length list → event ≡ i → event < 2 ^ 64
+few-events d ps list i event v h within same = subst (λ (n : ℕ). n < 2 ^ 64) (taken list i within ∙ sym same) h.few
 
 -- the next event may be made
 pub timely-next : (d : Description) (ps : List Program) (list : List Step) (i event : ℕ) (v : NodeView) → HasRun d ps (take i list) v → i ≤ length list → event ≡ i → IsTimely (at_event (event + 1)) v.log
@@ -287,14 +304,20 @@ run-cut d ps steps i event v h within same =
 -- ---- reports by sources
 
 -- the log of a node that ran so is that of the script's report
-pub reported : (d : Description) (script : NodeScript) (ps : List Program) (how : RunEnd) (list : List Step) (v : NodeView) (events : ℕ) → list ≡ script.steps → AreRightPrograms d ps → v.description ≡ d
+pub reported : (d : Description) (script : NodeScript) (ps : List Program) (how : RunEnd) (list : List Step) (v : NodeView) (events : ℕ) → list ≡ script.steps → AreProgramsOf d script ps → v.description ≡ d
     → KeepsJournal v.description (machine_in v.description) v.log → (run : IsRunOf (clock_of d) (machine_in d) how (map (step_of ps) list) (journal_of v.log)) × (events ≡ length run.done)
-    → (r : Report) → r ≡ record { nodes = v.log ∷ []; air = []; events = events; whole = is_whole how } → IsReportOf d script ps how r
-reported d script ps how list v events steps right description keeps run r is =
+    → HasLogRanges v.log → events < 2 ^ 64 → (r : Report) → r ≡ record { nodes = v.log ∷ []; air = []; events = events; whole = is_whole how } → IsReportOf d script ps how r
+reported d script ps how list v events steps right description keeps run ranges few r is =
     let k : KeepsJournal d (machine_in d) v.log = subst (λ (x : Description). KeepsJournal x (machine_in x) v.log) description keeps in
     let by_code : IsNodeReport d (clock_of d) (meaning_of (shape_of d)) (map (step_of ps) list) how r = report-by d (map (step_of ps) list) how v.log events k run.0 run.1 r is in
-    subst (λ (meaning : Meaning). IsNodeReport d (clock_of d) meaning (steps_of script ps) how r) (sym (meaning_by-right d ps right))
-    (subst (λ (ss : List Step). IsNodeReport d (clock_of d) (meaning_of (shape_of d)) (map (step_of ps) ss) how r) steps by_code)
+    let by_sources : IsNodeReport d (clock_of d) (meaning_by d ps) (steps_of script ps) how r =
+    subst (λ (meaning : Meaning). IsNodeReport d (clock_of d) meaning (steps_of script ps) how r) (sym (meaning_by-right d ps right.programs))
+    (subst (λ (ss : List Step). IsNodeReport d (clock_of d) (meaning_of (shape_of d)) (map (step_of ps) ss) how r) steps by_code) in
+    record {
+      right = right;
+      report = by_sources;
+      ranges = subst HasReportRanges (sym is) (record { nodes = All-cons HasLogRanges v.log [] ranges (All-nil HasLogRanges); air = All-nil HasAiredRanges; events = few });
+    }
 
 -- what a node keeps, by its description
 pub keeps-by : (d : Description) (v : NodeView) → v.description ≡ d → KeepsJournal v.description (machine_in v.description) v.log → KeepsJournal d (machine_in d) v.log

@@ -1,5 +1,5 @@
 -- The run of a node script: what it gives, and what it keeps on its way.
-use Rattle.std.specs.Prelude.{◌≡◌, ◌≤◌, ◌<◌, ℕ, Bool, List, [], ◌∷◌, length, map, Result, Ok, Err}
+use Rattle.std.specs.Prelude.{◌≡◌, ◌≤◌, ◌<◌, ◌^◌, ℕ, Bool, List, [], ◌∷◌, length, map, Result, Ok, Err}
 use Rattle.mate_num.specs.declared.call.Stamp.{Stamp}
 use Rattle.vm_desc.specs.declared.description.Description.{Description}
 use Rattle.script_reader.specs.Steps.{NodeScript}
@@ -10,6 +10,7 @@ use Rattle.mate_journal.specs.Pace.{Pace, no_pace}
 use Rattle.mate_journal.specs.NodeScript as node
 use Rattle.mate_journal.specs.NodeScript.{RunEnd, Whole, Full, Makes, HaveMade}
 use Rattle.mate_journal.specs.NodeReport.{IsNodeReport}
+use Rattle.mate_journal.specs.Ranges.{HasReportRanges}
 use Rattle.mate_journal.specs.declared.program.Program.{Program}
 use Rattle.mate_journal.specs.declared.report.Report.{Report}
 use Rattle.mate_journal.specs.declared.report.RunFault.{RunFault}
@@ -18,14 +19,18 @@ use Rattle.mate_journal.specs.declared.report.TheConstants.{RECORDS_MAX}
 use Rattle.node_invariant.specs.Meaning.{machine_in, clock_of}
 use Rattle.node_invariant.specs.Keeps.{IsTimely}
 use Rattle.open_node.specs.View.{NodeView, heard_of, HasPace}
+use Rattle.report_ranges.specs.Growth.{IsInRange}
 use Rattle.node_programs.specs.Sources.{meaning_by}
-use Rattle.node_programs.specs.ScriptSteps.{step_of, steps_of}
+use Rattle.node_programs.specs.ScriptSteps.{AreProgramsOf, step_of, steps_of}
 
 -- ---- what a run gives
 
--- the report of the script with its programs, by their sources; turns are counted in instructions of the installed code
-abbrev pub IsReportOf : Description → NodeScript → List Program → RunEnd → Report → Type 0
-IsReportOf d script ps how r = IsNodeReport d (clock_of d) (meaning_by d ps) (steps_of script ps) how r
+-- The report of the script with its programs, which are right, by their sources; turns are counted in instructions of the installed
+-- code. Its numbers are in the ranges of their types, so that its text is read back.
+pub record IsReportOf (d : Description) (script : NodeScript) (ps : List Program) (how : RunEnd) (r : Report) : Type 0 where
+  pub right : AreProgramsOf d script ps
+  pub report : IsNodeReport d (clock_of d) (meaning_by d ps) (steps_of script ps) how r
+  pub ranges : HasReportRanges r
 
 -- a whole report, or one whose log is full before a step
 abbrev pub RunGives : Description → NodeScript → List Program → Result Report RunFault → Type 0
@@ -60,3 +65,5 @@ pub record HasRun (d : Description) (ps : List Program) (done : List Step) (v : 
   pub has : HasPace v pace
   pub made : HaveMade (clock_of d) (machine_in d) 0 1 (nothing_heard (machine_in d)) no_pace (map (step_of ps) done) (journal_of v.log) pace
   pub timely : IsTimely (at_event (length done)) v.log
+  pub ranges : IsInRange v.log v.gone
+  pub few : length done < 2 ^ 64

@@ -5,11 +5,13 @@ ghost use Rattle.vm_desc.specs.Whole.{context_count};
 ghost use Rattle.mate_journal.specs.NodeScript.{ShowsOnce};
 ghost use Rattle.mate_journal.specs.Pace.{Pace};
 ghost use Rattle.node_invariant.specs.Meaning.{machine_in, clock_of};
+ghost use Rattle.mate_journal.specs.Ranges.{HasStampRange};
 ghost use Rattle.node_invariant.specs.Keeps.{IsTimely};
 ghost use Rattle.script_reader.specs.Steps.{IsRightStep};
 ghost use Rattle.open_node.specs.Calls.{Pacing};
 ghost use Rattle.open_node.specs.Journal.{KeepsJournal};
 ghost use Rattle.open_node.specs.View.{heard_of, HasPace, IsSameNode, Tells};
+ghost use Rattle.report_ranges.specs.Growth.{IsInRange};
 ghost use Rattle.node_programs.specs.Right.{AreRightPrograms};
 ghost use Rattle.node_programs.specs.ScriptSteps.{step_of};
 ghost use Rattle.run_steps.specs.Running.{IsReadyFor, MakesOn};
@@ -20,6 +22,7 @@ use crate::events::make_step;
 use mate_journal::{NodeLog, Programs};
 use mate_num::{NoMemory, Stamp};
 use open_node::OpenNode;
+use report_ranges::{LogSize, log_is_in_range_from, stamp_is_in_range};
 use script_reader::Step;
 use std::alloc::Global;
 use std::marker::Model;
@@ -66,6 +69,7 @@ impl HeapNode {
         ensures same { IsSameNode self.old self.new }
         ensures pace { (p : Pace) → HasPace self.old p → HasPace self.new p }
         ensures room { OnOk result (n ≤ self.new.log.spare) }
+        ensures ranges { IsInRange self.old.log self.old.gone → IsInRange self.new.log self.new.gone }
     {
         self.node.reserve(n)
     }
@@ -76,9 +80,14 @@ impl HeapNode {
         requires right { IsRightStep self.old.description (length programs.now) step.now }
         requires programs { AreRightPrograms self.old.description programs.now }
         requires contexts { context_count self.old.description ≤ 16 }
-        ensures { Tells self.old self.new at (MakesOn self.old (step_of programs.now step.now)) }
+        ensures tells { Tells self.old self.new at (MakesOn self.old (step_of programs.now step.now)) }
+        ensures ranges { IsInRange self.old.log self.old.gone → IsInRange self.new.log self.new.gone }
+        ensures stamp { HasStampRange at }
     {
+        stamp_is_in_range(&at);
+        let size = LogSize::of(self.node.kept());
         make_step(&mut self.node, step, programs, at);
+        log_is_in_range_from(self.node.kept(), size);
     }
 
     /// The stores are shown as they are.
@@ -86,9 +95,12 @@ impl HeapNode {
         requires timely { IsTimely at self.old.log }
         requires few { length self.old.log.entries < 4000000000 }
         requires room { 1 ≤ self.old.log.spare }
-        ensures { Tells self.old self.new at (Pacing (ShowsOnce (clock_of self.old.description) (machine_in self.old.description) (heard_of self.old))) }
+        ensures tells { Tells self.old self.new at (Pacing (ShowsOnce (clock_of self.old.description) (machine_in self.old.description) (heard_of self.old))) }
+        ensures ranges { IsInRange self.old.log self.old.gone → IsInRange self.new.log self.new.gone }
     {
+        let size = LogSize::of(self.node.kept());
         self.node.seen(at);
+        log_is_in_range_from(self.node.kept(), size);
     }
 
     /// Lets go of what was told, where that is to be forgotten, and makes room for n more entries.
@@ -98,6 +110,7 @@ impl HeapNode {
         ensures pace { (p : Pace) → HasPace self.old p → HasPace self.new p }
         ensures room { OnOk result (n ≤ self.new.log.spare) }
         ensures gone { StaysAsToldTo written self.old.gone self.new.gone }
+        ensures ranges { IsInRange self.old.log self.old.gone → IsInRange self.new.log self.new.gone }
     {
         self.let_go(written);
         self.reserve(n)
@@ -109,6 +122,7 @@ impl HeapNode {
         ensures same { IsSameNode (record self.old { gone = self.new.gone }) self.new }
         ensures pace { (p : Pace) → HasPace self.old p → HasPace self.new p }
         ensures gone { StaysAsToldTo written self.old.gone self.new.gone }
+        ensures ranges { IsInRange self.old.log self.old.gone → IsInRange self.new.log self.new.gone }
     {
         match written {
             Written::Kept => {}

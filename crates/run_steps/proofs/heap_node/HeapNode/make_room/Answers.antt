@@ -9,3 +9,6 @@ returns-clause-pace c = λ p h. c.reserve.ensures.pace p (c.let_go.ensures.pace 
 
 pub returns-clause-gone : goal.returns-clause-gone
 returns-clause-gone c = stays-back c.args.written c.args.self.now.gone c.let_go.new.self.gone c.reserve.new.self.gone c.let_go.ensures.gone c.reserve.ensures.same.gone
+
+pub returns-clause-ranges : goal.returns-clause-ranges
+returns-clause-ranges c = λ h. c.reserve.ensures.ranges (c.let_go.ensures.ranges h)
