@@ -5,3 +5,4 @@ pub mod RightLemmas
 pub mod EachLemmas
 pub mod OnePrograms
 pub mod SameMeaning
+pub mod KnownLemmas

@@ -1,4 +1,5 @@
 pub mod Scripts
 pub mod Numbers
+pub mod Known
 pub mod Programs
 pub mod SamePrograms

@@ -1,6 +1,7 @@
 //! A node script in a file, and the programs of the files that it names.
 #![tactic(auto)]
 
+pub mod known;
 pub mod laws;
 pub mod programs;
 pub mod script;

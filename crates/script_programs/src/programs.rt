@@ -5,16 +5,18 @@ ghost use Rattle.mate_refusals.specs.declared.refusal.Refusal.TheVariants.{NoMem
 ghost use Rattle.mate_steps.specs.Parts.{ReadsFiles};
 ghost use Rattle.node_programs.specs.Right.{IsRightProgram};
 ghost use Rattle.node_programs.specs.ScriptSteps.{AreProgramsOf};
+ghost use Rattle.script_programs.specs.Known.{AreKnown};
 ghost use Rattle.script_programs.specs.Numbers.{NamesInOrder};
 ghost use Rattle.script_programs.specs.Programs.{installed, loaded, names_file, step_program, script_programs};
 ghost use Rattle.script_reader.specs.Steps.{IsRightStep, IsRightSteps};
 
+use crate::known::{KnownSources, source_of};
 use capsule_codec::{Capsule, encode};
 use mate_files::Files;
 use mate_journal::{Program, Programs};
 use mate_num::{HandlerId, Text};
 use mate_refusals::Refusal;
-use mate_steps::{capsule_of, source_of};
+use mate_steps::capsule_of;
 use script_reader::{Step, Steps};
 use std::alloc::Global;
 use vm_desc::Description;
@@ -35,11 +37,12 @@ pub fn programs_of<F: Files>(
     ensures programs { IfOk result (AreProgramsOf desc.now script.now) }
 {
     let mut programs = Programs::new(alloc);
+    let mut known = KnownSources::new(alloc);
     let names = script.files();
     let steps = script.steps();
     for step in steps {
         if names_file(step) {
-            let program = step_program(alloc, files, desc, fold, names, step)?;
+            let program = step_program(alloc, files, desc, fold, &mut known, names, step)?;
             push(&mut programs, program)?;
         }
     }
@@ -83,13 +86,16 @@ fn step_program<F: Files>(
     files: &mut F,
     desc: &Description,
     fold: bool,
+    known: &mut KnownSources,
     names: &[Text],
     step: &Step,
 ) -> Result<Option<Program>, Refusal>
-    requires { IsRightStep desc.now (length names.now) step.now }
+    requires right { IsRightStep desc.now (length names.now) step.now }
+    requires known { AreKnown desc.now fold known.old }
     ensures does { step_program (record { told = F.contents files.old; steady = F.steady files.old }) desc.now fold names.now step.now result }
     ensures reads { ReadsFiles (F.contents files.old) (F.steady files.old) (F.faults files.old) (F.contents files.new) (F.steady files.new) (F.faults files.new) result }
     ensures right { IfOk result (λ program. IfSome program (IsRightProgram desc.now)) }
+    ensures known { AreKnown desc.now fold known.new }
 {
     match step {
         Step::Install {
@@ -98,7 +104,7 @@ fn step_program<F: Files>(
             program,
         } => {
             let name = names[*program as usize].as_str();
-            let program = installed(alloc, files, desc, fold, *handler, *version, name)?;
+            let program = installed(alloc, files, desc, fold, known, *handler, *version, name)?;
             Ok(Some(program))
         }
         Step::Load { program } => {
@@ -122,17 +128,20 @@ fn installed<F: Files>(
     files: &mut F,
     desc: &Description,
     fold: bool,
+    known: &mut KnownSources,
     handler: HandlerId,
     version: u32,
     name: &str,
 ) -> Result<Program, Refusal>
     requires handler { handler.0 < length desc.now.handlers.items }
     requires version { 1 ≤ version }
+    requires known { AreKnown desc.now fold known.old }
     ensures does { installed (record { told = F.contents files.old; steady = F.steady files.old }) desc.now fold handler version name.now result }
     ensures reads { ReadsFiles (F.contents files.old) (F.steady files.old) (F.faults files.old) (F.contents files.new) (F.steady files.new) (F.faults files.new) result }
     ensures right { IfOk result (IsRightProgram desc.now) }
+    ensures known { AreKnown desc.now fold known.new }
 {
-    let source = source_of(alloc, files, desc, fold, name)?;
+    let source = source_of(alloc, files, desc, fold, known, name)?;
     let capsule = Capsule {
         vm_id: desc.vm_id,
         handler,

@@ -11,6 +11,7 @@ use Rattle.mate_steps.proofs.Laws.{stops_by, moved, reads-then, reads-as, reads-
 use Rattle.node_programs.specs.Right.{IsRightProgram}
 use Rattle.script_reader.specs.Steps.{IsRightStep}
 use Rattle.script_reader.specs.declared.steps.Step.{Step}
+use Rattle.script_programs.specs.Known.{AreKnown}
 use Rattle.script_programs.specs.Programs.{step_program, programs_after, Owing}
 use Rattle.script_programs.proofs.StepLaws.{at_end, at_step, gives-nothing, step_wants, All-with}
 use Rattle.node_programs.specs.ScriptSteps.{AreProgramsOf}
@@ -48,8 +49,8 @@ returns-in_err-push-clause-does g c =
     at_step f d c.args.fold s c.loop-step.programs i x x low is c.loop-step.invariant.owing answer
     (stops_by NoMemory answer (step_wants f d c.args.fold s.files x) wants)
 
-pub step_program-requires : goal.step_program-requires
-step_program-requires g c =
+pub step_program-requires-clause-right : goal.step_program-requires-clause-right
+step_program-requires-clause-right g c =
     let d = c.args.desc.now in
     let s = c.args.script.now in
     let i = c.loop-step.step-index in
@@ -92,6 +93,7 @@ loop-step-preserved g c =
               counted = λ unread. absurd unread;
             };
             right = subst (All (IsRightProgram d)) (sym items) (All-with (IsRightProgram d) c.loop-step.programs o c.loop-step.invariant.right w.in_ok-program.ensures.right);
+            known = subst (AreKnown d c.args.fold) (sym w.known-is) w.in_ok-program.ensures.known;
           })
       | else-names_file w ↦ record {
         owing = owing None (w.programs-is ∙ sym (append-nil c.loop-step.programs)) (gives-nothing f d c.args.fold s.files x (sym c.names_file.ensures ∙ w.if-names_file.false));
@@ -102,6 +104,7 @@ loop-step-preserved g c =
           counted = λ unread. absurd unread;
         };
         right = subst (All (IsRightProgram d)) (sym w.programs-is) c.loop-step.invariant.right;
+        known = subst (AreKnown d c.args.fold) (sym w.known-is) c.loop-step.invariant.known;
       }
     ]
 

@@ -2,6 +2,7 @@ use Rattle.std.proofs.Common.{drop, Ok}
 use Rattle.std.specs.Prelude.{All}
 use Rattle.mate_steps.specs.Parts.{ReadsFiles}
 use Rattle.node_programs.specs.Right.{IsRightProgram}
+use Rattle.script_programs.specs.Known.{AreKnown}
 use Rattle.script_programs.specs.Programs.{Owing}
 use Rattle.script_programs.proofs.programs.programs_of.Given as goal
 
@@ -11,4 +12,5 @@ invariant-loop-step g l = record {
   reads : ReadsFiles {A = Unit {0}} (g.F.Files.contents l.fn.files) (g.F.Files.steady l.fn.files) (g.F.Files.faults l.fn.files)
       (g.F.Files.contents l.files) (g.F.Files.steady l.files) (g.F.Files.faults l.files) (Ok (tt {0}));
   right : All (IsRightProgram l.desc) l.programs;
+  known : AreKnown l.desc l.fold l.known;
 }

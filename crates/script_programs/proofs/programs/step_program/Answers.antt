@@ -18,7 +18,7 @@ returns-in_err-program-in-Install-clause-does g c =
     let names = c.args.names.now in
     let i = c.in-Install in
     let e = c.in_err-program-in-Install.field-0.0 in
-    let right = subst (λ (s : Step). IsRightStep c.args.desc.now (length names) s) i.is c.requires in
+    let right = subst (λ (s : Step). IsRightStep c.args.desc.now (length names) s) i.is c.requires.right in
     let name = c.as_str-name.ensures ∙ c.index-names-program.is ∙ get_or_default names i.program c.index-names-program.result [] right.program_high in
     let given = subst (λ (n : List ℕ). installed f c.args.desc.now c.args.fold i.handler i.version n (Err e)) name c.in_err-program-in-Install.ensures.does in
     subst (λ (s : Step). step_program f c.args.desc.now c.args.fold names s c.from_residual.result) (sym i.is)
@@ -31,7 +31,7 @@ returns-in_err-program-in-Load-clause-does g c =
     let i = c.in-Load in
     let e = c.in_err-program-in-Load.field-0.0 in
     let answer = c.from_residual-in_err-program-in-Load.result in
-    let right = subst (λ (s : Step). IsRightStep c.args.desc.now (length names) s) i.is c.requires in
+    let right = subst (λ (s : Step). IsRightStep c.args.desc.now (length names) s) i.is c.requires.right in
     let name = c.as_str-name-in-Load.ensures ∙ c.index-names-program-in-Load.is ∙ get_or_default names i.program c.index-names-program-in-Load.result [] right in
     let given = subst (λ (n : List ℕ). loaded f c.args.desc.now n (Err e)) name c.in_err-program-in-Load.ensures.does in
     subst (λ (s : Step). step_program f c.args.desc.now c.args.fold names s answer) (sym i.is)
@@ -43,7 +43,7 @@ returns-in_ok-program-in-Install-clause-does g c =
     let names = c.args.names.now in
     let i = c.in-Install in
     let p : Program = c.in_ok-program-in-Install.program in
-    let right = subst (λ (s : Step). IsRightStep c.args.desc.now (length names) s) i.is c.requires in
+    let right = subst (λ (s : Step). IsRightStep c.args.desc.now (length names) s) i.is c.requires.right in
     let name = c.as_str-name.ensures ∙ c.index-names-program.is ∙ get_or_default names i.program c.index-names-program.result [] right.program_high in
     subst (λ (s : Step). step_program f c.args.desc.now c.args.fold names s (Ok (Some p))) (sym i.is)
     (subst (λ (n : List ℕ). installed f c.args.desc.now c.args.fold i.handler i.version n (Ok p)) name c.in_ok-program-in-Install.ensures.does)
@@ -54,7 +54,7 @@ returns-in_ok-program-in-Load-clause-does g c =
     let names = c.args.names.now in
     let i = c.in-Load in
     let p : Program = c.in_ok-program-in-Load.program in
-    let right = subst (λ (s : Step). IsRightStep c.args.desc.now (length names) s) i.is c.requires in
+    let right = subst (λ (s : Step). IsRightStep c.args.desc.now (length names) s) i.is c.requires.right in
     let name = c.as_str-name-in-Load.ensures ∙ c.index-names-program-in-Load.is ∙ get_or_default names i.program c.index-names-program-in-Load.result [] right in
     subst (λ (s : Step). step_program f c.args.desc.now c.args.fold names s (Ok (Some p))) (sym i.is)
     (subst (λ (n : List ℕ). loaded f c.args.desc.now n (Ok p)) name c.in_ok-program-in-Load.ensures.does)
@@ -85,18 +85,18 @@ returns-in_ok-program-in-Load-clause-right g c = c.in_ok-program-in-Load.ensures
 
 pub installed-requires-clause-handler : goal.installed-requires-clause-handler
 installed-requires-clause-handler g c =
-    let right = subst (λ (s : Step). IsRightStep c.args.desc.now (length c.args.names.now) s) c.in-Install.is c.requires in
+    let right = subst (λ (s : Step). IsRightStep c.args.desc.now (length c.args.names.now) s) c.in-Install.is c.requires.right in
     right.handler_high
 
 pub installed-requires-clause-version : goal.installed-requires-clause-version
 installed-requires-clause-version g c =
-    let right = subst (λ (s : Step). IsRightStep c.args.desc.now (length c.args.names.now) s) c.in-Install.is c.requires in
+    let right = subst (λ (s : Step). IsRightStep c.args.desc.now (length c.args.names.now) s) c.in-Install.is c.requires.right in
     right.version_low
 
 pub bounds-names-program : goal.bounds-names-program
 bounds-names-program g c =
-    let right = subst (λ (s : Step). IsRightStep c.args.desc.now (length c.args.names.now) s) c.in-Install.is c.requires in
+    let right = subst (λ (s : Step). IsRightStep c.args.desc.now (length c.args.names.now) s) c.in-Install.is c.requires.right in
     right.program_high
 
 pub bounds-names-program-in-Load : goal.bounds-names-program-in-Load
-bounds-names-program-in-Load g c = subst (λ (s : Step). IsRightStep c.args.desc.now (length c.args.names.now) s) c.in-Load.is c.requires
+bounds-names-program-in-Load g c = subst (λ (s : Step). IsRightStep c.args.desc.now (length c.args.names.now) s) c.in-Load.is c.requires.right

@@ -1,0 +1,90 @@
+-- What known sources gave.
+use Rattle.std.proofs.Common.{◌≡◌, ◌≤◌, ◌<◌, ◌++◌, ◌∷◌, [], ℕ, Bool, true, false, List, length, get_or, Option, Some, None, Result, Ok, Err, refl, inr, sym, ◌∙◌, subst}
+use Rattle.std.specs.Prelude.{All, IsErrAnd, IsSomeAnd, slice_get, if◌then◌else◌}
+use Rattle.std.proofs.lemmas.List.Elements.{All-nil, All-cons, All-append}
+use Rattle.std.specs.Str.{bytes_eq}
+use Rattle.std.proofs.lemmas.Option.{slice_get_read, slice_get_within}
+use Rattle.std.proofs.lemmas.Slice.Eq.{bytes_eq-Decides}
+use Rattle.arrayvec.specs.ArrayVec.{ArrayVec}
+use Rattle.mate_num.specs.declared.shape.Shape.{Shape}
+use Rattle.mate_refusals.specs.declared.cause.Cause.TheVariants as cause
+use Rattle.mate_refusals.specs.declared.refusal.Refusal.{Refusal}
+use Rattle.mate_refusals.specs.declared.refusal.Refusal.TheVariants.{NoMemory}
+use Rattle.mate_steps.specs.Parts.{IsUnreadAnswer}
+use Rattle.mate_steps.specs.SourceCode.{IsCodeOf, IsCompiledOf}
+use Rattle.mate_steps.specs.Sources.{compiled_bytes}
+use Rattle.mate_steps.specs.Steps.{goes_on, stops}
+use Rattle.mate_steps.specs.declared.code.CompiledScript.{CompiledScript}
+use Rattle.mate_steps.proofs.Laws.{judged-read}
+use Rattle.script_programs.specs.Known.{IsKnown, AreKnown, IsKnownAt, IsSameScript}
+use Rattle.script_programs.specs.declared.known.KnownSource.{KnownSource}
+use Rattle.script_programs.specs.declared.known.KnownSources.{KnownSources}
+use Rattle.ts_syntax.specs.Statement.{Block}
+use Rattle.vm_desc.specs.declared.description.Description.{Description}
+
+-- what bytes give they give under any name, and so does a copy of it
+same-compiled : (shape : Shape) (fold : Bool) (tree : Block) (c copy : CompiledScript) → IsCompiledOf shape fold tree c → IsSameScript c copy → IsCompiledOf shape fold tree copy
+same-compiled shape fold tree c copy is same = record {
+  shape_is = same.shape ∙ is.shape_is;
+  tree_is = same.tree ∙ is.tree_is;
+  code_is = subst (λ (code : ArrayVec ℕ). IsCodeOf shape fold tree code) (sym same.code) is.code_is;
+}
+
+pub gives-same : (d : Description) (fold : Bool) (name other bytes : List ℕ) (c copy : CompiledScript) → compiled_bytes d fold name bytes (Ok c) → IsSameScript c copy → compiled_bytes d fold other bytes (Ok copy)
+gives-same d fold name other bytes c copy (goes_on tree is_tree is) same = goes_on tree is_tree (same-compiled _ fold tree c copy is same)
+gives-same d fold name other bytes c copy (stops r refused is) same = cc
+
+filled-same : (c copy : CompiledScript) → IsSameScript c copy → 1 ≤ length c.code.items → 1 ≤ length copy.code.items
+filled-same c copy same filled = subst (λ (code : ArrayVec ℕ). 1 ≤ length code.items) (sym same.code) filled
+
+-- memory may be wanting
+pub bytes-want : (d : Description) (fold : Bool) (name bytes : List ℕ) → compiled_bytes d fold name bytes (Err NoMemory)
+bytes-want d fold name bytes = stops NoMemory (inr refl) refl
+
+-- the answer of a `?`
+pub err-as : {A : Type 0} (P : Result A Refusal → Type 0) (r : Refusal) (answer : Result A Refusal) → P (Err r) → IsErrAnd answer (λ y. y ≡ r) → P answer
+err-as P r (Ok a) p is = absurd is
+err-as {A} P r (Err y) p is = subst (λ (x : Refusal). P (Err x)) (sym is) p
+
+-- the compiled script of bytes is no file that can't be read
+pub compiled-read : (d : Description) (fold : Bool) (name bytes : List ℕ) (answer : Result CompiledScript Refusal) → compiled_bytes d fold name bytes answer → IsUnreadAnswer answer → ⊥
+compiled-read d fold name bytes (Ok c) is unread = unread
+compiled-read d fold name bytes (Err r) (goes_on tree means refused) unread = judged-read CompiledScript name cause.Code r refused (λ why u. u) unread
+compiled-read d fold name bytes (Err r) (stops s refused is) unread =
+    let P : Result CompiledScript Refusal → Type 0 = λ x. IsUnreadAnswer x in
+    judged-read CompiledScript name cause.Source s refused (λ why u. u) (subst P is unread)
+
+-- ---- a known source
+
+pub IsKnownAt-below : (k : KnownSources) (bytes : List ℕ) (place : ℕ) → IsKnownAt k bytes place → place < length k.sources.items
+IsKnownAt-below k bytes place known = by (slice_get k.sources.items place) refl known where
+  by : (o : Option KnownSource) → slice_get k.sources.items place ≡ o → IsSomeAnd o (λ s. bytes_eq s.bytes.items bytes ≡ true) → place < length k.sources.items
+  by (Some s) is known = slice_get_within k.sources.items place s is
+  by None is known = absurd known
+
+pub record Gives (d : Description) (fold : Bool) (name bytes : List ℕ) (c : CompiledScript) : Type 0 where
+  pub gives : compiled_bytes d fold name bytes (Ok c)
+  pub filled : 1 ≤ length c.code.items
+
+pub known-gives : (d : Description) (fold : Bool) (k : KnownSources) (name bytes : List ℕ) (place : ℕ) (s : KnownSource) (copy : CompiledScript) → AreKnown d fold k → IsKnownAt k bytes place
+    → s ≡ get_or k.sources.items place s → IsSameScript s.compiled copy → Gives d fold name bytes copy
+known-gives d fold k name bytes place s copy known at is same =
+    let low = IsKnownAt-below k bytes place at in
+    let there : slice_get k.sources.items place ≡ Some s = slice_get_read k.sources.items (length k.sources.items) place s refl low is in
+    let its : s.bytes.items ≡ bytes = (bytes_eq-Decides s.bytes.items bytes).0 (subst (λ (o : Option KnownSource). IsSomeAnd o (λ x. bytes_eq x.bytes.items bytes ≡ true)) there at) in
+    let one : IsKnown d fold s = subst (IsKnown d fold) (sym is) (known place s low) in
+    record {
+      gives = subst (λ (bs : List ℕ). compiled_bytes d fold name bs (Ok copy)) its (gives-same d fold name name s.bytes.items s.compiled copy (one.gives name) same);
+      filled = filled-same s.compiled copy same one.filled;
+    }
+
+-- one more is known, unless memory was wanting
+pub AreKnown-pushed : (d : Description) (fold : Bool) (name : List ℕ) (k new : List KnownSource) (s : KnownSource) (c : CompiledScript) (b : Bool) → All (IsKnown d fold) k
+    → compiled_bytes d fold name s.bytes.items (Ok c) → 1 ≤ length c.code.items → IsSameScript c s.compiled → new ≡ (if b then k ++ s ∷ [] else k) → All (IsKnown d fold) new
+AreKnown-pushed d fold name k new s c false known gives filled same is = subst (All (IsKnown d fold)) (sym is) known
+AreKnown-pushed d fold name k new s c true known gives filled same is =
+    let one : IsKnown d fold s = record {
+      gives = λ other. gives-same d fold name other s.bytes.items c s.compiled gives same;
+      filled = filled-same c s.compiled same filled;
+    } in
+    subst (All (IsKnown d fold)) (sym is) (All-append (IsKnown d fold) k (s ∷ []) known (All-cons (IsKnown d fold) s [] one (All-nil (IsKnown d fold))))

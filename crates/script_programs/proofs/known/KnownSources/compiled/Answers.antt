@@ -1,0 +1,34 @@
+use Rattle.std.proofs.Common.{ℕ, List, Result, Ok, Err, subst}
+use Rattle.mate_refusals.specs.declared.refusal.Refusal.{Refusal}
+use Rattle.mate_steps.specs.Sources.{compiled_bytes}
+use Rattle.mate_steps.specs.declared.code.CompiledScript.{CompiledScript}
+use Rattle.script_programs.specs.Known.{IsKnownAt}
+use Rattle.script_programs.proofs.KnownLemmas.{bytes-want, err-as, known-gives}
+use Rattle.script_programs.proofs.known.KnownSources.compiled.Goals as goal
+
+pub returns-in-Ok-clause-does : goal.returns-in-Ok-clause-does
+returns-in-Ok-clause-does c =
+    let at = subst (λ (bs : List ℕ). IsKnownAt c.args.self.now bs c.in-Some.place) c.as_slice.ensures.value c.in-Some.ensures in
+    (known-gives c.args.desc.now c.args.fold c.args.self.now c.args.name.now c.args.bytes.items c.in-Some.place c.index.result.now c.in-Ok.compiled c.requires.known at c.index.ensures c.in-Ok.ensures).gives
+
+pub returns-in-Ok-clause-filled : goal.returns-in-Ok-clause-filled
+returns-in-Ok-clause-filled c =
+    let at = subst (λ (bs : List ℕ). IsKnownAt c.args.self.now bs c.in-Some.place) c.as_slice.ensures.value c.in-Some.ensures in
+    (known-gives c.args.desc.now c.args.fold c.args.self.now c.args.name.now c.args.bytes.items c.in-Some.place c.index.result.now c.in-Ok.compiled c.requires.known at c.index.ensures c.in-Ok.ensures).filled
+
+pub returns-in-Some-clause-does : goal.returns-in-Some-clause-does
+returns-in-Some-clause-does c = bytes-want c.args.desc.now c.args.fold c.args.name.now c.args.bytes.items
+
+pub returns-in_err-compiled-in-None-clause-does : goal.returns-in_err-compiled-in-None-clause-does
+returns-in_err-compiled-in-None-clause-does c =
+    let e = c.in_err-compiled-in-None.field-0.0 in
+    err-as (λ (r : Result CompiledScript Refusal). compiled_bytes c.args.desc.now c.args.fold c.args.name.now c.args.bytes.items r) e c.from_residual.result
+    (subst (λ (bs : List ℕ). compiled_bytes c.args.desc.now c.args.fold c.args.name.now bs (Err e)) c.as_slice-in-None.ensures.value c.in_err-compiled-in-None.ensures.does) c.from_residual.ensures.1
+
+pub remember-requires-clause-gives : goal.remember-requires-clause-gives
+remember-requires-clause-gives c =
+    subst (λ (bs : List ℕ). compiled_bytes c.args.desc.now c.args.fold c.args.name.now bs (Ok c.in_ok-compiled-in-None.compiled)) c.as_slice-in-None.ensures.value c.in_ok-compiled-in-None.ensures.does
+
+pub returns-clause-does : goal.returns-clause-does
+returns-clause-does c =
+    subst (λ (bs : List ℕ). compiled_bytes c.args.desc.now c.args.fold c.args.name.now bs (Ok c.in_ok-compiled-in-None.compiled)) c.as_slice-in-None.ensures.value c.in_ok-compiled-in-None.ensures.does

@@ -1,0 +1,159 @@
+//! Sources that were compiled, by their bytes: a script may name one file very often.
+
+ghost use Rattle.std.specs.Prelude.{◌≡◌, ◌≤◌, [], length, IfOk, IfSome};
+ghost use Rattle.std.specs.Str.{bytes_eq};
+ghost use Rattle.mate_files.specs.declared.files.TheConstants.{FILE_MAX};
+ghost use Rattle.mate_steps.specs.Parts.{ReadsFiles};
+ghost use Rattle.mate_steps.specs.Sources.{compiled_bytes, source};
+ghost use Rattle.script_programs.specs.Known.{AreKnown, IsKnownAt, IsSameScript};
+
+use mate_files::Files;
+use mate_num::{Code, NoMemory};
+use mate_refusals::Refusal;
+use mate_steps::{CompiledScript, compiled_bytes, read_file};
+use std::alloc::Global;
+use ts_copy::copy_of;
+use vm_desc::Description;
+
+/// How many sources are known at most. Where one more comes, the others are forgotten.
+const KNOWN_MAX: usize = 16;
+
+/// The bytes of a source, and what they gave.
+#[derive(Drop)]
+pub struct KnownSource {
+    bytes: Vec<u8>,
+    compiled: CompiledScript,
+}
+
+/// Sources that were compiled for one machine, all folded before or none.
+#[derive(Drop)]
+pub struct KnownSources {
+    sources: Vec<KnownSource>,
+}
+
+/// The compiled script of a source with its code, folded before it is compiled where `fold` says so. The file is read; it is
+/// compiled only where its bytes aren't known.
+pub(crate) fn source_of<F: Files>(
+    alloc: Global,
+    files: &mut F,
+    desc: &Description,
+    fold: bool,
+    known: &mut KnownSources,
+    name: &str,
+) -> Result<CompiledScript, Refusal>
+    requires known { AreKnown desc.now fold known.old }
+    ensures does { source (record { told = F.contents files.old; steady = F.steady files.old }) desc.now fold name.now result }
+    ensures reads { ReadsFiles (F.contents files.old) (F.steady files.old) (F.faults files.old) (F.contents files.new) (F.steady files.new) (F.faults files.new) result }
+    ensures filled { IfOk result (λ c. 1 ≤ length c.code.items) }
+    ensures known { AreKnown desc.now fold known.new }
+{
+    let bytes = read_file(alloc, files, name)?;
+    known.compiled(alloc, desc, fold, name, bytes)
+}
+
+/// A copy of a compiled script. `NoMemory` comes only where memory for its tree is refused.
+fn copy_of_compiled(alloc: Global, compiled: &CompiledScript) -> Result<CompiledScript, NoMemory>
+    ensures { IfOk result (IsSameScript compiled.now) }
+{
+    let script = copy_of(alloc, &compiled.script)?;
+    Ok(CompiledScript {
+        script,
+        code: copy_of_code(&compiled.code),
+    })
+}
+
+/// A copy of code. It takes no memory.
+fn copy_of_code(code: &Code) -> Code
+    ensures { result ≡ code.now }
+{
+    let Ok(copy) = Code::try_from(code.as_slice()) else {
+        unreachable!()
+    };
+    copy
+}
+
+/// Whether the source has these bytes.
+fn has_bytes(source: &KnownSource, bytes: &[u8]) -> bool
+    ensures { result ≡ bytes_eq source.now.bytes.items bytes.now }
+{
+    source.bytes.as_slice() == bytes
+}
+
+impl KnownSources {
+    /// No source is known. It takes no memory.
+    pub(crate) fn new(alloc: Global) -> KnownSources
+        ensures { result.sources.items ≡ [] }
+    {
+        KnownSources {
+            sources: Vec::new(alloc),
+        }
+    }
+
+    /// The compiled script of the bytes of the source `name`.
+    fn compiled(
+        &mut self,
+        alloc: Global,
+        desc: &Description,
+        fold: bool,
+        name: &str,
+        bytes: Vec<u8>,
+    ) -> Result<CompiledScript, Refusal>
+        requires short { length bytes.items ≤ FILE_MAX }
+        requires known { AreKnown desc.now fold self.old }
+        ensures does { compiled_bytes desc.now fold name.now bytes.items result }
+        ensures filled { IfOk result (λ c. 1 ≤ length c.code.items) }
+        ensures known { AreKnown desc.now fold self.new }
+    {
+        let _fold = fold;
+        match self.place_of(bytes.as_slice()) {
+            Some(place) => match copy_of_compiled(alloc, &self.sources[place].compiled) {
+                Ok(compiled) => Ok(compiled),
+                Err(_) => Err(Refusal::NoMemory),
+            },
+            None => {
+                let compiled = compiled_bytes(alloc, desc, fold, name, bytes.as_slice())?;
+                self.remember(alloc, desc, fold, name, bytes, &compiled);
+                Ok(compiled)
+            }
+        }
+    }
+
+    /// The place of the source with these bytes.
+    fn place_of(&self, bytes: &[u8]) -> Option<usize>
+        ensures { IfSome result (IsKnownAt self.now bytes.now) }
+    {
+        for place in 0..self.sources.len() {
+            if has_bytes(&self.sources[place], bytes) {
+                return Some(place);
+            }
+        }
+        None
+    }
+
+    /// The bytes and what they gave are known from now on, unless memory is wanting.
+    #[inline(never)]
+    fn remember(
+        &mut self,
+        alloc: Global,
+        desc: &Description,
+        fold: bool,
+        name: &str,
+        bytes: Vec<u8>,
+        compiled: &CompiledScript,
+    )
+        requires known { AreKnown desc.now fold self.old }
+        requires gives { compiled_bytes desc.now fold name.now bytes.items (Ok compiled.now) }
+        requires filled { 1 ≤ length compiled.now.code.items }
+        ensures { AreKnown desc.now fold self.new }
+    {
+        let _desc = desc;
+        let _fold = fold;
+        let _name = name;
+        if self.sources.len() >= KNOWN_MAX {
+            self.sources.clear();
+        }
+        if let Ok(compiled) = copy_of_compiled(alloc, compiled) {
+            let _ = self.sources.push(KnownSource { bytes, compiled });
+        }
+    }
+}
