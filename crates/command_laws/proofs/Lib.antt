@@ -6,3 +6,4 @@ mod OneAudit
 mod OneText
 mod OneCall
 mod Steady
+mod Audited

@@ -58,7 +58,7 @@ programs_by_agree names d fold false bytes =
     then_agrees ◌≡◌ SamePrograms _ _ _ _ (script_text_agrees d bytes)
     (λ a b e. subst (λ (s : NodeScript). AnswersAgree SamePrograms (script_programs (steady names) d fold a) (script_programs (steady names) d fold s)) e (programs_agree names d fold a))
 
-named_agree : (names : Names) (d : Description) (fold : Bool) (name : List ℕ) → AnswersAgree SamePrograms (programs_named (steady names) d fold name) (programs_named (steady names) d fold name)
+pub named_agree : (names : Names) (d : Description) (fold : Bool) (name : List ℕ) → AnswersAgree SamePrograms (programs_named (steady names) d fold name) (programs_named (steady names) d fold name)
 named_agree names d fold name = then_agrees SameBytes SamePrograms _ _ _ _ (file_agrees names name) with_bytes where
   of_bytes : List ℕ → Result (List Program) Refusal → Type 0
   of_bytes bytes = programs_by (is_of_world bytes) (steady names) d fold bytes
@@ -172,7 +172,7 @@ serial_agrees d ps r = judged_agrees ◌≡◌ _ _ _ one not same where
 
 -- the verdict on the same journals, for the same programs
 module _ (d : Description) (ps qs : List Program) (r s : Report) (same : SamePrograms ps qs) (journals : TellSameJournals r s) where
-  verdict_same : (v : Verdict) → IsVerdict d qs s v → IsVerdict d ps r v
+  pub verdict_same : (v : Verdict) → IsVerdict d qs s v → IsVerdict d ps r v
   verdict_same v is =
       let apart : CantBeToldApart d ps qs = record { meaning = meaning-same d ps qs same; held = held-same ps qs same } in
       same-verdict d ps s r v (sym journals) (verdict-too d qs ps s (turned d ps qs apart) v is)

@@ -40,9 +40,9 @@ moved-report d d' m m' steps steps' how r machine meaning same is =
 run-once : (d d' : Description) (s s' : NodeScript) (ps ps' : List Program) → IsSameRun d d' s s' ps ps' → (full full' : Bool) (bs bs' : List ℕ) → IsRunText d (IsReportOf d s ps) (run_end full) bs
     → IsRunText d' (IsReportOf d' s' ps') (run_end full') bs' → bs ≡ bs'
 run-once d d' s s' ps ps' same full full' bs bs' is is' =
-    let other = moved-report d d' (meaning_by d ps) (meaning_by d' ps') (steps_of s ps) (steps_of s' ps') (run_end full') is'.report same.machine same.meaning same.steps is'.ended in
+    let other = moved-report d d' (meaning_by d ps) (meaning_by d' ps') (steps_of s ps) (steps_of s' ps') (run_end full') is'.report same.machine same.meaning same.steps is'.ended.report in
     is.text_is
-    ∙ text-once d (clock_of d) (meaning_by d ps) (steps_of s ps) (run_end full) (run_end full') is.report is'.report (itself full) (itself full') is.ended other
+    ∙ text-once d (clock_of d) (meaning_by d ps) (steps_of s ps) (run_end full) (run_end full') is.report is'.report (itself full) (itself full') is.ended.report other
     ∙ ap (λ (x : Description). text x is'.report) same.machine ∙ sym is'.text_is
 
 -- the world of a right script has one report

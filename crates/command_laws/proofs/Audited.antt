@@ -1,0 +1,185 @@
+-- What a run wrote is found serial.
+use Rattle.std.proofs.Common.{◌≡◌, inl, inr, ℕ, ◌+◌, ◌≤◌, ◌<◌, ◌==◌, Bool, true, false, List, [], ◌∷◌, length, Option, Some, None, Result, Ok, Err, refl, sym, ◌∙◌, subst, arith}
+use Rattle.std.specs.Prelude.{IsSomeAnd, codes, if◌then◌else◌}
+use Rattle.std.specs.Global.{Vec}
+use Rattle.std.specs.Str.{bytes_eq}
+use Rattle.std.proofs.lemmas.Slice.Eq.{bytes_eq-Decides}
+use Rattle.audit_laws.proofs.NodeReports.{node-serial}
+use Rattle.audit_laws.proofs.Programs.{script-installs}
+use Rattle.audit_laws.proofs.ReadBack.{read-text}
+use Rattle.audit_laws.specs.Reading.{IsReadWith}
+use Rattle.audit_rules.specs.Verdicts.{IsVerdict}
+use Rattle.audit_rules.proofs.VerdictLemmas.{one-verdict}
+use Rattle.audit_verdict.specs.declared.law.Law.{Law}
+use Rattle.audit_verdict.specs.declared.law.Verdict.TheVariants as verdict
+use Rattle.command_laws.specs.Texts.{IsTextOf, IsRunText, run_end}
+use Rattle.command_laws.proofs.OneAudit.{named_agree, verdict_same}
+use Rattle.mate_cli.specs.Audit.{report_of_file, serial, audit_of, audit_by, audit}
+use Rattle.mate_cli.specs.Node.{node}
+use Rattle.mate_documents.specs.Outputs.{writes}
+use Rattle.mate_documents.specs.declared.output.Output.{Output}
+use Rattle.mate_documents.specs.declared.output.Output.TheVariants as output
+use Rattle.mate_files.specs.Files.{Names}
+use Rattle.mate_journal.specs.Ranges.{HasReportRanges}
+use Rattle.mate_journal.specs.declared.program.Program.{Program}
+use Rattle.mate_journal.specs.declared.report.Report.{Report}
+use Rattle.mate_refusals.specs.declared.refusal.Refusal.{Refusal}
+use Rattle.mate_refusals.specs.declared.refusal.Refusal.TheVariants.{NoMemory}
+use Rattle.mate_steps.specs.OneAnswer.{steady}
+use Rattle.mate_refusals.specs.declared.cause.Unread.{Unread}
+use Rattle.mate_refusals.specs.declared.cause.Unread.TheVariants.{Failed, Large}
+use Rattle.mate_steps.specs.Parts.{IsUnread, file, machine}
+use Rattle.mate_steps.specs.Steps.{Then, goes_on, stops}
+use Rattle.mate_steps.proofs.OneAnswer.{machine_agrees}
+use Rattle.node_invariant.specs.Meaning.{clock_of}
+use Rattle.node_programs.specs.ScriptSteps.{steps_of}
+use Rattle.node_programs.specs.Sources.{meaning_by}
+use Rattle.report_reading.specs.Reads.{ReadsReport, IsBadLine}
+use Rattle.report_reading.specs.declared.fault.TextFault.{TextFault}
+use Rattle.report_reading.specs.declared.fault.TextFault.TheVariants.{BadLine}
+use Rattle.report_text.specs.Text.{text}
+use Rattle.report_text.specs.Tidy.{IsTidy}
+use Rattle.report_text.proofs.NodeLemmas.{node-tidy}
+use Rattle.run_steps.specs.Running.{IsReportOf}
+use Rattle.script_programs.specs.Programs.{script_programs}
+use Rattle.script_programs.specs.SamePrograms.{SamePrograms}
+use Rattle.script_programs.specs.Scripts.{script}
+use Rattle.script_reader.specs.Lines.{lines, words_of, is_skipped}
+use Rattle.script_reader.specs.NodeScript.{node_script_in, after_line, a_line, behind, behind_others, when_said, nothing_yet, Progress}
+use Rattle.script_reader.specs.declared.fault.Cause.TheVariants.{Word}
+use Rattle.script_reader.specs.declared.fault.ScriptFault.{ScriptFault}
+use Rattle.script_reader.specs.declared.fault.ScriptFault.TheVariants as script_fault
+use Rattle.script_reader.specs.Script.{script_from, numbered}
+use Rattle.script_reader.specs.Steps.{NodeScript}
+use Rattle.vm_desc.specs.declared.description.Description.{Description}
+use Rattle.world_programs.specs.Named.{begins_world, are_of_world, is_of_world, programs_by, programs_named}
+
+-- ---- a script is a node's or a world's by its first word
+
+not-true : (b : Bool) → (b ≡ true → ⊥) → b ≡ false
+not-true true never = absurd (never refl)
+not-true false never = refl
+
+module _ (d : Description) where
+  -- what the lines of a node script tell
+  abbrev NodeLines : ℕ → Progress → List (List ℕ) → Result NodeScript ScriptFault
+  NodeLines number p ls = script_from (after_line d) (λ number p. Ok p.script) number p ls
+
+  -- no line of it begins with `nodes`
+  nodes-refused : (number : ℕ) (p : Progress) (more : List (List ℕ)) (s : NodeScript) (words : List (List ℕ))
+      → numbered number (λ q. NodeLines (number + 1) q more) (when_said p (a_line d p.newest (length p.script.files) (codes "nodes" ∷ words))) ≡ Ok s → ⊥
+  unfolding a_line behind behind_others
+  nodes-refused number p more s words is = let bad : ◌≡◌ {A = Result NodeScript ScriptFault} (Err (script_fault.BadLine number Word)) (Ok s) = is in cc
+
+  one-line : (number : ℕ) (p : Progress) (more : List (List ℕ)) (s : NodeScript) (w : List ℕ) (words : List (List ℕ)) (skip : Bool) → ((q : Progress) → NodeLines (number + 1) q more ≡ Ok s → are_of_world more ≡ false)
+      → numbered number (λ q. NodeLines (number + 1) q more) (if skip then Ok p else when_said p (a_line d p.newest (length p.script.files) (w ∷ words))) ≡ Ok s
+      → (if skip then are_of_world more else bytes_eq w (codes "nodes")) ≡ false
+  one-line number p more s w words true rest is = rest p is
+  one-line number p more s w words false rest is =
+      not-true (bytes_eq w (codes "nodes"))
+      (λ same. nodes-refused number p more s words
+      (subst (λ (v : List ℕ). numbered number (λ q. NodeLines (number + 1) q more) (when_said p (a_line d p.newest (length p.script.files) (v ∷ words))) ≡ Ok s) ((bytes_eq-Decides w (codes "nodes")).0 same) is))
+
+  by-words : (number : ℕ) (p : Progress) (more : List (List ℕ)) (s : NodeScript) (ws : List (List ℕ)) → ((q : Progress) → NodeLines (number + 1) q more ≡ Ok s → are_of_world more ≡ false)
+      → numbered number (λ q. NodeLines (number + 1) q more) (after_line d p ws) ≡ Ok s → (if is_skipped ws then are_of_world more else begins_world ws) ≡ false
+  unfolding after_line
+  by-words number p more s [] rest is = rest p is
+  by-words number p more s ([] ∷ words) rest is = refl
+  by-words number p more s ((b ∷ bs) ∷ words) rest is = one-line number p more s (b ∷ bs) words (b == 35) rest is
+
+  by-lines : (number : ℕ) (p : Progress) (ls : List (List ℕ)) (s : NodeScript) → NodeLines number p ls ≡ Ok s → are_of_world ls ≡ false
+  by-lines number p [] s is = refl
+  by-lines number p (line ∷ more) s is = by-words number p more s (words_of line) (λ q h. by-lines (number + 1) q more s h) is
+
+  node-is : (bytes : List ℕ) (s : NodeScript) → node_script_in d bytes ≡ Ok s → is_of_world bytes ≡ false
+  unfolding node_script_in
+  node-is bytes s is = by-lines 1 nothing_yet (lines bytes) s is
+
+-- ---- the report in the file
+
+ok-err : {A : Type 0} (o : A) (why : Refusal) → ◌≡◌ {A = Result A Refusal} (Ok o) (Err why) → ⊥
+ok-err o why same = cc
+
+abbrev Found : Result Output Refusal → Type 0
+Found answer = writes (codes "serial\n") answer
+
+module _ (names : Names) (d : Description) (ps qs : List Program) (r : Report) (report bs : List ℕ) (same : SamePrograms qs ps) (serially : IsVerdict d ps r verdict.Serial) (tidy : IsTidy d r) (ranges : HasReportRanges r)
+    (written : bs ≡ text d r) (holds : names report ≡ Some bs) (small : length bs ≤ 1048576) where
+  short : length bs ≤ 4000000000
+  short = omega (arith, small)
+
+  read-right : (answer : Result Report TextFault) → ReadsReport d bs answer → IsReadWith d ps verdict.Serial answer
+  read-right answer reads =
+      read-text d ps r verdict.Serial answer (subst (λ (xs : List ℕ). length xs ≤ 4000000000) written short) tidy ranges serially (subst (λ (xs : List ℕ). ReadsReport d xs answer) written reads)
+
+  held-bytes : (bytes : Vec ℕ) → names report ≡ Some bytes.items → bytes.items ≡ bs
+  held-bytes bytes held = let e : Some bytes.items ≡ Some bs = sym held ∙ holds in cc
+
+  unread : (why : Unread) → IsUnread (steady names) report why → ⊥
+  unread Failed none = let e : None ≡ Some bs = sym (none refl) ∙ holds in cc
+  unread Large large = let more : 1048576 < length bs = subst (λ (o : Option (List ℕ)). IsSomeAnd o (λ bytes. 1048576 < length bytes)) holds large in omega (arith, small, more)
+
+  no-file : (why : Refusal) → file (steady names) report (Err why) → why ≡ NoMemory
+  no-file why (inl it) = absurd (unread it.0 it.1)
+  no-file why (inr wants) = wants
+
+  refuted : (s : Report) (node : ℕ) (law : Law) → IsVerdict d ps s verdict.Serial → IsVerdict d qs s (verdict.Refuted node law) → ⊥
+  refuted s node law is not =
+      let e : verdict.Serial ≡ verdict.Refuted node law = one-verdict d qs s verdict.Serial (verdict.Refuted node law) (verdict_same d qs ps s s same refl verdict.Serial is) not in cc
+
+  not-serial : (s : Report) (why : Refusal) → IsVerdict d ps s verdict.Serial → serial d qs s (Err why) → why ≡ NoMemory
+  not-serial s why is (inl it) = absurd (refuted s it.0.0 it.0.1 is it.1)
+  not-serial s why is (inr wants) = wants
+
+  judged-serial : (s : Report) (answer : Result Output Refusal) → IsVerdict d ps s verdict.Serial → Then (serial d qs s) (λ _. writes (codes "serial\n")) answer → Found answer
+  judged-serial s answer is (goes_on all judged wrote) = wrote
+  judged-serial s answer is (stops why judged e) = subst Found (sym e) (not-serial s why is judged)
+
+  read-serial : (s : Report) → report_of_file (steady names) d report (Ok s) → IsVerdict d ps s verdict.Serial
+  read-serial s (goes_on bytes held reads) = read-right (Ok s) (subst (λ (xs : List ℕ). ReadsReport d xs (Ok s)) (held-bytes bytes held.1) reads)
+  read-serial s (stops why step e) = absurd (ok-err s why e)
+
+  not-read : (why : Refusal) → report_of_file (steady names) d report (Err why) → why ≡ NoMemory
+  not-read why (goes_on bytes held (inl it)) = absurd (read-right (Err (BadLine it.0)) (subst (λ (xs : List ℕ). IsBadLine d xs it.0) (held-bytes bytes held.1) it.1))
+  not-read why (goes_on bytes held (inr wants)) = wants
+  not-read why (stops cause step e) = one-err e ∙ no-file cause step where
+    one-err : ◌≡◌ {A = Result Report Refusal} (Err why) (Err cause) → why ≡ cause
+    one-err same = cc
+
+  report-found : (answer : Result Output Refusal) → audit_of (steady names) d qs report answer → Found answer
+  report-found answer (goes_on s step rest) = judged-serial s answer (read-serial s step) rest
+  report-found answer (stops why step e) = subst Found (sym e) (not-read why step)
+
+-- ---- the command
+
+module _ (names : Names) (fold : Bool) (vm name report : List ℕ) (d : Description) (ps : List Program) (named : programs_named (steady names) d fold name (Ok ps)) (machine_is : machine (steady names) vm (Ok d))
+    (found : (qs : List Program) → SamePrograms qs ps → (answer : Result Output Refusal) → audit_of (steady names) d qs report answer → Found answer) where
+  programs-found : (answer : Result Output Refusal) → audit_by (steady names) fold d name report answer → Found answer
+  programs-found answer (goes_on qs step rest) = found qs (named_agree names d fold name (Ok qs) (Ok ps) step named) answer rest
+  programs-found answer (stops why step e) = subst Found (sym e) (named_agree names d fold name (Err why) (Ok ps) step named)
+
+  audit-found : (answer : Result Output Refusal) → audit (steady names) fold vm name report answer → Found answer
+  audit-found answer (goes_on x step rest) =
+      programs-found answer (subst (λ (y : Description). audit_by (steady names) fold y name report answer) (machine_agrees names vm (Ok x) (Ok d) step machine_is) rest)
+  audit-found answer (stops why step e) = subst Found (sym e) (machine_agrees names vm (Err why) (Ok d) step machine_is)
+
+-- the programs of a node script
+named-node : (names : Names) (d : Description) (fold : Bool) (name : List ℕ) (s : NodeScript) (ps : List Program) → script (steady names) d name (Ok s) → script_programs (steady names) d fold s (Ok ps)
+    → programs_named (steady names) d fold name (Ok ps)
+named-node names d fold name s ps (goes_on bytes held is) given =
+    goes_on bytes held (subst (λ (of_world : Bool). programs_by of_world (steady names) d fold bytes.items (Ok ps)) (sym (node-is d bytes.items s is)) (goes_on s is given))
+named-node names d fold name s ps (stops why step e) given = absurd (ok-err s why e)
+
+pub node-found : (names : Names) (fold : Bool) (vm name report : List ℕ) (o : Output) (full : Bool) (bs : List ℕ) (answer : Result Output Refusal) → node (steady names) fold false vm name (Ok o) → IsTextOf full o bs
+    → names report ≡ Some bs → length bs ≤ 1048576 → audit (steady names) fold vm name report answer → writes (codes "serial\n") answer
+node-found names fold vm name report o full bs answer (goes_on d machine_is (goes_on s script_is (goes_on ps given out))) is holds small audits =
+    let t : IsRunText d (IsReportOf d s ps) (run_end full) bs = subst (λ (x : Output). IsTextOf full x bs) out is in
+    let r : Report = t.report in
+    let of : IsReportOf d s ps (run_end full) r = t.ended in
+    let serially : IsVerdict d ps r verdict.Serial = node-serial d ps (clock_of d) (steps_of s ps) (run_end full) r (script-installs d s ps of.right) of.report in
+    let tidy : IsTidy d r = node-tidy d (clock_of d) (meaning_by d ps) (steps_of s ps) (run_end full) r of.report in
+    audit-found names fold vm name report d ps (named-node names d fold name s ps script_is given) machine_is
+    (λ qs same. report-found names d ps qs r report bs same serially tidy of.ranges t.text_is holds small) answer audits
+node-found names fold vm name report o full bs answer (goes_on d machine_is (goes_on s script_is (stops why step e))) is holds small audits = absurd (ok-err o why e)
+node-found names fold vm name report o full bs answer (goes_on d machine_is (stops why step e)) is holds small audits = absurd (ok-err o why e)
+node-found names fold vm name report o full bs answer (stops why step e) is holds small audits = absurd (ok-err o why e)
