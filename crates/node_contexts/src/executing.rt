@@ -8,7 +8,8 @@ ghost use Rattle.node_contexts.specs.Executing.{CanExecute, HasTurn, CanAnswer, 
 
 use crate::contexts::Contexts;
 use crate::handlers::Handlers;
-use exec_unit::{Ran, resume, run};
+use exec_unit::{Ran, resume};
+use fused_runs::run;
 use mate_num::ContextId;
 use node_heap::Heap;
 
