@@ -6,11 +6,9 @@ pub mod last_line;
 pub mod laws;
 pub mod parts;
 pub mod place;
-pub mod ranges;
 pub mod text;
 
 pub use fault::TextFault;
 pub use last_line::LastLine;
 pub use laws::{one_verdict_holds, read_report_is_tidy};
-pub use ranges::report_is_in_range;
 pub use text::read;
