@@ -2,11 +2,13 @@
 use Rattle.std.proofs.Common.{◌≡◌, inl, inr, ℕ, ◌+◌, ◌≤◌, ◌<◌, ◌==◌, Bool, true, false, List, [], ◌∷◌, length, Option, Some, None, Result, Ok, Err, refl, sym, ◌∙◌, subst, arith}
 use Rattle.std.specs.Prelude.{IsSomeAnd, codes, if◌then◌else◌}
 use Rattle.std.specs.Global.{Vec}
+use Rattle.std.specs.List.{list_all}
 use Rattle.std.specs.Str.{bytes_eq}
 use Rattle.std.proofs.lemmas.Slice.Eq.{bytes_eq-Decides}
 use Rattle.audit_laws.proofs.NodeReports.{node-serial}
 use Rattle.audit_laws.proofs.Programs.{script-installs}
 use Rattle.audit_laws.proofs.ReadBack.{read-text}
+use Rattle.audit_laws.proofs.WorldReports.{world-serial}
 use Rattle.audit_laws.specs.Reading.{IsReadWith}
 use Rattle.audit_rules.specs.Verdicts.{IsVerdict}
 use Rattle.audit_rules.proofs.VerdictLemmas.{one-verdict}
@@ -16,9 +18,9 @@ use Rattle.command_laws.specs.Texts.{IsTextOf, IsRunText, run_end}
 use Rattle.command_laws.proofs.OneAudit.{named_agree, verdict_same}
 use Rattle.mate_cli.specs.Audit.{report_of_file, serial, audit_of, audit_by, audit}
 use Rattle.mate_cli.specs.Node.{node}
+use Rattle.mate_cli.specs.Worlds.{sim}
 use Rattle.mate_documents.specs.Outputs.{writes}
 use Rattle.mate_documents.specs.declared.output.Output.{Output}
-use Rattle.mate_documents.specs.declared.output.Output.TheVariants as output
 use Rattle.mate_files.specs.Files.{Names}
 use Rattle.mate_journal.specs.Ranges.{HasReportRanges}
 use Rattle.mate_journal.specs.declared.program.Program.{Program}
@@ -46,19 +48,33 @@ use Rattle.script_programs.specs.SamePrograms.{SamePrograms}
 use Rattle.script_programs.specs.Scripts.{script}
 use Rattle.script_reader.specs.Lines.{lines, words_of, is_skipped}
 use Rattle.script_reader.specs.NodeScript.{node_script_in, after_line, a_line, behind, behind_others, when_said, nothing_yet, Progress}
-use Rattle.script_reader.specs.declared.fault.Cause.TheVariants.{Word}
 use Rattle.script_reader.specs.declared.fault.ScriptFault.{ScriptFault}
 use Rattle.script_reader.specs.declared.fault.ScriptFault.TheVariants as script_fault
 use Rattle.script_reader.specs.Script.{script_from, numbered}
+use Rattle.script_reader.specs.Words.{Taken, Reading, and_then, ◌>>=◌, give, found, is_printable, nothing_more, a_number}
 use Rattle.script_reader.specs.Steps.{NodeScript}
+use Rattle.script_reader.specs.declared.fault.Cause.{Cause}
+use Rattle.script_reader.specs.declared.fault.Cause.TheVariants.{Word, Range}
 use Rattle.vm_desc.specs.declared.description.Description.{Description}
+use Rattle.world_lines.specs.WorldLines.{WorldProgress, WorldSaid, SaysNodes, a_world_line, behind_verb, some_nodes}
+use Rattle.world_lines.specs.declared.stage.Stage.{Stage}
+use Rattle.world_lines.specs.declared.stage.Stage.TheVariants as stage
+use Rattle.world_programs.specs.Injected.{world_programs}
 use Rattle.world_programs.specs.Named.{begins_world, are_of_world, is_of_world, programs_by, programs_named}
+use Rattle.world_programs.specs.WorldFiles.{world}
+use Rattle.world_reader.specs.WorldScript.{world_script_in, after_world_line, when_told, no_world, world_at_end}
+use Rattle.world_script.specs.declared.world.World.{World}
+use Rattle.world_sim.specs.Promise.{IsReportOfWorld}
 
 -- ---- a script is a node's or a world's by its first word
 
 not-true : (b : Bool) → (b ≡ true → ⊥) → b ≡ false
 not-true true never = absurd (never refl)
 not-true false never = refl
+
+not-false : (b : Bool) → (b ≡ false → ⊥) → b ≡ true
+not-false true never = refl
+not-false false never = absurd (never refl)
 
 module _ (d : Description) where
   -- what the lines of a node script tell
@@ -94,6 +110,53 @@ module _ (d : Description) where
   node-is : (bytes : List ℕ) (s : NodeScript) → node_script_in d bytes ≡ Ok s → is_of_world bytes ≡ false
   unfolding node_script_in
   node-is bytes s is = by-lines 1 nothing_yet (lines bytes) s is
+
+  -- what the lines of a world tell
+  abbrev WorldLines : ℕ → WorldProgress → List (List ℕ) → Result World ScriptFault
+  WorldLines number p ls = script_from (after_world_line d) (λ number p. world_at_end p.stage number p) number p ls
+
+  -- its first line begins with `nodes`
+  others-refused : (p : WorldProgress) (st : Stage) (v : List ℕ) (words : List (List ℕ)) (next : WorldSaid → Reading WorldSaid) (printable : Bool) → st ≡ stage.Nodes → bytes_eq v (codes "nodes") ≡ false
+      → and_then (λ verb. behind_verb d p st verb >>= next) (found (if printable then Ok v else Err Word) words) ≡ Err Word
+  unfolding some_nodes
+  others-refused p st v words next false at other = refl
+  others-refused p st v words next true at other =
+      subst (λ (x : Stage). and_then next (behind_verb d p x v words) ≡ Err Word) (sym at)
+      (subst (λ (e : Bool). and_then next (and_then (λ nodes. give (SaysNodes nodes)) ((if e then a_number 1 64 Range else found (Err Word)) words)) ≡ Err Word) (sym other) refl)
+
+  line-refused : (p : WorldProgress) (v : List ℕ) (words : List (List ℕ)) → p.stage ≡ stage.Nodes → bytes_eq v (codes "nodes") ≡ false → a_world_line d p (v ∷ words) ≡ Err Word
+  unfolding a_world_line
+  line-refused p v words at other = others-refused p p.stage v words (λ said. nothing_more >>= (λ ends. give said)) (list_all is_printable v) at other
+
+  world-line : (number : ℕ) (p : WorldProgress) (more : List (List ℕ)) (w : World) (v : List ℕ) (words : List (List ℕ)) (skip : Bool) → p.stage ≡ stage.Nodes
+      → ((q : WorldProgress) → q.stage ≡ stage.Nodes → WorldLines (number + 1) q more ≡ Ok w → are_of_world more ≡ true)
+      → numbered number (λ q. WorldLines (number + 1) q more) (if skip then Ok p else when_told p (a_world_line d p (v ∷ words))) ≡ Ok w
+      → (if skip then are_of_world more else bytes_eq v (codes "nodes")) ≡ true
+  world-line number p more w v words true at rest is = rest p at is
+  world-line number p more w v words false at rest is =
+      not-false (bytes_eq v (codes "nodes"))
+      (λ other. let bad : ◌≡◌ {A = Result World ScriptFault} (Err (script_fault.BadLine number Word)) (Ok w) =
+      subst (λ (x : Result (Taken WorldSaid) Cause). numbered number (λ q. WorldLines (number + 1) q more) (when_told p x) ≡ Ok w) (line-refused p v words at other) is in
+      cc)
+
+  world-words : (number : ℕ) (p : WorldProgress) (more : List (List ℕ)) (w : World) (ws : List (List ℕ)) → p.stage ≡ stage.Nodes
+      → ((q : WorldProgress) → q.stage ≡ stage.Nodes → WorldLines (number + 1) q more ≡ Ok w → are_of_world more ≡ true)
+      → numbered number (λ q. WorldLines (number + 1) q more) (after_world_line d p ws) ≡ Ok w → (if is_skipped ws then are_of_world more else begins_world ws) ≡ true
+  unfolding after_world_line
+  world-words number p more w [] at rest is = rest p at is
+  world-words number p more w ([] ∷ words) at rest is = world-line number p more w [] words false at rest is
+  world-words number p more w ((b ∷ bs) ∷ words) at rest is = world-line number p more w (b ∷ bs) words (b == 35) at rest is
+
+  ends-missing : (st : Stage) (number : ℕ) (p : WorldProgress) (w : World) → st ≡ stage.Nodes → world_at_end st number p ≡ Ok w → ⊥
+  ends-missing st number p w at is = let bad : ◌≡◌ {A = Result World ScriptFault} (Err (script_fault.BadLine number Word)) (Ok w) = subst (λ (x : Stage). world_at_end x number p ≡ Ok w) at is in cc
+
+  world-lines : (number : ℕ) (p : WorldProgress) (ls : List (List ℕ)) (w : World) → p.stage ≡ stage.Nodes → WorldLines number p ls ≡ Ok w → are_of_world ls ≡ true
+  world-lines number p [] w at is = absurd (ends-missing p.stage number p w at is)
+  world-lines number p (line ∷ more) w at is = world-words number p more w (words_of line) at (λ q stands h. world-lines (number + 1) q more w stands h) is
+
+  world-is : (bytes : List ℕ) (w : World) → world_script_in d bytes ≡ Ok w → is_of_world bytes ≡ true
+  unfolding world_script_in
+  world-is bytes w is = world-lines 1 no_world (lines bytes) w refl is
 
 -- ---- the report in the file
 
@@ -170,6 +233,13 @@ named-node names d fold name s ps (goes_on bytes held is) given =
     goes_on bytes held (subst (λ (of_world : Bool). programs_by of_world (steady names) d fold bytes.items (Ok ps)) (sym (node-is d bytes.items s is)) (goes_on s is given))
 named-node names d fold name s ps (stops why step e) given = absurd (ok-err s why e)
 
+-- the programs of a world
+named-world : (names : Names) (d : Description) (fold : Bool) (name : List ℕ) (w : World) (ps : List Program) → world (steady names) d name (Ok w) → world_programs (steady names) d fold w (Ok ps)
+    → programs_named (steady names) d fold name (Ok ps)
+named-world names d fold name w ps (goes_on bytes held is) given =
+    goes_on bytes held (subst (λ (of_world : Bool). programs_by of_world (steady names) d fold bytes.items (Ok ps)) (sym (world-is d bytes.items w is)) (goes_on w is given))
+named-world names d fold name w ps (stops why step e) given = absurd (ok-err w why e)
+
 pub node-found : (names : Names) (fold : Bool) (vm name report : List ℕ) (o : Output) (full : Bool) (bs : List ℕ) (answer : Result Output Refusal) → node (steady names) fold false vm name (Ok o) → IsTextOf full o bs
     → names report ≡ Some bs → length bs ≤ 1048576 → audit (steady names) fold vm name report answer → writes (codes "serial\n") answer
 node-found names fold vm name report o full bs answer (goes_on d machine_is (goes_on s script_is (goes_on ps given out))) is holds small audits =
@@ -183,3 +253,16 @@ node-found names fold vm name report o full bs answer (goes_on d machine_is (goe
 node-found names fold vm name report o full bs answer (goes_on d machine_is (goes_on s script_is (stops why step e))) is holds small audits = absurd (ok-err o why e)
 node-found names fold vm name report o full bs answer (goes_on d machine_is (stops why step e)) is holds small audits = absurd (ok-err o why e)
 node-found names fold vm name report o full bs answer (stops why step e) is holds small audits = absurd (ok-err o why e)
+
+pub world-found : (names : Names) (fold : Bool) (vm name report : List ℕ) (o : Output) (full : Bool) (bs : List ℕ) (answer : Result Output Refusal) → sim (steady names) fold false vm name (Ok o) → IsTextOf full o bs
+    → names report ≡ Some bs → length bs ≤ 1048576 → audit (steady names) fold vm name report answer → writes (codes "serial\n") answer
+world-found names fold vm name report o full bs answer (goes_on d machine_is (goes_on w world_is (goes_on ps given out))) is holds small audits =
+    let t : IsRunText d (IsReportOfWorld d w ps) (run_end full) bs = subst (λ (x : Output). IsTextOf full x bs) out is in
+    let r : Report = t.report in
+    let of : IsReportOfWorld d w ps (run_end full) r = t.ended in
+    let serially : IsVerdict d ps r verdict.Serial = world-serial d w ps (run_end full) r of.right of.run in
+    audit-found names fold vm name report d ps (named-world names d fold name w ps world_is given) machine_is
+    (λ qs same. report-found names d ps qs r report bs same serially of.tidy of.ranges t.text_is holds small) answer audits
+world-found names fold vm name report o full bs answer (goes_on d machine_is (goes_on w world_is (stops why step e))) is holds small audits = absurd (ok-err o why e)
+world-found names fold vm name report o full bs answer (goes_on d machine_is (stops why step e)) is holds small audits = absurd (ok-err o why e)
+world-found names fold vm name report o full bs answer (stops why step e) is holds small audits = absurd (ok-err o why e)

@@ -1,11 +1,11 @@
 -- The command `audit` has one answer.
-use Rattle.std.proofs.Common.{◌≡◌, inl, inr, ℕ, ◌<◌, Bool, true, false, List, [], ◌∷◌, map, length, Option, Some, None, Result, Ok, Err, refl, sym, ◌∙◌, ap, subst}
+use Rattle.std.proofs.Common.{◌≡◌, inl, inr, ℕ, Bool, true, false, List, [], ◌∷◌, map, length, Option, Some, None, Result, Ok, Err, refl, sym, ◌∙◌, ap, subst}
 use Rattle.std.specs.Prelude.{⊤, ◌||◌, codes, IsTrue, IfSome, IsSomeAnd, slice_get}
 use Rattle.std.specs.Global.{Vec}
 use Rattle.std.specs.List.{list_any}
 use Rattle.audit_laws.proofs.ReadBack.{same-journals}
 use Rattle.audit_laws.proofs.Told.{weaker}
-use Rattle.audit_rules.specs.Laws.{InstallsProgram, KeepsLaw, machine_by, rank_of}
+use Rattle.audit_rules.specs.Laws.{InstallsProgram, KeepsLaw, machine_by}
 use Rattle.audit_rules.specs.Verdicts.{LogKeeps, LogKeepsAll, LogFails, NodesKeep, IsVerdict, TellSameJournals}
 use Rattle.audit_rules.proofs.ReportLemmas.{same-verdict}
 use Rattle.audit_rules.proofs.VerdictLemmas.{one-verdict}
@@ -38,14 +38,12 @@ use Rattle.report_reading.specs.declared.last_line.LastLine.{LastLine}
 use Rattle.report_reading.proofs.VerdictLemmas.{one_list, one_bad_line, no_bad_line}
 use Rattle.script_programs.specs.Programs.{script_programs}
 use Rattle.script_programs.specs.SamePrograms.{SamePrograms}
-use Rattle.script_programs.specs.Scripts.{script_text}
 use Rattle.script_programs.proofs.OnePrograms.{script_text_agrees, programs_agree}
 use Rattle.script_programs.proofs.SameMeaning.{is_held-same, meaning-same}
 use Rattle.script_reader.specs.Steps.{NodeScript}
 use Rattle.vm_desc.specs.declared.description.Description.{Description}
 use Rattle.world_programs.specs.Injected.{installs, world_programs}
 use Rattle.world_programs.specs.Named.{is_of_world, programs_by, programs_named}
-use Rattle.world_programs.specs.WorldFiles.{world_text}
 use Rattle.world_script.specs.declared.world.World.{World}
 
 -- ---- the programs

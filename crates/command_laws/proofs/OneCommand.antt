@@ -1,6 +1,6 @@
 -- The commands have one answer, and words say one task.
 use Rattle.std.proofs.Common.{◌≡◌, inl, inr, ℕ, Bool, List, Option, Some, None, Result, Ok, Err, refl, sym, ◌∙◌, ap, subst, arith}
-use Rattle.std.specs.Prelude.{⊤, ◌+◌, [], length}
+use Rattle.std.specs.Prelude.{⊤, []}
 use Rattle.std.specs.Global.{Vec}
 use Rattle.arrayvec.specs.ArrayVec.{ArrayVec}
 use Rattle.capsule_codec.specs.Image.{CapsuleParts, capsule_parts}

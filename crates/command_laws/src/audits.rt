@@ -4,16 +4,19 @@ ghost use Rattle.std.specs.Prelude.{◌≡◌, ◌≤◌, List, ℕ, Bool, false
 ghost use Rattle.command_laws.specs.Texts.{IsTextOf};
 ghost use Rattle.mate_cli.specs.Audit.{audit};
 ghost use Rattle.mate_cli.specs.Node.{node};
+ghost use Rattle.mate_cli.specs.Worlds.{sim};
 ghost use Rattle.mate_documents.specs.Outputs.{writes};
 ghost use Rattle.mate_documents.specs.declared.output.Output.{Output};
 ghost use Rattle.mate_files.specs.Files.{Names};
 ghost use Rattle.mate_refusals.specs.declared.refusal.Refusal.{Refusal};
 ghost use Rattle.mate_steps.specs.OneAnswer.{steady};
 
-/// What `node` wrote, `audit` finds serial. Where the files are steady, the command owes a run, a text of that run
+/// What `node` wrote, and what `sim` wrote, `audit` finds serial. Where the files are steady, the command owes a run, a text of that run
 /// is that of its whole report or of the one up to where its log was full, and a file holds this text, of 1,048,576 bytes or less:
 /// then `audit` with the same machine, the same script and this file owes `serial` and a line feed, or memory is wanting.
 pub fn written_runs_are_found_serial()
-    ensures { (names : Names) (fold : Bool) (vm script report : List ℕ) (o : Output) (full : Bool) (bs : List ℕ) (answer : Result Output Refusal) →
+    ensures nodes { (names : Names) (fold : Bool) (vm script report : List ℕ) (o : Output) (full : Bool) (bs : List ℕ) (answer : Result Output Refusal) →
         node (steady names) fold false vm script (Ok o) → IsTextOf full o bs → names report ≡ Some bs → length bs ≤ 1048576 → audit (steady names) fold vm script report answer → writes (codes "serial\n") answer }
+    ensures worlds { (names : Names) (fold : Bool) (vm script report : List ℕ) (o : Output) (full : Bool) (bs : List ℕ) (answer : Result Output Refusal) →
+        sim (steady names) fold false vm script (Ok o) → IsTextOf full o bs → names report ≡ Some bs → length bs ≤ 1048576 → audit (steady names) fold vm script report answer → writes (codes "serial\n") answer }
 {}

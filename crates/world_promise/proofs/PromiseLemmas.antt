@@ -1,5 +1,5 @@
 -- What follows of each node's journal.
-use Rattle.std.proofs.Common.{ℕ, List, arith, subst, All, get_or}
+use Rattle.std.proofs.Common.{List, arith, subst, All, get_or}
 use Rattle.std.specs.Prelude.{IsSomeAnd}
 use Rattle.std.proofs.lemmas.Option.{slice_get-get_or}
 use Rattle.mate_journal.specs.Log.{Log}

@@ -4,6 +4,7 @@ use Rattle.vm_desc.specs.declared.description.Description.{Description}
 use Rattle.mate_journal.specs.Log.{Log}
 use Rattle.mate_journal.specs.Journal.{journal_of, nothing_heard}
 use Rattle.mate_journal.specs.NodeScript.{RunEnd, Whole, Full}
+use Rattle.mate_journal.specs.Ranges.{HasReportRanges}
 use Rattle.mate_journal.specs.declared.program.Program.{Program}
 use Rattle.mate_journal.specs.declared.report.Report.{Report}
 use Rattle.mate_journal.specs.declared.report.RunFault.{RunFault}
@@ -17,13 +18,15 @@ use Rattle.world_rules.specs.Report.{IsWorldReport}
 use Rattle.world_sources.specs.SourceWorld.{source_world}
 use Rattle.world_bound_laws.specs.Bound.{KeepsTheBound}
 
--- It is a report of a run, that ends so, of the world whose programs, which are right, mean their sources. Its text is read back. Where suppression
+-- It is a report of a run, that ends so, of the world whose programs, which are right, mean their sources. It is tidy, and its numbers are in the ranges
+-- of their types: so its text is read back. Where suppression
 -- is off and no link loses a packet, it keeps the hop bound. In each node's journal, wherever no start follows, some invocation
 -- is ready, or one waits for the outside, or none is live; and conflicting invocations end in the order of their posts.
 pub record IsReportOfWorld (d : Description) (script : Script) (ps : List Program) (how : RunEnd) (r : Report) : Type 0 where
   pub right : AreProgramsOfWorld d script ps
   pub run : IsWorldReport (source_world d script ps) how r
   pub tidy : IsTidy d r
+  pub ranges : HasReportRanges r
   pub bound : KeepsTheBound d script ps r
   pub progress : All (λ (l : Log). IsNeverStuck (source_world d script ps).machine (nothing_heard (source_world d script ps).machine) (journal_of l)) r.nodes
   pub order : All (λ (l : Log). EndAsPosted (source_world d script ps).machine (nothing_heard (source_world d script ps).machine) (journal_of l)) r.nodes

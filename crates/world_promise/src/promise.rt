@@ -3,6 +3,7 @@
 ghost use Rattle.std.specs.Prelude.{List};
 ghost use Rattle.vm_desc.specs.declared.description.Description.{Description};
 ghost use Rattle.mate_journal.specs.NodeScript.{RunEnd};
+ghost use Rattle.mate_journal.specs.Ranges.{HasReportRanges};
 ghost use Rattle.mate_journal.specs.declared.program.Program.{Program};
 ghost use Rattle.mate_journal.specs.declared.report.Report.{Report};
 ghost use Rattle.node_programs.specs.WorldPrograms.{AreProgramsOfWorld};
@@ -16,10 +17,10 @@ use world_bound_laws::reports_keep_the_bound;
 use world_reports::world_report_is_tidy;
 use world_sources::worlds_hold_by_their_sources;
 
-/// A report of the world whose nodes run their code keeps all that is promised of one.
+/// A report of the world whose nodes run their code keeps all that is promised of one, where its numbers are in the ranges of their types.
 pub fn reports_keep_the_promise()
     ensures { (d : Description) (script : Script) (ps : List Program) (how : RunEnd) (r : Report) →
-        AreProgramsOfWorld d script ps → IsWorldReport (code_world d script ps) how r → IsReportOfWorld d script ps how r }
+        AreProgramsOfWorld d script ps → IsWorldReport (code_world d script ps) how r → HasReportRanges r → IsReportOfWorld d script ps how r }
 {
     worlds_hold_by_their_sources();
     world_report_is_tidy();

@@ -11,6 +11,7 @@ use Rattle.mate_journal.specs.Journal.{Told, Seen, told_of, journal_of}
 use Rattle.mate_journal.specs.Journal.{Event as Entered}
 use Rattle.mate_journal.specs.NodeScript.{Whole, Cut}
 use Rattle.mate_journal.specs.OpenLog.{Gone, nothing_gone}
+use Rattle.mate_journal.specs.Ranges.{HasAiredRanges, HasReportRanges}
 use Rattle.mate_journal.specs.declared.entry.Stamped.{Stamped}
 use Rattle.mate_journal.specs.Tidy.{NumbersInOrder, below}
 use Rattle.mate_files.specs.Sink.{Puts}
@@ -38,6 +39,8 @@ use Rattle.world_event.specs.Performing.{IsMoteAfter}
 use Rattle.world_step.specs.declared.mote.Mote.{Mote}
 use Rattle.world_simulation.specs.Running.{StandsAfter}
 use Rattle.world_simulation.specs.Keeping.{IsWhole, HaveForgotten}
+use Rattle.world_simulation.specs.Ranging.{AreInRange}
+use Rattle.world_simulation.proofs.RangeLemmas.{shown-ranges, forgotten-ranges}
 use Rattle.world_simulation.specs.Telling.{report_now, LogsAreKept}
 use Rattle.world_sim.specs.Recording.{IsRecorded}
 use Rattle.world_sim.specs.Writing.{HasWrittenNow, StandsAtEnd, WritesRecorded}
@@ -66,7 +69,7 @@ shows-stores w ms olds news count tell old_numbered new_numbered journals = reco
 }
 
 module _ (w : World) (d : Description) (law : StoresAddTheirLines w) (ms : List Moment) (s new : Simulation) (events : ℕ) (air : s.radio.air ≡ airs w ms) (same : new.radio.air ≡ s.radio.air) (number : events ≡ length ms)
-    (shows : ShowTheirStores w ms (mote_logs s.motes.items) (mote_logs new.motes.items)) (whole : IsWorldReport w Whole (told_report new events true)) where
+    (shows : ShowTheirStores w ms (mote_logs s.motes.items) (mote_logs new.motes.items)) (whole : IsWorldReport w Whole (told_report new events true)) (ranges : HasReportRanges (told_report new events true)) where
   abbrev R : Report
   R = told_report new events true
 
@@ -93,6 +96,7 @@ module _ (w : World) (d : Description) (law : StoresAddTheirLines w) (ms : List 
     ended = new;
     gives = ended-whole d (IsWorldReport w) out0 mid out' f0 fm f' R Stores (written-more Stores (lines d (report_now new)) written stores stored) whole (stored ∙ ap (λ (bs : List ℕ). bs ++ Stores) front) last.put last.puts;
     recorded = recorded;
+    ranges = ranges;
   })
 
   -- the sink failed in the stores' lines
@@ -103,6 +107,7 @@ module _ (w : World) (d : Description) (law : StoresAddTheirLines w) (ms : List 
     gives = stopped-within d (IsWorldReport w) out0 out out' f0 f f' Whole R whole (lines d (report_now s)) [] written (front ∙ sym (append-nil (lines_before d R (suc events)))) fault answer Stores (last_line R)
         (sym (append_assoc (lines d (report_now s)) Stores (last_line R)) ∙ ap (λ (bs : List ℕ). bs ++ last_line R) (sym stored)) puts is;
     recorded = recorded;
+    ranges = ranges;
   }
 
 -- ---- the start
@@ -189,6 +194,18 @@ end-still w how events s new f air b = record {
   each = forgotten-motes w b.moments s.motes.items new.motes.items w.nodes b.nodes f b.each;
   kept = forgotten-kept s.motes.items new.motes.items f b.kept;
 }
+
+-- what is told to the end is in range
+pub ended-ranges : (at : Stamp) (s mid new : Simulation) → HaveForgotten (length s.motes.items) s.motes.items mid.motes.items → ShowStores at (length mid.motes.items) mid.motes.items new.motes.items → new.radio.air ≡ s.radio.air
+    → new.radio.gone ≡ s.radio.gone → AreInRange s → AreInRange new
+ended-ranges at s mid new f shows air gone has =
+    let within = has.gone in
+    let long = ap (λ (xs : List Aired). length xs) air in
+    record {
+      motes = shown-ranges at mid.motes.items new.motes.items shows (forgotten-ranges s.motes.items mid.motes.items f has.motes);
+      air = subst (λ (xs : List Aired). All HasAiredRanges xs) (sym air) has.air;
+      gone = omega (arith, within, long, gone);
+    }
 
 -- ---- what is shown at the end
 

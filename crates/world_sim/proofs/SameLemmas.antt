@@ -1,13 +1,16 @@
 -- A report that is the same but for the room of its logs is of the same run, and was written so.
-use Rattle.std.proofs.Common.{◌≡◌, ℕ, suc, zero, List, [], ◌∷◌, ◌++◌, Option, Result, Ok, Err, Some, refl, sym, ◌∙◌, ap, subst, inl, inr}
-use Rattle.std.specs.Prelude.{slice_get, IsSomeAnd, flat_map, filter, ◌==◌}
+use Rattle.std.proofs.Common.{◌≡◌, ◌<◌, ◌^◌, ℕ, suc, zero, List, [], ◌∷◌, ◌++◌, Option, Result, Ok, Err, Some, refl, sym, ◌∙◌, ap, subst, inl, inr}
+use Rattle.std.specs.Prelude.{All, slice_get, IsSomeAnd, flat_map, filter, ◌==◌}
+use Rattle.std.proofs.lemmas.List.Elements.{All-nil, All-cons, All-head, All-tail}
 use Rattle.std.specs.List.{AllZip}
 use Rattle.mate_files.specs.Sink.{Sent}
 use Rattle.mate_journal.specs.Log.{Log, IsSameLog}
 use Rattle.mate_journal.specs.NodeScript.{RunEnd, Whole, Full, Cut}
+use Rattle.mate_journal.specs.Ranges.{HasLogRanges, HasAiredRanges, HasReportRanges}
 use Rattle.mate_journal.specs.Tidy.{below}
 use Rattle.mate_journal.specs.declared.air.Aired.{Aired}
 use Rattle.mate_journal.specs.declared.report.Report.{Report}
+use Rattle.report_ranges.proofs.GrowthLemmas.{same-ranges}
 use Rattle.report_reading.specs.Parts.{IsSameReport}
 use Rattle.report_reading.proofs.BackLemmas.{all_lines_same, text_same}
 use Rattle.report_text.specs.Text.{air_line, entry_line, entry_lines, event_lines}
@@ -56,6 +59,20 @@ report-as w how a b same of = record {
   logs = λ k low. logs-as w how of.moments k k a.nodes b.nodes same.nodes (of.logs k low);
   whole = same.whole ∙ of.whole;
   events = same.events ∙ of.events;
+}
+
+-- its numbers are in the same ranges
+logs-ranges : (xs ys : List Log) → AllZip IsSameLog xs ys → All HasLogRanges ys → All HasLogRanges xs
+logs-ranges [] ys all has = All-nil HasLogRanges
+logs-ranges (x ∷ xs) [] all has = absurd all
+logs-ranges (x ∷ xs) (y ∷ ys) all has =
+    All-cons HasLogRanges x xs (same-ranges x y all.0 (All-head HasLogRanges y ys has)) (logs-ranges xs ys all.1 (All-tail HasLogRanges y ys has))
+
+ranges-as : (a b : Report) → IsSameReport a b → HasReportRanges b → HasReportRanges a
+ranges-as a b same has = record {
+  nodes = logs-ranges a.nodes b.nodes same.nodes has.nodes;
+  air = subst (λ (xs : List Aired). All HasAiredRanges xs) (sym same.air) has.air;
+  events = subst (λ (n : ℕ). n < 2 ^ 64) (sym same.events) has.events;
 }
 
 -- ---- it was written so
@@ -121,11 +138,11 @@ module _ (d : Description) (Is Has : OfRun) (out out' : Option (List ℕ)) (a b 
 -- ---- the report that is handed out
 
 pub handed-out : (d : Description) (script : Script) (ps : List Program) (out out' : Option (List ℕ)) (f f' : ℕ) (pass : Pass) (kept : Record) (r : Report)
-    → ((how : RunEnd) (x : Report) → AreProgramsOfWorld d script ps → IsWorldReport (code_world d script ps) how x → IsReportOfWorld d script ps how x) → AreProgramsOfWorld d script ps
+    → ((how : RunEnd) (x : Report) → AreProgramsOfWorld d script ps → IsWorldReport (code_world d script ps) how x → HasReportRanges x → IsReportOfWorld d script ps how x) → AreProgramsOfWorld d script ps
     → WritesRecorded d (IsWorldReport (code_world d script ps)) out out' f f' pass (Some kept) → r ≡ record { nodes = kept.logs.items; air = kept.air; events = pass.events; whole = pass.whole }
     → WritesReport d (IsReportOfWorld d script ps) out out' f f' pass.result r
 handed-out d script ps out out' f f' pass kept r keep right writes is =
     let w = code_world d script ps in
     let told : Report = told_report writes.ended pass.events pass.whole in
     let same : IsSameReport r told = subst (λ (x : Report). IsSameReport x told) (sym is) (record { nodes = writes.recorded.logs; air = writes.recorded.air; events = refl; whole = refl }) in
-    gives-as d (IsWorldReport w) (IsReportOfWorld d script ps) out out' r told same (λ how of. keep how r right (report-as w how r told same of)) f f' pass.result writes.gives
+    gives-as d (IsWorldReport w) (IsReportOfWorld d script ps) out out' r told same (λ how of. keep how r right (report-as w how r told same of) (ranges-as r told same writes.ranges)) f f' pass.result writes.gives

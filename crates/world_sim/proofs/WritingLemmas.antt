@@ -1,20 +1,23 @@
 -- A world's report, as it is written event by event.
-use Rattle.std.proofs.Common.{◌≡◌, ℕ, zero, suc, ◌+◌, ◌-◌, ◌<◌, ◌≤◌, List, [], ◌∷◌, ◌++◌, length, take, drop, get_or, Option, Some, Ok, Err, false, refl, sym, ◌∙◌, ap, subst, arith, append-nil, Bool}
+use Rattle.std.proofs.Common.{◌≡◌, ℕ, zero, suc, ◌+◌, ◌-◌, ◌<◌, ◌≤◌, ◌^◌, List, [], ◌∷◌, ◌++◌, length, take, drop, get_or, Option, Some, Ok, Err, false, refl, sym, ◌∙◌, ap, subst, arith, append-nil, Bool}
 use Rattle.std.specs.Prelude.{slice_get, IsSomeAnd, flat_map}
 use Rattle.std.specs.Global.{Vec}
 use Rattle.std.proofs.lemmas.Option.{slice_get-get_or}
 use Rattle.std.proofs.lemmas.List.{take-append-drop}
 use Rattle.mate_journal.specs.Log.{Log}
 use Rattle.mate_journal.specs.NodeScript.{RunEnd, Full, Cut}
+use Rattle.mate_journal.specs.Ranges.{HasReportRanges}
 use Rattle.mate_journal.specs.Tidy.{below}
 use Rattle.mate_files.specs.Sink.{Puts}
 use Rattle.mate_files.specs.declared.sink.SinkFault.{SinkFault}
+use Rattle.report_reading.specs.Parts.{IsSameReport}
 use Rattle.run_record.specs.declared.record.Record.{Record}
+use Rattle.run_record.proofs.RecordLemmas.{all-self}
 use Rattle.run_writing.specs.Writing.{OfRun, PutsLast, lines_before, write_fault_of, WritesRun}
 use Rattle.run_writing.specs.declared.pass.Pass.{Pass}
 use Rattle.run_writing.specs.declared.write_fault.WriteFault.{WriteFault}
 use Rattle.run_writing.specs.declared.write_fault.WriteFault.TheVariants.{NoMemory}
-use Rattle.run_writing.proofs.WritingLemmas.{written-more, stopped-within, cut-short, ended-full, writes-as}
+use Rattle.run_writing.proofs.WritingLemmas.{written-more, stopped-within, cut-short, ended-full}
 use Rattle.world_text.proofs.EventLemmas.{all_stand, store_lines-next, store_lines-both}
 use Rattle.mate_journal.specs.declared.air.Aired.{Aired}
 use Rattle.mate_journal.specs.declared.program.Program.{Program}
@@ -33,8 +36,11 @@ use Rattle.world_event.specs.Performing.{IsMoteAfter}
 use Rattle.world_step.specs.declared.mote.Mote.{Mote}
 use Rattle.world_text.specs.EventText.{so_far, TellJournals, store_lines}
 use Rattle.world_simulation.specs.Reporting.{mote_logs, told_report}
+use Rattle.world_simulation.specs.Ranging.{AreInRange}
 use Rattle.world_simulation.specs.Running.{StandsAfter}
 use Rattle.world_simulation.specs.Telling.{report_now, LogsAreKept, AddsEvent}
+use Rattle.world_sim.proofs.SameLemmas.{gives-as}
+use Rattle.world_simulation.proofs.RangeLemmas.{report-ranges}
 use Rattle.world_simulation.proofs.MoteLemmas.{log-at, long-logs, first-mote, tell, keeps-all}
 use Rattle.world_promise.specs.Promise.{IsReportOfWorld}
 use Rattle.node_programs.specs.WorldPrograms.{AreProgramsOfWorld}
@@ -116,25 +122,27 @@ module _ (d : Description) (script : Script) (ps : List Program) where
 
   -- memory was refused: the report is of what stood before
   pub memory-ends : (ms : List Moment) (s : Simulation) (events : ℕ) → HaveCome W ms → s.radio.air ≡ airs W ms → (count : length s.motes.items ≡ script.nodes)
-      → (each : (k : ℕ) → k < script.nodes → IsSomeAnd (slice_get s.motes.items k) (IsMoteAfter W ms k)) → events ≡ length ms → LogsAreKept s.motes.items → (kept : Option Record) → IsRecorded kept s
+      → (each : (k : ℕ) → k < script.nodes → IsSomeAnd (slice_get s.motes.items k) (IsMoteAfter W ms k)) → events ≡ length ms → LogsAreKept s.motes.items → AreInRange s → events < 2 ^ 64 → (kept : Option Record) → IsRecorded kept s
       → (out f out0 f0 : _) → HasWrittenNow d s out0 f0 out f → WritesRecorded d Is out0 out f0 f (record { events = events; whole = false; result = Err NoMemory }) kept
-  memory-ends ms s events come air count each number logs kept recorded out f out0 f0 written = record {
+  memory-ends ms s events come air count each number logs has few kept recorded out f out0 f0 written = record {
     ended = s;
     gives = cut-short d Is out0 out f0 f Cut (told_report s events false) (cut-report d script ps ms events s come air count each number logs) (lines d (report_now s)) []
         (event_lines d (report_now s) events) written (append-nil (lines d (report_now s))) (covered W d ms s events false (tell W ms s.motes.items script.nodes count each) air number);
     recorded = recorded;
+    ranges = report-ranges s events false has few;
   }
 
   -- the log is full, and the last line was put
-  pub full-ends : (s : Simulation) (events : ℕ) (b : StandsAtEnd W Full events s) → (pass : Pass) (kept : Option Record) → IsRecorded kept s → (out f out' f' out0 f0 : _) → HasWrittenNow d s out0 f0 out f
+  pub full-ends : (s : Simulation) (events : ℕ) (b : StandsAtEnd W Full events s) → AreInRange s → events < 2 ^ 64 → (pass : Pass) (kept : Option Record) → IsRecorded kept s → (out f out' f' out0 f0 : _) → HasWrittenNow d s out0 f0 out f
       → PutsLast (told_report s events false) out f out' f' pass → WritesRecorded d Is out0 out' f0 f' pass kept
-  full-ends s events b pass kept recorded out f out' f' out0 f0 written last =
+  full-ends s events b has few pass kept recorded out f out' f' out0 f0 written last =
       let r : Report = told_report s events false in
       subst (λ (p : Pass). WritesRecorded d Is out0 out' f0 f' p kept) (sym last.is) (record {
         ended = s;
         gives = ended-full d Is out0 out out' f0 f f' r (event_lines d (report_now s) events) written (full-report-now d script ps b.moments events s b.come b.air b.nodes b.each (sym b.count) b.kept b.ends)
             (covered W d b.moments s events false (tell W b.moments s.motes.items script.nodes b.nodes b.each) b.air (sym b.count)) last.put last.puts;
         recorded = recorded;
+        ranges = report-ranges s events false has few;
       })
 
   -- an event's lines were written
@@ -143,10 +151,10 @@ module _ (d : Description) (script : Script) (ps : List Program) where
   step-goes number node s new adds out f out' f' out0 f0 written puts =
       written-more (event_piece d (drop (length s.radio.air) new.radio.air) adds.after.node.log (length adds.before.node.log.entries) node) (lines d (report_now new)) written puts (adds.adds.lines_are d)
 
-  pub step-fails : (number node : ℕ) (s new : Simulation) (adds : AddsEvent number s new node) (b : StandsAfter W number new) → LogsAreKept new.motes.items → (kept : Option Record) → IsRecorded kept new → (fault : SinkFault) (answer : WriteFault) → (out f out' f' out0 f0 : _)
+  pub step-fails : (number node : ℕ) (s new : Simulation) (adds : AddsEvent number s new node) (b : StandsAfter W number new) → LogsAreKept new.motes.items → AreInRange new → number < 2 ^ 64 → (kept : Option Record) → IsRecorded kept new → (fault : SinkFault) (answer : WriteFault) → (out f out' f' out0 f0 : _)
       → HasWrittenNow d s out0 f0 out f → Puts {T = Unit {0}} out f out' f' (Err fault) (event_piece d (drop (length s.radio.air) new.radio.air) adds.after.node.log (length adds.before.node.log.entries) node) → answer ≡ write_fault_of fault
       → WritesRecorded d Is out0 out' f0 f' (record { events = number; whole = false; result = Err answer }) kept
-  step-fails number node s new adds b logs kept recorded fault answer out f out' f' out0 f0 written puts is =
+  step-fails number node s new adds b logs has few kept recorded fault answer out f out' f' out0 f0 written puts is =
       let r : Report = told_report new number false in
       let piece : List ℕ = event_piece d (drop (length s.radio.air) new.radio.air) adds.after.node.log (length adds.before.node.log.entries) node in
       record {
@@ -155,13 +163,16 @@ module _ (d : Description) (script : Script) (ps : List Program) where
             (adds.adds.before d ∙ sym (append-nil (lines_before d r number))) fault answer piece []
             (ap (λ (bs : List ℕ). lines d (report_now s) ++ bs) (append-nil piece) ∙ sym (adds.adds.lines_are d)) puts is;
         recorded = recorded;
+        ranges = report-ranges new number false has few;
       }
 
   -- what was written is what is promised
-  pub promised : (out out' : Option (List ℕ)) (f f' : ℕ) (pass : Pass) (kept : Option Record) → ((how : RunEnd) (r : Report) → AreProgramsOfWorld d script ps → Is how r → IsReportOfWorld d script ps how r) → AreProgramsOfWorld d script ps
+  pub promised : (out out' : Option (List ℕ)) (f f' : ℕ) (pass : Pass) (kept : Option Record) → ((how : RunEnd) (r : Report) → AreProgramsOfWorld d script ps → Is how r → HasReportRanges r → IsReportOfWorld d script ps how r) → AreProgramsOfWorld d script ps
       → WritesRecorded d Is out out' f f' pass kept → WritesRun d (IsReportOfWorld d script ps) out out' f f' pass.result
   promised out out' f f' pass kept keep right writes =
-      writes-as d Is (IsReportOfWorld d script ps) out out' f f' pass.result (λ how r is. keep how r right is) (record { report = told_report writes.ended pass.events pass.whole; gives = writes.gives })
+      let told : Report = told_report writes.ended pass.events pass.whole in
+      let same : IsSameReport told told = record { nodes = all-self told.nodes; air = refl; events = refl; whole = refl } in
+      record { report = told; gives = gives-as d Is (IsReportOfWorld d script ps) out out' told told same (λ how is. keep how told right is writes.ranges) f f' pass.result writes.gives }
 
 -- ---- the last entries
 

@@ -1,6 +1,7 @@
 -- The run of a world whose lines are written as its events end, and whose report may be recorded.
 use Rattle.std.specs.Prelude.{◌≡◌, ℕ, ◌<◌, List, length, slice_get, IsSomeAnd, Option, Some, Result, Ok, Err, false}
 use Rattle.mate_journal.specs.NodeScript.{RunEnd}
+use Rattle.mate_journal.specs.Ranges.{HasReportRanges}
 use Rattle.report_text.specs.Text.{lines}
 use Rattle.run_record.specs.declared.record.Record.{Record}
 use Rattle.run_writing.specs.Writing.{OfRun, HasWritten, WritesReport}
@@ -13,6 +14,7 @@ use Rattle.world_rules.specs.Run.{HaveCome, IsAtEnd, airs}
 use Rattle.world_rules.specs.Report.{IsWorldReport}
 use Rattle.world_event.specs.Performing.{IsMoteAfter}
 use Rattle.world_simulation.specs.Keeping.{IsWhole}
+use Rattle.world_simulation.specs.Ranging.{AreInRange}
 use Rattle.world_simulation.specs.Reporting.{told_report}
 use Rattle.world_simulation.specs.Telling.{report_now, LogsAreKept}
 use Rattle.world_simulation.specs.Running.{StandsAfter}
@@ -30,6 +32,7 @@ pub record WritesRecorded (d : Description) (Is : OfRun) (out out' : Option (Lis
   pub ended : Simulation
   pub gives : WritesReport d Is out out' before now pass.result (told_report ended pass.events pass.whole)
   pub recorded : IsRecorded kept ended
+  pub ranges : HasReportRanges (told_report ended pass.events pass.whole)
 
 -- wherever the run's report began in the sink, the run ended so
 abbrev pub EndsSo : Description → World → Simulation → Option (List ℕ) → ℕ → Option (List ℕ) → ℕ → Pass → Option Record → Type 0
@@ -40,6 +43,7 @@ pub record StartsRecorded (w : World) (s : Simulation) (r : Record) : Type 0 whe
   pub stands : StandsAfter w 0 s
   pub whole : IsWhole s
   pub recorded : IsRecorded (Some r) s
+  pub ranges : AreInRange s
 
 -- the start was written, or the run ended there
 abbrev pub IsStartWritten : Description → World → Simulation → Option (List ℕ) → ℕ → Option (List ℕ) → ℕ → Result (Unit {0}) WriteFault → Type 0
@@ -49,7 +53,7 @@ IsStartWritten d w s out f out' f' (Err fault) = WritesReport d (IsWorldReport w
 -- one event came and was written, or the run ended there
 abbrev pub IsStepWritten : Description → World → ℕ → (old new : Simulation) → Option (List ℕ) → ℕ → Option (List ℕ) → ℕ → Option Record → Result (Unit {0}) Pass → Type 0
 IsStepWritten d w number old new out f out' f' kept (Ok all) =
-    StandsAfter w number new × LogsAreKept new.motes.items × ((out0 : Option (List ℕ)) (f0 : ℕ) → HasWrittenNow d old out0 f0 out f → HasWrittenNow d new out0 f0 out' f') × IsRecorded kept new
+    StandsAfter w number new × LogsAreKept new.motes.items × ((out0 : Option (List ℕ)) (f0 : ℕ) → HasWrittenNow d old out0 f0 out f → HasWrittenNow d new out0 f0 out' f') × IsRecorded kept new × AreInRange new
 IsStepWritten d w number old new out f out' f' kept (Err pass) = EndsSo d w old out f out' f' pass kept
 
 -- ---- the end

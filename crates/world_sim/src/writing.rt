@@ -14,6 +14,7 @@ ghost use Rattle.world_step.specs.Motes.{plain_effect};
 ghost use Rattle.world_step.specs.declared.mote.Mote.{Mote as MoteState};
 ghost use Rattle.world_promise.specs.Promise.{IsReportOfWorld};
 ghost use Rattle.world_simulation.specs.Keeping.{IsWhole};
+ghost use Rattle.world_simulation.specs.Ranging.{AreInRange};
 ghost use Rattle.world_simulation.specs.Reporting.{mote_logs, told_report};
 ghost use Rattle.world_simulation.specs.Running.{StandsAfter, StandsAtNext};
 ghost use Rattle.world_simulation.specs.Telling.{LogsAreKept};
@@ -26,6 +27,7 @@ use mate_files::{Sink, SinkFault};
 use mate_journal::{IntoFault, NodeLog, Programs, RECORDS_MAX, Report};
 use mate_num::{NoMemory, Stamp};
 use radio_sim::Event;
+use report_ranges::stamp_is_in_range;
 use report_text::{write_end, write_event};
 use run_record::Record;
 use run_writing::{Pass, WriteFault, ended, nothing_run, stopped};
@@ -119,6 +121,7 @@ fn write_run<S: Sink>(
     requires stands { StandsAfter (code_world desc.now world.now programs.now) 0 sim.old }
     requires whole { IsWhole sim.old }
     requires recorded { IsRecorded records.old sim.old }
+    requires ranges { AreInRange sim.old }
     ensures gives { WritesRecorded desc.now (IsWorldReport (code_world desc.now world.now programs.now)) (S.written out.old) (S.written out.new) (S.faults out.old) (S.faults out.new) result records.new }
     ensures kept { has_record records.new ≡ has_record records.old }
     ensures later { S.faults out.old ≤ S.faults out.new }
@@ -214,12 +217,14 @@ fn write_step<S: Sink>(
     requires empty { IsEmpty room.old }
     requires plain { effect.old ≡ plain_effect }
     requires recorded { IsRecorded records.old sim.old }
+    requires ranges { AreInRange sim.old }
     ensures writes { IsStepWritten desc.now (code_world desc.now world.now programs.now) at.event sim.old sim.new (S.written out.old) (S.faults out.old) (S.written out.new) (S.faults out.new) records.new result }
     ensures empty { IsEmpty room.new }
     ensures plain { OnOk result (effect.new ≡ plain_effect) }
     ensures kept { has_record records.new ≡ has_record records.old }
     ensures later { S.faults out.old ≤ S.faults out.new }
 {
+    stamp_is_in_range(&at);
     let Ok(node) = sim.step(
         desc,
         world,
@@ -257,6 +262,7 @@ fn write_ending<S: Sink>(
     requires ends { StandsAtEnd (code_world desc.now world.now programs.now) Whole events sim.old }
     requires few { events < 18446744073709551615 }
     requires recorded { IsRecorded records.old sim.old }
+    requires ranges { AreInRange sim.old }
     ensures writes { EndsSo desc.now (code_world desc.now world.now programs.now) sim.old (S.written out.old) (S.faults out.old) (S.written out.new) (S.faults out.new) result records.new }
     ensures kept { has_record records.new ≡ has_record records.old }
     ensures later { S.faults out.old ≤ S.faults out.new }

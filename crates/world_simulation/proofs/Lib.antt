@@ -5,3 +5,4 @@ pub mod RunLemmas
 pub mod WorldLemmas
 pub mod MoteLemmas
 pub mod KeepingLemmas
+pub mod RangeLemmas

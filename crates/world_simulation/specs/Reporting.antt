@@ -6,15 +6,17 @@ use Rattle.mate_journal.specs.Log.{Log}
 use Rattle.mate_journal.specs.NodeScript.{ShowsOnce}
 use Rattle.mate_journal.specs.declared.report.Report.{Report}
 use Rattle.node_invariant.specs.Meaning.{machine_in, clock_of}
-use Rattle.open_node.specs.View.{heard_of}
+use Rattle.open_node.specs.View.{heard_of, Tells}
 use Rattle.open_node.specs.Calls.{Pacing}
-use Rattle.world_step.specs.Motes.{TellsAlone}
+use Rattle.report_ranges.specs.Growth.{IsInRange}
 use Rattle.world_step.specs.declared.mote.Mote.{Mote}
 use Rattle.world_simulation.specs.declared.simulation.Simulation.{Simulation}
 
 -- the store of the node is seen, with this stamp
-abbrev pub ShowsOneStore : Stamp → Mote → Mote → Type 0
-ShowsOneStore at old new = TellsAlone at (Pacing (ShowsOnce (clock_of old.node.description) (machine_in old.node.description) (heard_of old.node))) old new
+pub record ShowsOneStore (at : Stamp) (old new : Mote) : Type 0 where
+  pub tells : Tells old.node new.node at (Pacing (ShowsOnce (clock_of old.node.description) (machine_in old.node.description) (heard_of old.node)))
+  pub same : new ≡ record old { node = new.node }
+  pub ranges : IsInRange old.node.log old.node.gone → IsInRange new.node.log new.node.gone
 
 -- something happened to each of the first of the nodes, and the others stay as they are
 pub record HaveChanged (Happens : Mote → Mote → Type 0) (n : ℕ) (old new : List Mote) : Type 0 where

@@ -7,12 +7,14 @@ ghost use Rattle.open_node.specs.Journal.{KeepsJournal};
 ghost use Rattle.node_invariant.specs.Keeps.{IsTimely};
 ghost use Rattle.world_step.specs.declared.mote.Mote.{Mote as MoteState};
 ghost use Rattle.mate_journal.specs.OpenLog.{nothing_gone};
+ghost use Rattle.mate_journal.specs.Ranges.{HasReportRanges};
 ghost use Rattle.world_simulation.specs.Keeping.{IsWhole, HasForgotten, HaveForgotten};
 ghost use Rattle.world_simulation.specs.Reporting.{ShowsOneStore, ShowStores, told_report, mote_logs, AreOfMachine};
 
 use crate::simulation::Simulation;
 use mate_journal::{NodeLogs, Report};
 use mate_num::{NoMemory, Stamp};
+use report_ranges::{LogSize, log_is_in_range_from, report_is_in_range};
 use world_step::Mote;
 
 /// How many entries a log has at most where a store is seen.
@@ -58,7 +60,12 @@ fn see_store(mote: &mut Mote, at: Stamp) -> Result<(), NoMemory>
     if mote.node.told() >= ENTRIES_MAX {
         return Err(NoMemory);
     }
-    mote.show(at)
+    let before = mote.node.kept();
+    let size = LogSize::of(before);
+    mote.show(at)?;
+    let after = mote.node.kept();
+    log_is_in_range_from(after, size);
+    Ok(())
 }
 
 /// The report of a run of so many events. It takes no memory: `logs` has a log for each node.
@@ -68,10 +75,13 @@ pub fn report_of(logs: NodeLogs, sim: Simulation, events: u64, whole: bool) -> R
     requires whole { IsWhole sim }
     ensures is { result ≡ told_report sim events whole }
     ensures keeps { (d : Description) → AreOfMachine d sim.motes.items → All (KeepsJournal d (machine_in d)) result.nodes }
+    ensures ranges { HasReportRanges result }
 {
     let Simulation { radio, motes, .. } = sim;
     let logs = logs_in(logs, motes);
-    Report::new(logs, radio.into_air(), events, whole)
+    let report = Report::new(logs, radio.into_air(), events, whole);
+    report_is_in_range(&report);
+    report
 }
 
 /// The nodes' logs, put in place of those that are there.

@@ -14,12 +14,14 @@ ghost use Rattle.world_states.specs.Coming.{code_world};
 ghost use Rattle.node_programs.specs.WorldPrograms.{AreProgramsOfWorld};
 ghost use Rattle.world_simulation.specs.Starting.{HaveBegun};
 ghost use Rattle.world_simulation.specs.Running.{StandsAfter, StandsAtNext, NamesPart, named_node};
+ghost use Rattle.world_simulation.specs.Ranging.{AreInRange};
 ghost use Rattle.world_simulation.specs.Keeping.{IsWhole, IsFew, LetsGo, LetsGoAsTold};
 ghost use Rattle.world_simulation.specs.Telling.{HasComeOn, LogsAreKept};
 
 use mate_journal::{NodeLog, Programs, RECORDS_MAX};
 use mate_num::{NoMemory, Stamp};
 use radio_sim::{Event, Radio};
+use report_ranges::{LogSize, air_is_in_range_from, log_is_in_range_from};
 use std::alloc::Global;
 use vm_desc::Description;
 use world_air::{begin_node, schedule_lines};
@@ -53,10 +55,12 @@ impl Simulation {
         ensures stands { IfOk result (λ sim. (ps : List ProgramOfFile) → StandsAfter (code_world desc.now world.now ps) 0 sim) }
         ensures whole { IfOk result IsWhole }
         ensures empty { IfOk result (λ sim. All (λ (m : MoteState). IsEmpty m.node.log) sim.motes.items) }
+        ensures ranges { IfOk result AreInRange }
     {
         let mut radio = Radio::new(alloc, world, desc)?;
         schedule_lines(&mut radio, world)?;
         let motes = begin_motes(alloc, desc, world, &mut radio)?;
+        air_is_in_range_from(radio.air(), 0);
         Ok(Simulation {
             radio,
             motes,
@@ -84,6 +88,7 @@ impl Simulation {
         ensures stands { OnOk result (StandsAfter (code_world desc.now world.now programs.now) at.event self.new) }
         ensures adds { IfOk result (HasComeOn written at.event self.old self.new) }
         ensures kept { OnOk result (LogsAreKept self.old.motes.items → LogsAreKept self.new.motes.items) }
+        ensures ranges { OnOk result (AreInRange self.old → AreInRange self.new) }
         ensures empty { IsEmpty room.new }
         ensures plain { OnOk result (effect.new ≡ plain_effect) }
     {
@@ -92,9 +97,11 @@ impl Simulation {
         let number = node_of(world, event);
         self.let_go(number, written, room);
         let mote = &mut self.motes[usize::from(number)];
-        let _before = mote.node.kept();
+        let before = mote.node.kept();
+        let size = LogSize::of(before);
         let entries = mote.node.told();
         let air = self.radio.aired();
+        let heard = self.radio.air().len();
         perform(
             &mut self.radio,
             mote,
@@ -106,7 +113,9 @@ impl Simulation {
             at,
             effect,
         )?;
-        let _after = mote.node.kept();
+        let after = mote.node.kept();
+        log_is_in_range_from(after, size);
+        air_is_in_range_from(self.radio.air(), heard);
         let told = mote.node.told() - entries;
         let aired = self.radio.aired() - air;
         self.records = counted(self.records, told, aired)?;

@@ -1,5 +1,5 @@
-use Rattle.command_laws.proofs.Audited.{node-found}
+use Rattle.command_laws.proofs.Audited.{node-found, world-found}
 use Rattle.command_laws.proofs.audits.written_runs_are_found_serial.Goals as goal
 
 pub returns : goal.returns
-returns c = node-found
+returns c = record { nodes = node-found; worlds = world-found }

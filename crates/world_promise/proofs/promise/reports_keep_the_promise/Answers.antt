@@ -9,12 +9,13 @@ use Rattle.world_promise.proofs.PromiseLemmas.{each-journal}
 use Rattle.world_promise.proofs.promise.reports_keep_the_promise.Goals as goal
 
 pub returns : goal.returns
-returns c = λ d script ps how r right of.
+returns c = λ d script ps how r right of ranges.
     let run = c.worlds_hold_by_their_sources.ensures d script ps how r right of in
     let m = (source_world d script ps).machine in record {
       right = right;
       run = run;
       tidy = c.world_report_is_tidy.ensures d _ _ script (program_at ps) how r right.world of;
+      ranges = ranges;
       bound = c.reports_keep_the_bound.ensures.shown d script ps how r right run;
       progress = each-journal (source_world d script ps) how r (λ (es : List Entered). IsNeverStuck m (nothing_heard m) es) (c.is_never_stuck.ensures m) run;
       order = each-journal (source_world d script ps) how r (λ (es : List Entered). EndAsPosted m (nothing_heard m) es) (c.ends_as_posted.ensures m) run;

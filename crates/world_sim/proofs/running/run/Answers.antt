@@ -30,6 +30,7 @@ returns-in_default c =
     (c.report_of.ensures.keeps c.args.desc.now (shown-machine c.args.desc.now _ c.loop-events.sim.motes.items c.see_stores.new.motes.items c.in_ok-see_stores.ensures
     (of-machine c.args.desc.now c.args.world.now c.args.programs.now c.loop-events.invariant.stands.moments c.loop-events.sim.motes.items c.loop-events.invariant.stands.nodes c.loop-events.invariant.stands.motes)))
     c.report_of.ensures.is)
+    c.report_of.ensures.ranges
 
 pub report_of-requires-then-sim-ge-RECORDS_MAX-clause-count : goal.report_of-requires-then-sim-ge-RECORDS_MAX-clause-count
 report_of-requires-then-sim-ge-RECORDS_MAX-clause-count c = c.loop-events.invariant.logs ∙ sym c.loop-events.invariant.stands.nodes
@@ -46,6 +47,7 @@ returns-then-sim-ge-RECORDS_MAX c =
     (c.report_of-then-sim-ge-RECORDS_MAX.ensures.keeps c.args.desc.now
     (of-machine c.args.desc.now c.args.world.now c.args.programs.now c.loop-events.invariant.stands.moments c.loop-events.sim.motes.items c.loop-events.invariant.stands.nodes c.loop-events.invariant.stands.motes))
     c.report_of-then-sim-ge-RECORDS_MAX.ensures.is)
+    c.report_of-then-sim-ge-RECORDS_MAX.ensures.ranges
 
 pub step-requires-clause-stands : goal.step-requires-clause-stands
 step-requires-clause-stands c =

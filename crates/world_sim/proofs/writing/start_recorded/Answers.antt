@@ -13,4 +13,4 @@ add_event-requires-clause-before c =
     start-before c.in_ok-record.record c.in_ok-sim.sim c.args.world.now.nodes c.in_ok-record.ensures (c.in_ok-sim.ensures.stands c.args.programs.now).nodes c.requires.world.nodes_low c.in_ok-sim.ensures.whole c.in_ok-sim.ensures.empty
 
 pub returns : goal.returns
-returns c = record { stands = c.in_ok-sim.ensures.stands c.args.programs.now; whole = c.in_ok-sim.ensures.whole; recorded = c.in_ok-add_event.ensures }
+returns c = record { stands = c.in_ok-sim.ensures.stands c.args.programs.now; whole = c.in_ok-sim.ensures.whole; recorded = c.in_ok-add_event.ensures; ranges = c.in_ok-sim.ensures.ranges }

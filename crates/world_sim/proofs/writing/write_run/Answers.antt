@@ -1,4 +1,4 @@
-use Rattle.std.proofs.Common.{◌≡◌, ℕ, ◌≤◌, length, refl, sym, ◌∙◌, ap, subst, arith}
+use Rattle.std.proofs.Common.{◌≡◌, ℕ, ◌≤◌, lit<, false, length, refl, sym, ◌∙◌, ap, subst, arith}
 use Rattle.mate_journal.specs.NodeScript.{Whole, Full}
 use Rattle.radio_sim.specs.Radio.{Ether}
 use Rattle.run_record.proofs.RecordLemmas.{all-self}
@@ -6,6 +6,7 @@ use Rattle.run_writing.specs.declared.pass.Pass.{Pass}
 use Rattle.world_rules.specs.Report.{IsWorldReport}
 use Rattle.world_states.specs.Coming.{code_world}
 use Rattle.world_simulation.specs.Reporting.{mote_logs}
+use Rattle.world_simulation.proofs.RangeLemmas.{same-ranges, report-ranges, few-of}
 use Rattle.world_simulation.proofs.RunLemmas.{behind, is-done}
 use Rattle.world_sim.specs.Writing.{WritesRecorded}
 use Rattle.world_sim.proofs.RecordingLemmas.{recorded-as}
@@ -16,7 +17,7 @@ use Rattle.world_sim.proofs.writing.write_run.Goals as goal
 pub returns-in-Err-clause-gives : goal.returns-in-Err-clause-gives
 returns-in-Err-clause-gives g c =
     subst (λ (p : Pass). WritesRecorded c.args.desc.now (IsWorldReport (code_world c.args.desc.now c.args.world.now c.args.programs.now)) (g.S.Sink.written c.args.out.now) (g.S.Sink.written c.write_start.new.out) (g.S.Sink.faults c.args.out.now) (g.S.Sink.faults c.write_start.new.out) p c.args.records.now)
-    (sym c.stopped_at.ensures) (record { ended = c.args.sim.now; gives = c.in-Err.ensures.writes; recorded = c.requires.recorded })
+    (sym c.stopped_at.ensures) (record { ended = c.args.sim.now; gives = c.in-Err.ensures.writes; recorded = c.requires.recorded; ranges = report-ranges c.args.sim.now 0 false c.requires.ranges (lit< tt) })
 
 pub write_ending-requires-clause-ends : goal.write_ending-requires-clause-ends
 write_ending-requires-clause-ends g c =
@@ -26,6 +27,9 @@ write_ending-requires-clause-ends g c =
 
 pub write_ending-requires-clause-recorded : goal.write_ending-requires-clause-recorded
 write_ending-requires-clause-recorded g c = (recorded-as c.loop-events.records c.loop-events.sim (record { radio = c.next.new.self; motes = c.loop-events.sim.motes; records = c.loop-events.sim.records }) (all-self (mote_logs c.loop-events.sim.motes.items)) (ap (λ (e : Ether). e.air) c.next.ensures.others) c.loop-events.invariant.recorded)
+
+pub write_ending-requires-clause-ranges : goal.write_ending-requires-clause-ranges
+write_ending-requires-clause-ranges g c = (same-ranges c.loop-events.sim (record { radio = c.next.new.self; motes = c.loop-events.sim.motes; records = c.loop-events.sim.records }) refl (ap (λ (e : Ether). e.air) c.next.ensures.others) (ap (λ (e : Ether). e.gone) c.next.ensures.others) c.loop-events.invariant.ranges)
 
 pub returns-in_default-next-clause-gives : goal.returns-in_default-next-clause-gives
 returns-in_default-next-clause-gives g c = c.write_ending.ensures.writes _ _ (written-air c.args.desc.now c.loop-events.sim (record { radio = c.next.new.self; motes = c.loop-events.sim.motes; records = c.loop-events.sim.records }) (ap (λ (e : Ether). e.air) c.next.ensures.others) refl _ _ _ _ c.loop-events.invariant.written)
@@ -44,7 +48,8 @@ returns-then-sim-ge-RECORDS_MAX-clause-gives g c =
     full-ends c.args.desc.now c.args.world.now c.args.programs.now (record { radio = c.next.new.self; motes = c.loop-events.sim.motes; records = c.loop-events.sim.records }) c.loop-events.events
     (at-end (code_world c.args.desc.now c.args.world.now c.args.programs.now) Full c.loop-events.events c.loop-events.sim (record { radio = c.next.new.self; motes = c.loop-events.sim.motes; records = c.loop-events.sim.records }) b
     (subst (λ (k : ℕ). 1000000 ≤ k) b.records c.if-sim-ge-RECORDS_MAX.true, c.in-Some.time, n.cause, n.within, n.next) c.loop-events.invariant.kept (ap (λ (e : Ether). e.air) c.next.ensures.others) refl)
-    c.write_last.result c.loop-events.records (recorded-as c.loop-events.records c.loop-events.sim (record { radio = c.next.new.self; motes = c.loop-events.sim.motes; records = c.loop-events.sim.records }) (all-self (mote_logs c.loop-events.sim.motes.items)) (ap (λ (e : Ether). e.air) c.next.ensures.others) c.loop-events.invariant.recorded) _ _ _ _ _ _ (written-air c.args.desc.now c.loop-events.sim (record { radio = c.next.new.self; motes = c.loop-events.sim.motes; records = c.loop-events.sim.records }) (ap (λ (e : Ether). e.air) c.next.ensures.others) refl _ _ _ _ c.loop-events.invariant.written) c.write_last.ensures
+    (same-ranges c.loop-events.sim (record { radio = c.next.new.self; motes = c.loop-events.sim.motes; records = c.loop-events.sim.records }) refl (ap (λ (e : Ether). e.air) c.next.ensures.others) (ap (λ (e : Ether). e.gone) c.next.ensures.others) c.loop-events.invariant.ranges)
+    (few-of c.loop-events.events c.loop-events-test.true) c.write_last.result c.loop-events.records (recorded-as c.loop-events.records c.loop-events.sim (record { radio = c.next.new.self; motes = c.loop-events.sim.motes; records = c.loop-events.sim.records }) (all-self (mote_logs c.loop-events.sim.motes.items)) (ap (λ (e : Ether). e.air) c.next.ensures.others) c.loop-events.invariant.recorded) _ _ _ _ _ _ (written-air c.args.desc.now c.loop-events.sim (record { radio = c.next.new.self; motes = c.loop-events.sim.motes; records = c.loop-events.sim.records }) (ap (λ (e : Ether). e.air) c.next.ensures.others) refl _ _ _ _ c.loop-events.invariant.written) c.write_last.ensures
 
 pub write_step-requires-clause-stands : goal.write_step-requires-clause-stands
 write_step-requires-clause-stands g c =
@@ -73,6 +78,9 @@ write_step-requires-clause-stands g c =
 pub write_step-requires-clause-recorded : goal.write_step-requires-clause-recorded
 write_step-requires-clause-recorded g c = (recorded-as c.loop-events.records c.loop-events.sim (record { radio = c.next.new.self; motes = c.loop-events.sim.motes; records = c.loop-events.sim.records }) (all-self (mote_logs c.loop-events.sim.motes.items)) (ap (λ (e : Ether). e.air) c.next.ensures.others) c.loop-events.invariant.recorded)
 
+pub write_step-requires-clause-ranges : goal.write_step-requires-clause-ranges
+write_step-requires-clause-ranges g c = (same-ranges c.loop-events.sim (record { radio = c.next.new.self; motes = c.loop-events.sim.motes; records = c.loop-events.sim.records }) refl (ap (λ (e : Ether). e.air) c.next.ensures.others) (ap (λ (e : Ether). e.gone) c.next.ensures.others) c.loop-events.invariant.ranges)
+
 pub returns-in-Err-write_step-clause-gives : goal.returns-in-Err-write_step-clause-gives
 returns-in-Err-write_step-clause-gives g c = c.in-Err-write_step.ensures.writes _ _ (written-air c.args.desc.now c.loop-events.sim (record { radio = c.next.new.self; motes = c.loop-events.sim.motes; records = c.loop-events.sim.records }) (ap (λ (e : Ether). e.air) c.next.ensures.others) refl _ _ _ _ c.loop-events.invariant.written)
 
@@ -84,6 +92,7 @@ loop-events-preserved g c = record {
   plain = c.in_default-write_step.ensures.plain;
   written = c.in_default-write_step.ensures.writes.2 _ _ (written-air c.args.desc.now c.loop-events.sim (record { radio = c.next.new.self; motes = c.loop-events.sim.motes; records = c.loop-events.sim.records }) (ap (λ (e : Ether). e.air) c.next.ensures.others) refl _ _ _ _ c.loop-events.invariant.written);
   recorded = c.in_default-write_step.ensures.writes.3;
+  ranges = c.in_default-write_step.ensures.writes.4;
   same = c.in_default-write_step.ensures.kept ∙ c.loop-events.invariant.same;
 }
 
@@ -96,7 +105,7 @@ returns-clause-gives g c =
     let all : 18446744073709551615 ≡ length b.moments = omega (arith, count, past, within) in
     subst (λ (p : Pass). WritesRecorded c.args.desc.now (IsWorldReport (code_world c.args.desc.now c.args.world.now c.args.programs.now)) (g.S.Sink.written c.args.out.now) (g.S.Sink.written c.loop-events.out) (g.S.Sink.faults c.args.out.now) (g.S.Sink.faults c.loop-events.out) p c.loop-events.records)
     (sym c.stopped_at-2.ensures)
-    (memory-ends c.args.desc.now c.args.world.now c.args.programs.now b.moments c.loop-events.sim 18446744073709551615 b.come b.radio.air b.nodes b.motes all c.loop-events.invariant.kept c.loop-events.records c.loop-events.invariant.recorded
+    (memory-ends c.args.desc.now c.args.world.now c.args.programs.now b.moments c.loop-events.sim 18446744073709551615 b.come b.radio.air b.nodes b.motes all c.loop-events.invariant.kept c.loop-events.invariant.ranges (lit< tt) c.loop-events.records c.loop-events.invariant.recorded
     _ _ _ _ c.loop-events.invariant.written)
 
 pub returns-in-Err-clause-later : goal.returns-in-Err-clause-later

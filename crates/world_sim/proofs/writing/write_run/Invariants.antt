@@ -2,6 +2,7 @@ use Rattle.std.proofs.Common.{◌≡◌}
 use Rattle.mate_journal.specs.Log.{IsEmpty}
 use Rattle.world_states.specs.Coming.{code_world}
 use Rattle.world_step.specs.Motes.{plain_effect}
+use Rattle.world_simulation.specs.Ranging.{AreInRange}
 use Rattle.world_simulation.specs.Running.{StandsAfter}
 use Rattle.world_simulation.specs.Telling.{LogsAreKept}
 use Rattle.world_sim.specs.Recording.{IsRecorded, has_record}
@@ -16,5 +17,6 @@ invariant-loop-events g l = record {
   plain : l.effect ≡ plain_effect;
   written : HasWrittenNow l.desc l.sim (g.S.Sink.written l.fn.out) (g.S.Sink.faults l.fn.out) (g.S.Sink.written l.out) (g.S.Sink.faults l.out);
   recorded : IsRecorded l.records l.sim;
+  ranges : AreInRange l.sim;
   same : has_record l.records ≡ has_record l.fn.records;
 }

@@ -1,6 +1,7 @@
 use Rattle.std.proofs.Common.{◌≡◌, ◌-◌, length, sym, subst, arith}
 use Rattle.run_writing.specs.declared.pass.Pass.{Pass}
 use Rattle.world_states.specs.Coming.{code_world}
+use Rattle.world_simulation.proofs.RangeLemmas.{left-ranges, few-before}
 use Rattle.world_simulation.proofs.KeepingLemmas.{few-after, left-stands}
 use Rattle.world_sim.specs.Writing.{EndsSo}
 use Rattle.world_sim.proofs.HandLemmas.{written-still, at-hand-now, put-now, left-written}
@@ -16,7 +17,7 @@ returns-in_default-clause-writes g c =
     let number : c.args.at.event - 1 ≡ length b.moments = omega (arith, stamp) in
     subst (λ (p : Pass). EndsSo c.args.desc.now (code_world c.args.desc.now c.args.world.now c.args.programs.now) c.args.sim.now (g.S.Sink.written c.args.out.now) (g.S.Sink.faults c.args.out.now) (g.S.Sink.written c.args.out.now) (g.S.Sink.faults c.args.out.now) p c.args.records.now)
     (sym c.stopped_at.ensures)
-    (λ out0 f0 written. memory-ends c.args.desc.now c.args.world.now c.args.programs.now b.moments c.args.sim.now (c.args.at.event - 1) b.come b.air b.nodes b.motes number c.requires.kept c.args.records.now c.requires.recorded _ _ out0 f0 written)
+    (λ out0 f0 written. memory-ends c.args.desc.now c.args.world.now c.args.programs.now b.moments c.args.sim.now (c.args.at.event - 1) b.come b.air b.nodes b.motes number c.requires.kept c.requires.ranges (few-before c.args.at.event c.stamp_is_in_range.ensures.event) c.args.records.now c.requires.recorded _ _ out0 f0 written)
 
 pub record_event-requires-clause-node : goal.record_event-requires-clause-node
 record_event-requires-clause-node g c = (at-hand-now c.args.at.event c.in-Ok.node c.args.sim.now c.in-Ok.ensures.adds.mid c.step.new.self c.in-Ok.ensures.adds.lets_go c.in-Ok.ensures.adds.adds).low
@@ -33,7 +34,7 @@ returns-in_default-record_event-clause-writes g c =
     let number : c.args.at.event - 1 ≡ length b.moments = omega (arith, stamp) in
     subst (λ (p : Pass). EndsSo c.args.desc.now (code_world c.args.desc.now c.args.world.now c.args.programs.now) c.args.sim.now (g.S.Sink.written c.args.out.now) (g.S.Sink.faults c.args.out.now) (g.S.Sink.written c.args.out.now) (g.S.Sink.faults c.args.out.now) p c.record_event.new.records)
     (sym c.stopped_at-in_default-record_event.ensures)
-    (λ out0 f0 written. memory-ends c.args.desc.now c.args.world.now c.args.programs.now b.moments c.args.sim.now (c.args.at.event - 1) b.come b.air b.nodes b.motes number c.requires.kept c.record_event.new.records
+    (λ out0 f0 written. memory-ends c.args.desc.now c.args.world.now c.args.programs.now b.moments c.args.sim.now (c.args.at.event - 1) b.come b.air b.nodes b.motes number c.requires.kept c.requires.ranges (few-before c.args.at.event c.stamp_is_in_range.ensures.event) c.record_event.new.records
     (recorded-still c.args.records.now c.record_event.new.records c.args.sim.now c.in_default-record_event.ensures.recorded c.requires.recorded) _ _ out0 f0 written)
 
 pub write_piece-requires : goal.write_piece-requires
@@ -61,6 +62,7 @@ returns-clause-writes g c =
           (step-goes c.args.desc.now c.args.world.now c.args.programs.now c.args.at.event c.in-Ok.node a.mid c.step.new.self a.adds _ _ _ _ out0 f0
           (written-still c.args.sim.now a.mid c.in-Ok.node a.lets_go c.args.desc.now out0 f0 _ _ written) (put-now c.args.desc.now c.in-Ok.node a.mid c.step.new.self a.adds h _ _ _ _ _ (c.in_default-write_piece.ensures a.adds.after h.found))),
       left-recorded c.record_event.new.records c.step.new.self c.leave.new.self c.in-Ok.node left c.in-Ok-record_event.ensures.recorded,
+      left-ranges c.step.new.self c.leave.new.self c.in-Ok.node left (c.in-Ok.ensures.ranges c.requires.ranges),
     )
 
 pub returns-in-Err-clause-writes : goal.returns-in-Err-clause-writes
@@ -70,7 +72,7 @@ returns-in-Err-clause-writes g c =
     subst (λ (p : Pass). EndsSo c.args.desc.now (code_world c.args.desc.now c.args.world.now c.args.programs.now) c.args.sim.now (g.S.Sink.written c.args.out.now) (g.S.Sink.faults c.args.out.now) (g.S.Sink.written c.write_piece.new.out) (g.S.Sink.faults c.write_piece.new.out) p c.record_event.new.records)
     (sym c.stopped_at-in-Err.ensures)
     (λ out0 f0 written.
-    step-fails c.args.desc.now c.args.world.now c.args.programs.now c.args.at.event c.in-Ok.node a.mid c.step.new.self a.adds c.in-Ok.ensures.stands (c.in-Ok.ensures.kept c.requires.kept) c.record_event.new.records c.in-Ok-record_event.ensures.recorded
+    step-fails c.args.desc.now c.args.world.now c.args.programs.now c.args.at.event c.in-Ok.node a.mid c.step.new.self a.adds c.in-Ok.ensures.stands (c.in-Ok.ensures.kept c.requires.kept) (c.in-Ok.ensures.ranges c.requires.ranges) c.stamp_is_in_range.ensures.event c.record_event.new.records c.in-Ok-record_event.ensures.recorded
     c.in-Err.fault c.stopped.result _ _ _ _ out0 f0
     (written-still c.args.sim.now a.mid c.in-Ok.node a.lets_go c.args.desc.now out0 f0 _ _ written) (put-now c.args.desc.now c.in-Ok.node a.mid c.step.new.self a.adds h _ _ _ _ _ (c.in-Err.ensures a.adds.after h.found)) c.stopped.ensures)
 

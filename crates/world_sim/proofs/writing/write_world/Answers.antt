@@ -14,6 +14,9 @@ write_run-requires-clause-stands g c = c.in-Ok.ensures.stands c.args.programs.no
 pub write_run-requires-clause-whole : goal.write_run-requires-clause-whole
 write_run-requires-clause-whole g c = c.in-Ok.ensures.whole
 
+pub write_run-requires-clause-ranges : goal.write_run-requires-clause-ranges
+write_run-requires-clause-ranges g c = c.in-Ok.ensures.ranges
+
 pub returns-clause-gives : goal.returns-clause-gives
 returns-clause-gives g c =
     promised c.args.desc.now c.args.world.now c.args.programs.now _ _ _ _ c.write_run.result c.write_run.new.records (c.reports_keep_the_promise.ensures c.args.desc.now c.args.world.now c.args.programs.now) c.requires c.write_run.ensures.gives

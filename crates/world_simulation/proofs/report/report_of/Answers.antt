@@ -5,4 +5,4 @@ use Rattle.open_node.specs.Journal.{KeepsJournal}
 use Rattle.world_simulation.proofs.report.report_of.Goals as goal
 
 pub returns-clause-keeps : goal.returns-clause-keeps
-returns-clause-keeps c = λ d are. subst (λ (ls : List Log). All (KeepsJournal d (machine_in d)) ls) (sym (ap (λ r. r.nodes) c.new.ensures)) (c.logs_in-logs.ensures.keeps d are)
+returns-clause-keeps c = λ d are. subst (λ (ls : List Log). All (KeepsJournal d (machine_in d)) ls) (sym (ap (λ r. r.nodes) c.new-report.ensures)) (c.logs_in-logs.ensures.keeps d are)

@@ -1,5 +1,8 @@
-use Rattle.std.proofs.Common.{[], refl, ◌∙◌}
+use Rattle.std.proofs.Common.{◌≡◌, ℕ, List, [], drop, refl, ◌∙◌, subst, arith, All}
+use Rattle.mate_journal.specs.Ranges.{HasAiredRanges}
+use Rattle.mate_journal.specs.declared.air.Aired.{Aired}
 use Rattle.world_simulation.proofs.BeginLemmas.{radio-first}
+use Rattle.world_simulation.proofs.RangeLemmas.{none-told}
 use Rattle.world_simulation.proofs.simulation.Simulation.start.Goals as goal
 
 pub returns-clause-stands : goal.returns-clause-stands
@@ -23,3 +26,13 @@ returns-clause-whole c =
 
 pub returns-clause-empty : goal.returns-clause-empty
 returns-clause-empty c = (c.in_ok-motes.ensures []).empty
+
+pub returns-clause-ranges : goal.returns-clause-ranges
+returns-clause-ranges c =
+    let begun = c.in_ok-motes.ensures [] in
+    let gone : c.begin_motes.new.radio.gone ≡ 0 = begun.adds.grows.gone ∙ c.in_ok-schedule_lines.ensures.grows.gone ∙ c.in_ok-radio.ensures.gone in
+    record {
+      motes = none-told c.in_ok-motes.motes.items begun.whole begun.empty;
+      air = subst (λ (n : ℕ). All HasAiredRanges (drop n c.begin_motes.new.radio.air)) gone (subst (λ (xs : List Aired). All HasAiredRanges xs) c.air.ensures c.air_is_in_range_from.ensures);
+      gone = omega (arith, gone);
+    }

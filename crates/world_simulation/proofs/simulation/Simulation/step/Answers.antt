@@ -1,10 +1,13 @@
-use Rattle.std.proofs.Common.{◌≡◌, ℕ, ◌<◌, length, get_or, set, refl, sym, ◌∙◌, ap, arith, rules}
+use Rattle.std.proofs.Common.{◌≡◌, ℕ, ◌<◌, List, length, drop, get_or, set, All, refl, sym, ◌∙◌, ap, subst, arith, rules}
 use Rattle.std.specs.Prelude.{Some, slice_get}
 use Rattle.std.proofs.lemmas.Option.{slice_get-get_or}
+use Rattle.mate_journal.specs.Ranges.{HasAiredRanges}
+use Rattle.mate_journal.specs.declared.air.Aired.{Aired}
 use Rattle.world_step.specs.declared.mote.Mote.{Mote}
 use Rattle.world_states.specs.Coming.{code_world}
 use Rattle.world_simulation.proofs.KeepingLemmas.{few-stand, stands-still, kept-still}
 use Rattle.world_simulation.proofs.MoteLemmas.{piece-adds, kept-set, first-mote, at-mote}
+use Rattle.world_simulation.proofs.RangeLemmas.{told-ranges, event-ranges}
 use Rattle.world_simulation.proofs.StepLemmas.{placed, of-mote, has-more, stands-after, well-of}
 use Rattle.world_simulation.proofs.simulation.Simulation.step.Goals as goal
 
@@ -192,3 +195,28 @@ returns-clause-kept c = λ kept.
     let found : slice_get s.motes.items c.node_of-number.result ≡ Some x =
     ap (slice_get s.motes.items) (sym from) ∙ slice_get-get_or s.motes.items c.from.result x high ∙ ap (λ (m : Mote). Some m) (sym c.index_mut-mote.ensures.value) in
     kept-set s.motes.items c.from.result c.perform.new.mote (kept-still c.args.written c.args.self.now s c.node_of-number.result x c.let_go.ensures.lets_go found low c.kept-before.ensures.keeps kept) c.kept-after.ensures.keeps
+
+pub returns-clause-ranges : goal.returns-clause-ranges
+unfolding returns-clause-adds
+returns-clause-ranges c = λ has.
+    let w = code_world c.args.desc.now c.args.world.now c.args.programs.now in
+    let place = placed c.args.desc.now c.args.world.now c.args.programs.now c.args.event.now c.args.at c.args.self.now (c.states_are_sound.ensures.next c.args.desc.now c.args.world.now c.args.programs.now c.requires.right) (c.states_are_sound.ensures.dues c.args.desc.now c.args.world.now c.args.programs.now c.requires.right) c.requires.stands in
+    let below = place.low in
+    let is = c.node_of-number.ensures in
+    let count = c.requires.stands.nodes in
+    let within : c.node_of-number.result < c.args.world.now.nodes = omega (arith, below, is) in
+    let low : c.node_of-number.result < length c.args.self.now.motes.items = omega (arith, within, count) in
+    let s = c.let_go.new.self in
+    let b = stands-still c.args.written c.args.self.now s c.node_of-number.result w c.args.event.now c.args.at c.let_go.ensures.lets_go low c.requires.stands in
+    let x = c.index_mut-mote.result.now in
+    let y = c.perform.new.mote in
+    let nodes = b.nodes in
+    let from = c.from.ensures in
+    let high : c.from.result < length s.motes.items = omega (arith, within, nodes, from) in
+    let found : slice_get s.motes.items c.node_of-number.result ≡ Some x =
+    ap (slice_get s.motes.items) (sym from) ∙ slice_get-get_or s.motes.items c.from.result x high ∙ ap (λ (m : Mote). Some m) (sym c.index_mut-mote.ensures.value) in
+    let a = returns-clause-adds c in
+    event-ranges c.args.at.event c.node_of-number.result s _ a.adds x y found (ap (λ (n : ℕ). set s.motes.items n y) c.from.ensures) c.kept-before.result.now c.kept-after.result.now c.of-size.result (length c.air-heard.result.now) c.kept-before.ensures.kept
+    c.of-size.ensures c.kept-after.ensures.kept c.log_is_in_range_from.ensures (ap (λ (xs : List Aired). length xs) c.air-heard.ensures)
+    (subst (λ (xs : List Aired). All HasAiredRanges (drop (length c.air-heard.result.now) xs)) c.air.ensures c.air_is_in_range_from.ensures)
+    (told-ranges c.args.written c.args.self.now s c.node_of-number.result c.let_go.ensures.lets_go has)
