@@ -25,7 +25,7 @@ use Rattle.world_images.specs.Versions.{WasInjected}
 use Rattle.world_images.proofs.Versions.{installs_injected}
 use Rattle.hop_bound.proofs.Premises.{SaysInject, says-inject, plans_rightly}
 use Rattle.world_states.proofs.Programs.{right-script}
-use Rattle.world_sources.specs.SourceWorld.{source_world}
+use Rattle.world_states.specs.SourceWorld.{source_world}
 use Rattle.audit_rules.specs.Laws.{IsOneOf}
 use Rattle.audit_laws.specs.NodeInstalls.{IsInstallOf, InstallPrograms}
 

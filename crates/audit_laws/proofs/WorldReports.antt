@@ -21,7 +21,7 @@ use Rattle.world_rules.specs.Run.{FirstThen, DeedMakes, HaveCome, EndsJournal, I
 use Rattle.world_rules.specs.Report.{IsLogOf, IsWorldReport}
 use Rattle.world_laws.proofs.Journals.{journal-here, journal-other, reads_journals}
 use Rattle.world_images.proofs.Agree.{by_made, occasions-none, settles-none}
-use Rattle.world_sources.specs.SourceWorld.{source_world}
+use Rattle.world_states.specs.SourceWorld.{source_world}
 use Rattle.audit_rules.specs.Laws.{IsOneOf, InstallsProgram}
 use Rattle.audit_rules.specs.Verdicts.{LogKeepsAll, IsVerdict}
 use Rattle.audit_verdict.specs.declared.law.Verdict.TheVariants.{Serial}

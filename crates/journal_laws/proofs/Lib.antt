@@ -10,3 +10,7 @@ pub mod ScriptRuns
 pub mod TidyLemmas
 pub mod GoesOnLemmas
 pub mod FewLemmas
+pub mod WaitsApart
+pub mod Staying
+pub mod Settling
+pub mod FewAtOnce

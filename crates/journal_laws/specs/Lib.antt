@@ -1,3 +1,4 @@
 pub mod Growth
 pub mod Apart
 pub mod Progress
+pub mod Waiting

@@ -5,7 +5,7 @@ use Rattle.vm_desc.specs.declared.description.Description.{Description}
 use Rattle.vm_desc.specs.declared.function.Function.{Function}
 use Rattle.vm_desc.specs.declared.function.FunKind.{FunKind}
 use Rattle.vm_desc.specs.declared.function.FunKind.TheVariants.{Act}
-use Rattle.generated_source.specs.Source.{reads_sensor, first_sensor, source_with, source_of}
+use Rattle.world_maker.specs.Source.{reads_sensor, first_sensor, source_with, source_of}
 
 pub of_actuator : (d : Description) (f : Function) → d.shared.items ≡ codes "a" ∷ [] → d.functions.items ≡ f ∷ [] → f.kind ≡ Act 1 → source_of d 3 ≡ codes "shared a; a = a + 3;"
 unfolding source_of

@@ -4,7 +4,7 @@ ghost use Rattle.std.specs.Prelude.{◌≡◌, [], ◌∷◌, codes, IfOk};
 ghost use Rattle.vm_desc.specs.declared.function.Function.{Function as Called};
 ghost use Rattle.vm_desc.specs.declared.function.FunKind.TheVariants.{Act};
 
-use generated_source::source_of;
+use world_maker::source_of;
 use mate_num::{NoMemory, Text};
 use std::alloc::Global;
 use vm_desc::Description;

@@ -32,7 +32,7 @@ use Rattle.ts_scope.specs.Names.{function_from}
 use Rattle.ts_checker.specs.Checks.{checked_source, checked_block, checked_expr}
 use Rattle.ts_scope.specs.declared.fault.CheckFault.TheVariants.{NotInVm}
 use Rattle.ts_meaning.specs.Translation.{number_code, script_size, script_need}
-use Rattle.generated_source.specs.Source.{first_sensor, sensor_term, source_head, assignment, source_with, source_of}
+use Rattle.world_maker.specs.Source.{first_sensor, sensor_term, source_head, assignment, source_with, source_of}
 use Rattle.sound_sources.specs.Sound.{IsSoundSource}
 use Rattle.sound_sources.proofs.NameLemmas.{IsOneName, name_is_one, same_bytes, sensor_name, IsSensor, found_sensor, last_of_two}
 use Rattle.sound_sources.proofs.CutLemmas.{target_place, operand_place, sensor_place, head_tokens, digit_tokens, call_tokens, text_with, digit_text, call_text, head_cut, digit_cut, call_cut}

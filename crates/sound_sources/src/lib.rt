@@ -3,7 +3,7 @@
 
 ghost use Rattle.std.specs.Prelude.{ℕ, ◌≤◌};
 ghost use Rattle.vm_desc.specs.declared.description.Description.{Description};
-ghost use Rattle.generated_source.specs.Source.{source_of};
+ghost use Rattle.world_maker.specs.Source.{source_of};
 ghost use Rattle.sound_sources.specs.Sound.{IsSoundSource};
 
 /// The law of made sources: whatever a machine's names are, it accepts the source that is made for it, and the code

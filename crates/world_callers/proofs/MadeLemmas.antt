@@ -3,7 +3,7 @@ use Rattle.std.proofs.Common.{◌≡◌, ℕ, List, [], ◌∷◌, ◌++◌, len
 use Rattle.std.specs.Prelude.{codes, pos, replicate, slice_get, IfOk}
 use Rattle.vm_desc.specs.declared.description.Description.{Description}
 use Rattle.vm_desc.specs.declared.function.Function.{Function}
-use Rattle.generated_source.specs.Source.{source_of, source_with, first_sensor}
+use Rattle.world_maker.specs.Source.{source_of, source_with, first_sensor}
 use Rattle.world_script.specs.declared.world.Planned.{Planned}
 use Rattle.world_script.specs.declared.world.What.TheVariants as what
 use Rattle.world_script.specs.declared.world.World.{World}

@@ -14,7 +14,7 @@ use Rattle.world_script.specs.declared.world.World.{World as Script}
 use Rattle.vm_desc.specs.declared.description.Description.{Description}
 use Rattle.radio_sim.specs.declared.event.Event.{Event}
 use Rattle.radio_sim.specs.Radio.{Ether}
-use Rattle.call_waits.specs.Waiting.{WaitApart, AreAwaited}
+use Rattle.journal_laws.specs.Waiting.{WaitApart, AreAwaited}
 use Rattle.world_rules.specs.Cause.{Cause}
 use Rattle.world_rules.specs.World.{World}
 use Rattle.world_rules.specs.Effect.{Node, event_node, node_effect}

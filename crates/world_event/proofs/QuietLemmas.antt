@@ -7,7 +7,7 @@ use Rattle.packet_codec.specs.declared.packet.Packet.{Packet}
 use Rattle.mate_journal.specs.Journal.{Told, Posted, Dropped, Started, Asked, Answered, Ended, Installed, Reset, Seen, Void, Reading}
 use Rattle.world_rules.specs.World.{World}
 use Rattle.world_rules.specs.State.{message_in, messages, asked_by, calls_in, answers_due}
-use Rattle.call_waits.specs.Waiting.{asked_of}
+use Rattle.journal_laws.specs.Waiting.{asked_of}
 use Rattle.world_step.specs.Answering.{answer_items, with_call}
 use Rattle.world_step.proofs.AnswerLemmas.{due-front}
 use Rattle.world_event.specs.Finishing.{CallNothing}

@@ -18,7 +18,7 @@ use Rattle.vm_desc.specs.declared.description.Description.{Description}
 use Rattle.vm_desc.proofs.DescriptionLemmas.{bounds_of}
 use Rattle.open_node.proofs.CallLemmas.{Tells-by}
 use Rattle.world_step.proofs.NodeLemmas.{tells-behind}
-use Rattle.call_waits.specs.Waiting.{WaitApart, WaitSmall, AreAwaited, AreFollowing, HasFewContexts, JournalsWaitApart, JournalsWaitSmall, SettlingAwaits, SettlingTellsFew}
+use Rattle.journal_laws.specs.Waiting.{WaitApart, WaitSmall, AreAwaited, AreFollowing, HasFewContexts, JournalsWaitApart, JournalsWaitSmall, SettlingAwaits, SettlingTellsFew}
 use Rattle.open_node.specs.Calls.{IsNoneReady, told_by_entries, told_from}
 use Rattle.world_handling.specs.Handling.{IsPaced}
 use Rattle.world_event.proofs.ToldLemmas.{tells-heard, told-behind}

@@ -13,7 +13,7 @@ use Rattle.world_rules.specs.State.{Moment, WorldState, node_at, effect_at, air_
 use Rattle.world_air.specs.Air.{radio_event, aired_at, IsAirOf, AreFitPackets}
 use Rattle.world_air.specs.Changes.{AreNear}
 use Rattle.world_calls.specs.Calls.{AreCallsOf}
-use Rattle.call_waits.specs.Waiting.{WaitApart, AreAwaited, asked_of}
+use Rattle.journal_laws.specs.Waiting.{WaitApart, AreAwaited, asked_of}
 use Rattle.world_handling.specs.Handling.{IsEffectOf}
 use Rattle.world_step.specs.declared.effect.Effect.{Effect}
 use Rattle.world_step.specs.declared.mote.Mote.{Mote}

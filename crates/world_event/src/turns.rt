@@ -8,10 +8,10 @@ ghost use Rattle.node_invariant.specs.Meaning.{machine_in, clock_of};
 ghost use Rattle.node_invariant.specs.Keeps.{IsTimely};
 ghost use Rattle.open_node.specs.View.{heard_of, Tells};
 ghost use Rattle.open_node.specs.Calls.{told_from};
-ghost use Rattle.call_waits.specs.Waiting.{WaitApart, AreAwaited};
+ghost use Rattle.journal_laws.specs.Waiting.{WaitApart, AreAwaited};
 ghost use Rattle.world_handling.specs.Handling.{IsPaced};
 
-use call_waits::{settling_leaves_waiting, settling_tells_few, waits_are_apart};
+use journal_laws::{settling_leaves_waiting, settling_tells_few, waits_are_apart};
 use mate_num::{NoMemory, Stamp};
 use open_node::OpenNode;
 

@@ -12,3 +12,4 @@ pub mod Timing
 pub mod Packets
 pub mod Periods
 pub mod Placed
+pub mod Given

@@ -6,3 +6,4 @@ pub mod Calls
 pub mod Arrivals
 pub mod Timing
 pub mod Packets
+pub mod Given

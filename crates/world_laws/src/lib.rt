@@ -1,4 +1,4 @@
-//! What follows from the rules of a world: of causes and their order, calls and answers, packets, intervals, and journals.
+//! What follows from the rules of a world: of causes and their order, calls and answers, packets, intervals, journals, and what comes from outside.
 #![tactic(auto)]
 
 ghost use Rattle.world_rules.specs.World.{World};
@@ -10,6 +10,7 @@ ghost use Rattle.world_laws.specs.Journals.{ReadsJournals};
 ghost use Rattle.world_laws.specs.Slots.{SendsInTime};
 ghost use Rattle.world_laws.specs.Times.{FiresInTime, IsRightSet};
 ghost use Rattle.world_laws.specs.Timing.{PointsDecide, TimersStand};
+ghost use Rattle.world_laws.specs.Given.{CalledAreTold, EventsGiveTheirs, JournalsTellWhatCame, PostsHaveTheirPayload};
 
 /// At one time the events stand in the order in which their causes were scheduled, each once; and each cause whose time the
 /// run reached has its event at that time, unless an event before it cancels it. So each multiple of a timer handler's period that
@@ -59,4 +60,18 @@ pub fn exchanges_keep_their_rules()
     ensures reasons { (w : World) → PacketsHaveReasons w }
     ensures stand { (w : World) → ExchangesStand w }
     ensures installs { (w : World) → InstallsHaveReasons w }
+{}
+
+/// Each occasion makes one Post or one Dropped, with the occasion's payload; each answer that comes, each install and each
+/// reset has one entry; a store is seen where a line shows it and before each install and reset; and nothing else is posted,
+/// answered, installed, reset, seen or refused.
+pub fn events_tell_theirs()
+    ensures events { (w : World) → EventsGiveTheirs w }
+    ensures journals { (w : World) → JournalsTellWhatCame w }
+    ensures payloads { (w : World) → PostsHaveTheirPayload w }
+{}
+
+/// The calls that are counted for an answer's value are all that the node's journal tells.
+pub fn calls_are_told()
+    ensures { (w : World) → CalledAreTold w }
 {}

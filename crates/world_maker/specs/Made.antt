@@ -2,7 +2,7 @@
 use Rattle.std.specs.Prelude.{ℕ, zero, suc, ◌+◌, ◌-◌, ◌*◌, ◌%◌, nat_lt, pos, true, if◌then◌else◌, List, [], ◌∷◌, ◌++◌, length, map, replicate}
 use Rattle.std.specs.List.{range_with_len}
 use Rattle.vm_desc.specs.declared.description.Description.{Description}
-use Rattle.generated_source.specs.Source.{source_of}
+use Rattle.world_maker.specs.Source.{source_of}
 use Rattle.world_script.specs.declared.world.World.{World}
 use Rattle.world_script.specs.declared.world.Link.{Link}
 use Rattle.world_script.specs.declared.world.Planned.{Planned}

@@ -4,5 +4,7 @@
 mod events;
 mod links;
 pub mod made;
+pub mod source;
 
 pub use made::{Generated, generate};
+pub use source::source_of;

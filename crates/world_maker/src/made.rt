@@ -1,13 +1,13 @@
 //! The world of a number, with its sources.
 
 ghost use Rattle.std.specs.Prelude.{◌≡◌, ◌≤◌, ◌++◌, ◌*◌, [], length, replicate, IfOk, OnOk};
-ghost use Rattle.generated_source.specs.Source.{source_of};
+ghost use Rattle.world_maker.specs.Source.{source_of};
 ghost use Rattle.world_script.specs.World.{IsRightWorld};
 ghost use Rattle.world_maker.specs.Made.{node_count, made_world, made_sources};
 
 use crate::events::plan_of;
 use crate::links::ring;
-use generated_source::source_of;
+use crate::source::source_of;
 use mate_num::{Items, NoMemory, Text, Texts};
 use std::alloc::Global;
 use vm_desc::Description;

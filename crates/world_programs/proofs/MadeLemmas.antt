@@ -5,7 +5,7 @@ use Rattle.std.specs.List.{range_with_len}
 use Rattle.std.proofs.lemmas.Bool.{cases_lt}
 use Rattle.std.proofs.lemmas.List.{length-replicate, length_push}
 use Rattle.std.proofs.lemmas.List.Elements.{All-nil, All-cons, All-append, All-weaker}
-use Rattle.generated_source.specs.Source.{source_of, source_with, source_head, assignment, first_sensor}
+use Rattle.world_maker.specs.Source.{source_of, source_with, source_head, assignment, first_sensor}
 use Rattle.sound_sources.proofs.NameLemmas.{name_is_one, sensor_name}
 use Rattle.std.specs.List.{list_all}
 use Rattle.std.proofs.lemmas.Bool.{and_parts}

@@ -1,7 +1,7 @@
 //! The world of a number, with the programs of its sources.
 
 ghost use Rattle.std.specs.Prelude.{◌≡◌, ◌≤◌, ◌<◌, ◌++◌, ◌∷◌, [], ℕ, length, replicate, IfOk, IfErr, OnOk};
-ghost use Rattle.generated_source.specs.Source.{source_of};
+ghost use Rattle.world_maker.specs.Source.{source_of};
 ghost use Rattle.mate_refusals.specs.declared.refusal.Refusal.TheVariants.{NoMemory};
 ghost use Rattle.mate_steps.specs.Steps.{obtained};
 ghost use Rattle.node_programs.specs.Right.{IsRightProgram};

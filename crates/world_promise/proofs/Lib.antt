@@ -1,1 +1,10 @@
 pub mod PromiseLemmas
+pub mod Journals
+pub mod Lines
+pub mod Reached
+pub mod Bound
+pub mod Stamps
+pub mod AirRecords
+pub mod AirOrder
+pub mod Marks
+pub mod Tidy

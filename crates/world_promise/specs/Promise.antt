@@ -15,8 +15,8 @@ use Rattle.node_programs.specs.WorldPrograms.{AreProgramsOfWorld}
 use Rattle.report_text.specs.Tidy.{IsTidy}
 use Rattle.world_script.specs.declared.world.World.{World as Script}
 use Rattle.world_rules.specs.Report.{IsWorldReport}
-use Rattle.world_sources.specs.SourceWorld.{source_world}
-use Rattle.world_bound_laws.specs.Bound.{KeepsTheBound}
+use Rattle.world_states.specs.SourceWorld.{source_world}
+use Rattle.world_promise.specs.Bound.{KeepsTheBound}
 
 -- It is a report of a run, that ends so, of the world whose programs, which are right, mean their sources. It is tidy, and its numbers are in the ranges
 -- of their types: so its text is read back. Where suppression

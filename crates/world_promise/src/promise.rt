@@ -12,10 +12,9 @@ ghost use Rattle.world_rules.specs.Report.{IsWorldReport};
 ghost use Rattle.world_states.specs.Coming.{code_world};
 ghost use Rattle.world_promise.specs.Promise.{IsReportOfWorld};
 
+use crate::laws::{reports_keep_the_bound, world_report_is_tidy};
 use journal_laws::{ends_as_posted, is_never_stuck};
-use world_bound_laws::reports_keep_the_bound;
-use world_reports::world_report_is_tidy;
-use world_sources::worlds_hold_by_their_sources;
+use world_states::worlds_hold_by_their_sources;
 
 /// A report of the world whose nodes run their code keeps all that is promised of one, where its numbers are in the ranges of their types.
 pub fn reports_keep_the_promise()

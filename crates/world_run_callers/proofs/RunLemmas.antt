@@ -19,7 +19,7 @@ use Rattle.world_rules.specs.State.{Moment}
 use Rattle.world_rules.specs.World.{World}
 use Rattle.run_writing.specs.Writing.{RunsInto}
 use Rattle.world_sim.specs.Promise.{IsReportOfWorld, WorldRunGives}
-use Rattle.world_sources.specs.SourceWorld.{source_world}
+use Rattle.world_states.specs.SourceWorld.{source_world}
 use Rattle.world_run_callers.specs.Runs.{CameWithRoom, EndsSeen, IsFullBehind}
 
 of_report : (w : World) (r report : Report) → LogFull r ≡ LogFull report → IsWorldReport w Full r → IsFullBehind w report.events

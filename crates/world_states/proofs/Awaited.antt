@@ -8,8 +8,8 @@ use Rattle.mate_num.specs.declared.id.ContextId.{ContextId}
 use Rattle.mate_journal.specs.Journal.{Invocation, Reading, heard_told}
 use Rattle.mate_journal.specs.WellFormed.{IsWaiting}
 use Rattle.trickle_timer.specs.Timer.{Timer}
-use Rattle.call_waits.specs.Waiting.{AreFollowing}
-use Rattle.call_waits.proofs.Staying.{waits-same}
+use Rattle.journal_laws.specs.Waiting.{AreFollowing}
+use Rattle.journal_laws.proofs.Staying.{waits-same}
 use Rattle.journal_laws.proofs.Apart.{IsNumbered}
 use Rattle.world_rules.specs.Cause.{Cause}
 use Rattle.world_rules.specs.Cause as event

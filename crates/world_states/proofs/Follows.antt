@@ -14,9 +14,9 @@ use Rattle.mate_journal.specs.Machine.{Machine, Meaning}
 use Rattle.mate_journal.specs.Described.{machine_of, contexts_of}
 use Rattle.mate_journal.specs.Journal.{Told, Event, Reading, nothing_heard, heard, heard_all, AtEachEntry}
 use Rattle.mate_journal.specs.WellFormed.{MayFollow}
-use Rattle.call_waits.specs.Waiting.{AreFollowing, HasFewContexts, WaitApart, WaitSmall}
-use Rattle.call_waits.proofs.Staying.{numbered-after}
-use Rattle.call_waits.proofs.Apart.{apart-after, nothing_heard-apart, live-waits_apart, small-after, nothing_heard-small, live-waits_small}
+use Rattle.journal_laws.specs.Waiting.{AreFollowing, HasFewContexts, WaitApart, WaitSmall}
+use Rattle.journal_laws.proofs.Staying.{numbered-after}
+use Rattle.journal_laws.proofs.WaitsApart.{apart-after, nothing_heard-apart, live-waits_apart, small-after, nothing_heard-small, live-waits_small}
 use Rattle.journal_laws.proofs.Append.{AtEachEntry-front, AtEachEntry-back}
 use Rattle.journal_laws.proofs.Apart.{IsNumbered}
 use Rattle.world_rules.specs.World.{World}

@@ -11,7 +11,7 @@ use Rattle.mate_journal.specs.declared.program.Program.{Program}
 use Rattle.node_invariant.specs.Meaning.{meaning_of, clock_of}
 use Rattle.node_programs.specs.ScriptSteps.{program_at}
 use Rattle.world_script.specs.declared.world.World.{World as Script}
-use Rattle.call_waits.specs.Waiting.{HasFewContexts}
+use Rattle.journal_laws.specs.Waiting.{HasFewContexts}
 use Rattle.world_rules.specs.Cause.{Cause}
 use Rattle.world_rules.specs.Cause as event
 use Rattle.world_rules.specs.World.{World}

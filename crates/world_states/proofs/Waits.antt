@@ -13,9 +13,9 @@ use Rattle.mate_journal.specs.WellFormed.{IsWaiting, MayFollow}
 use Rattle.mate_journal.specs.NodeScript.{Occasion}
 use Rattle.mate_journal.specs.Pace.{Pace, paced_all}
 use Rattle.mate_journal.specs.Turns.{Clock, Settles}
-use Rattle.call_waits.specs.Waiting.{AreFollowing, ends_wait}
-use Rattle.call_waits.proofs.Staying.{waits-same, goes_on-told, follow-front, follow-back}
-use Rattle.call_waits.proofs.Settling.{IsOfTurn, AreOfTurns, starts-of_turns, settles-of_turns}
+use Rattle.journal_laws.specs.Waiting.{AreFollowing, ends_wait}
+use Rattle.journal_laws.proofs.Staying.{waits-same, goes_on-told, follow-front, follow-back}
+use Rattle.journal_laws.proofs.Settling.{IsOfTurn, AreOfTurns, starts-of_turns, settles-of_turns}
 use Rattle.journal_laws.proofs.Moves.{asked-Moves, answered-Moves}
 use Rattle.journal_laws.proofs.Apart.{IsNumbered, numbered-step}
 use Rattle.world_rules.specs.Effect.{Deed, Nothing, Installing, Posting, Answering, Showing, Resetting, cuts}

@@ -11,7 +11,7 @@ use Rattle.world_script.specs.declared.world.What.{What}
 use Rattle.world_script.specs.declared.world.What.TheVariants as what
 use Rattle.world_script.specs.World.{IsRightWorld}
 use Rattle.capsule_exchange.specs.Happenings.{IsOpen}
-use Rattle.call_waits.specs.Waiting.{WaitApart, WaitSmall}
+use Rattle.journal_laws.specs.Waiting.{WaitApart, WaitSmall}
 use Rattle.world_rules.specs.Cause.{Cause}
 use Rattle.world_rules.specs.World.{World, handlers}
 use Rattle.world_rules.specs.Effect.{Node, event_node}

@@ -1,4 +1,4 @@
-//! What stands between the events of a world: whatever comes next finds what it needs.
+//! What stands between the events of a world: whatever comes next finds what it needs. And what its report says by code, said by sources.
 #![tactic(auto)]
 
 ghost use Rattle.std.specs.Prelude.{List};
@@ -10,6 +10,10 @@ ghost use Rattle.node_programs.specs.ScriptSteps.{program_at};
 ghost use Rattle.world_states.specs.Coming.{code_world};
 ghost use Rattle.node_programs.specs.WorldPrograms.{AreProgramsOfWorld};
 ghost use Rattle.world_states.specs.Sound.{NextMayCome, NodesAreSound, DuesAreOfNodes};
+ghost use Rattle.mate_journal.specs.NodeScript.{RunEnd};
+ghost use Rattle.mate_journal.specs.declared.report.Report.{Report};
+ghost use Rattle.world_rules.specs.Report.{IsWorldReport};
+ghost use Rattle.world_states.specs.SourceWorld.{source_world};
 
 /// In a right world with right programs, whatever event is due next finds what it needs: its line, handler, context or link is
 /// there, an answer comes to the one invocation that waits in its context, a packet is right for the machine, an interval ends at
@@ -20,4 +24,11 @@ pub fn states_are_sound()
     ensures nodes { (d : Description) (script : Script) (ps : List Program) → AreProgramsOfWorld d script ps → NodesAreSound (code_world d script ps) }
     ensures dues { (d : Description) (script : Script) (ps : List Program) → AreProgramsOfWorld d script ps → DuesAreOfNodes (code_world d script ps) }
     ensures script { (d : Description) (script : Script) (ps : List Program) → AreProgramsOfWorld d script ps → IsRightScript d script (program_at ps) }
+{}
+
+/// Where a script's programs are right, a report of the world whose nodes run their code is one of the world in which they mean
+/// their sources.
+pub fn worlds_hold_by_their_sources()
+    ensures { (d : Description) (script : Script) (ps : List Program) (how : RunEnd) (r : Report) →
+        AreProgramsOfWorld d script ps → IsWorldReport (code_world d script ps) how r → IsWorldReport (source_world d script ps) how r }
 {}

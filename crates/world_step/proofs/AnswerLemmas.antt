@@ -8,7 +8,7 @@ use Rattle.mate_journal.specs.declared.entry.Stamped.{Stamped}
 use Rattle.world_rules.specs.World.{World}
 use Rattle.world_rules.specs.State.{Scheduled, answers_due, calls_in}
 use Rattle.world_air.specs.Air.{timed_event, timed_events}
-use Rattle.call_waits.specs.Waiting.{asked_of, IsAwaitedBy, AreAwaited}
+use Rattle.journal_laws.specs.Waiting.{asked_of, IsAwaitedBy, AreAwaited}
 use Rattle.open_node.specs.Calls.{told_by_entries}
 use Rattle.world_step.specs.Answering.{answer_items, with_call}
 

@@ -15,7 +15,7 @@ ghost use Rattle.world_rules.specs.State.{answers_due, calls_in};
 ghost use Rattle.world_calls.specs.Calls.{AreCallsOf, HasSensors};
 ghost use Rattle.world_air.specs.Air.{timed_event, timed_events};
 ghost use Rattle.world_air.specs.Changes.{AddsToAir};
-ghost use Rattle.call_waits.specs.Waiting.{WaitApart, WaitsWithin, IsAwaitedBy, AreAwaited, asked_of};
+ghost use Rattle.journal_laws.specs.Waiting.{WaitApart, WaitsWithin, IsAwaitedBy, AreAwaited, asked_of};
 ghost use Rattle.world_step.specs.Answering.{answer_item, answer_items, with_call};
 
 use mate_journal::{Entry, Stamped};

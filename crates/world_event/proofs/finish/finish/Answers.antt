@@ -9,7 +9,7 @@ use Rattle.world_rules.specs.State.{node_at, messages, answers_due, calls_in}
 use Rattle.world_air.specs.Air.{IsAirOf, SendsAll, timed_events}
 use Rattle.world_air.specs.Changes.{AddsToAir}
 use Rattle.world_calls.specs.Calls.{AreCallsOf, HasSensors}
-use Rattle.call_waits.specs.Waiting.{AreAwaited}
+use Rattle.journal_laws.specs.Waiting.{AreAwaited}
 use Rattle.world_states.specs.Coming.{code_world}
 use Rattle.world_event.proofs.FinishLemmas.{stands-same, stands-added}
 use Rattle.world_event.proofs.FinishedLemmas.{finished-by}

@@ -1,5 +1,5 @@
 use Rattle.std.proofs.Common.{◌≡◌, ◌++◌, replicate}
-use Rattle.generated_source.specs.Source.{source_of}
+use Rattle.world_maker.specs.Source.{source_of}
 use Rattle.world_maker.proofs.made.add_sources.Given as goal
 
 abbrev pub invariant-loop : goal.invariant-loop

@@ -7,7 +7,7 @@ use Rattle.world_calls.specs.Calls.{AreCallsOf}
 use Rattle.world_air.specs.Air.{timed_events}
 use Rattle.world_air.specs.Changes.{AddsToAir}
 use Rattle.world_air.proofs.ChangeLemmas.{adds-nothing}
-use Rattle.call_waits.specs.Waiting.{IsAwaitedBy, asked_of}
+use Rattle.journal_laws.specs.Waiting.{IsAwaitedBy, asked_of}
 use Rattle.world_step.specs.Answering.{answer_items, with_call}
 use Rattle.world_step.proofs.answers.answer_entry.Goals as goal
 

@@ -1,7 +1,7 @@
 use Rattle.std.proofs.Common.{◌≤◌}
 use Rattle.mate_journal.specs.WellFormed.{IsWaiting}
 use Rattle.open_node.specs.View.{heard_of}
-use Rattle.call_waits.specs.Waiting.{WaitApart}
+use Rattle.journal_laws.specs.Waiting.{WaitApart}
 use Rattle.world_step.proofs.answers.context_of.Given as goal
 
 abbrev pub invariant-loop-ctx : goal.invariant-loop-ctx

@@ -12,7 +12,7 @@ use Rattle.world_calls.specs.Calls.{AreCallsOf}
 use Rattle.world_air.specs.Air.{timed_events}
 use Rattle.world_air.specs.Changes.{AddsToAir}
 use Rattle.world_air.proofs.ChangeLemmas.{adds-nothing, adds-both}
-use Rattle.call_waits.specs.Waiting.{asked_of}
+use Rattle.journal_laws.specs.Waiting.{asked_of}
 use Rattle.open_node.specs.Calls.{told_by_entries}
 use Rattle.world_step.specs.Answering.{answer_items}
 use Rattle.world_step.proofs.AnswerLemmas.{awaited-at, due-more, calls-more}

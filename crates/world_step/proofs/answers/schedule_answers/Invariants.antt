@@ -7,7 +7,7 @@ use Rattle.world_rules.specs.State.{answers_due, calls_in}
 use Rattle.world_calls.specs.Calls.{AreCallsOf, HasSensors}
 use Rattle.world_air.specs.Air.{timed_events}
 use Rattle.world_air.specs.Changes.{AddsToAir}
-use Rattle.call_waits.specs.Waiting.{WaitApart, AreAwaited}
+use Rattle.journal_laws.specs.Waiting.{WaitApart, AreAwaited}
 use Rattle.open_node.specs.Calls.{told_by_entries}
 use Rattle.world_step.proofs.answers.schedule_answers.Given as goal
 

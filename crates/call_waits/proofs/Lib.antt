@@ -1,4 +1,0 @@
-pub mod Apart
-pub mod Staying
-pub mod Settling
-pub mod Few

@@ -1,0 +1,28 @@
+//! Who waits for the answers to its calls.
+
+ghost use Rattle.mate_journal.specs.Machine.{Machine};
+ghost use Rattle.journal_laws.specs.Waiting.{JournalsWaitApart, JournalsWaitSmall, WaitingGoesOn, SettlingLeavesWaiting, SettlingAwaits, SettlingTellsFew};
+
+/// In a well-formed journal the invocations that wait have contexts of their own; of a machine with at most 16 contexts, these
+/// are below 16.
+pub fn waits_are_apart()
+    ensures apart { (m : Machine) → JournalsWaitApart m }
+    ensures small { (m : Machine) → JournalsWaitSmall m }
+{}
+
+/// Behind a well-formed journal an invocation that waits stays as it is, until an entry answers it or begins an era.
+pub fn waiting_goes_on()
+    ensures { (m : Machine) → WaitingGoesOn m }
+{}
+
+/// While the turns of a node settle, and each entry may follow, an invocation that waits goes on waiting; and one that calls
+/// then waits at their end.
+pub fn settling_leaves_waiting()
+    ensures stays { (m : Machine) → SettlingLeavesWaiting m }
+    ensures awaits { (m : Machine) → SettlingAwaits m }
+{}
+
+/// While the turns of a node settle, at most 32 entries are told.
+pub fn settling_tells_few()
+    ensures { (m : Machine) → SettlingTellsFew m }
+{}

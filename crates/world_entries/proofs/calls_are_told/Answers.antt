@@ -1,5 +1,0 @@
-use Rattle.world_entries.proofs.Given.{called_are_told}
-use Rattle.world_entries.proofs.calls_are_told.Goals as goal
-
-pub returns : goal.returns
-returns c = λ w. called_are_told w
