@@ -2,3 +2,4 @@ pub mod Refusal
 pub mod Names
 pub mod Room
 pub mod Seen
+pub mod Keywords

@@ -2,7 +2,9 @@
 #![tactic(auto)]
 
 pub mod fault;
+pub mod laws;
 pub mod scope;
 
 pub use fault::CheckFault;
+pub use laws::keywords_are_no_names;
 pub use scope::Scope;
