@@ -1,47 +1,38 @@
 -- Numbers in words.
-use Rattle.std.proofs.Common.{◌≡◌, ℕ, ℤ, pos, neg_ℤ, ◌^◌, ◌<◌, ◌≤◌, Bool, true, false, ◌&&◌, ◌==◌, not, nat_le, cond, List, [], ◌∷◌, length, Result, Ok, Err, Option, Some, None, MatchOption, zero, suc, get_or, lit<, refl, sym, ◌∙◌, ap, subst, arith}
+use Rattle.std.proofs.Common.{◌≡◌, ℕ, ℤ, pos, neg_ℤ, ◌^◌, ◌<◌, ◌≤◌, Bool, true, false, ◌&&◌, ◌==◌, not, nat_le, cond, List, [], ◌∷◌, length, Result, Ok, Err, Option, Some, None, MatchOption, zero, suc, get_or, take, take_all, ◌+◌, ◌*◌, lit<, lit≤, refl, ◌∙◌, ap, subst, arith}
 use Rattle.std.specs.List.{list_all}
-use Rattle.std.specs.Char.{is_ascii_digit}
-use Rattle.std.specs.Str.{all_ascii_digits, IsUtf8}
-use Rattle.std.specs.Str.Parse.{digits_value, ParsesUnsigned}
+use Rattle.std.specs.Char.{digit_value}
+use Rattle.std.specs.Str.{IsUtf8}
+use Rattle.std.specs.Str.Parse.{digits_value}
 use Rattle.std.proofs.lemmas.Bool.{and_parts, leb-true}
 use Rattle.std.proofs.lemmas.Bool.Decides.{nat_tests}
 use Rattle.std.proofs.lemmas.Str.{IsUtf8-from_ascii}
-use Rattle.std.specs.Result.{OkIff, result_ok}
-use Rattle.std.proofs.lemmas.Str.Parse.{IsNumeralModel, numerals_by_value, tells_all_ascii_digits, parse_digits}
+use Rattle.std.proofs.lemmas.Str.Parse.{digits_value-take-le}
+use Rattle.std.proofs.lemmas.Int.Digits.{digits_value_more}
 use Rattle.std.specs.Int.{w16}
 use mir.Val.{SFits}
 use Rattle.script_reader.specs.declared.fault.Cause.{Cause}
 use Rattle.script_reader.specs.declared.fault.Cause.TheVariants.{Range}
-use Rattle.script_reader.specs.Words.{Taken, and_then, found, printed, within, signed, number_of, value_of, a_value, is_printable, is_numeral}
+use Rattle.script_reader.specs.Words.{Taken, and_then, found, printed, within, signed, number_of, value_of, a_value, is_printable}
 
-same_digits : (ds : List ℕ) → list_all is_ascii_digit ds ≡ all_ascii_digits ds
-same_digits [] = refl
-same_digits (d ∷ ds) = ap (λ b. is_ascii_digit d && b) (same_digits ds)
+-- where a digit more is too much, so are all
+pub overflows : (w : List ℕ) (place n : ℕ) → n ≡ digits_value 10 (take place w) → place < length w
+    → 2 ^ 64 ≤ n * 10 + digit_value (get_or w place 0) → 2 ^ 64 ≤ digits_value 10 w
+overflows w place n same within large =
+    let more = digits_value_more 10 w place within in
+    let less = digits_value-take-le 10 w (place + 1) (lit≤ tt) in
+    omega (arith, same, more, less, large)
 
-model : IsNumeralModel (λ ds. all_ascii_digits ds ≡ true) (digits_value 10)
-model = numerals_by_value (λ ds. all_ascii_digits ds ≡ true) tells_all_ascii_digits
+-- a digit more
+pub one_more_digit : (w : List ℕ) (place n m : ℕ) → n ≡ digits_value 10 (take place w) → place < length w
+    → m ≡ n * 10 + digit_value (get_or w place 0) → m ≡ digits_value 10 (take (place + 1) w)
+one_more_digit w place n m same within is =
+    let more = digits_value_more 10 w place within in
+    omega (arith, same, more, is)
 
-some_len : (n : ℕ) → not (n == 0) ≡ true → 0 < n
-some_len n h = grind arith
-
-large : (n : ℕ) → (n < 2 ^ 64 → ⊥) → 2 ^ 64 ≤ n
-large n h = omega (arith, h)
-
--- what parsing a numeral gives
-pub parsed : {E : Type 0} (w : List ℕ) (r : Result ℕ E) (o : Option ℕ) → is_numeral w ≡ true → ParsesUnsigned 64 10 w r → o ≡ result_ok r → MatchOption o (2 ^ 64 ≤ digits_value 10 w) (λ n. n ≡ digits_value 10 w)
-parsed w r o h p e =
-    let parts = and_parts (not (length w == 0)) (list_all is_ascii_digit w) h in
-    let digits : all_ascii_digits w ≡ true = sym (same_digits w) ∙ parts.1 in
-    let some : 0 < length w = some_len (length w) parts.0 in
-    by r o (parse_digits model 64 w r p digits) some e
-  where
-    by : {E : Type 0} (r : Result ℕ E) (o : Option ℕ) → OkIff r ((0 < length w) × (digits_value 10 w < 2 ^ 64)) (digits_value 10 w) → 0 < length w → o ≡ result_ok r
-        → MatchOption o (2 ^ 64 ≤ digits_value 10 w) (λ n. n ≡ digits_value 10 w)
-    by (Ok n) (Some m) fits some e = let same : m ≡ n = cc in same ∙ fits.1
-    by (Ok n) None fits some e = absurd (cc)
-    by (Err fault) (Some m) fits some e = absurd (cc)
-    by (Err fault) None fits some e = large (digits_value 10 w) (λ small. fits (some, small))
+-- all digits
+pub all_digits : (w : List ℕ) (place n : ℕ) → n ≡ digits_value 10 (take place w) → length w ≤ place → n ≡ digits_value 10 w
+all_digits w place n same end = same ∙ ap (digits_value 10) (take_all place w end)
 
 ascii_at : (b : ℕ) → is_printable b ≡ true → b < 128
 ascii_at b h = grind (arith, nat_tests, and_parts)

@@ -92,6 +92,24 @@ no_word_is_next old from word new cut none =
     let same : new ≡ from = cut.back ∙ ap (λ n. drop n from) len in
     (sym (words_of-blanks old) ∙ ap words_of (sym cut.blanks) ∙ nothing, ap words_of same ∙ nothing)
 
+not_none : (w : List ℕ) (ws : List (List ℕ)) → (length (w ∷ ws) == 0) ≡ false
+not_none w ws = grind arith
+
+-- whether a word is left is told by what is behind the blanks
+pub blanks_decide : (xs from : List ℕ) → from ≡ drop (prefix_len is_blank xs) xs → (length from == 0) ≡ (length (words_of xs) == 0)
+blanks_decide xs [] cut = sym (ap (λ ws. length ws == 0) (sym (words_of-blanks xs) ∙ ap words_of (sym cut)))
+blanks_decide xs (b ∷ bs) cut = by (is_blank b) refl (ap (prefix_len is_blank) cut ∙ blanks_none xs)
+  where
+    by : (v : Bool) → is_blank b ≡ v → cond v (1 + prefix_len is_blank bs) 0 ≡ 0 → (length (b ∷ bs) == 0) ≡ (length (words_of xs) == 0)
+    by true e h = absurd (omega arith)
+    by false e h =
+        let some : 0 < length (take (front_len is_blank (b ∷ bs)) (b ∷ bs)) = rw (e, one-add (front_len is_blank bs)) (grind arith) in
+        let word : List ℕ = take (front_len is_blank (b ∷ bs)) (b ∷ bs) in
+        let new : List ℕ = drop (front_len is_blank (b ∷ bs)) (b ∷ bs) in
+        let next : words_of xs ≡ word ∷ words_of new = a_word_is_next xs (b ∷ bs) word new (record { blanks = cut; front = refl; back = refl }) some in
+        let here : (length (b ∷ bs) == 0) ≡ false = grind arith in
+        here ∙ sym (ap (λ ws. length ws == 0) next ∙ not_none word (words_of new))
+
 -- ---- lines
 
 abbrev pub is_feed : ℕ → Bool

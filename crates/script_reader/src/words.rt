@@ -1,8 +1,8 @@
 //! The words of a line, read from left to right.
 
-ghost use Rattle.std.specs.Prelude.{◌≡◌, ◌<◌, ◌≤◌, ◌+◌, ◌^◌, ◌∷◌, [], length, true, not, ◌==◌, IfOk, MatchOption, MatchResult, pos, neg_ℤ, Ok, Err};
+ghost use Rattle.std.specs.Prelude.{◌≡◌, ◌<◌, ◌≤◌, ◌+◌, ◌*◌, ◌^◌, ◌∷◌, [], length, true, not, ◌==◌, IfOk, MatchOption, MatchResult, pos, neg_ℤ, Ok, Err};
 ghost use Rattle.std.specs.List.{prefix_len, list_all};
-ghost use Rattle.std.specs.Char.{is_ascii_digit};
+ghost use Rattle.std.specs.Char.{is_ascii_digit, digit_value};
 ghost use Rattle.std.specs.Str.{bytes_eq};
 ghost use Rattle.std.specs.Str.Parse.{digits_value};
 ghost use Rattle.vm_desc.specs.Whole.{context_count};
@@ -50,11 +50,7 @@ impl<'a> Words<'a> {
     pub fn is_done(&self) -> bool
         ensures { result ≡ (length (words_of self.now) == 0) }
     {
-        let mut ahead = Words { rest: self.rest };
-        match ahead.next() {
-            Some(_) => false,
-            None => true,
-        }
+        self.rest.split_at(blanks_len(self.rest)).1.is_empty()
     }
 
     /// Whether the line says nothing: it has no word, or its first word begins with `#`.
@@ -104,7 +100,7 @@ impl<'a> Words<'a> {
         ensures low { IfOk result (λ n. low ≤ n) }
         ensures high { IfOk result (λ n. n ≤ high) }
     {
-        let word = self.word()?;
+        let word = self.plain()?;
         number_in(word, low, high, outside)
     }
 
@@ -113,7 +109,7 @@ impl<'a> Words<'a> {
     pub fn value(&mut self) -> Result<i16, Cause>
         ensures { Reads (λ v. v) a_value (words_of self.old) result (words_of self.new) }
     {
-        let word = self.word()?;
+        let word = self.plain()?;
         value_in(word)
     }
 
@@ -229,10 +225,10 @@ fn printed(word: &[u8]) -> Result<&str, Cause>
 }
 
 // One digit or more, and nothing else.
-fn is_numeral(word: &str) -> bool
+fn is_numeral(word: &[u8]) -> bool
     ensures { result ≡ is_numeral word.now }
 {
-    !word.is_empty() && are_digits(word.as_bytes())
+    !word.is_empty() && are_digits(word)
 }
 
 fn are_digits(word: &[u8]) -> bool
@@ -242,15 +238,27 @@ fn are_digits(word: &[u8]) -> bool
 }
 
 // The number that the digits spell; None where it has more than 64 bits.
-fn numeral(word: &str) -> Option<u64>
+fn numeral(word: &[u8]) -> Option<u64>
     requires { is_numeral word.now ≡ true }
     ensures { MatchOption result (2 ^ 64 ≤ digits_value 10 word.now) (λ n. n ≡ digits_value 10 word.now) }
 {
-    word.parse().ok()
+    let mut number = 0;
+    for place in 0..word.len() {
+        number = with_digit(number, word[place])?;
+    }
+    Some(number)
+}
+
+// The number with one more digit behind it; None where it has more than 64 bits.
+fn with_digit(number: u64, digit: u8) -> Option<u64>
+    requires { is_ascii_digit digit ≡ true }
+    ensures { MatchOption result (2 ^ 64 ≤ number * 10 + digit_value digit) (λ n. n ≡ number * 10 + digit_value digit) }
+{
+    number.checked_mul(10)?.checked_add((digit - b'0') as u64)
 }
 
 // The number from `low` to `high` that the word spells.
-fn number_in(word: &str, low: u64, high: u64, outside: Cause) -> Result<u64, Cause>
+fn number_in(word: &[u8], low: u64, high: u64, outside: Cause) -> Result<u64, Cause>
     ensures value { result ≡ within low high outside (number_of word.now) }
     ensures low { IfOk result (λ n. low ≤ n) }
     ensures high { IfOk result (λ n. n ≤ high) }
@@ -268,12 +276,13 @@ fn number_in(word: &str, low: u64, high: u64, outside: Cause) -> Result<u64, Cau
     }
 }
 
-fn value_in(word: &str) -> Result<i16, Cause>
+fn value_in(word: &[u8]) -> Result<i16, Cause>
     ensures { result ≡ value_of word.now }
 {
-    match word.strip_prefix("-") {
-        Some(digits) => negative_in(digits),
-        None => {
+    match word {
+        [] => Err(Cause::Number),
+        [b'-', digits @ ..] => negative_in(digits),
+        [_, ..] => {
             let size = number_in(word, 0, 32_767, Cause::Range)?;
             Ok(size as i16)
         }
@@ -281,7 +290,7 @@ fn value_in(word: &str) -> Result<i16, Cause>
 }
 
 // What the word spells behind a minus.
-fn negative_in(digits: &str) -> Result<i16, Cause>
+fn negative_in(digits: &[u8]) -> Result<i16, Cause>
     ensures { result ≡ signed (λ n. neg_ℤ (pos n)) (within 0 32768 Cause.Range (number_of digits.now)) }
 {
     let size = number_in(digits, 0, 32_768, Cause::Range)?;
