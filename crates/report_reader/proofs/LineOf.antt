@@ -1,10 +1,14 @@
 -- What holds of the line that was read, where there is one.
 use Rattle.std.proofs.Common.{◌≡◌, ℕ, List, Option, Some, None, sym, ap, ◌∙◌}
 use Rattle.std.specs.Prelude.{IfSome, IfNone}
+use Rattle.std.specs.Option.{option_map}
 use Rattle.vm_desc.specs.declared.description.Description.{Description}
 use Rattle.report_reader.specs.declared.line.Line.{Line}
 use Rattle.report_reader.specs.Told.{line_words, IsRight, HasRanges}
 use Rattle.report_reader.specs.Reading.{line_in}
+use Rattle.report_reader.specs.declared.brief.Bulk.{Bulk}
+use Rattle.report_reader.specs.declared.brief.BriefLine.{BriefLine}
+use Rattle.report_reader.specs.Brief.{bulky_line}
 use Rattle.report_reader.proofs.LineLemmas.{line_in-words}
 use Rattle.report_reader.proofs.Ranges.{line_ranges}
 use Rattle.report_reader.proofs.WrittenLines.{line_is_read}
@@ -26,3 +30,22 @@ pub none_of : (d : Description) (bytes : List ℕ) (r : Option Line) → r ≡ l
 none_of d bytes (Some l) h = tt
 none_of d bytes None h = λ l right ranges words.
     let e : None ≡ Some l = h ∙ ap (line_in d) words ∙ (line_is_read d l right ranges).is in absurd cc
+
+-- ---- the same of a line whose image and store stand beside it
+
+pub brief_form : (x : Bulk) (d : Description) (bytes : List ℕ) (r : Option BriefLine) → option_map (bulky_line x) r ≡ line_in d bytes → IfSome r (λ l. bytes ≡ line_words d (bulky_line x l))
+brief_form x d bytes None h = tt
+brief_form x d bytes (Some l) h = form_of d bytes (Some (bulky_line x l)) h
+
+pub brief_right : (x : Bulk) (d : Description) (bytes : List ℕ) (r : Option BriefLine) → option_map (bulky_line x) r ≡ line_in d bytes → IfSome r (λ l. IsRight d (bulky_line x l))
+brief_right x d bytes None h = tt
+brief_right x d bytes (Some l) h = right_of d bytes (Some (bulky_line x l)) h
+
+pub brief_ranges : (x : Bulk) (d : Description) (bytes : List ℕ) (r : Option BriefLine) → option_map (bulky_line x) r ≡ line_in d bytes → IfSome r (λ l. HasRanges (bulky_line x l))
+brief_ranges x d bytes None h = tt
+brief_ranges x d bytes (Some l) h = ranges_of d bytes (Some (bulky_line x l)) h
+
+pub brief_none : (x : Bulk) (d : Description) (bytes : List ℕ) (r : Option BriefLine) → option_map (bulky_line x) r ≡ line_in d bytes
+    → IfNone r ((l : Line) → IsRight d l → HasRanges l → bytes ≡ line_words d l → ⊥)
+brief_none x d bytes (Some l) h = tt
+brief_none x d bytes None h = none_of d bytes None h

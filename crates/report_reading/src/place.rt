@@ -1,11 +1,12 @@
 //! How far the lines of a report have come: which line may stand behind those so far.
 
 ghost use Rattle.std.specs.Prelude.{◌≡◌, ◌==◌, not, Some};
+ghost use Rattle.report_reader.specs.Brief.{told_with, bulky_line};
 ghost use Rattle.report_reading.specs.Fits.{is_on_air, is_shown};
 ghost use Rattle.report_reading.specs.Places.{keeps_order, keeps_node, joins, admits, admits_next, begun_at, place_after};
 
 use mate_num::Stamp;
-use report_reader::{Line, Told};
+use report_reader::{BriefLine, BriefTold, Bulk};
 
 /// The last line that was read, and what is known of its event.
 #[derive(Clone, Copy)]
@@ -20,43 +21,45 @@ pub struct Place {
     pub several: bool,
 }
 
-fn is_on_air(told: &Told) -> bool
-    ensures { result ≡ is_on_air told.now }
+fn is_on_air(told: &BriefTold, bulk: &Bulk) -> bool
+    ensures { result ≡ is_on_air (told_with bulk.now told.now) }
 {
+    let _bulk = bulk;
     match told {
-        Told::OnAir(_) => true,
-        Told::Made(_) | Told::Installed { .. } | Told::Shown(_) => false,
+        BriefTold::OnAir(_) => true,
+        BriefTold::Made(_) | BriefTold::Installed { .. } | BriefTold::Shown => false,
     }
 }
 
-fn is_shown(told: &Told) -> bool
-    ensures { result ≡ is_shown told.now }
+fn is_shown(told: &BriefTold, bulk: &Bulk) -> bool
+    ensures { result ≡ is_shown (told_with bulk.now told.now) }
 {
+    let _bulk = bulk;
     match told {
-        Told::Shown(_) => true,
-        Told::OnAir(_) | Told::Made(_) | Told::Installed { .. } => false,
+        BriefTold::Shown => true,
+        BriefTold::OnAir(_) | BriefTold::Made(_) | BriefTold::Installed { .. } => false,
     }
 }
 
 impl Place {
     /// The place after the first line of an event.
-    fn begun_at(line: &Line) -> Place
-        ensures { result ≡ begun_at line.now }
+    fn begun_at(line: &BriefLine, bulk: &Bulk) -> Place
+        ensures { result ≡ begun_at (bulky_line bulk.now line.now) }
     {
         Place {
             stamp: line.stamp,
             node: line.node,
-            on_air: is_on_air(&line.told),
-            only_shown: is_shown(&line.told),
+            on_air: is_on_air(&line.told, bulk),
+            only_shown: is_shown(&line.told, bulk),
             several: false,
         }
     }
 
     // In one event what happened on the air comes first, and of each of the two kinds no node comes behind a greater one.
-    fn keeps_order(&self, line: &Line) -> bool
-        ensures { result ≡ keeps_order self.now line.now }
+    fn keeps_order(&self, line: &BriefLine, bulk: &Bulk) -> bool
+        ensures { result ≡ keeps_order self.now (bulky_line bulk.now line.now) }
     {
-        if is_on_air(&line.told) {
+        if is_on_air(&line.told, bulk) {
             self.on_air && self.node <= line.node
         } else {
             self.on_air || self.node <= line.node
@@ -64,27 +67,29 @@ impl Place {
     }
 
     // An event is of one node, other than the first one and a last one whose lines all show stores.
-    fn keeps_node(&self, line: &Line) -> bool
-        ensures { result ≡ keeps_node self.now line.now }
+    fn keeps_node(&self, line: &BriefLine, bulk: &Bulk) -> bool
+        ensures { result ≡ keeps_node self.now (bulky_line bulk.now line.now) }
     {
         self.stamp.event == 0
             || (!self.several && self.node == line.node)
-            || (self.only_shown && is_shown(&line.told))
+            || (self.only_shown && is_shown(&line.told, bulk))
     }
 
     /// Whether a line of the same event may stand behind those so far.
-    fn joins(&self, line: &Line) -> bool
-        ensures { result ≡ joins self.now line.now }
+    fn joins(&self, line: &BriefLine, bulk: &Bulk) -> bool
+        ensures { result ≡ joins self.now (bulky_line bulk.now line.now) }
     {
-        self.stamp.time == line.stamp.time && self.keeps_order(line) && self.keeps_node(line)
+        self.stamp.time == line.stamp.time
+            && self.keeps_order(line, bulk)
+            && self.keeps_node(line, bulk)
     }
 
     /// Whether a line may stand behind those so far.
-    fn admits(&self, line: &Line) -> bool
-        ensures { result ≡ admits self.now line.now }
+    fn admits(&self, line: &BriefLine, bulk: &Bulk) -> bool
+        ensures { result ≡ admits self.now (bulky_line bulk.now line.now) }
     {
         if self.stamp.event == line.stamp.event {
-            self.joins(line)
+            self.joins(line, bulk)
         } else {
             self.stamp.event < line.stamp.event
                 && self.stamp.time <= line.stamp.time
@@ -94,20 +99,20 @@ impl Place {
 }
 
 /// Whether a line may stand behind those so far; the first line may be any.
-pub fn admits_next(place: &Option<Place>, line: &Line) -> bool
-    ensures { result ≡ admits_next place.now line.now }
+pub fn admits_next(place: &Option<Place>, line: &BriefLine, bulk: &Bulk) -> bool
+    ensures { result ≡ admits_next place.now (bulky_line bulk.now line.now) }
 {
     match place {
-        Some(place) => place.admits(line),
+        Some(place) => place.admits(line, bulk),
         None => true,
     }
 }
 
 /// The place after one more line.
-pub fn place_after(place: &Option<Place>, line: &Line) -> Place
-    ensures { result ≡ place_after place.now line.now }
+pub fn place_after(place: &Option<Place>, line: &BriefLine, bulk: &Bulk) -> Place
+    ensures { result ≡ place_after place.now (bulky_line bulk.now line.now) }
 {
-    let begun = Place::begun_at(line);
+    let begun = Place::begun_at(line, bulk);
     let Some(before) = place else {
         return begun;
     };

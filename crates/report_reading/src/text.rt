@@ -16,7 +16,7 @@ use crate::fault::TextFault;
 use crate::last_line::last_line_of;
 use crate::parts::Parts;
 use mate_journal::Report;
-use report_reader::line_of;
+use report_reader::{Bulk, brief_line_of};
 use std::alloc::Global;
 use vm_desc::Description;
 
@@ -40,12 +40,13 @@ fn read_lines(alloc: Global, desc: &Description, bytes: &[u8]) -> Result<Report,
     ensures { ReadsReport desc.now bytes.now result }
 {
     let mut parts = Parts::new(alloc)?;
+    let mut bulk = Bulk::new();
     let mut left = bytes;
     while let Some((line, behind)) = first_line(left) {
-        let Some(told) = line_of(desc, line) else {
+        let Some(told) = brief_line_of(desc, line, &mut bulk) else {
             return read_last(alloc, parts, line, behind);
         };
-        parts.take(told)?;
+        parts.take(told, &bulk)?;
         left = behind;
     }
     Err(parts.bad_line())
