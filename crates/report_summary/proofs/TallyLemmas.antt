@@ -1,0 +1,246 @@
+-- Lemmas on `specs/Tally.antt`.
+use Rattle.std.proofs.Common.{◌≡◌, ℕ, zero, suc, ◌+◌, ◌<◌, ◌≤◌, ◌==◌, max, Bool, true, false, cond, true≢false, List, ◌++◌, ◌∷◌, [], length, map, take, get_or, set, refl, ap, sym, subst, ◌∙◌, arith, append_assoc}
+use Rattle.std.specs.Prelude.{fold, filter_map, count_by, if◌then◌else◌, Option, None, Some, All}
+use Rattle.std.proofs.lemmas.Bool.Decides.{Decides-eqb}
+use Rattle.std.proofs.lemmas.List.{take_more, length-append, length-map, get_or_default, get_or-set_same, get_or-set_other}
+use Rattle.std.proofs.lemmas.Option.{same_Some}
+use Rattle.std.proofs.lemmas.List.Elements.{filter_map-append, All-head, All-tail}
+use Rattle.std.proofs.lemmas.List.Sums.{fold-append, sum_by-append, sum_by-cons, count_by-le-length, count_by_more_yes, count_by_more_no}
+use Rattle.mate_num.specs.declared.id.HandlerId.{HandlerId}
+use Rattle.mate_journal.specs.declared.entry.Entry.{Entry}
+use Rattle.mate_journal.specs.declared.entry.Entry.TheVariants as entry
+use Rattle.mate_journal.specs.declared.entry.Stamped.{Stamped}
+use Rattle.mate_journal.specs.OpenLog.{entry_behind, stamped_behind}
+use Rattle.report_text.specs.Brief.{is_entry, installed}
+use Rattle.report_text.specs.declared.summary.EntryKind.{EntryKind}
+use Rattle.report_text.specs.declared.summary.EntryKind.TheVariants as entry_kind
+use Rattle.report_summary.specs.declared.tally.EntryCounts.{EntryCounts}
+use Rattle.report_summary.specs.declared.tally.Versions.{Versions}
+use Rattle.report_summary.specs.declared.tally.Installed.{Installed}
+use Rattle.report_summary.specs.declared.tally.LogTally.{LogTally}
+use Rattle.report_summary.specs.Tally.{entries_counted, versions_counted, versions_of, versions_none, versions_at, install_told, with_version, with_version_if, CountsUpTo, IsUpTo, IsLogTally, InstallsVersion, AddsEntry}
+use Rattle.report_text.specs.Counts.{one_if}
+
+-- ---- one entry
+
+pub no-entries : (k : EntryKind) → entries_counted k (record { posts = 0; drops = 0; halts = 0; faults = 0; installs = 0 }) ≡ 0
+no-entries entry_kind.Post = refl
+no-entries entry_kind.Drop = refl
+no-entries entry_kind.Halt = refl
+no-entries entry_kind.Fault = refl
+no-entries entry_kind.Install = refl
+
+pub one-entry : (k : EntryKind) (old new : EntryCounts) (e : Entry)
+    → new.posts ≡ old.posts + one_if (is_entry entry_kind.Post e) → new.drops ≡ old.drops + one_if (is_entry entry_kind.Drop e)
+    → new.halts ≡ old.halts + one_if (is_entry entry_kind.Halt e) → new.faults ≡ old.faults + one_if (is_entry entry_kind.Fault e)
+    → new.installs ≡ old.installs + one_if (is_entry entry_kind.Install e) → entries_counted k new ≡ entries_counted k old + one_if (is_entry k e)
+one-entry entry_kind.Post old new e posts drops halts faults installs = posts
+one-entry entry_kind.Drop old new e posts drops halts faults installs = drops
+one-entry entry_kind.Halt old new e posts drops halts faults installs = halts
+one-entry entry_kind.Fault old new e posts drops halts faults installs = faults
+one-entry entry_kind.Install old new e posts drops halts faults installs = installs
+
+pub one_if-most : (b : Bool) → one_if b ≤ 1
+one_if-most true = omega arith
+one_if-most false = omega arith
+
+count-one : (k : EntryKind) (e : Stamped) (b : Bool) → is_entry k e.entry ≡ b → count_by (λ (x : Stamped). is_entry k x.entry) (e ∷ []) ≡ one_if (is_entry k e.entry)
+count-one k e true is = rw is refl
+count-one k e false is = rw is refl
+
+count-push : (k : EntryKind) (es : List Stamped) (e : Stamped)
+    → count_by (λ (x : Stamped). is_entry k x.entry) (es ++ e ∷ []) ≡ count_by (λ (x : Stamped). is_entry k x.entry) es + one_if (is_entry k e.entry)
+count-push k es e =
+    let both = sum_by-append (λ (x : Stamped). cond (is_entry k x.entry) 1 0) es (e ∷ []) in
+    let one = count-one k e (is_entry k e.entry) refl in
+    omega (arith, both, one)
+
+-- ---- one item more
+
+count-at : {A : Type 0} (p : A → Bool) (xs : List A) (i : ℕ) (x : A) → i < length xs → x ≡ get_or xs i x → (b : Bool) → p x ≡ b
+    → count_by p (take (i + 1) xs) ≡ count_by p (take i xs) + one_if (p x)
+count-at p xs i x h is true e = omega (arith, count_by_more_yes p xs i x h (ap p (sym is) ∙ e), ap one_if e)
+count-at p xs i x h is false e = omega (arith, count_by_more_no p xs i x h (ap p (sym is) ∙ e), ap one_if e)
+
+pub count-next : {A : Type 0} (p : A → Bool) (xs : List A) (i : ℕ) (x : A) → i < length xs → x ≡ get_or xs i x
+    → count_by p (take (i + 1) xs) ≡ count_by p (take i xs) + one_if (p x)
+count-next p xs i x h is = count-at p xs i x h is (p x) refl
+
+-- ---- one version
+
+versions-one : (h : ℕ) (vs : List ℕ) (e : Stamped) (o : Option ℕ) → installed h e.entry ≡ o → (v : Versions) → v ≡ record { newest = fold max 0 vs; last = fold (λ (before version : ℕ). version) 0 vs }
+    → record { newest = fold max (fold max 0 vs) (versions_counted h (e ∷ [])); last = fold (λ (before version : ℕ). version) (fold (λ (before version : ℕ). version) 0 vs) (versions_counted h (e ∷ [])) } ≡ with_version_if o v
+versions-one h vs e None is v same = rw is (sym same)
+versions-one h vs e (Some version) is v same = rw is (ap (λ (x : Versions). with_version x version) (sym same))
+
+versions-push : (h : ℕ) (es : List Stamped) (e : Stamped) → versions_of h (es ++ e ∷ []) ≡ with_version_if (installed h e.entry) (versions_of h es)
+versions-push h es e =
+    let V : ℕ → ℕ → Versions = λ newest last. record { newest = newest; last = last } in
+    let split : versions_counted h (es ++ e ∷ []) ≡ versions_counted h es ++ versions_counted h (e ∷ []) = filter_map-append (λ (x : Stamped). installed h x.entry) es (e ∷ []) in
+    ap (λ (vs : List ℕ). V (fold max 0 vs) (fold (λ (before version : ℕ). version) 0 vs)) split
+    ∙ ap (λ (n : ℕ). V n (fold (λ (before version : ℕ). version) 0 (versions_counted h es ++ versions_counted h (e ∷ [])))) (fold-append max 0 (versions_counted h es) (versions_counted h (e ∷ [])))
+    ∙ ap (λ (n : ℕ). V (fold max (fold max 0 (versions_counted h es)) (versions_counted h (e ∷ []))) n) (fold-append (λ (before version : ℕ). version) 0 (versions_counted h es) (versions_counted h (e ∷ [])))
+    ∙ versions-one h (versions_counted h es) e (installed h e.entry) refl (versions_of h es) refl
+
+-- an entry more
+pub tally-push : (n : ℕ) (old new : LogTally) (es : List Stamped) (e : Stamped) → AddsEntry old new e.entry → IsLogTally n old es → IsLogTally n new (es ++ e ∷ [])
+tally-push n old new es e adds is = record {
+  size = adds.notes.size ∙ is.size;
+  entries = let a = adds.entries in let b = is.entries in let l = length-append es (e ∷ []) in omega (arith, a, b, l);
+  counts = λ k. let a = adds.counts k in let b = is.counts k in let c = count-push k es e in omega (arith, a, b, c);
+  versions = λ h low.
+      adds.notes.versions h (subst (λ (m : ℕ). h < m) (sym is.size) low) ∙ ap (with_version_if (installed h e.entry)) (is.versions h low) ∙ sym (versions-push h es e);
+}
+
+pub tally-same : (n : ℕ) (t : LogTally) (es fs : List Stamped) → es ≡ fs → IsLogTally n t es → IsLogTally n t fs
+tally-same n t es fs same is = subst (IsLogTally n t) same is
+
+-- the entries before a place, and one more
+pub tally-next : (n : ℕ) (old new : LogTally) (front es : List Stamped) (i : ℕ) (e : Stamped) → i < length es → e ≡ get_or es i e → AddsEntry old new e.entry
+    → IsLogTally n old (front ++ take i es) → IsLogTally n new (front ++ take (i + 1) es)
+tally-next n old new front es i e low is adds so =
+    tally-same n new ((front ++ take i es) ++ e ∷ []) (front ++ take (i + 1) es)
+    (append_assoc front (take i es) (e ∷ []) ∙ ap (λ (xs : List Stamped). front ++ xs) (ap (λ (x : Stamped). take i es ++ x ∷ []) is ∙ sym (take_more es i e low)))
+    (tally-push n old new (front ++ take i es) e adds so)
+
+-- a tally counts no more than there is
+pub tally-few : (n most : ℕ) (t : LogTally) (es : List Stamped) → IsLogTally n t es → length es ≤ most → IsUpTo most t
+tally-few n most t es is few = record {
+  entries = let e = is.entries in omega (arith, e, few);
+  counts = λ k. let c = is.counts k in let l = count_by-le-length (λ (e : Stamped). is_entry k e.entry) es in omega (arith, c, l, few);
+}
+
+-- ---- what an entry installs
+
+installed-other : (h : ℕ) (e : Entry) → install_told e ≡ None → installed h e ≡ None
+installed-other h (entry.Install g version image) is = cc
+installed-other h (entry.Post n g c payload) is = refl
+installed-other h (entry.Dropped g cause) is = refl
+installed-other h (entry.Start n) is = refl
+installed-other h (entry.Ask n f args) is = refl
+installed-other h (entry.Answer n value) is = refl
+installed-other h (entry.Halt n) is = refl
+installed-other h (entry.Fault n kind) is = refl
+installed-other h entry.Reset is = refl
+installed-other h (entry.Seen store) is = refl
+installed-other h (entry.Void cause) is = refl
+
+pub install-none : (h : ℕ) (e : Entry) (v : Versions) (o : Option Installed) → o ≡ install_told e → o ≡ None → v ≡ with_version_if (installed h e) v
+install-none h e v o of none = ap (λ (x : Option ℕ). with_version_if x v) (sym (installed-other h e (sym of ∙ none)))
+
+chosen : (b : Bool) (version : ℕ) (v : Versions) → with_version_if (if b then Some version else None) v ≡ (if b then with_version v version else v)
+chosen true version v = refl
+chosen false version v = refl
+
+install-by : (h : ℕ) (e : Entry) (i : Installed) (v : Versions) → install_told e ≡ Some i → with_version_if (installed h e) v ≡ (if i.handler.0 == h then with_version v i.version else v)
+install-by h (entry.Install g version image) i v is = let same : record { handler = g; version = version } ≡ i = same_Some (record { handler = g; version = version }) i is in subst (λ (x : Installed). with_version_if (installed h (entry.Install g version image)) v ≡ (if x.handler.0 == h then with_version v x.version else v)) same (chosen (g.0 == h) version v)
+install-by h (entry.Post n g c payload) i v is = cc
+install-by h (entry.Dropped g cause) i v is = cc
+install-by h (entry.Start n) i v is = cc
+install-by h (entry.Ask n f args) i v is = cc
+install-by h (entry.Answer n value) i v is = cc
+install-by h (entry.Halt n) i v is = cc
+install-by h (entry.Fault n kind) i v is = cc
+install-by h entry.Reset i v is = cc
+install-by h (entry.Seen store) i v is = cc
+install-by h (entry.Void cause) i v is = cc
+
+pub install-some : (h : ℕ) (e : Entry) (i : Installed) (old new : Versions) (o : Option Installed) → o ≡ install_told e → o ≡ Some i
+    → new ≡ (if i.handler.0 == h then with_version old i.version else old) → new ≡ with_version_if (installed h e) old
+install-some h e i old new o of some step = step ∙ sym (install-by h e i old (sym of ∙ some))
+
+-- ---- nothing was counted
+
+pub none-at : (vs : List Versions) (h : ℕ) → All (λ (v : Versions). v ≡ versions_none) vs → versions_at h vs ≡ versions_none
+none-at [] h none = refl
+none-at (v ∷ vs) zero none = All-head (λ (x : Versions). x ≡ versions_none) v vs none
+none-at (v ∷ vs) (suc h) none = none-at vs h (All-tail (λ (x : Versions). x ≡ versions_none) v vs none)
+
+pub tally-none : (n : ℕ) (t : LogTally) → t.entries ≡ 0 → t.counts ≡ record { posts = 0; drops = 0; halts = 0; faults = 0; installs = 0 } → length t.versions.items ≡ n
+    → All (λ (v : Versions). v ≡ versions_none) t.versions.items → IsLogTally n t []
+tally-none n t entries counts size none = record {
+  size = size;
+  entries = entries;
+  counts = λ k. ap (entries_counted k) counts ∙ no-entries k;
+  versions = λ h low. none-at t.versions.items h none;
+}
+
+-- ---- entries whose images and stores are numbered anew
+
+is_entry-behind : (k : EntryKind) (images stores : ℕ) (e : Entry) → is_entry k (entry_behind images stores e) ≡ is_entry k e
+is_entry-behind entry_kind.Post images stores (entry.Install g version image) = refl
+is_entry-behind entry_kind.Drop images stores (entry.Install g version image) = refl
+is_entry-behind entry_kind.Halt images stores (entry.Install g version image) = refl
+is_entry-behind entry_kind.Fault images stores (entry.Install g version image) = refl
+is_entry-behind entry_kind.Install images stores (entry.Install g version image) = refl
+is_entry-behind entry_kind.Post images stores (entry.Seen store) = refl
+is_entry-behind entry_kind.Drop images stores (entry.Seen store) = refl
+is_entry-behind entry_kind.Halt images stores (entry.Seen store) = refl
+is_entry-behind entry_kind.Fault images stores (entry.Seen store) = refl
+is_entry-behind entry_kind.Install images stores (entry.Seen store) = refl
+is_entry-behind k images stores (entry.Post n g c payload) = refl
+is_entry-behind k images stores (entry.Dropped g cause) = refl
+is_entry-behind k images stores (entry.Start n) = refl
+is_entry-behind k images stores (entry.Ask n f args) = refl
+is_entry-behind k images stores (entry.Answer n value) = refl
+is_entry-behind k images stores (entry.Halt n) = refl
+is_entry-behind k images stores (entry.Fault n kind) = refl
+is_entry-behind k images stores entry.Reset = refl
+is_entry-behind k images stores (entry.Void cause) = refl
+
+installed-behind : (h images stores : ℕ) (e : Entry) → installed h (entry_behind images stores e) ≡ installed h e
+installed-behind h images stores (entry.Install g version image) = refl
+installed-behind h images stores (entry.Seen store) = refl
+installed-behind h images stores (entry.Post n g c payload) = refl
+installed-behind h images stores (entry.Dropped g cause) = refl
+installed-behind h images stores (entry.Start n) = refl
+installed-behind h images stores (entry.Ask n f args) = refl
+installed-behind h images stores (entry.Answer n value) = refl
+installed-behind h images stores (entry.Halt n) = refl
+installed-behind h images stores (entry.Fault n kind) = refl
+installed-behind h images stores entry.Reset = refl
+installed-behind h images stores (entry.Void cause) = refl
+
+count-behind : (k : EntryKind) (images stores : ℕ) (es : List Stamped)
+    → count_by (λ (x : Stamped). is_entry k x.entry) (map (stamped_behind images stores) es) ≡ count_by (λ (x : Stamped). is_entry k x.entry) es
+count-behind k images stores [] = refl
+count-behind k images stores (e ∷ es) =
+    let C : Stamped → ℕ = λ x. cond (is_entry k x.entry) 1 0 in
+    let here : C (stamped_behind images stores e) ≡ C e = ap (λ (b : Bool). cond {A = ℕ} b 1 0) (is_entry-behind k images stores e.entry) in
+    let rest = count-behind k images stores es in
+    let a = sum_by-cons C (stamped_behind images stores e) (map (stamped_behind images stores) es) in
+    let b = sum_by-cons C e es in
+    omega (arith, here, rest, a, b)
+
+version-behind : (h images stores : ℕ) (e : Stamped) (o : Option ℕ) → installed h e.entry ≡ o → versions_counted h (stamped_behind images stores e ∷ []) ≡ versions_counted h (e ∷ [])
+version-behind h images stores e None is = rw (installed-behind h images stores e.entry ∙ is) (rw is refl)
+version-behind h images stores e (Some version) is = rw (installed-behind h images stores e.entry ∙ is) (rw is refl)
+
+versions-behind : (h images stores : ℕ) (es : List Stamped) → versions_counted h (map (stamped_behind images stores) es) ≡ versions_counted h es
+versions-behind h images stores [] = refl
+versions-behind h images stores (e ∷ es) =
+    filter_map-append (λ (x : Stamped). installed h x.entry) (stamped_behind images stores e ∷ []) (map (stamped_behind images stores) es)
+    ∙ ap (λ (vs : List ℕ). vs ++ versions_counted h (map (stamped_behind images stores) es)) (version-behind h images stores e (installed h e.entry) refl)
+    ∙ ap (λ (vs : List ℕ). versions_counted h (e ∷ []) ++ vs) (versions-behind h images stores es)
+    ∙ sym (filter_map-append (λ (x : Stamped). installed h x.entry) (e ∷ []) es)
+
+-- the same tally is that of the entries as they are numbered in the whole log
+pub tally-behind : (n images stores : ℕ) (t : LogTally) (front es : List Stamped) → IsLogTally n t (front ++ es) → IsLogTally n t (front ++ map (stamped_behind images stores) es)
+tally-behind n images stores t front es is =
+    let all = front ++ es in
+    let again = map (stamped_behind images stores) es in
+    record {
+      size = is.size;
+      entries =
+          let a = is.entries in let b = length-append front es in let c = length-append front again in let d = length-map es (stamped_behind images stores) in
+          omega (arith, a, b, c, d);
+      counts = λ k.
+          let C : Stamped → ℕ = λ x. cond (is_entry k x.entry) 1 0 in
+          let a = is.counts k in let b = sum_by-append C front es in let c = sum_by-append C front again in let d = count-behind k images stores es in
+          omega (arith, a, b, c, d);
+      versions = λ h low.
+          is.versions h low
+          ∙ ap (λ (vs : List ℕ). let v : Versions = record { newest = fold max 0 vs; last = fold (λ (before version : ℕ). version) 0 vs } in v)
+          (filter_map-append (λ (x : Stamped). installed h x.entry) front es ∙ ap (λ (vs : List ℕ). versions_counted h front ++ vs) (sym (versions-behind h images stores es))
+          ∙ sym (filter_map-append (λ (x : Stamped). installed h x.entry) front again));
+    }

@@ -1,0 +1,3 @@
+pub mod Tally
+pub mod Summary
+pub mod Runs

@@ -1,0 +1,184 @@
+//! The summary of a run's report, and its text.
+
+ghost use Rattle.std.specs.Prelude.{◌≡◌, ◌≤◌, ◌*◌, ◌^◌, ◌==◌, if◌then◌else◌, length, max, sum_by, count_by, flat_map, IfOk};
+ghost use Rattle.mate_files.specs.Pen.{Prints};
+ghost use Rattle.mate_files.specs.Sink.{Puts};
+ghost use Rattle.mate_journal.specs.Tidy.{below};
+ghost use Rattle.report_text.specs.Brief.{count_line};
+ghost use Rattle.report_summary.specs.Tally.{versions_at};
+ghost use Rattle.report_summary.specs.Summary.{entries_summed, newest_counted, counted_lines, newest_line_counted, summary_text, AreSmall, IsSmall, IsOfNode};
+
+use crate::tally::{AirTally, LogTally, one_if};
+use mate_files::{Pen, Sink, SinkFault};
+use mate_num::{HandlerId, NoMemory};
+use report_text::entry_line::handler_name;
+use report_text::summary::EntryKind;
+use report_text::text::end_word;
+use report_text::words::{number, word};
+use std::alloc::Global;
+use vm_desc::Description;
+
+/// What is counted of a run: of the log of each of its nodes and of the air; the number of its last event; and whether it is whole.
+#[derive(Drop)]
+pub struct Summary {
+    pub nodes: Vec<LogTally>,
+    pub air: AirTally,
+    pub events: u64,
+    pub whole: bool,
+}
+
+impl Summary {
+    /// That of a run of so many events on one node, with nothing on the air.
+    pub fn of_node(
+        alloc: Global,
+        tally: LogTally,
+        events: u64,
+        whole: bool,
+    ) -> Result<Summary, NoMemory>
+        ensures { IfOk result (IsOfNode tally events whole) }
+    {
+        let mut nodes = Vec::new(alloc);
+        nodes.push(tally)?;
+        Ok(Summary {
+            nodes,
+            air: AirTally::new(),
+            events,
+            whole,
+        })
+    }
+
+    /// Writes the summary: how many nodes, events and records there are, and how many records of each counted kind; per handler
+    /// the greatest version that was installed and the number of nodes that have it last, both 0 where nothing was installed; and
+    /// at last `end`, or `full` where the run is not whole.
+    ///
+    /// A fault is the sink's, which then holds a prefix of the summary. It takes no memory.
+    pub fn write<S: Sink>(&self, desc: &Description, out: &mut S) -> Result<(), SinkFault>
+        requires { IsSmall self.now }
+        ensures { Puts (S.written out.old) (S.faults out.old) (S.written out.new) (S.faults out.new) result (summary_text desc.now self.now) }
+    {
+        let mut pen = Pen::new();
+        self.count_lines(&mut pen, out);
+        newest_lines(&mut pen, out, desc, self.nodes.as_slice());
+        pen.text(out, end_word(self.whole));
+        pen.text(out, "\n");
+        pen.finish()
+    }
+
+    fn count_lines<S: Sink>(&self, pen: &mut Pen, out: &mut S)
+        requires { IsSmall self.now }
+        ensures { Prints (S.written out.old) (S.faults out.old) pen.old.result (S.written out.new) (S.faults out.new) pen.new.result (counted_lines self.now) }
+    {
+        let nodes = self.nodes.as_slice();
+        count_line(pen, out, "nodes", nodes.len() as u64);
+        count_line(pen, out, "events", self.events);
+        count_line(pen, out, "records", self.air.records + entries(nodes));
+        count_line(pen, out, "posts", entries_of(nodes, EntryKind::Post));
+        count_line(pen, out, "drops", entries_of(nodes, EntryKind::Drop));
+        count_line(pen, out, "halts", entries_of(nodes, EntryKind::Halt));
+        count_line(pen, out, "faults", entries_of(nodes, EntryKind::Fault));
+        count_line(pen, out, "installs", entries_of(nodes, EntryKind::Install));
+        count_line(pen, out, "sent", self.air.sent);
+        count_line(pen, out, "got", self.air.got);
+        count_line(pen, out, "lost", self.air.lost);
+    }
+}
+
+fn count_line<S: Sink>(pen: &mut Pen, out: &mut S, name: &str, n: u64)
+    ensures { Prints (S.written out.old) (S.faults out.old) pen.old.result (S.written out.new) (S.faults out.new) pen.new.result (count_line name.now n) }
+{
+    pen.text(out, name);
+    number(pen, out, n);
+    pen.text(out, "\n");
+}
+
+/// How many entries there are.
+fn entries(nodes: &[LogTally]) -> u64
+    requires { AreSmall nodes.now }
+    ensures value { result ≡ sum_by (λ t. t.entries) nodes.now }
+    ensures fits { result ≤ 3 * 2 ^ 62 }
+{
+    let mut count = 0;
+    for tally in nodes {
+        count += tally.entries;
+    }
+    count
+}
+
+/// How many entries of a kind there are.
+fn entries_of(nodes: &[LogTally], kind: EntryKind) -> u64
+    requires { AreSmall nodes.now }
+    ensures { result ≡ entries_summed kind nodes.now }
+{
+    let mut count = 0;
+    for tally in nodes {
+        count += tally.counts.of(kind);
+    }
+    count
+}
+
+fn newest_lines<S: Sink>(pen: &mut Pen, out: &mut S, desc: &Description, nodes: &[LogTally])
+    ensures { Prints (S.written out.old) (S.faults out.old) pen.old.result (S.written out.new) (S.faults out.new) pen.new.result
+        (flat_map (newest_line_counted desc.now nodes.now) (below (length desc.now.handlers.items))) }
+{
+    for handler in 0..desc.handlers.len() {
+        newest_line(pen, out, desc, nodes, HandlerId(handler as u8));
+    }
+}
+
+fn newest_line<S: Sink>(
+    pen: &mut Pen,
+    out: &mut S,
+    desc: &Description,
+    nodes: &[LogTally],
+    handler: HandlerId,
+)
+    ensures { Prints (S.written out.old) (S.faults out.old) pen.old.result (S.written out.new) (S.faults out.new) pen.new.result (newest_line_counted desc.now nodes.now handler.0) }
+{
+    pen.text(out, "newest");
+    word(pen, out, handler_name(desc, handler));
+    let version = newest(nodes, handler);
+    number(pen, out, version as u64);
+    number(pen, out, holders(nodes, handler, version));
+    pen.text(out, "\n");
+}
+
+/// The greatest version that was installed for a handler, 0 for none.
+fn newest(nodes: &[LogTally], handler: HandlerId) -> u32
+    ensures { result ≡ newest_counted handler.0 nodes.now }
+{
+    let mut version = 0;
+    for tally in nodes {
+        let found = tally.versions_at(handler);
+        version = greater(version, found.newest);
+    }
+    version
+}
+
+fn greater(a: u32, b: u32) -> u32
+    ensures { result ≡ max a b }
+{
+    a.max(b)
+}
+
+/// How many nodes have a version of a handler as their last one; 0 where there is none.
+fn holders(nodes: &[LogTally], handler: HandlerId, version: u32) -> u64
+    ensures { result ≡ (if version == 0 then 0 else count_by (λ t. (versions_at handler.0 t.versions.items).last == version) nodes.now) }
+{
+    if version == 0 {
+        0
+    } else {
+        holding(nodes, handler, version)
+    }
+}
+
+/// How many nodes have this version of a handler as their last one.
+fn holding(nodes: &[LogTally], handler: HandlerId, version: u32) -> u64
+    ensures { result ≡ count_by (λ t. (versions_at handler.0 t.versions.items).last == version) nodes.now }
+{
+    let mut count = 0;
+    for tally in nodes {
+        let found = tally.versions_at(handler);
+        count += one_if(found.last == version);
+    }
+    count
+}

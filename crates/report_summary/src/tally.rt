@@ -1,0 +1,220 @@
+//! What is counted of a log and of the air, entry by entry.
+
+ghost use Rattle.std.specs.Prelude.{◌≡◌, ◌+◌, ◌++◌, ◌≤◌, ◌<◌, ◌^◌, ℕ, List, [], length, IfOk, slice_index_or, if◌then◌else◌, ◌==◌};
+ghost use Rattle.mate_journal.specs.declared.entry.Stamped.{Stamped as StampedEntry};
+ghost use Rattle.report_text.specs.Brief.{is_entry};
+ghost use Rattle.report_text.specs.declared.summary.EntryKind.TheVariants as kinds;
+ghost use Rattle.report_summary.specs.Tally.{entries_counted, install_told, with_version, versions_none, versions_at, CountsUpTo, IsUpTo, IsLogTally, InstallsVersion, Notes, AddsEntry, IsAirTally};
+ghost use Rattle.report_text.specs.Counts.{one_if};
+
+use mate_journal::{Entry, Stamped};
+use mate_num::{HandlerId, NoMemory};
+use report_text::summary::EntryKind;
+use std::alloc::Global;
+
+/// How many entries of each kind there are.
+#[derive(Clone, Copy)]
+pub struct EntryCounts {
+    pub posts: u64,
+    pub drops: u64,
+    pub halts: u64,
+    pub faults: u64,
+    pub installs: u64,
+}
+
+impl EntryCounts {
+    /// How many are of a kind.
+    pub fn of(&self, kind: EntryKind) -> u64
+        ensures { result ≡ entries_counted kind self.now }
+    {
+        match kind {
+            EntryKind::Post => self.posts,
+            EntryKind::Drop => self.drops,
+            EntryKind::Halt => self.halts,
+            EntryKind::Fault => self.faults,
+            EntryKind::Install => self.installs,
+        }
+    }
+
+    /// Counts an entry.
+    fn add(&mut self, entry: &Entry)
+        requires { CountsUpTo (2 ^ 63 + 2 ^ 57) self.old }
+        ensures posts { self.new.posts ≡ self.old.posts + one_if (is_entry kinds.Post entry.now) }
+        ensures drops { self.new.drops ≡ self.old.drops + one_if (is_entry kinds.Drop entry.now) }
+        ensures halts { self.new.halts ≡ self.old.halts + one_if (is_entry kinds.Halt entry.now) }
+        ensures faults { self.new.faults ≡ self.old.faults + one_if (is_entry kinds.Fault entry.now) }
+        ensures installs { self.new.installs ≡ self.old.installs + one_if (is_entry kinds.Install entry.now) }
+    {
+        self.posts += one_if(is_entry(entry, EntryKind::Post));
+        self.drops += one_if(is_entry(entry, EntryKind::Drop));
+        self.halts += one_if(is_entry(entry, EntryKind::Halt));
+        self.faults += one_if(is_entry(entry, EntryKind::Fault));
+        self.installs += one_if(is_entry(entry, EntryKind::Install));
+    }
+}
+
+/// The greatest version that was installed for a handler, and the last one; 0 for none.
+#[derive(Clone, Copy)]
+pub struct Versions {
+    pub newest: u32,
+    pub last: u32,
+}
+
+/// What is counted of a node's log: its entries, those of each kind, and the versions of each handler.
+#[derive(Drop)]
+pub struct LogTally {
+    pub entries: u64,
+    pub counts: EntryCounts,
+    pub versions: Vec<Versions>,
+}
+
+impl LogTally {
+    /// That of an empty log, for so many handlers.
+    pub fn new(alloc: Global, handlers: usize) -> Result<LogTally, NoMemory>
+        ensures { IfOk result (λ tally. IsLogTally handlers tally []) }
+    {
+        let mut versions = Vec::new(alloc);
+        for _handler in 0..handlers {
+            versions.push(Versions { newest: 0, last: 0 })?;
+        }
+        Ok(LogTally {
+            entries: 0,
+            counts: EntryCounts {
+                posts: 0,
+                drops: 0,
+                halts: 0,
+                faults: 0,
+                installs: 0,
+            },
+            versions,
+        })
+    }
+
+    /// Counts entries behind those that were counted.
+    pub fn add_all(&mut self, entries: &[Stamped])
+        requires { IsUpTo (2 ^ 63) self.old }
+        ensures tallies { (handlers : ℕ) (front : List StampedEntry) → IsLogTally handlers self.old front → IsLogTally handlers self.new (front ++ entries.now) }
+        ensures up { (n : ℕ) → IsUpTo n self.old → IsUpTo (n + 2 ^ 57) self.new }
+    {
+        for stamped in entries {
+            self.add(&stamped.entry);
+        }
+    }
+
+    /// Counts an entry.
+    fn add(&mut self, entry: &Entry)
+        requires { IsUpTo (2 ^ 63 + 2 ^ 57) self.old }
+        ensures { AddsEntry self.old self.new entry.now }
+    {
+        self.entries += 1;
+        self.counts.add(entry);
+        note(&mut self.versions, entry);
+    }
+
+    /// The versions of a handler.
+    pub fn versions_at(&self, handler: HandlerId) -> Versions
+        ensures { result ≡ versions_at handler.0 self.now.versions.items }
+    {
+        match self.versions.get(usize::from(handler.0)) {
+            Some(versions) => *versions,
+            None => Versions { newest: 0, last: 0 },
+        }
+    }
+}
+
+/// A version that was installed for a handler.
+#[derive(Clone, Copy)]
+struct Installed {
+    handler: HandlerId,
+    version: u32,
+}
+
+/// What an entry installs.
+fn install_of(entry: &Entry) -> Option<Installed>
+    ensures { result ≡ install_told entry.now }
+{
+    match entry {
+        Entry::Install {
+            handler,
+            version,
+            ..
+        } => Some(Installed {
+            handler: *handler,
+            version: *version,
+        }),
+        _ => None,
+    }
+}
+
+/// Tells what the entry installs.
+fn note(versions: &mut Vec<Versions>, entry: &Entry)
+    ensures { Notes versions.old.items versions.new.items entry.now }
+{
+    match install_of(entry) {
+        Some(installed) => install(versions, installed),
+        None => {}
+    }
+}
+
+/// Tells that a version is installed for a handler, where the machine has it.
+fn install(versions: &mut Vec<Versions>, installed: Installed)
+    ensures { InstallsVersion versions.old.items versions.new.items installed.handler.0 installed.version }
+{
+    let at = usize::from(installed.handler.0);
+    if at < versions.len() {
+        let before = versions[at];
+        versions[at] = newer(before, installed.version);
+    }
+}
+
+/// The versions with one more.
+fn newer(before: Versions, version: u32) -> Versions
+    ensures { result ≡ with_version before version }
+{
+    Versions {
+        newest: before.newest.max(version),
+        last: version,
+    }
+}
+
+/// What is counted of the air: its records, and those of each kind.
+#[derive(Clone, Copy)]
+pub struct AirTally {
+    pub records: u64,
+    pub sent: u64,
+    pub got: u64,
+    pub lost: u64,
+}
+
+impl AirTally {
+    /// That of no records.
+    pub fn new() -> AirTally
+        ensures { IsAirTally result [] }
+    {
+        AirTally {
+            records: 0,
+            sent: 0,
+            got: 0,
+            lost: 0,
+        }
+    }
+}
+
+pub(crate) fn one_if(is: bool) -> u64
+    ensures value { result ≡ one_if is }
+    ensures most { result ≤ 1 }
+{
+    if is { 1 } else { 0 }
+}
+
+fn is_entry(entry: &Entry, kind: EntryKind) -> bool
+    ensures { result ≡ is_entry kind entry.now }
+{
+    match kind {
+        EntryKind::Post => matches!(entry, Entry::Post { .. }),
+        EntryKind::Drop => matches!(entry, Entry::Dropped { .. }),
+        EntryKind::Halt => matches!(entry, Entry::Halt { .. }),
+        EntryKind::Fault => matches!(entry, Entry::Fault { .. }),
+        EntryKind::Install => matches!(entry, Entry::Install { .. }),
+    }
+}
