@@ -4,6 +4,8 @@
 pub mod event;
 pub mod past;
 pub mod radio;
+pub mod shared;
+pub mod waiting;
 pub mod wire;
 
 pub use event::{Cancel, Event};

@@ -11,6 +11,7 @@ ghost use Rattle.radio_sim.specs.Sending.{sent_record, AreLeaving, IsFurther};
 
 use crate::event::{Cancel, Event};
 use crate::past::PastAir;
+use crate::waiting::Waiting;
 use crate::wire::{Sending, Wire, Wires, copy_of};
 use event_queue::{Queue, Timed};
 use mate_journal::{Air, Aired, Airs};
@@ -28,7 +29,8 @@ const NODES: usize = 256;
 /// the air; memory has what was recorded since the last `forget`.
 #[derive(Drop)]
 pub struct Radio {
-    queue: Queue<Event>,
+    alloc: Global,
+    queue: Queue<Waiting>,
     past: PastAir,
     // how many records are gone
     gone: usize,
@@ -40,7 +42,7 @@ pub struct Radio {
     /// The links that leave each node.
     wires: Vec<Wires>,
     /// The deliveries of a transmission, none between two calls.
-    carried: VecDeque<Event>,
+    carried: VecDeque<Waiting>,
 }
 
 impl Model for Radio {
@@ -68,6 +70,7 @@ impl Radio {
         let wires = wires_of(alloc, world.random, world.links.as_slice())?;
         let queue = Queue::new(alloc, world.until)?;
         Ok(Radio {
+            alloc,
             queue,
             past: PastAir::new(),
             gone: 0,
@@ -87,7 +90,8 @@ impl Radio {
         ensures due { OnOk result (Adds self.old.agenda time event self.new.agenda) }
         ensures now { self.new.agenda.now ≡ self.old.agenda.now }
     {
-        self.queue.schedule(time, event)
+        let waiting = Waiting::of(self.alloc, event)?;
+        self.queue.schedule(time, waiting)
     }
 
     /// The node sends a packet in the event `at`. It has the next number. On each link that leaves the node, in their
@@ -135,7 +139,7 @@ impl Radio {
         ensures none { IfNone result (self.new ≡ self.old) }
     {
         let Timed { time, item } = self.queue.next()?;
-        Some((time, item))
+        Some((time, item.into_event()))
     }
 
     /// Cancels events of a node: the others stay, in their order.
@@ -191,9 +195,9 @@ fn send(
     sending: Sending,
     bytes: &PacketBytes,
     delay: u32,
-    queue: &mut Queue<Event>,
+    queue: &mut Queue<Waiting>,
     air: &mut Airs,
-    carried: &mut VecDeque<Event>,
+    carried: &mut VecDeque<Waiting>,
 ) -> Result<(), NoMemory>
     requires none { carried.old.items ≡ [] }
     requires ahead { queue.old.now ≤ sending.at.time }

@@ -4,7 +4,8 @@ ghost use Rattle.std.specs.Prelude.{◌≡◌, ◌%◌, [], ◌∷◌, ◌++◌,
 ghost use Rattle.radio_sim.specs.Sending.{IsFurther};
 ghost use Rattle.radio_sim.specs.Wires.{wire_after, turned_wire, losts, delivered};
 
-use crate::event::Event;
+use crate::shared::SharedBytes;
+use crate::waiting::Waiting;
 use mate_journal::{Air, Aired, Airs};
 use mate_num::{NoMemory, PacketBytes, Stamp};
 use rand_core::utils::NextWord;
@@ -62,6 +63,7 @@ impl Wire {
 /// The links that leave one node, in their order. Contracts see the list.
 #[derive(Drop)]
 pub struct Wires {
+    alloc: Global,
     wires: Vec<Wire>,
 }
 
@@ -89,6 +91,7 @@ impl Wires {
         ensures { result ≡ [] }
     {
         Wires {
+            alloc,
             wires: Vec::new(alloc),
         }
     }
@@ -107,12 +110,13 @@ impl Wires {
         sending: Sending,
         bytes: &PacketBytes,
         air: &mut Airs,
-        carried: &mut VecDeque<Event>,
+        carried: &mut VecDeque<Waiting>,
     ) -> Result<(), NoMemory>
         ensures air { IfOk result (λ _. air.new ≡ air.old ++ losts sending self.now) }
         ensures carried { IfOk result (λ _. carried.new.items ≡ carried.old.items ++ delivered sending bytes.now self.now) }
         ensures kept { IsFurther air.old air.new }
     {
+        let shared = SharedBytes::new(self.alloc, bytes)?;
         for wire in &self.wires {
             if wire.loses() {
                 air.push(Aired {
@@ -124,11 +128,9 @@ impl Wires {
                     },
                 })?;
             } else {
-                carried.push_back(Event::Deliver {
-                    link: wire.link,
-                    number: sending.number,
-                    bytes: copy_of(bytes),
-                })?;
+                let copy = shared.share()?;
+                let delivery = Waiting::delivery(wire.link, sending.number, copy);
+                carried.push_back(delivery)?;
             }
         }
         Ok(())
