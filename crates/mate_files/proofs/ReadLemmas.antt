@@ -1,5 +1,5 @@
 -- A read behind the bytes that a list holds.
-use Rattle.std.proofs.Common.{◌≡◌, ℕ, zero, suc, ◌+◌, ◌≤◌, ◌<◌, Bool, true, false, cond, List, [], ◌∷◌, ◌++◌, length, take, replicate, ap, ◌∙◌, arith, length-append, length-take, take_all, take-take, min}
+use Rattle.std.proofs.Common.{◌≡◌, ℕ, zero, suc, ◌+◌, ◌≤◌, Bool, true, false, cond, List, [], ◌∷◌, ◌++◌, length, take, ap, ◌∙◌, arith, length-append, length-take, take_all, take-take}
 use Rattle.std.proofs.lemmas.List.{take-append-le}
 
 -- past the first list

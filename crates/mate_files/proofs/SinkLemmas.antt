@@ -1,9 +1,9 @@
 -- Lemmas on `specs/Sink.antt`: many pieces that are written in a row.
-use Rattle.std.proofs.Common.{ℕ, ◌≤◌, List, [], ◌++◌, Result, Ok, Err, refl, sym, ◌∙◌, ap, append_assoc, append-nil, arith}
+use Rattle.std.proofs.Common.{ℕ, ◌≤◌, ◌<◌, List, [], ◌++◌, length, length-append, Result, Ok, Err, refl, sym, ◌∙◌, ap, append_assoc, append-nil, arith}
 use Rattle.std.proofs.KnownBytes.{Appends-nil, Appends-trans}
 use Rattle.std.specs.declared.option.Option.{Option}
 use Rattle.mate_files.specs.Counts.{Rose}
-use Rattle.mate_files.specs.Sink.{Sent, SentPart, Writes, HasCause, Puts}
+use Rattle.mate_files.specs.Sink.{Sent, SentPart, SentShort, Writes, StopsShort, HasCause, Puts}
 use Rattle.mate_files.specs.declared.sink.SinkFault.{SinkFault}
 use Rattle.mate_files.specs.declared.sink.SinkFault.TheVariants.{Failed, NoMemory}
 
@@ -43,11 +43,31 @@ SentPart-after {w0} {w1} {w2} {bs} {cs} p q = record {
   appended = Appends-trans w0 w1 w2 bs q.front p.appended q.appended;
 }
 
+-- nothing is less than each text that has some bytes
+pub SentShort-nil : {w : Option (List ℕ)} {bs : List ℕ} → 0 < length bs → SentShort w w bs
+unfolding SentPart-nil
+SentShort-nil some = record { part = SentPart-nil; unsent = some }
+
+-- what is less than bs is less than bs and more
+pub SentShort-more : {w0 w1 : Option (List ℕ)} {bs : List ℕ} → SentShort w0 w1 bs → (cs : List ℕ) → SentShort w0 w1 (bs ++ cs)
+unfolding SentPart-more
+SentShort-more p cs = record { part = SentPart-more p.part cs; unsent = omega (arith, p.unsent, length-append p.part.rest cs) }
+
+-- bs is written, and then less than cs
+pub SentShort-after : {w0 w1 w2 : Option (List ℕ)} {bs cs : List ℕ} → Sent w0 w1 bs → SentShort w1 w2 cs → SentShort w0 w2 (bs ++ cs)
+unfolding SentPart-after
+SentShort-after p q = record { part = SentPart-after p q.part; unsent = q.unsent }
+
 -- bs is written, and then cs as far as that goes
 pub Writes-after : {T : Type 0} {w0 w1 : Option (List ℕ)} {bs : List ℕ} (w2 : Option (List ℕ)) (r : Result T SinkFault) (cs : List ℕ)
     → Sent w0 w1 bs → Writes w1 w2 r cs → Writes w0 w2 r (bs ++ cs)
 Writes-after w2 (Ok _) cs p q = Sent-trans p q
 Writes-after w2 (Err _) cs p q = SentPart-after p q
+
+pub StopsShort-after : {T : Type 0} {w0 w1 : Option (List ℕ)} {bs : List ℕ} (w2 : Option (List ℕ)) (r : Result T SinkFault) (cs : List ℕ)
+    → Sent w0 w1 bs → StopsShort w1 w2 r cs → StopsShort w0 w2 r (bs ++ cs)
+StopsShort-after w2 (Ok _) cs p q = tt
+StopsShort-after w2 (Err _) cs p q = SentShort-after p q
 
 -- ---- causes
 
@@ -69,13 +89,14 @@ HasCause-after f0 f1 f2 (Err NoMemory) p q = tt
 
 -- with nothing to write, nothing is written
 pub Puts-nil : {T : Type 0} {w : Option (List ℕ)} {f : ℕ} {value : T} → Puts w f w f (Ok value) []
-Puts-nil = record { writes = Sent-nil; cause = tt; later = omega arith }
+Puts-nil = record { writes = Sent-nil; short = tt; cause = tt; later = omega arith }
 
 -- bs is written, and then cs as far as that goes
 pub Puts-trans : {T U : Type 0} {w0 w1 w2 : Option (List ℕ)} {f0 f1 f2 : ℕ} {r : Result U SinkFault} {bs cs : List ℕ} {value : T}
     → Puts w0 f0 w1 f1 (Ok value) bs → Puts w1 f1 w2 f2 r cs → Puts w0 f0 w2 f2 r (bs ++ cs)
 Puts-trans {w2 = w2} {f0 = f0} {f1 = f1} {f2 = f2} {r = r} {cs = cs} p q = record {
   writes = Writes-after w2 r cs p.writes q.writes;
+  short = StopsShort-after w2 r cs p.writes q.short;
   cause = HasCause-after f0 f1 f2 r p.later q.cause;
   later = omega (arith, p.later, q.later);
 }
@@ -83,5 +104,5 @@ Puts-trans {w2 = w2} {f0 = f0} {f1 = f1} {f2 = f2} {r = r} {cs = cs} p q = recor
 -- after a fault the text may go on, and nothing more is written
 pub Puts-stop : {T U : Type 0} {w0 w1 : Option (List ℕ)} {f0 f1 : ℕ} {bs : List ℕ} {fault : SinkFault}
     → Puts {T = T} w0 f0 w1 f1 (Err fault) bs → (cs : List ℕ) → Puts {T = U} w0 f0 w1 f1 (Err fault) (bs ++ cs)
-Puts-stop {fault = Failed} p cs = record { writes = SentPart-more p.writes cs; cause = p.cause; later = p.later }
-Puts-stop {fault = NoMemory} p cs = record { writes = SentPart-more p.writes cs; cause = tt; later = p.later }
+Puts-stop {fault = Failed} p cs = record { writes = SentPart-more p.writes cs; short = SentShort-more p.short cs; cause = p.cause; later = p.later }
+Puts-stop {fault = NoMemory} p cs = record { writes = SentPart-more p.writes cs; short = SentShort-more p.short cs; cause = tt; later = p.later }

@@ -35,7 +35,7 @@ impl<W: Write> OsSink<W> {
 
 impl<W: Write> Sink for OsSink<W> {
     ghost use Rattle.std.specs.Prelude.{◌≡◌, ◌≤◌, IsOkUnless};
-    ghost use Rattle.mate_files.specs.Sink.{Writes, HasCause, faults_after};
+    ghost use Rattle.mate_files.specs.Sink.{Writes, StopsShort, HasCause, faults_after};
     ghost use Rattle.mate_files.specs.OsSink.{writer_of, faults_of};
 
     ghost written = { λ sink. W.contents (writer_of sink) };
@@ -49,6 +49,7 @@ impl<W: Write> Sink for OsSink<W> {
     fn put(&mut self, bytes: &[u8]) -> Result<(), SinkFault>
         // What every `Sink` promises.
         ensures writes { Writes (W.contents (writer_of self.old)) (W.contents (writer_of self.new)) result bytes.now }
+        ensures short { StopsShort (W.contents (writer_of self.old)) (W.contents (writer_of self.new)) result bytes.now }
         ensures cause { HasCause (faults_of self.old) (faults_of self.new) result }
         ensures later { faults_of self.old ≤ faults_of self.new }
 
@@ -58,13 +59,12 @@ impl<W: Write> Sink for OsSink<W> {
     {
         let mut rest = bytes;
         while !rest.is_empty() {
-            match self.writer.write(rest) {
-                Ok(taken) if taken > 0 => rest = rest.split_at(taken).1,
-                Ok(_) | Err(_) => {
-                    self.faults = self.faults.saturating_add(1);
-                    return Err(SinkFault::Failed);
-                }
+            let taken = self.writer.write(rest).unwrap_or(0);
+            if taken == 0 {
+                self.faults = self.faults.saturating_add(1);
+                return Err(SinkFault::Failed);
             }
+            rest = rest.split_at(taken).1;
         }
         Ok(())
     }

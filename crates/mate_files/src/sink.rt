@@ -1,10 +1,10 @@
 //! A sink, which takes bytes at its end.
 ghost use Rattle.std.specs.Prelude.{◌≡◌, ℕ, ◌≤◌, List, Option};
-ghost use Rattle.mate_files.specs.Sink.{Writes, HasCause};
+ghost use Rattle.mate_files.specs.Sink.{Writes, StopsShort, HasCause};
 
 use thiserror::Error;
 
-/// Why a sink didn't take all of a piece. A prefix of the piece was appended.
+/// Why a sink didn't take all of a piece. A prefix of the piece was appended, which is shorter than it.
 #[derive(Clone, Copy, Debug, Error)]
 pub enum SinkFault {
     /// The sink could not be written.
@@ -25,12 +25,14 @@ pub trait Sink {
     // How many writes failed. It never falls.
     ghost faults: { Self → ℕ };
 
-    /// Appends exactly `bytes`, or a prefix of them where it is refused.
+    /// Appends exactly `bytes`, or a prefix of them that lacks at least the last one where it is refused.
+    /// No bytes are never refused.
     ///
     /// `Failed` comes only where the count of faults rose in this call. Memory comes from the sink's
     /// own allocator.
     fn put(&mut self, bytes: &[u8]) -> Result<(), SinkFault>
         ensures writes { Writes (written self.old) (written self.new) result bytes.now }
+        ensures short { StopsShort (written self.old) (written self.new) result bytes.now }
         ensures cause { HasCause (faults self.old) (faults self.new) result }
         ensures later { faults self.old ≤ faults self.new };
 }

@@ -1,5 +1,5 @@
 -- A sink in memory: what its state shows, and how calls change it.
-use Rattle.std.specs.Prelude.{ℕ, List, Option, Some, Contains}
+use Rattle.std.specs.Prelude.{ℕ, List, [], ◌∷◌, Option, Some, Contains}
 use Rattle.mate_files.specs.Counts.{one_more}
 use Rattle.memory_files.specs.declared.mem_sink.MemSink.{MemSink}
 
@@ -23,6 +23,12 @@ calls_of sink = sink.calls
 abbrev pub faults_of : MemSink → ℕ
 faults_of sink = sink.faults
 
--- the next write has a listed number
-abbrev pub IsListed : MemSink → Type 0
-IsListed sink = Contains (failing_of sink) (one_more (calls_of sink))
+-- how many writes were made after one more of these bytes; one of no bytes isn't counted
+abbrev pub calls_after : ℕ → List ℕ → ℕ
+calls_after calls [] = calls
+calls_after calls (_ ∷ _) = one_more calls
+
+-- a write of these bytes has a listed number
+abbrev pub IsToFail : MemSink → List ℕ → Type 0
+IsToFail sink [] = ⊥
+IsToFail sink (_ ∷ _) = Contains (failing_of sink) (one_more (calls_of sink))

@@ -6,8 +6,8 @@ use std::alloc::Global;
 /// A sink in memory, some of whose writes can be made to fail.
 ///
 /// It holds the bytes that were written, the numbers of the calls of `put` that are to fail, the
-/// number of calls that were made, and the number of those that failed. Both counts stay at
-/// `u64::MAX` once they are there.
+/// number of calls that were made, and the number of those that failed. A call with no bytes isn't
+/// counted. Both counts stay at `u64::MAX` once they are there.
 #[derive(Drop)]
 pub struct MemSink {
     bytes: Vec<u8>,
@@ -62,9 +62,8 @@ impl MemSink {
 
 impl Sink for MemSink {
     ghost use Rattle.std.specs.Prelude.{◌≡◌, ◌↔◌, ◌≤◌, IsErrOf, OnErr};
-    ghost use Rattle.mate_files.specs.Counts.{one_more};
-    ghost use Rattle.mate_files.specs.Sink.{Writes, HasCause, faults_after};
-    ghost use Rattle.memory_files.specs.MemSink.{bytes_of, told_of, failing_of, calls_of, faults_of, IsListed};
+    ghost use Rattle.mate_files.specs.Sink.{Writes, StopsShort, HasCause, faults_after};
+    ghost use Rattle.memory_files.specs.MemSink.{bytes_of, told_of, failing_of, calls_of, calls_after, faults_of, IsToFail};
 
     ghost written = { told_of };
 
@@ -72,20 +71,24 @@ impl Sink for MemSink {
 
     /// Appends `bytes`, or nothing where it is refused.
     ///
-    /// `Failed` comes exactly at a listed call.
+    /// `Failed` comes exactly at a listed call. No bytes are no call, and are never refused.
     fn put(&mut self, bytes: &[u8]) -> Result<(), SinkFault>
         // What every `Sink` promises.
         ensures writes { Writes (told_of self.old) (told_of self.new) result bytes.now }
+        ensures short { StopsShort (told_of self.old) (told_of self.new) result bytes.now }
         ensures cause { HasCause (faults_of self.old) (faults_of self.new) result }
         ensures later { faults_of self.old ≤ faults_of self.new }
 
         // What this does besides.
-        ensures failed { IsErrOf result SinkFault.Failed ↔ IsListed self.old }
+        ensures failed { IsErrOf result SinkFault.Failed ↔ IsToFail self.old bytes.now }
         ensures err { OnErr result (bytes_of self.new ≡ bytes_of self.old) }
         ensures failing { failing_of self.new ≡ failing_of self.old }
-        ensures calls { calls_of self.new ≡ one_more (calls_of self.old) }
+        ensures calls { calls_of self.new ≡ calls_after (calls_of self.old) bytes.now }
         ensures faults { faults_of self.new ≡ faults_after (faults_of self.old) result }
     {
+        if bytes.is_empty() {
+            return Ok(());
+        }
         self.calls = self.calls.saturating_add(1);
         if self.failing.contains(&self.calls) {
             self.faults = self.faults.saturating_add(1);

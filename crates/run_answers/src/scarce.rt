@@ -6,7 +6,7 @@ use mate_files::{Sink, SinkFault};
 use memory_files::MemSink;
 use std::alloc::Global;
 
-/// A sink in memory that takes the writes before one and no further one.
+/// A sink in memory that takes the writes before one and no further one. A write of no bytes isn't counted.
 #[derive(Drop)]
 pub(crate) struct ScarceSink {
     sink: MemSink,
@@ -35,6 +35,9 @@ impl Sink for ScarceSink {
     ghost faults = { λ s. faults_of s.sink };
 
     fn put(&mut self, bytes: &[u8]) -> Result<(), SinkFault> {
+        if bytes.is_empty() {
+            return Ok(());
+        }
         if self.left == 0 {
             return Err(SinkFault::NoMemory);
         }
