@@ -24,9 +24,9 @@ abbrev pub faults_of : MemSink → ℕ
 faults_of sink = sink.faults
 
 -- how many writes were made after one more of these bytes; one of no bytes isn't counted
-abbrev pub calls_after : ℕ → List ℕ → ℕ
-calls_after calls [] = calls
-calls_after calls (_ ∷ _) = one_more calls
+abbrev pub writes_made : ℕ → List ℕ → ℕ
+writes_made calls [] = calls
+writes_made calls (_ ∷ _) = one_more calls
 
 -- a write of these bytes has a listed number
 abbrev pub IsToFail : MemSink → List ℕ → Type 0

@@ -63,7 +63,7 @@ impl MemSink {
 impl Sink for MemSink {
     ghost use Rattle.std.specs.Prelude.{◌≡◌, ◌↔◌, ◌≤◌, IsErrOf, OnErr};
     ghost use Rattle.mate_files.specs.Sink.{Writes, StopsShort, HasCause, faults_after};
-    ghost use Rattle.memory_files.specs.MemSink.{bytes_of, told_of, failing_of, calls_of, calls_after, faults_of, IsToFail};
+    ghost use Rattle.memory_files.specs.MemSink.{bytes_of, told_of, failing_of, calls_of, writes_made, faults_of, IsToFail};
 
     ghost written = { told_of };
 
@@ -83,7 +83,7 @@ impl Sink for MemSink {
         ensures failed { IsErrOf result SinkFault.Failed ↔ IsToFail self.old bytes.now }
         ensures err { OnErr result (bytes_of self.new ≡ bytes_of self.old) }
         ensures failing { failing_of self.new ≡ failing_of self.old }
-        ensures calls { calls_of self.new ≡ calls_after (calls_of self.old) bytes.now }
+        ensures calls { calls_of self.new ≡ writes_made (calls_of self.old) bytes.now }
         ensures faults { faults_of self.new ≡ faults_after (faults_of self.old) result }
     {
         if bytes.is_empty() {
