@@ -4,7 +4,7 @@ use Rattle.std.specs.Prelude.{flat_map, slice_get}
 use Rattle.arrayvec.specs.ArrayVec.{ArrayVec}
 use Rattle.mate_num.specs.declared.store.Store.{Store}
 use Rattle.vm_desc.specs.declared.description.Description.{Description}
-use Rattle.mate_journal.specs.Log.{Log}
+use Rattle.mate_journal.specs.Log.{Log, GoesOn}
 use Rattle.mate_journal.specs.declared.entry.Entry.{Entry}
 use Rattle.mate_journal.specs.declared.entry.Entry.TheVariants as entry
 use Rattle.mate_journal.specs.declared.entry.Stamped.{Stamped}
@@ -83,6 +83,15 @@ ranges-told-as self first old new last a b e kept kept' size at Rule keeps keeps
     let held_old : IsKept (record { all = old.log; gone = old.gone }) kept = subst (λ (v : NodeView). IsKept (record { all = v.log; gone = v.gone }) kept) (sym a ∙ b) held in
     let held_new : IsKept (record { all = new.log; gone = new.gone }) kept' = subst (λ (v : NodeView). IsKept (record { all = v.log; gone = v.gone }) kept') (sym e) held' in
     ranges-told old new kept kept' size at Rule keeps_old keeps_new held_old sized t held_new rest (subst InRange b has)
+
+-- a log goes on, as it is seen where it is read and where it is called
+pub goes-on-as : (self first old new last : NodeView) → self ≡ first → self ≡ old → new ≡ last → (at : Stamp) (Rule : Pace → List Told → Pace → Type 0) → KeepsJournal first.description (machine_in first.description) first.log
+    → KeepsJournal last.description (machine_in last.description) last.log → Tells old new at Rule → GoesOn self.log new.log
+goes-on-as self first old new last a b e at Rule keeps keeps' t =
+    let keeps_old : KeepsJournal old.description (machine_in old.description) old.log = subst (λ (v : NodeView). KeepsJournal v.description (machine_in v.description) v.log) (sym a ∙ b) keeps in
+    let keeps_new : KeepsJournal new.description (machine_in new.description) new.log = subst (λ (v : NodeView). KeepsJournal v.description (machine_in v.description) v.log) (sym e) keeps' in
+    let front : List Event = map (event_at at) t.told in
+    subst (λ (v : NodeView). GoesOn v.log new.log) (sym b) (GoesOn-journal old.log new.log front keeps_old.tidy.numbered keeps_new.tidy.numbered t.grows.journal)
 
 -- ---- the lines of what is at hand
 

@@ -2,3 +2,4 @@ pub mod EventLemmas
 pub mod RunLemmas
 pub mod WrittenLemmas
 pub mod KeptLemmas
+pub mod CountingLemmas

@@ -1,3 +1,4 @@
 pub mod Running
 pub mod Keeping
 pub mod Writing
+pub mod Counting

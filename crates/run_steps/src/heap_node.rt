@@ -1,7 +1,8 @@
 //! A node on the heap.
 
-ghost use Rattle.std.specs.Prelude.{◌≡◌, ◌<◌, ◌≤◌, length, IfOk, OnOk};
+ghost use Rattle.std.specs.Prelude.{◌≡◌, ◌<◌, ◌≤◌, ◌+◌, ◌^◌, ℕ, length, take, IfOk, OnOk};
 ghost use Rattle.vm_desc.specs.Whole.{context_count};
+ghost use Rattle.mate_journal.specs.Log.{GoesOn};
 ghost use Rattle.mate_journal.specs.NodeScript.{ShowsOnce};
 ghost use Rattle.mate_journal.specs.Pace.{Pace};
 ghost use Rattle.node_invariant.specs.Meaning.{machine_in, clock_of};
@@ -15,7 +16,8 @@ ghost use Rattle.report_ranges.specs.Growth.{IsInRange};
 ghost use Rattle.node_programs.specs.Right.{AreRightPrograms};
 ghost use Rattle.node_programs.specs.ScriptSteps.{step_of};
 ghost use Rattle.run_steps.specs.Running.{IsReadyFor, MakesOn};
-ghost use Rattle.mate_journal.specs.OpenLog.{nothing_gone, IsKept};
+ghost use Rattle.mate_journal.specs.OpenLog.{gone_of, nothing_gone, IsKept};
+ghost use Rattle.report_summary.specs.Tally.{IsLogTally, IsUpTo};
 ghost use Rattle.run_steps.specs.Keeping.{IsNewNode, StaysAsToldTo};
 
 use crate::events::make_step;
@@ -23,6 +25,7 @@ use mate_journal::{NodeLog, Programs};
 use mate_num::{NoMemory, Stamp};
 use open_node::OpenNode;
 use report_ranges::{LogSize, log_is_in_range_from, stamp_is_in_range};
+use report_summary::LogTally;
 use script_reader::Step;
 use std::alloc::Global;
 use std::marker::Model;
@@ -83,6 +86,7 @@ impl HeapNode {
         ensures tells { Tells self.old self.new at (MakesOn self.old (step_of programs.now step.now)) }
         ensures ranges { IsInRange self.old.log self.old.gone → IsInRange self.new.log self.new.gone }
         ensures stamp { HasStampRange at }
+        ensures goes_on { GoesOn self.old.log self.new.log }
     {
         stamp_is_in_range(&at);
         let size = LogSize::of(self.node.kept());
@@ -97,6 +101,7 @@ impl HeapNode {
         requires room { 1 ≤ self.old.log.spare }
         ensures tells { Tells self.old self.new at (Pacing (ShowsOnce (clock_of self.old.description) (machine_in self.old.description) (heard_of self.old))) }
         ensures ranges { IsInRange self.old.log self.old.gone → IsInRange self.new.log self.new.gone }
+        ensures goes_on { GoesOn self.old.log self.new.log }
     {
         let size = LogSize::of(self.node.kept());
         self.node.seen(at);
@@ -128,6 +133,40 @@ impl HeapNode {
             Written::Kept => {}
             Written::Forgotten => self.node.forget(),
         }
+    }
+
+    /// Counts what is at hand and lets go of it, and makes room for n more entries.
+    pub(crate) fn count(&mut self, tally: &mut LogTally, n: usize) -> Result<(), NoMemory>
+        requires few { length self.old.log.entries < 4000000000 }
+        requires up { IsUpTo (2 ^ 56) tally.old }
+        ensures same { IsSameNode (record self.old { gone = gone_of self.old.log }) self.new }
+        ensures pace { (p : Pace) → HasPace self.old p → HasPace self.new p }
+        ensures room { OnOk result (n ≤ self.new.log.spare) }
+        ensures ranges { IsInRange self.old.log self.old.gone → IsInRange self.new.log self.new.gone }
+        ensures tallies { (handlers : ℕ) → IsLogTally handlers tally.old (take self.old.gone.entries self.old.log.entries) → IsLogTally handlers tally.new self.old.log.entries }
+    {
+        self.count_kept(tally);
+        self.forget();
+        self.reserve(n)
+    }
+
+    /// Counts what is at hand.
+    pub(crate) fn count_kept(&self, tally: &mut LogTally)
+        requires { IsUpTo (2 ^ 63) tally.old }
+        ensures tallies { (handlers : ℕ) → IsLogTally handlers tally.old (take self.now.gone.entries self.now.log.entries) → IsLogTally handlers tally.new self.now.log.entries }
+        ensures up { (n : ℕ) → IsUpTo n tally.old → IsUpTo (n + 2 ^ 57) tally.new }
+    {
+        tally.add_all(self.node.kept().entries());
+    }
+
+    /// Forgets what was told.
+    fn forget(&mut self)
+        requires { length self.old.log.entries < 4000000000 }
+        ensures same { IsSameNode (record self.old { gone = gone_of self.old.log }) self.new }
+        ensures pace { (p : Pace) → HasPace self.old p → HasPace self.new p }
+        ensures ranges { IsInRange self.old.log self.old.gone → IsInRange self.new.log self.new.gone }
+    {
+        self.node.forget();
     }
 
     /// How many entries were told.

@@ -1,5 +1,5 @@
 use Rattle.std.proofs.Common.{◌≡◌}
-use Rattle.run_steps.proofs.KeptLemmas.{ranges-told-as}
+use Rattle.run_steps.proofs.KeptLemmas.{ranges-told-as, goes-on-as}
 use Rattle.run_steps.proofs.heap_node.HeapNode.seen.Goals as goal
 
 pub returns-clause-ranges : goal.returns-clause-ranges
@@ -9,3 +9,10 @@ returns-clause-ranges c =
     let last : c.seen.new.self ≡ c.deref-2.result.now = cc in
     ranges-told-as c.args.self.now c.deref.result.now c.deref_mut.result.now c.seen.new.self c.deref-2.result.now first old last c.kept.result.now c.kept-2.result.now c.of-size.result c.args.at _ c.kept.ensures.keeps c.kept-2.ensures.keeps
     c.kept.ensures.kept c.of-size.ensures c.seen.ensures c.kept-2.ensures.kept c.log_is_in_range_from.ensures
+
+pub returns-clause-goes_on : goal.returns-clause-goes_on
+returns-clause-goes_on c =
+    let first : c.args.self.now ≡ c.deref.result.now = cc in
+    let old : c.args.self.now ≡ c.deref_mut.result.now = cc in
+    let last : c.seen.new.self ≡ c.deref-2.result.now = cc in
+    goes-on-as c.args.self.now c.deref.result.now c.deref_mut.result.now c.seen.new.self c.deref-2.result.now first old last c.args.at _ c.kept.ensures.keeps c.kept-2.ensures.keeps c.seen.ensures

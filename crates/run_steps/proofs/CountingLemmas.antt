@@ -1,0 +1,66 @@
+-- What a run on one node counts.
+use Rattle.std.proofs.Common.{◌≡◌, ◌≤◌, ℕ, List, [], ◌++◌, Result, Ok, Err, IfOk, sym, ◌∙◌, ap, subst, arith, length, map, take, take_all}
+use Rattle.std.proofs.lemmas.List.{take-append-drop, take-append-le, length-take}
+use Rattle.mate_journal.specs.Log.{Log, GoesOn}
+use Rattle.mate_journal.specs.OpenLog.{Gone, OpenView, IsKept, stamped_behind, nothing_gone, gone_of}
+use Rattle.mate_journal.specs.declared.entry.Stamped.{Stamped}
+use Rattle.open_node.specs.View.{NodeView, IsSameNode}
+use Rattle.report_summary.specs.Tally.{IsUpTo, IsLogTally}
+use Rattle.report_summary.specs.declared.tally.LogTally.{LogTally}
+use Rattle.report_summary.proofs.TallyLemmas.{tally-same, tally-few, tally-behind}
+
+-- ---- what is at hand
+
+counted-kept : (n : ℕ) (v : OpenView) (kept : Log) (t : LogTally) (es : List Stamped) → es ≡ kept.entries → IsKept v kept → IsLogTally n t (take v.gone.entries v.all.entries ++ es) → IsLogTally n t v.all.entries
+counted-kept n v kept t es same is counted =
+    let front = take v.gone.entries v.all.entries in
+    let by_kept : IsLogTally n t (front ++ kept.entries) = subst (λ (xs : List Stamped). IsLogTally n t (front ++ xs)) same counted in
+    tally-same n t (front ++ map (stamped_behind v.gone.images v.gone.stores) kept.entries) v.all.entries
+    (ap (λ (xs : List Stamped). front ++ xs) (sym is.entries) ∙ take-append-drop v.gone.entries v.all.entries)
+    (tally-behind n v.gone.images v.gone.stores t front kept.entries by_kept)
+
+-- the same, of the node as it is seen where it is read
+pub counted-as : (n : ℕ) (self v : NodeView) → self ≡ v → (kept : Log) (t : LogTally) (es : List Stamped) → es ≡ kept.entries → IsKept (record { all = v.log; gone = v.gone }) kept
+    → IsLogTally n t (take self.gone.entries self.log.entries ++ es) → IsLogTally n t self.log.entries
+counted-as n self v e kept t es same is counted =
+    counted-kept n (record { all = self.log; gone = self.gone }) kept t es same (subst (λ (x : NodeView). IsKept (record { all = x.log; gone = x.gone }) kept) (sym e) is) counted
+
+pub up-to : (m n : ℕ) (t : LogTally) → m ≤ n → IsUpTo m t → IsUpTo n t
+up-to m n t le up = record {
+  entries = let e = up.entries in omega (arith, e, le);
+  counts = λ k. let c = up.counts k in omega (arith, c, le);
+}
+
+pub same-on : (a b c : NodeView) → IsSameNode a b → IsSameNode b c → IsSameNode a c
+same-on a b c f g = record {
+  description = g.description ∙ f.description;
+  log = record { entries = g.log.entries ∙ f.log.entries; images = g.log.images ∙ f.log.images; stores = g.log.stores ∙ f.log.stores };
+  gone = g.gone ∙ f.gone;
+  line = g.line ∙ f.line;
+  counts = g.counts ∙ f.counts;
+  room = let x = f.room in let y = g.room in omega (arith, x, y);
+}
+
+-- ---- along the run
+
+-- before the first event
+pub tally-fresh : (n : ℕ) (t : LogTally) (v : NodeView) → v.gone ≡ nothing_gone → IsLogTally n t [] → IsLogTally n t (take v.gone.entries v.log.entries)
+tally-fresh n t v gone is = tally-same n t [] (take v.gone.entries v.log.entries) (sym (ap (λ (g : Gone). take g.entries v.log.entries) gone)) is
+
+-- all that was told before an event is gone in it
+pub tally-before : (n : ℕ) (t : LogTally) (first old new : NodeView) → IsSameNode (record first { gone = gone_of first.log }) old → GoesOn old.log new.log → new.gone ≡ old.gone → IsLogTally n t first.log.entries
+    → IsLogTally n t (take new.gone.entries new.log.entries)
+tally-before n t first old new same goes gone is =
+    let es = first.log.entries in
+    let count : new.gone.entries ≡ length es = ap (λ (g : Gone). g.entries) (gone ∙ same.gone) in
+    let all : new.log.entries ≡ es ++ goes.entries = goes.entries_are ∙ ap (λ (xs : List Stamped). xs ++ goes.entries) same.log.entries in
+    tally-same n t es (take new.gone.entries new.log.entries)
+    (sym (ap (λ (k : ℕ). take k new.log.entries) count ∙ ap (take (length es)) all ∙ take-append-le (length es) es goes.entries (omega arith) ∙ take_all (length es) es (omega arith))) is
+
+-- no more is counted than was told
+pub tally-most : (n k most : ℕ) (t : LogTally) (es : List Stamped) → IsLogTally n t (take k es) → length es ≤ most → IsUpTo most t
+tally-most n k most t es is few = tally-few n most t (take k es) is (let le = length-take k es in omega (arith, le, few))
+
+pub if_ok : {A E : Type 0} (r : Result A E) (P Q : A → Type 0) → ((a : A) → P a → Q a) → IfOk r P → IfOk r Q
+if_ok (Ok a) P Q weaker h = weaker a h
+if_ok (Err e) P Q weaker h = tt
