@@ -4,15 +4,20 @@ use Rattle.std.specs.Result.{IsErrAnd}
 use Rattle.vm_desc.specs.declared.description.Description.{Description}
 use Rattle.ts_syntax.specs.Cut.{cut}
 use Rattle.ts_syntax.specs.Faults.{Spells}
+use Rattle.ts_syntax.specs.Seen.{source_of}
+use Rattle.ts_syntax.specs.Statement.{Block}
 use Rattle.ts_syntax.specs.Tree.{Source}
 use Rattle.ts_syntax.specs.declared.checked.Checked.{Checked}
+use Rattle.ts_syntax.specs.declared.script.Script.{Script}
 use Rattle.ts_syntax.specs.declared.token.Token.{Token}
 use Rattle.ts_parser.specs.Cutting.{Cuts}
+use Rattle.ts_parser.specs.Reading.{Reads, cuts, fails}
 use Rattle.ts_parser.specs.Verdict.{Answers}
 use Rattle.ts_parser.specs.declared.fault.SourceFault.{SourceFault}
 use Rattle.ts_parser.specs.declared.fault.SourceFault.TheVariants as fault
 use Rattle.ts_scope.specs.declared.fault.CheckFault.{CheckFault}
 use Rattle.ts_scope.specs.declared.fault.CheckFault.TheVariants as check
+use Rattle.ts_checker.specs.Accepted.{IsAccepted}
 use Rattle.ts_checker.specs.Answer.{RefusesScript}
 use Rattle.ts_checker.specs.Checks.{checked_source}
 use Rattle.mate_steps.specs.Answers.{IsMisspelt, IsUnmeant, IsRefused, TellsAcceptance}
@@ -24,7 +29,7 @@ handed_on : (d : Description) (bytes : List ℕ) (f : SourceFault) → IsMisspel
 handed_on d bytes f h (Ok c) i = absurd i
 handed_on d bytes f h (Err r) i = subst (IsRefused d bytes) (sym i) h
 
-pub bytes_refused : (d : Description) (bytes : List ℕ) (f : SourceFault) → Cuts bytes (Err f) → (r : Result Checked SourceRefusal) → IsErrAnd r (λ x. x ≡ Spelling f) → TellsAcceptance d bytes r
+bytes_refused : (d : Description) (bytes : List ℕ) (f : SourceFault) → Cuts bytes (Err f) → (r : Result Checked SourceRefusal) → IsErrAnd r (λ x. x ≡ Spelling f) → TellsAcceptance d bytes r
 bytes_refused d bytes f h = handed_on d bytes f (told f h)
   where
     told : (f : SourceFault) → Cuts bytes (Err f) → IsMisspelt d bytes f
@@ -34,17 +39,31 @@ bytes_refused d bytes f h = handed_on d bytes f (told f h)
     told (fault.TooDeep place) h = absurd h
     told fault.NoMemory h = tt
 
-pub tokens_refused : (d : Description) (bytes : List ℕ) (tokens : List Token) (f : SourceFault) → cut bytes ≡ Ok tokens → Answers tokens (length bytes) (Err f)
+tokens_refused : (d : Description) (bytes : List ℕ) (tokens : List Token) (f : SourceFault) → cut bytes ≡ Ok tokens → Answers tokens (length bytes) (Err f)
     → (r : Result Checked SourceRefusal) → IsErrAnd r (λ x. x ≡ Spelling f) → TellsAcceptance d bytes r
-tokens_refused d bytes tokens f cuts h = handed_on d bytes f (told f h)
+tokens_refused d bytes tokens f is_cut h = handed_on d bytes f (told f h)
   where
     told : (f : SourceFault) → Answers tokens (length bytes) (Err f) → IsMisspelt d bytes f
     told (fault.BadByte place) h = absurd h
     told (fault.BigLiteral place) h = absurd h
-    told (fault.Unexpected place) h = record { tokens = tokens; cuts = cuts; stops = h }
-    told (fault.TooDeep place) h = record { tokens = tokens; cuts = cuts; deep = h }
+    told (fault.Unexpected place) h = record { tokens = tokens; cuts = is_cut; stops = h }
+    told (fault.TooDeep place) h = record { tokens = tokens; cuts = is_cut; deep = h }
     told fault.NoMemory h = tt
 
-pub script_refused : (d : Description) (bytes : List ℕ) (tokens : List Token) (s : Source) (f : CheckFault) → cut bytes ≡ Ok tokens → Spells tokens s → RefusesScript f (checked_source d s) → IsUnmeant d bytes f
-script_refused d bytes tokens s check.NoMemory cuts spells h = tt
-script_refused d bytes tokens s f cuts spells h = record { tokens = tokens; source = s; cuts = cuts; spells = spells; checks = h }
+pub text_refused : (d : Description) (bytes : List ℕ) (f : SourceFault) → Reads bytes (Err f) → (r : Result Checked SourceRefusal) → IsErrAnd r (λ x. x ≡ Spelling f) → TellsAcceptance d bytes r
+text_refused d bytes f (cuts tokens c a) r i = tokens_refused d bytes tokens f c a r i
+text_refused d bytes f (fails g h e) r i =
+    let is : g ≡ f = cc in bytes_refused d bytes f (subst (λ z. Cuts bytes (Err z)) is h) r i
+
+-- the script of the text passes the checks, or is refused by them
+pub script_accepted : (d : Description) (bytes : List ℕ) (s : Script) (tree : Block) → Reads bytes (Ok s) → checked_source d (source_of s) ≡ Ok tree → IsAccepted d bytes tree
+script_accepted d bytes s tree (cuts tokens c a) checks = record { tokens = tokens; source = source_of s; cuts = c; spells = a; checks = checks }
+script_accepted d bytes s tree (fails f h e) checks = cc
+
+of_source : (d : Description) (bytes : List ℕ) (tokens : List Token) (s : Source) (f : CheckFault) → cut bytes ≡ Ok tokens → Spells tokens s → RefusesScript f (checked_source d s) → IsUnmeant d bytes f
+of_source d bytes tokens s check.NoMemory is_cut spells h = tt
+of_source d bytes tokens s f is_cut spells h = record { tokens = tokens; source = s; cuts = is_cut; spells = spells; checks = h }
+
+pub script_refused : (d : Description) (bytes : List ℕ) (s : Script) (f : CheckFault) → Reads bytes (Ok s) → RefusesScript f (checked_source d (source_of s)) → IsUnmeant d bytes f
+script_refused d bytes s f (cuts tokens c a) h = of_source d bytes tokens (source_of s) f c a h
+script_refused d bytes s f (fails g h e) r = cc

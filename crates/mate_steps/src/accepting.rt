@@ -9,7 +9,7 @@ ghost use Rattle.mate_steps.specs.Answers.{TellsAcceptance};
 use crate::refusal::SourceRefusal;
 use std::alloc::Global;
 use ts_checker::check;
-use ts_parser::{parse, tokens};
+use ts_parser::read;
 use ts_syntax::Checked;
 use vm_desc::Description;
 
@@ -21,11 +21,7 @@ pub fn accept(alloc: Global, desc: &Description, bytes: &[u8]) -> Result<Checked
     ensures tells { TellsAcceptance desc.now bytes.now result }
     ensures shape { IfOk result (λ script. shape_of script ≡ shape_of_machine desc.now) }
 {
-    // the tokens go before the checked tree is made
-    let script = {
-        let tokens = tokens(alloc, bytes)?;
-        parse(alloc, &tokens, bytes.len() as u32)?
-    };
+    let script = read(alloc, bytes)?;
     match check(alloc, desc, &script) {
         Ok(checked) => Ok(checked),
         Err(fault) => Err(SourceRefusal::Meaning(fault)),

@@ -1,9 +1,9 @@
 -- What a scanner has still to answer, and what its steps leave of it.
-use Rattle.std.specs.Prelude.{◌≡◌, ◌<◌, ◌+◌, ℕ, List, [], ◌∷◌, ◌++◌, length, drop, Result, Ok, Err, ⊤}
+use Rattle.std.specs.Prelude.{◌≡◌, ◌<◌, ◌+◌, ℕ, List, [], ◌∷◌, ◌++◌, length, drop, Result, Ok, Err}
 use Rattle.ts_syntax.specs.declared.token.Token.{Token}
-use Rattle.ts_syntax.specs.Cut.{CutFault, bad_byte, big_literal, between, with_front, cut_from, token_in, all_in}
+use Rattle.ts_syntax.specs.Cut.{CutFault, between, with_front, cut_from, token_in, all_in}
+use Rattle.ts_lexer.specs.Answers.{HasFault}
 use Rattle.ts_lexer.specs.declared.fault.TokenFault.{TokenFault}
-use Rattle.ts_lexer.specs.declared.fault.TokenFault.TheVariants.{BadByte, BigLiteral, NoMemory}
 use Rattle.ts_lexer.specs.declared.scanner.Scanner.{Scanner}
 
 -- the tokens of the whole text, or its first fault: those that were read, and those of the rest
@@ -32,6 +32,29 @@ pub record Moves (old new : Scanner) : Type 0 where
 -- a step of the scanner, or the first fault of the text
 abbrev pub Steps : Scanner → Scanner → Result (Unit {0}) TokenFault → Type 0
 Steps old new (Ok u) = Moves old new
-Steps old new (Err (BadByte place)) = due old ≡ Err (bad_byte place)
-Steps old new (Err (BigLiteral place)) = due old ≡ Err (big_literal place)
-Steps old new (Err NoMemory) = ⊤
+Steps old new (Err f) = HasFault (due old) f
+
+-- a scanner of a text that is cut so, or the text's first fault
+abbrev pub Begins : Result (List Token) CutFault → Result Scanner TokenFault → Type 0
+Begins cut (Ok s) = due s ≡ cut
+Begins cut (Err f) = HasFault cut f
+
+-- all tokens, or the first fault
+abbrev pub Ends : Result (List Token) CutFault → Result (List Token) TokenFault → Type 0
+Ends cut (Ok tokens) = cut ≡ Ok tokens
+Ends cut (Err f) = HasFault cut f
+
+-- there are tokens, whatever they are, or the first fault
+abbrev pub LooksThrough : Result (List Token) CutFault → Result (Unit {0}) TokenFault → Type 0
+LooksThrough cut (Ok u) = (tokens : List Token) × (cut ≡ Ok tokens)
+LooksThrough cut (Err f) = HasFault cut f
+
+-- what is cut is this behind some tokens
+pub record Leads (whole rest : Result (List Token) CutFault) : Type 0 where
+  pub front : List Token
+  pub is : whole ≡ with_front front rest
+
+-- some tokens aren't kept any longer
+pub record Forgets (old new : Scanner) : Type 0 where
+  pub leads : Leads (due old) (due new)
+  pub rest : new.rest.now ≡ old.rest.now

@@ -1,7 +1,6 @@
-//! How a text is cut into tokens, from the left in one pass.
+//! What reads a text from the left, in one pass, and cuts it into tokens.
 
 ghost use Rattle.std.specs.Prelude.{◌≡◌, ◌≤◌, ◌+◌, length};
-ghost use Rattle.ts_lexer.specs.Answers.{Cuts, CutsIn};
 
 use crate::fault::TokenFault;
 use crate::spans::{
@@ -12,52 +11,89 @@ use mate_num::{Items, Name};
 use std::alloc::Global;
 use ts_syntax::{Dialect, Token, TokenKind, Tokens};
 
-/// The tokens of a text, or its first fault. The text has at most 1,048,576 bytes.
-pub fn tokens(alloc: Global, bytes: &[u8]) -> Result<Tokens, TokenFault>
-    requires { length bytes.now ≤ 1048576 }
-    ensures { Cuts bytes.now result }
-{
-    tokens_in(alloc, Dialect::Plain, bytes)
-}
-
-/// The tokens of a text in a dialect, or its first fault. Where a script may have procedures, `proc` and `do` are
-/// keywords; all else is as in plain TinyScript. The text has at most 1,048,576 bytes.
-pub fn tokens_in(alloc: Global, dialect: Dialect, bytes: &[u8]) -> Result<Tokens, TokenFault>
-    requires { length bytes.now ≤ 1048576 }
-    ensures { CutsIn dialect bytes.now result }
-{
-    let mut scanner = Scanner {
-        dialect,
-        rest: bytes,
-        place: 0,
-        tokens: Items::new(alloc),
-    };
-    while let Some(first) = scanner.rest.first() {
-        scanner.step(*first)?;
-    }
-    Ok(scanner.tokens)
-}
+// How many tokens are kept at most while a rest is only looked through.
+const KEPT: usize = 256;
 
 /// What is left of a text, and the tokens before it.
 #[derive(Drop)]
-struct Scanner<'a> {
+pub struct Scanner<'a> {
     dialect: Dialect,
-    rest: &'a [u8],
+    pub(crate) rest: &'a [u8],
     /// The place of the rest, in bytes from the start of the text.
     place: u32,
-    tokens: Tokens,
+    pub(crate) tokens: Tokens,
     ghost in_range: { place + length rest.now ≤ 1048576 },
 }
 
 impl<'a> Scanner<'a> {
     ghost use Rattle.std.specs.Prelude.{◌≡◌, ◌≤◌, ◌==◌, length, Some, slice_get, take, MatchResult};
-    ghost use Rattle.ts_syntax.specs.Cut.{is_blank, begins_name, is_digit, token, kind_in};
+    ghost use Rattle.ts_syntax.specs.Cut.{is_blank, begins_name, is_digit, token, kind_in, cut_in};
     ghost use Rattle.ts_syntax.specs.declared.token.TokenKind.{TokenKind as Kind};
     ghost use Rattle.ts_lexer.specs.Spans.{Begins, begins_sign};
-    ghost use Rattle.ts_lexer.specs.Scanner.{Takes, Appends, Moves, Steps};
+    ghost use Rattle.ts_lexer.specs.Scanner.{due, Takes, Appends, Moves, Steps, Ends, LooksThrough, Forgets};
+
+    /// The whole text, and no token yet.
+    pub(crate) fn new(alloc: Global, dialect: Dialect, bytes: &'a [u8]) -> Scanner<'a>
+        requires { length bytes.now ≤ 1048576 }
+        ensures { due result ≡ cut_in dialect bytes.now }
+    {
+        Scanner {
+            dialect,
+            rest: bytes,
+            place: 0,
+            tokens: Items::new(alloc),
+        }
+    }
+
+    /// The tokens that were read.
+    pub fn tokens(&self) -> &Tokens
+        ensures { result.now ≡ self.now.tokens }
+    {
+        &self.tokens
+    }
+
+    /// Whether nothing is left of the text.
+    pub fn is_done(&self) -> bool
+        ensures { result ≡ (length self.now.rest.now == 0) }
+    {
+        self.rest.is_empty()
+    }
+
+    /// All tokens of the text, or its first fault.
+    pub fn finish(self) -> Result<Tokens, TokenFault>
+        ensures { Ends (due self.entry) result }
+    {
+        let mut scanner = self;
+        while let Some(first) = scanner.rest.first() {
+            scanner.step(*first)?;
+        }
+        Ok(scanner.tokens)
+    }
+
+    /// Looks for the first fault of what is left, and keeps few tokens of it at a time.
+    pub fn look_through(self) -> Result<(), TokenFault>
+        ensures { LooksThrough (due self.entry) result }
+    {
+        let mut scanner = self;
+        while let Some(first) = scanner.rest.first() {
+            scanner.step(*first)?;
+            scanner.forget();
+        }
+        Ok(())
+    }
+
+    /// Forgets the tokens, where there are many.
+    fn forget(&mut self)
+        ensures { Forgets self.old self.new }
+    {
+        if self.tokens.len() < KEPT {
+            return;
+        }
+        self.tokens.truncate(0);
+    }
 
     /// Reads a blank, a comment or a token; `first` is its first byte.
-    fn step(&mut self, first: u8) -> Result<(), TokenFault>
+    pub(crate) fn step(&mut self, first: u8) -> Result<(), TokenFault>
         requires { slice_get self.old.rest.now 0 ≡ Some first }
         ensures { Steps self.old self.new result }
     {

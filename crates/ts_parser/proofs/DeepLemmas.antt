@@ -70,6 +70,18 @@ same_from d (x ∷ xs) ys i e h =
 pub same_in_front : (xs ys : List TokenKind) (i : ℕ) → first_deep (xs ++ ys) ≡ Some i → i < length xs → first_deep xs ≡ Some i
 same_in_front xs ys i e h = same_from shallow xs ys i e h
 
+-- the first stays so, whatever follows
+more_on : (b : Bool) (o r : Option ℕ) (i : ℕ) → seen b o ≡ Some i → ((j : ℕ) → o ≡ Some j → r ≡ Some j) → seen b r ≡ Some i
+more_on true o r i e s = e
+more_on false o r i e s = let f : Found o i = found o i e in ap later (s f.at f.is) ∙ ap (λ z. Some z) f.next
+
+more_from : (d : Depth) (xs ys : List TokenKind) (i : ℕ) → deep_from d xs ≡ Some i → deep_from d (xs ++ ys) ≡ Some i
+more_from d [] ys i e = absurd (none-some i e)
+more_from d (x ∷ xs) ys i e = more_on (is_deep d x) (deep_from (after d x) xs) (deep_from (after d x) (xs ++ ys)) i e (λ j. more_from (after d x) xs ys j)
+
+pub same_before_more : (xs ys : List TokenKind) (i : ℕ) → first_deep xs ≡ Some i → first_deep (xs ++ ys) ≡ Some i
+same_before_more xs ys i e = more_from shallow xs ys i e
+
 -- the first stands among the tokens
 within_on : (b : Bool) (o : Option ℕ) (n i : ℕ) → seen b o ≡ Some i → ((j : ℕ) → o ≡ Some j → j < n) → i < suc n
 within_on true o n i e s = let z : 0 ≡ i = same_Some _ _ e in omega arith

@@ -6,6 +6,8 @@ use Rattle.ts_syntax.specs.Cut.{cut_in, bad_byte, big_literal}
 use Rattle.ts_syntax.specs.declared.token.Token.{Token}
 use Rattle.ts_parser.specs.declared.fault.SourceFault.{SourceFault}
 use Rattle.ts_parser.specs.declared.fault.SourceFault.TheVariants as fault
+use Rattle.ts_lexer.specs.declared.fault.TokenFault.{TokenFault}
+use Rattle.ts_lexer.specs.declared.fault.TokenFault.TheVariants as cutting
 
 -- the tokens that the bytes are cut into in a dialect, or their first fault; the grammar is no matter of it
 abbrev pub SourceCuts : Dialect → List ℕ → Result (List Token) SourceFault → Type 0
@@ -19,3 +21,9 @@ SourceCuts d bytes (Err fault.NoMemory) = Unit {0}
 -- the same in plain TinyScript
 abbrev pub Cuts : List ℕ → Result (List Token) SourceFault → Type 0
 Cuts bytes result = SourceCuts dialect.Plain bytes result
+
+-- a fault of the cut as one of a source
+abbrev pub source_fault_of : TokenFault → SourceFault
+source_fault_of (cutting.BadByte place) = fault.BadByte place
+source_fault_of (cutting.BigLiteral place) = fault.BigLiteral place
+source_fault_of cutting.NoMemory = fault.NoMemory

@@ -1,7 +1,7 @@
 //! The tokens of a source, with its faults as those of a source.
 
-ghost use Rattle.std.specs.Prelude.{◌≤◌, length};
-ghost use Rattle.ts_parser.specs.Cutting.{Cuts, SourceCuts};
+ghost use Rattle.std.specs.Prelude.{◌≡◌, ◌≤◌, length};
+ghost use Rattle.ts_parser.specs.Cutting.{Cuts, SourceCuts, source_fault_of};
 
 use crate::fault::SourceFault;
 use std::alloc::Global;
@@ -26,8 +26,17 @@ pub fn tokens_in(alloc: Global, dialect: Dialect, bytes: &[u8]) -> Result<Tokens
 {
     match ts_lexer::tokens_in(alloc, dialect, bytes) {
         Ok(tokens) => Ok(tokens),
-        Err(TokenFault::BadByte { place }) => Err(SourceFault::BadByte { place }),
-        Err(TokenFault::BigLiteral { place }) => Err(SourceFault::BigLiteral { place }),
-        Err(TokenFault::NoMemory) => Err(SourceFault::NoMemory),
+        Err(fault) => Err(source_fault(fault)),
+    }
+}
+
+/// A fault of the cut as one of a source.
+pub(crate) fn source_fault(fault: TokenFault) -> SourceFault
+    ensures { result ≡ source_fault_of fault }
+{
+    match fault {
+        TokenFault::BadByte { place } => SourceFault::BadByte { place },
+        TokenFault::BigLiteral { place } => SourceFault::BigLiteral { place },
+        TokenFault::NoMemory => SourceFault::NoMemory,
     }
 }

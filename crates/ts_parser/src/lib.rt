@@ -7,10 +7,12 @@ pub mod depth;
 pub mod fault;
 pub mod parser;
 pub mod procs;
+pub mod reading;
 pub mod role;
 pub mod verdict;
 
 pub use cutting::{tokens, tokens_in};
 pub use fault::SourceFault;
 pub use parser::{parse, parse_procedures};
+pub use reading::{read, read_procedures};
 pub use verdict::verdict_law;

@@ -40,7 +40,8 @@ pub fn parse_procedures(alloc: Global, tokens: &Tokens, len: u32) -> Result<Proc
     parse_in(alloc, Dialect::Procedures, tokens, len)
 }
 
-fn parse_in(
+/// The same in a dialect.
+pub(crate) fn parse_in(
     alloc: Global,
     dialect: Dialect,
     tokens: &Tokens,

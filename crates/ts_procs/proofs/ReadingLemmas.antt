@@ -3,10 +3,17 @@ use Rattle.std.proofs.Common.{◌≡◌, ℕ, List, length, Option, Some, None, 
 use Rattle.std.specs.Prelude.{IsTrue, is_none}
 use Rattle.std.proofs.lemmas.Bool.{false≢true}
 use Rattle.ts_syntax.specs.declared.dialect.Dialect.TheVariants.{Procedures}
+use Rattle.ts_syntax.specs.declared.procedure.ProcScript.{ProcScript}
 use Rattle.ts_syntax.specs.declared.token.Token.{Token}
+use Rattle.ts_syntax.specs.Seen.{procedure_source_of}
 use Rattle.ts_syntax.specs.Cut.{cut_in, CutFault, bad_byte, big_literal}
 use Rattle.ts_syntax.specs.Tree.{ProcedureSource}
 use Rattle.ts_parser.specs.Verdict.{VerdictOf, IsSoIn, spelled, unexpected, too_deep}
+use Rattle.ts_parser.specs.Cutting.{SourceCuts}
+use Rattle.ts_parser.specs.Verdict.{AnswersIn}
+use Rattle.ts_parser.specs.Reading.{ReadsIn, cuts, fails}
+use Rattle.ts_parser.specs.declared.fault.SourceFault.{SourceFault}
+use Rattle.ts_parser.specs.declared.fault.SourceFault.TheVariants as text
 use Rattle.ts_parser.proofs.VerdictLemmas.{one_verdict_in}
 use Rattle.proc_names.specs.declared.fault.ProcFault.{ProcFault}
 use Rattle.proc_names.specs.declared.fault.ProcFault.TheVariants.{BadByte, BigLiteral, Unexpected, TooDeep, NoProc, Params, Again, Reserved, TooLarge, TooNested, NoMemory}
@@ -14,7 +21,7 @@ use Rattle.proc_names.specs.declared.named.PScript.{PScript}
 use Rattle.proc_names.specs.Named.{written_of, IsNamedScript}
 use Rattle.proc_names.specs.NameFaults.{name_fault}
 use Rattle.proc_names.proofs.FaultLemmas.{named_alone}
-use Rattle.ts_procs.specs.Reading.{Reads, IsProcedureText, IsMisnamed}
+use Rattle.ts_procs.specs.Reading.{Reads, IsProcedureText, IsMisnamed, proc_fault_of}
 
 of_cut : CutFault → ProcFault
 of_cut (bad_byte place) = BadByte place
@@ -93,3 +100,26 @@ named_read bytes s (Err (TooDeep place)) text is = absurd (named_alone s (TooDee
 named_read bytes s (Err (TooLarge count)) text is = absurd (named_alone s (TooLarge count) is)
 named_read bytes s (Err (TooNested depth)) text is = absurd (named_alone s (TooNested depth) is)
 named_read bytes s (Err NoMemory) text is = tt
+
+-- the text of a script, and the refusal of one that spells none
+pub text_of_script : (bytes : List ℕ) (s : ProcScript) → ReadsIn Procedures bytes (Ok s) → IsProcedureText bytes (procedure_source_of s)
+text_of_script bytes s (cuts tokens c a) = record { tokens = tokens; cuts = c; spells = a }
+text_of_script bytes s (fails f h e) = cc
+
+by_tokens : (bytes : List ℕ) (tokens : List Token) (f : SourceFault) → cut_in Procedures bytes ≡ Ok tokens → AnswersIn Procedures tokens (length bytes) (Err f) → Reads bytes (Err (proc_fault_of f))
+by_tokens bytes tokens (text.BadByte place) c a = absurd a
+by_tokens bytes tokens (text.BigLiteral place) c a = absurd a
+by_tokens bytes tokens (text.Unexpected place) c a = record { tokens = tokens; cuts = c; stops = a }
+by_tokens bytes tokens (text.TooDeep place) c a = record { tokens = tokens; cuts = c; deep = a }
+by_tokens bytes tokens text.NoMemory c a = tt
+
+by_bytes : (bytes : List ℕ) (f : SourceFault) → SourceCuts Procedures bytes (Err f) → Reads bytes (Err (proc_fault_of f))
+by_bytes bytes (text.BadByte place) h = h
+by_bytes bytes (text.BigLiteral place) h = h
+by_bytes bytes (text.Unexpected place) h = absurd h
+by_bytes bytes (text.TooDeep place) h = absurd h
+by_bytes bytes text.NoMemory h = tt
+
+pub text_refused : (bytes : List ℕ) (f : SourceFault) → ReadsIn Procedures bytes (Err f) → Reads bytes (Err (proc_fault_of f))
+text_refused bytes f (cuts tokens c a) = by_tokens bytes tokens f c a
+text_refused bytes f (fails g h e) = let is : g ≡ f = cc in subst (λ z. Reads bytes (Err (proc_fault_of z))) is (by_bytes bytes g h)

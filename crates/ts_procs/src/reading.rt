@@ -5,8 +5,7 @@ ghost use Rattle.ts_procs.specs.Reading.{Reads, proc_fault_of as named_fault};
 
 use proc_names::{PScript, ProcFault};
 use std::alloc::Global;
-use ts_parser::{SourceFault, parse_procedures, tokens_in};
-use ts_syntax::Dialect;
+use ts_parser::{SourceFault, read_procedures};
 
 /// The script with procedures of a source of at most 1,048,576 bytes, or the first refusal of it: of its tokens over the whole
 /// text, then of its grammar and depth, then of its names. `NoMemory` may come in place of any answer.
@@ -14,18 +13,10 @@ pub fn read(alloc: Global, bytes: &[u8]) -> Result<PScript, ProcFault>
     requires { length bytes.now ≤ 1048576 }
     ensures { Reads bytes.now result }
 {
-    // the tokens go before the names are looked up
-    let script = {
-        let tokens = match tokens_in(alloc, Dialect::Procedures, bytes) {
-            Ok(tokens) => tokens,
-            Err(fault) => return Err(fault_of(fault)),
-        };
-        match parse_procedures(alloc, &tokens, bytes.len() as u32) {
-            Ok(script) => script,
-            Err(fault) => return Err(fault_of(fault)),
-        }
-    };
-    PScript::new(alloc, script)
+    match read_procedures(alloc, bytes) {
+        Ok(script) => PScript::new(alloc, script),
+        Err(fault) => Err(fault_of(fault)),
+    }
 }
 
 fn fault_of(fault: SourceFault) -> ProcFault

@@ -1,13 +1,10 @@
-use Rattle.std.proofs.Common.{sym, ◌∙◌, ap}
+use Rattle.std.proofs.Common.{◌∙◌, ap}
 use Rattle.ts_syntax.specs.Cut.{between, with_front, cut_from, all_in}
 use Rattle.ts_lexer.proofs.CutLemmas.{with_front-nil}
-use Rattle.ts_lexer.proofs.StepLemmas.{all_due, cut_in-all}
-use Rattle.ts_lexer.proofs.scanner.tokens_in.Goals as goal
-
-pub loop-first-init : goal.loop-first-init
-loop-first-init c =
-    ap (λ ts. with_front ts (all_in c.args.dialect (cut_from 0 between c.args.bytes.now))) c.new.ensures
-    ∙ with_front-nil (all_in c.args.dialect (cut_from 0 between c.args.bytes.now)) ∙ cut_in-all c.args.dialect c.args.bytes.now
+use Rattle.ts_lexer.proofs.StepLemmas.{cut_in-all}
+use Rattle.ts_lexer.proofs.scanner.Scanner.new.Goals as goal
 
 pub returns : goal.returns
-returns c = sym c.loop-first.invariant ∙ all_due c.loop-first.scanner c.in_default.ensures.value
+returns c =
+    ap (λ ts. with_front ts (all_in c.args.dialect (cut_from 0 between c.args.bytes.now))) c.new.ensures
+    ∙ with_front-nil (all_in c.args.dialect (cut_from 0 between c.args.bytes.now)) ∙ cut_in-all c.args.dialect c.args.bytes.now
