@@ -3,6 +3,8 @@
 ghost use Rattle.std.specs.Prelude.{◌≡◌, ◌<◌, ℕ};
 ghost use Rattle.capsule_codec.specs.Image.{capsule_parts};
 ghost use Rattle.capsule_codec.specs.Reading.{capsule_in};
+ghost use Rattle.mate_code.specs.Table.{table_of};
+ghost use Rattle.vm_desc.specs.Shapes.{shape_of};
 ghost use Rattle.capsule_feed.specs.Answers.{answer_to, decoded_answer, held_after, if_newer};
 ghost use Rattle.capsule_feed.specs.Lines.{HasHandler};
 
@@ -12,7 +14,7 @@ use code_verifier::verify;
 use mate_code::Table;
 use mate_num::HANDLERS_MAX;
 use slip_gateway::Frame;
-use vm_desc::{Description, shape};
+use vm_desc::Description;
 
 /// The version that is held for each handler, 0 for none.
 #[derive(Drop)]
@@ -32,14 +34,15 @@ impl HeldVersions {
         }
     }
 
-    /// The answer to a frame; a capsule that it installs is held from then on.
-    pub(crate) fn answer(&mut self, desc: &Description, frame: &Frame) -> Answer
+    /// The answer to a frame, by the machine and its opcode table; a capsule that it installs is held from then on.
+    pub(crate) fn answer(&mut self, desc: &Description, table: &Table, frame: &Frame) -> Answer
+        requires { table.now ≡ table_of (shape_of desc.now) }
         ensures answer { result ≡ answer_to desc.now (held_by self.old) frame.now }
         ensures held { (h : ℕ) → held_by self.new h ≡ held_after (held_by self.old) result h }
         ensures handler { HasHandler desc.now result }
     {
         match frame {
-            Frame::Whole(image) => self.answer_image(desc, image.as_slice()),
+            Frame::Whole(image) => self.answer_image(desc, table, image.as_slice()),
             Frame::TooLong => Answer::Long,
             Frame::BadEscape => Answer::Broken,
         }
@@ -47,7 +50,8 @@ impl HeldVersions {
 
     /// The answer to the bytes of a frame.
     #[inline(never)]
-    fn answer_image(&mut self, desc: &Description, image: &[u8]) -> Answer
+    fn answer_image(&mut self, desc: &Description, table: &Table, image: &[u8]) -> Answer
+        requires { table.now ≡ table_of (shape_of desc.now) }
         ensures answer { result ≡ decoded_answer desc.now (held_by self.old) (capsule_in desc.now image.now) }
         ensures held { (h : ℕ) → held_by self.new h ≡ held_after (held_by self.old) result h }
         ensures handler { HasHandler desc.now result }
@@ -57,8 +61,7 @@ impl HeldVersions {
             Ok(capsule) => capsule,
             Err(fault) => return Answer::NoCapsule(*fault),
         };
-        let table = Table::of(&shape(desc));
-        match verify(&table, desc, capsule.code.as_slice()) {
+        match verify(table, desc, capsule.code.as_slice()) {
             Ok(_code) => self.take(capsule),
             Err(fault) => Answer::BadCode(fault),
         }

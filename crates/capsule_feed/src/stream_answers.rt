@@ -3,14 +3,17 @@
 ghost use Rattle.std.specs.Prelude.{◌≡◌, ◌<◌, ℕ, List, [], ◌∷◌, ◌++◌};
 ghost use Rattle.mate_files.specs.Pen.{Prints};
 ghost use Rattle.mate_files.specs.Sink.{Puts};
+ghost use Rattle.mate_code.specs.Table.{table_of};
+ghost use Rattle.vm_desc.specs.Shapes.{shape_of};
 ghost use Rattle.capsule_feed.specs.Lines.{feed_text, answer_line, HasHandler};
 ghost use Rattle.capsule_feed.specs.Reading.{HasAnswered, PrintsNext};
 
 use crate::answer::Answer;
 use crate::held_versions::HeldVersions;
+use mate_code::Table;
 use mate_files::{Pen, Sink, SinkFault};
 use slip_gateway::{Slip, frames_are_few};
-use vm_desc::Description;
+use vm_desc::{Description, shape};
 
 /// A stream that is read, and what a new node holds behind its frames.
 #[derive(Drop)]
@@ -33,9 +36,17 @@ impl StreamAnswers {
         }
     }
 
-    /// Reads the next byte, and prints the line of the frame that it closes.
-    fn print_next<S: Sink>(&mut self, pen: &mut Pen, out: &mut S, desc: &Description, byte: u8)
-        requires { self.old.number < u64.MAX }
+    /// Reads the next byte, and prints the line of the frame that it closes, by the machine's opcode table.
+    fn print_next<S: Sink>(
+        &mut self,
+        pen: &mut Pen,
+        out: &mut S,
+        desc: &Description,
+        table: &Table,
+        byte: u8,
+    )
+        requires few { self.old.number < u64.MAX }
+        requires table { table.now ≡ table_of (shape_of desc.now) }
         ensures reads { (fed : List ℕ) → HasAnswered desc.now self.old fed → HasAnswered desc.now self.new (fed ++ byte ∷ []) }
         ensures prints { (fed : List ℕ) → HasAnswered desc.now self.old fed
             → PrintsNext desc.now fed byte (S.written out.old) (S.faults out.old) pen.old.result (S.written out.new) (S.faults out.new) pen.new.result }
@@ -44,7 +55,7 @@ impl StreamAnswers {
             return;
         };
         self.number += 1;
-        let answer = self.held.answer(desc, &frame);
+        let answer = self.held.answer(desc, table, &frame);
         print_line(pen, out, desc, self.number, answer);
     }
 }
@@ -71,8 +82,9 @@ pub fn write_answers<S: Sink>(
     frames_are_few();
     let mut pen = Pen::new();
     let mut answers = StreamAnswers::new();
+    let table = Table::of(&shape(desc));
     for byte in stream {
-        answers.print_next(&mut pen, out, desc, *byte);
+        answers.print_next(&mut pen, out, desc, &table, *byte);
     }
     pen.finish()
 }

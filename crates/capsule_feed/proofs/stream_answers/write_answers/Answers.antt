@@ -6,8 +6,8 @@ use Rattle.capsule_feed.proofs.stream_answers.write_answers.Goals as goal
 pub loop-byte-init : goal.loop-byte-init
 loop-byte-init g c = printed_none c.args.desc.now c.new-answers.result _ _ _ (c.new-answers.ensures c.args.desc.now)
 
-pub print_next-requires : goal.print_next-requires
-print_next-requires g c =
+pub print_next-requires-clause-few : goal.print_next-requires-clause-few
+print_next-requires-clause-few g c =
     let few = few_answered c.args.desc.now c.loop-byte.answers c.args.stream.now c.loop-byte.byte-index c.frames_are_few.ensures c.loop-byte.invariant.answered in
     omega (arith, few)
 
