@@ -114,7 +114,8 @@ impl Parts {
         requires node { line.node < 64 }
         requires few { self.old.count < 4000000000 }
         requires read { (d : Description) × (ls : List Line) × HasRead d ls self.old }
-        ensures { (d : Description) (ls : List Line) → HasRead d ls self.old → IsSound d (bulky_line bulk.now line) → TakesLine d ls (bulky_line bulk.now line) self.new result }
+        ensures { (d : Description) (ls : List Line) → HasRead d ls self.old → IsSound d (bulky_line bulk.now line)
+            → TakesLine d ls (bulky_line bulk.now line) self.new result }
     {
         if !admits_next(&self.place, &line, bulk) {
             return Err(self.bad_line());
