@@ -6,9 +6,9 @@ use Rattle.vm_desc.specs.declared.description.Description.{Description}
 use Rattle.report_reader.specs.declared.line.Line.{Line}
 use Rattle.report_reader.specs.Told.{line_words, IsRight, HasRanges}
 use Rattle.report_reader.specs.Reading.{line_in}
-use Rattle.report_reader.specs.declared.brief.Bulk.{Bulk}
-use Rattle.report_reader.specs.declared.brief.BriefLine.{BriefLine}
-use Rattle.report_reader.specs.Brief.{bulky_line}
+use Rattle.report_reader.specs.declared.light_line.Bulk.{Bulk}
+use Rattle.report_reader.specs.declared.light_line.LightLine.{LightLine}
+use Rattle.report_reader.specs.LightLine.{bulky_line}
 use Rattle.report_reader.proofs.LineLemmas.{line_in-words}
 use Rattle.report_reader.proofs.Ranges.{line_ranges}
 use Rattle.report_reader.proofs.WrittenLines.{line_is_read}
@@ -33,19 +33,19 @@ none_of d bytes None h = λ l right ranges words.
 
 -- ---- the same of a line whose image and store stand beside it
 
-pub brief_form : (x : Bulk) (d : Description) (bytes : List ℕ) (r : Option BriefLine) → option_map (bulky_line x) r ≡ line_in d bytes → IfSome r (λ l. bytes ≡ line_words d (bulky_line x l))
-brief_form x d bytes None h = tt
-brief_form x d bytes (Some l) h = form_of d bytes (Some (bulky_line x l)) h
+pub light_form : (x : Bulk) (d : Description) (bytes : List ℕ) (r : Option LightLine) → option_map (bulky_line x) r ≡ line_in d bytes → IfSome r (λ l. bytes ≡ line_words d (bulky_line x l))
+light_form x d bytes None h = tt
+light_form x d bytes (Some l) h = form_of d bytes (Some (bulky_line x l)) h
 
-pub brief_right : (x : Bulk) (d : Description) (bytes : List ℕ) (r : Option BriefLine) → option_map (bulky_line x) r ≡ line_in d bytes → IfSome r (λ l. IsRight d (bulky_line x l))
-brief_right x d bytes None h = tt
-brief_right x d bytes (Some l) h = right_of d bytes (Some (bulky_line x l)) h
+pub light_right : (x : Bulk) (d : Description) (bytes : List ℕ) (r : Option LightLine) → option_map (bulky_line x) r ≡ line_in d bytes → IfSome r (λ l. IsRight d (bulky_line x l))
+light_right x d bytes None h = tt
+light_right x d bytes (Some l) h = right_of d bytes (Some (bulky_line x l)) h
 
-pub brief_ranges : (x : Bulk) (d : Description) (bytes : List ℕ) (r : Option BriefLine) → option_map (bulky_line x) r ≡ line_in d bytes → IfSome r (λ l. HasRanges (bulky_line x l))
-brief_ranges x d bytes None h = tt
-brief_ranges x d bytes (Some l) h = ranges_of d bytes (Some (bulky_line x l)) h
+pub light_ranges : (x : Bulk) (d : Description) (bytes : List ℕ) (r : Option LightLine) → option_map (bulky_line x) r ≡ line_in d bytes → IfSome r (λ l. HasRanges (bulky_line x l))
+light_ranges x d bytes None h = tt
+light_ranges x d bytes (Some l) h = ranges_of d bytes (Some (bulky_line x l)) h
 
-pub brief_none : (x : Bulk) (d : Description) (bytes : List ℕ) (r : Option BriefLine) → option_map (bulky_line x) r ≡ line_in d bytes
+pub light_none : (x : Bulk) (d : Description) (bytes : List ℕ) (r : Option LightLine) → option_map (bulky_line x) r ≡ line_in d bytes
     → IfNone r ((l : Line) → IsRight d l → HasRanges l → bytes ≡ line_words d l → ⊥)
-brief_none x d bytes (Some l) h = tt
-brief_none x d bytes None h = none_of d bytes None h
+light_none x d bytes (Some l) h = tt
+light_none x d bytes None h = none_of d bytes None h

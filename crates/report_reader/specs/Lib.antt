@@ -1,4 +1,4 @@
 pub mod Verbs
 pub mod Told
 pub mod Reading
-pub mod Brief
+pub mod LightLine

@@ -3,10 +3,10 @@
 ghost use Rattle.std.specs.Prelude.{◌≡◌, IfSome, IfNone};
 ghost use Rattle.report_reader.specs.Told.{line_words, IsRight, HasRanges};
 ghost use Rattle.report_reader.specs.declared.line.Line.{Line};
-ghost use Rattle.report_reader.specs.Brief.{told_with, bulky_line};
+ghost use Rattle.report_reader.specs.LightLine.{told_with, bulky_line};
 ghost use Rattle.report_reader.specs.Reading.{line_in};
 
-use crate::brief::{BriefLine, BriefTold, Bulk, read_brief};
+use crate::light_line::{Bulk, LightLine, LightTold, read_light};
 use mate_journal::{Air, Entry};
 use mate_num::{HandlerId, Image, Stamp, Store};
 use vm_desc::Description;
@@ -54,31 +54,31 @@ fn read_line(desc: &Description, bytes: &[u8]) -> Option<Line>
     ensures { result ≡ line_in desc.now bytes.now }
 {
     let mut bulk = Bulk::new();
-    let line = read_brief(desc, bytes, &mut bulk)?;
+    let line = read_light(desc, bytes, &mut bulk)?;
     Some(with_bulk(line, bulk))
 }
 
 /// The line, with its image or its store in it.
-fn with_bulk(line: BriefLine, bulk: Bulk) -> Line
+fn with_bulk(line: LightLine, bulk: Bulk) -> Line
     ensures { result ≡ bulky_line bulk line }
 {
-    let BriefLine { stamp, node, told } = line;
+    let LightLine { stamp, node, told } = line;
     let told = told_with_bulk(told, bulk);
     Line { stamp, node, told }
 }
 
-fn told_with_bulk(told: BriefTold, bulk: Bulk) -> Told
+fn told_with_bulk(told: LightTold, bulk: Bulk) -> Told
     ensures { result ≡ told_with bulk told }
 {
     let Bulk { image, store } = bulk;
     match told {
-        BriefTold::OnAir(air) => Told::OnAir(air),
-        BriefTold::Made(entry) => Told::Made(entry),
-        BriefTold::Installed { handler, version } => Told::Installed {
+        LightTold::OnAir(air) => Told::OnAir(air),
+        LightTold::Made(entry) => Told::Made(entry),
+        LightTold::Installed { handler, version } => Told::Installed {
             handler,
             version,
             image,
         },
-        BriefTold::Shown => Told::Shown(store),
+        LightTold::Shown => Told::Shown(store),
     }
 }

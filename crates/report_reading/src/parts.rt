@@ -5,7 +5,7 @@ ghost use Rattle.vm_desc.specs.declared.description.Description.{Description};
 ghost use Rattle.mate_journal.specs.Log.{Log, IsSameLog};
 ghost use Rattle.mate_journal.specs.declared.report.Report.{Report};
 ghost use Rattle.report_reader.specs.declared.line.Line.{Line};
-ghost use Rattle.report_reader.specs.Brief.{told_with, bulky_line};
+ghost use Rattle.report_reader.specs.LightLine.{told_with, bulky_line};
 ghost use Rattle.report_reading.specs.Fits.{IsSound};
 ghost use Rattle.report_reading.specs.Parts.{log_with_line, log_of, node_in_air, node_named, nodes_in, nodes_of, report_of, IsSameReport};
 ghost use Rattle.report_reading.specs.Steps.{AreShort, AddsLine, HasRead, TakesLine, fits_last};
@@ -16,7 +16,7 @@ use crate::last_line::LastLine;
 use crate::place::{Place, admits_next, place_after};
 use mate_journal::{Air, Aired, Airs, NodeLog, NodeLogs, Report, Stamped};
 use mate_num::{NoMemory, Stamp};
-use report_reader::{BriefLine, BriefTold, Bulk};
+use report_reader::{Bulk, LightLine, LightTold};
 use std::alloc::Global;
 
 /// The most nodes that a report has.
@@ -36,13 +36,13 @@ pub struct Parts {
 }
 
 /// The number of the node that a line names beside its own, or 0.
-fn node_named(told: &BriefTold, bulk: &Bulk) -> u8
+fn node_named(told: &LightTold, bulk: &Bulk) -> u8
     ensures { result ≡ node_named (told_with bulk.now told.now) }
 {
     let _bulk = bulk;
     match told {
-        BriefTold::OnAir(air) => node_in_air(air),
-        BriefTold::Made(_) | BriefTold::Installed { .. } | BriefTold::Shown => 0,
+        LightTold::OnAir(air) => node_in_air(air),
+        LightTold::Made(_) | LightTold::Installed { .. } | LightTold::Shown => 0,
     }
 }
 
@@ -57,26 +57,26 @@ fn node_in_air(air: &Air) -> u8
 }
 
 /// A number above each node number of a line.
-fn nodes_in(line: &BriefLine, bulk: &Bulk) -> u64
+fn nodes_in(line: &LightLine, bulk: &Bulk) -> u64
     ensures { result ≡ nodes_in (bulky_line bulk.now line.now) }
 {
     line.node.max(node_named(&line.told, bulk)) as u64 + 1
 }
 
 /// Appends what a line tells to the log of its node; a line that tells of the air leaves it.
-fn add_to_log(log: &mut NodeLog, stamp: Stamp, told: BriefTold, bulk: &Bulk) -> Result<(), NoMemory>
+fn add_to_log(log: &mut NodeLog, stamp: Stamp, told: LightTold, bulk: &Bulk) -> Result<(), NoMemory>
     requires images { length log.old.images < 4100000000 }
     requires stores { length log.old.stores < 4100000000 }
     ensures { OnOk result (IsSameLog log.new (log_with_line log.old stamp (told_with bulk.now told))) }
 {
     log.reserve(1)?;
     match told {
-        BriefTold::OnAir(_) => {}
-        BriefTold::Made(entry) => log.push(Stamped { stamp, entry }),
-        BriefTold::Installed { handler, version } => {
+        LightTold::OnAir(_) => {}
+        LightTold::Made(entry) => log.push(Stamped { stamp, entry }),
+        LightTold::Installed { handler, version } => {
             log.push_install(stamp, handler, version, &bulk.image);
         }
-        BriefTold::Shown => log.push_seen(stamp, &bulk.store),
+        LightTold::Shown => log.push_seen(stamp, &bulk.store),
     }
     Ok(())
 }
@@ -110,7 +110,7 @@ impl Parts {
     }
 
     /// Takes the next line, with the image or the store that it tells. A line that doesn't fit after those before is the bad line.
-    pub fn take(&mut self, line: BriefLine, bulk: &Bulk) -> Result<(), TextFault>
+    pub fn take(&mut self, line: LightLine, bulk: &Bulk) -> Result<(), TextFault>
         requires node { line.node < 64 }
         requires few { self.old.count < 4000000000 }
         requires read { (d : Description) × (ls : List Line) × HasRead d ls self.old }
@@ -124,7 +124,7 @@ impl Parts {
         Ok(())
     }
 
-    fn add(&mut self, line: BriefLine, bulk: &Bulk) -> Result<(), NoMemory>
+    fn add(&mut self, line: LightLine, bulk: &Bulk) -> Result<(), NoMemory>
         requires node { line.node < length self.old.logs.items }
         requires few { self.old.count < 4000000000 }
         requires short { AreShort self.old.logs.items }
@@ -132,9 +132,9 @@ impl Parts {
     {
         let place = place_after(&self.place, &line, bulk);
         let nodes = nodes_in(&line, bulk);
-        let BriefLine { stamp, node, told } = line;
+        let LightLine { stamp, node, told } = line;
         match told {
-            BriefTold::OnAir(air) => self.air.push(Aired { stamp, node, air })?,
+            LightTold::OnAir(air) => self.air.push(Aired { stamp, node, air })?,
             told => add_to_log(&mut self.logs[node as usize], stamp, told, bulk)?,
         }
         self.place = Some(place);

@@ -1,12 +1,12 @@
 //! How far the lines of a report have come: which line may stand behind those so far.
 
 ghost use Rattle.std.specs.Prelude.{◌≡◌, ◌==◌, not, Some};
-ghost use Rattle.report_reader.specs.Brief.{told_with, bulky_line};
+ghost use Rattle.report_reader.specs.LightLine.{told_with, bulky_line};
 ghost use Rattle.report_reading.specs.Fits.{is_on_air, is_shown};
 ghost use Rattle.report_reading.specs.Places.{keeps_order, keeps_node, joins, admits, admits_next, begun_at, place_after};
 
 use mate_num::Stamp;
-use report_reader::{BriefLine, BriefTold, Bulk};
+use report_reader::{Bulk, LightLine, LightTold};
 
 /// The last line that was read, and what is known of its event.
 #[derive(Clone, Copy)]
@@ -21,29 +21,29 @@ pub struct Place {
     pub several: bool,
 }
 
-fn is_on_air(told: &BriefTold, bulk: &Bulk) -> bool
+fn is_on_air(told: &LightTold, bulk: &Bulk) -> bool
     ensures { result ≡ is_on_air (told_with bulk.now told.now) }
 {
     let _bulk = bulk;
     match told {
-        BriefTold::OnAir(_) => true,
-        BriefTold::Made(_) | BriefTold::Installed { .. } | BriefTold::Shown => false,
+        LightTold::OnAir(_) => true,
+        LightTold::Made(_) | LightTold::Installed { .. } | LightTold::Shown => false,
     }
 }
 
-fn is_shown(told: &BriefTold, bulk: &Bulk) -> bool
+fn is_shown(told: &LightTold, bulk: &Bulk) -> bool
     ensures { result ≡ is_shown (told_with bulk.now told.now) }
 {
     let _bulk = bulk;
     match told {
-        BriefTold::Shown => true,
-        BriefTold::OnAir(_) | BriefTold::Made(_) | BriefTold::Installed { .. } => false,
+        LightTold::Shown => true,
+        LightTold::OnAir(_) | LightTold::Made(_) | LightTold::Installed { .. } => false,
     }
 }
 
 impl Place {
     /// The place after the first line of an event.
-    fn begun_at(line: &BriefLine, bulk: &Bulk) -> Place
+    fn begun_at(line: &LightLine, bulk: &Bulk) -> Place
         ensures { result ≡ begun_at (bulky_line bulk.now line.now) }
     {
         Place {
@@ -56,7 +56,7 @@ impl Place {
     }
 
     // In one event what happened on the air comes first, and of each of the two kinds no node comes behind a greater one.
-    fn keeps_order(&self, line: &BriefLine, bulk: &Bulk) -> bool
+    fn keeps_order(&self, line: &LightLine, bulk: &Bulk) -> bool
         ensures { result ≡ keeps_order self.now (bulky_line bulk.now line.now) }
     {
         if is_on_air(&line.told, bulk) {
@@ -67,7 +67,7 @@ impl Place {
     }
 
     // An event is of one node, other than the first one and a last one whose lines all show stores.
-    fn keeps_node(&self, line: &BriefLine, bulk: &Bulk) -> bool
+    fn keeps_node(&self, line: &LightLine, bulk: &Bulk) -> bool
         ensures { result ≡ keeps_node self.now (bulky_line bulk.now line.now) }
     {
         self.stamp.event == 0
@@ -76,7 +76,7 @@ impl Place {
     }
 
     /// Whether a line of the same event may stand behind those so far.
-    fn joins(&self, line: &BriefLine, bulk: &Bulk) -> bool
+    fn joins(&self, line: &LightLine, bulk: &Bulk) -> bool
         ensures { result ≡ joins self.now (bulky_line bulk.now line.now) }
     {
         self.stamp.time == line.stamp.time
@@ -85,7 +85,7 @@ impl Place {
     }
 
     /// Whether a line may stand behind those so far.
-    fn admits(&self, line: &BriefLine, bulk: &Bulk) -> bool
+    fn admits(&self, line: &LightLine, bulk: &Bulk) -> bool
         ensures { result ≡ admits self.now (bulky_line bulk.now line.now) }
     {
         if self.stamp.event == line.stamp.event {
@@ -99,7 +99,7 @@ impl Place {
 }
 
 /// Whether a line may stand behind those so far; the first line may be any.
-pub fn admits_next(place: &Option<Place>, line: &BriefLine, bulk: &Bulk) -> bool
+pub fn admits_next(place: &Option<Place>, line: &LightLine, bulk: &Bulk) -> bool
     ensures { result ≡ admits_next place.now (bulky_line bulk.now line.now) }
 {
     match place {
@@ -109,7 +109,7 @@ pub fn admits_next(place: &Option<Place>, line: &BriefLine, bulk: &Bulk) -> bool
 }
 
 /// The place after one more line.
-pub fn place_after(place: &Option<Place>, line: &BriefLine, bulk: &Bulk) -> Place
+pub fn place_after(place: &Option<Place>, line: &LightLine, bulk: &Bulk) -> Place
     ensures { result ≡ place_after place.now (bulky_line bulk.now line.now) }
 {
     let begun = Place::begun_at(line, bulk);

@@ -16,7 +16,7 @@ use crate::fault::TextFault;
 use crate::last_line::last_line_of;
 use crate::parts::Parts;
 use mate_journal::Report;
-use report_reader::{Bulk, brief_line_of};
+use report_reader::{Bulk, light_line_of};
 use std::alloc::Global;
 use vm_desc::Description;
 
@@ -43,7 +43,7 @@ fn read_lines(alloc: Global, desc: &Description, bytes: &[u8]) -> Result<Report,
     let mut bulk = Bulk::new();
     let mut left = bytes;
     while let Some((line, behind)) = first_line(left) {
-        let Some(told) = brief_line_of(desc, line, &mut bulk) else {
+        let Some(told) = light_line_of(desc, line, &mut bulk) else {
             return read_last(alloc, parts, line, behind);
         };
         parts.take(told, &bulk)?;

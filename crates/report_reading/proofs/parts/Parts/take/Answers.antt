@@ -1,5 +1,5 @@
 use Rattle.std.proofs.Common.{sym, ◌∙◌}
-use Rattle.report_reader.specs.Brief.{bulky_line}
+use Rattle.report_reader.specs.LightLine.{bulky_line}
 use Rattle.report_reading.proofs.PartLemmas.{read_short, read_next, takes_no}
 use Rattle.report_reading.proofs.parts.Parts.take.Goals as goal
 
