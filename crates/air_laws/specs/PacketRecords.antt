@@ -1,5 +1,6 @@
 -- What the air tells of packets, over whole runs: each is decided link by link, and nothing else is lost or arrives.
-use Rattle.std.specs.Prelude.{◌≡◌, ℕ, ◌<◌, ◌≤◌, Bool, true, false, not, ◌&&◌, ◌||◌, IsTrue, List, [], ◌∷◌, ◌++◌, ◌⊎◌, map, length, Some, slice_get}
+use Rattle.std.specs.Prelude.{◌≡◌, ℕ, ◌<◌, ◌≤◌, Bool, true, false, not, ◌&&◌, ◌||◌, IsTrue, List, [], ◌∷◌, ◌++◌, ◌⊎◌, map, length, Some}
+use Rattle.std.specs.Prelude.{slice_get}
 use Rattle.std.specs.List.{filter, flat_map, range_with_len}
 use Rattle.mate_journal.specs.NodeScript.{RunEnd, Whole}
 use Rattle.mate_journal.specs.declared.air.Air.{Air}
@@ -16,7 +17,8 @@ use Rattle.air_laws.specs.Transmissions.{Transmission, Arrival, transmissions, r
 
 -- packets are numbered from 1
 abbrev pub PacketsAreNumbered : World → Type 0
-PacketsAreNumbered w = (ms : List Moment) → map (λ (x : Transmission). x.number) (transmissions (airs w ms)) ≡ range_with_len 1 (length (transmissions (airs w ms)))
+PacketsAreNumbered w = (ms : List Moment) → map (λ (x : Transmission). x.number) (transmissions (airs w ms))
+    ≡ range_with_len 1 (length (transmissions (airs w ms)))
 
 -- ---- losses
 
@@ -42,9 +44,11 @@ is_of_sending r = is_sent_air r.air || is_lost_air r.air
 
 -- of what is sent and lost, each packet stands followed by exactly its losses in link order, and there is nothing else
 abbrev pub PacketsAreDecided : World → Type 0
-PacketsAreDecided w = (ms : List Moment) → filter is_of_sending (airs w ms) ≡ flat_map (λ x. record_sent x ∷ records_lost w x) (transmissions (airs w ms))
+PacketsAreDecided w = (ms : List Moment) → filter is_of_sending (airs w ms)
+    ≡ flat_map (λ x. record_sent x ∷ records_lost w x) (transmissions (airs w ms))
 
--- each loss stands directly behind its packet or another of its losses; `behind` says whether what stands before the records is one of these
+-- each loss stands directly behind its packet or another of its losses; `behind` says whether what stands before the records is one of
+-- these
 abbrev pub losses_follow : Bool → List Aired → Bool
 losses_follow behind [] = true
 losses_follow behind (r ∷ rs) = (not (is_lost_air r.air) || behind) && losses_follow (is_of_sending r) rs
@@ -70,7 +74,8 @@ HasReached w how ms t = ((how ≡ Whole) × (t ≤ w.until)) ⊎ (t < last_time 
 
 -- all that was due by then has come
 abbrev pub ReachedIsDone : World → Type 0
-ReachedIsDone w = (how : RunEnd) (ms : List Moment) (t : ℕ) → HaveCome w ms → IsAtEnd w how (state w ms) → HasReached w how ms t → IsDone (state w ms) t
+ReachedIsDone w = (how : RunEnd) (ms : List Moment) (t : ℕ) → HaveCome w ms → IsAtEnd w how (state w ms) → HasReached w how ms t
+    → IsDone (state w ms) t
 
 -- ---- reasons
 
@@ -92,4 +97,5 @@ SentHaveReasons w = (ms : List Moment) (i : ℕ) (x : Transmission) → slice_ge
 -- an event sends just its packets, in their order
 abbrev pub EventsSendTheirs : World → Type 0
 EventsSendTheirs w = (m : Moment) (before : List Moment)
-    → map (λ (x : Transmission). x.bytes) (transmissions (airs w (m ∷ before))) ≡ map (λ (x : Transmission). x.bytes) (transmissions (airs w before)) ++ map (sent_bytes w) (packets_of w (state w before) m)
+    → map (λ (x : Transmission). x.bytes) (transmissions (airs w (m ∷ before)))
+    ≡ map (λ (x : Transmission). x.bytes) (transmissions (airs w before)) ++ map (sent_bytes w) (packets_of w (state w before) m)

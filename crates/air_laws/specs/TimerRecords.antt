@@ -37,7 +37,8 @@ beginning_of i = record { time = i.begin; length = i.length }
 
 -- they are the beginnings of its timer's intervals, in order, each once
 abbrev pub IntervalsAreTold : World → Type 0
-IntervalsAreTold w = (ms : List Moment) (k : ℕ) → k < w.nodes → filter_map (begun_by k) (airs w ms) ≡ map beginning_of (trickle.intervals (timer_start w k) (timer_happenings w k ms))
+IntervalsAreTold w = (ms : List Moment) (k : ℕ) → k < w.nodes
+    → filter_map (begun_by k) (airs w ms) ≡ map beginning_of (trickle.intervals (timer_start w k) (timer_happenings w k ms))
 
 -- ---- points
 
@@ -70,7 +71,8 @@ point_told k r = if r.node == k then done_then r.stamp.time (by r.air) else None
 abbrev pub point_of : World → ℕ → Node → ℕ → Cause → List PointDone
 point_of w k n time (event.Planned line) = []
 point_of w k n time (event.Period node h) = []
-point_of w k n time (event.Fire node) = if node == k then record { time = time; does = trickle.at_point n.timer.set n.timer.running w.suppress } ∷ [] else []
+point_of w k n time (event.Fire node) = if node == k
+    then record { time = time; does = trickle.at_point n.timer.set n.timer.running w.suppress } ∷ [] else []
 point_of w k n time (event.Expire node) = []
 point_of w k n time (event.Pump node) = []
 point_of w k n time (event.Due node c inv value) = []
@@ -86,7 +88,8 @@ PointsAreTold w = (ms : List Moment) (k : ℕ) → filter_map (point_told k) (ai
 
 -- a point comes at its interval's point, and an end at its end
 abbrev pub PointsAreTimely : World → Type 0
-PointsAreTimely w = (before : List Moment) (m : Moment) (k : ℕ) → HaveCome w (m ∷ before) → m.cause ≡ event.Fire k → m.time ≡ ((state w before).nodes k).timer.running.point
+PointsAreTimely w = (before : List Moment) (m : Moment) (k : ℕ) → HaveCome w (m ∷ before) → m.cause ≡ event.Fire k
+    → m.time ≡ ((state w before).nodes k).timer.running.point
 
 abbrev pub EndsAreTimely : World → Type 0
 EndsAreTimely w = (before : List Moment) (m : Moment) (k : ℕ) → HaveCome w (m ∷ before) → m.cause ≡ event.Expire k
@@ -95,12 +98,15 @@ EndsAreTimely w = (before : List Moment) (m : Moment) (k : ℕ) → HaveCome w (
 -- an interval that runs behind `before` comes to its point, and to its end, unless an event cancels it: one in which a new interval begins
 pub record RunsItsCourse (w : World) (before later : List Moment) (k : ℕ) (i : trickle.Interval) : Type 0 where
   pub point : IsDone (state w (later ++ before)) i.point → HasEvent later i.point (event.Fire k) ⊎ IsCancelled w before later (event.Fire k)
-  pub ends : IsDone (state w (later ++ before)) (i.begin + i.length) → HasEvent later (i.begin + i.length) (event.Expire k) ⊎ IsCancelled w before later (event.Expire k)
+  pub ends : IsDone (state w (later ++ before)) (i.begin + i.length) → HasEvent later (i.begin + i.length) (event.Expire k)
+      ⊎ IsCancelled w before later (event.Expire k)
 
 -- so does each node's first interval, and each that begins in an event
 abbrev pub IntervalsRun : World → Type 0
-IntervalsRun w = (before later : List Moment) (m : Moment) (l : ℕ) → HaveCome w (later ++ (m ∷ before)) → begun_length (node_at w (state w before) m) (effect_at w (state w before) m) ≡ Some l
+IntervalsRun w = (before later : List Moment) (m : Moment) (l : ℕ) → HaveCome w (later ++ (m ∷ before))
+    → begun_length (node_at w (state w before) m) (effect_at w (state w before) m) ≡ Some l
     → RunsItsCourse w (m ∷ before) later (event_node w m.cause) ((state w (m ∷ before)).nodes (event_node w m.cause)).timer.running
 
 abbrev pub FirstIntervalsRun : World → Type 0
-FirstIntervalsRun w = (ms : List Moment) (k : ℕ) → k < w.nodes → HaveCome w ms → RunsItsCourse w [] ms k ((state w []).nodes k).timer.running
+FirstIntervalsRun w = (ms : List Moment) (k : ℕ) → k < w.nodes → HaveCome w ms
+    → RunsItsCourse w [] ms k ((state w []).nodes k).timer.running

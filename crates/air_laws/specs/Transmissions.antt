@@ -26,7 +26,8 @@ with_record xs r = by r.air where
   by : Air → List Transmission
   by (air.Interval length) = xs
   by air.Keep = xs
-  by (air.Sent number bytes) = xs ++ record { at = r.stamp; node = r.node; number = number; bytes = bytes; before = sent_by_node r.node xs } ∷ []
+  by (air.Sent number bytes) = xs
+      ++ record { at = r.stamp; node = r.node; number = number; bytes = bytes; before = sent_by_node r.node xs } ∷ []
   by (air.Lost number to) = xs
   by (air.Got number from) = xs
   by (air.Noise bytes) = xs
@@ -75,4 +76,5 @@ arrivals_at t records = filter_map (arrival_at t) records
 
 -- what a packet brings at a time: over each link that brings it, in link order, the radio's delay after it was sent
 abbrev pub brings_at : World → ℕ → Transmission → List Arrival
-brings_at w t x = if x.at.time + w.description.radio.delay == t then map (λ j. record { to = receiver w j; number = x.number; from = x.node }) (bringing_links w x) else []
+brings_at w t x = if x.at.time + w.description.radio.delay == t
+    then map (λ j. record { to = receiver w j; number = x.number; from = x.node }) (bringing_links w x) else []

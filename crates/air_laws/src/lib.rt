@@ -2,8 +2,10 @@
 #![tactic(auto)]
 
 ghost use Rattle.world_rules.specs.World.{World};
-ghost use Rattle.air_laws.specs.PacketRecords.{EventsSendTheirs, LossesFollowDirectly, PacketsAreDecided, PacketsAreNumbered, PacketsArriveOnce, ReachedIsDone, SentHaveReasons};
-ghost use Rattle.air_laws.specs.TimerRecords.{EndsAreTimely, FirstIntervalsRun, IntervalsAreTold, IntervalsRun, PointsAreTimely, PointsAreTold};
+ghost use Rattle.air_laws.specs.PacketRecords.{EventsSendTheirs, LossesFollowDirectly, PacketsAreDecided, PacketsAreNumbered};
+ghost use Rattle.air_laws.specs.PacketRecords.{PacketsArriveOnce, ReachedIsDone, SentHaveReasons};
+ghost use Rattle.air_laws.specs.TimerRecords.{EndsAreTimely, FirstIntervalsRun, IntervalsAreTold, IntervalsRun, PointsAreTimely};
+ghost use Rattle.air_laws.specs.TimerRecords.{PointsAreTold};
 
 /// Each packet is decided link by link: its record is directly followed by one Lost for each link that leaves its node and
 /// loses it by its next word, in link order, and nothing else is lost. Packets are numbered from 1.

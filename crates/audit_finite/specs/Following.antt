@@ -8,7 +8,8 @@ use Rattle.mate_num.specs.declared.call.Stamp.{Stamp}
 use Rattle.mate_num.specs.declared.id.HandlerId.{HandlerId}
 use Rattle.mate_num.specs.declared.id.ContextId.{ContextId}
 use Rattle.mate_journal.specs.Machine.{Machine}
-use Rattle.mate_journal.specs.Journal.{Told, Posted, Dropped, Started, Asked, Answered, Ended, Installed, Reset, Seen, Void, Event, nothing_heard, AtEachEntry}
+use Rattle.mate_journal.specs.Journal.{Told, Posted, Dropped, Started, Asked, Answered, Ended, Installed, Reset, Seen, Void, Event}
+use Rattle.mate_journal.specs.Journal.{nothing_heard, AtEachEntry}
 use Rattle.mate_journal.specs.WellFormed.{MayFollow, IsInTime}
 use Rattle.audit_finite.specs.Roll.{Roll, nobody, rolled, is_at, is_queued, is_ready, is_waiting}
 

@@ -3,7 +3,8 @@ use Rattle.std.specs.Prelude.{ℕ, ◌==◌, nat_lt, ◌&&◌, ◌||◌, not, Bo
 use Rattle.std.specs.List.{list_any, list_all}
 use Rattle.mate_num.specs.Uses.{Conflicts}
 use Rattle.mate_journal.specs.Machine.{HeldProgram, Meaning}
-use Rattle.mate_journal.specs.Journal.{Told, Posted, Dropped, Started, Asked, Answered, Ended, Installed, Reset, Seen, Void, Event, is_started}
+use Rattle.mate_journal.specs.Journal.{Told, Posted, Dropped, Started, Asked, Answered, Ended, Installed, Reset, Seen, Void, Event}
+use Rattle.mate_journal.specs.Journal.{is_started}
 use Rattle.mate_journal.specs.Grants.{start_of}
 use Rattle.audit_finite.specs.Roll.{Seat, Roll, rolled, is_queued}
 
@@ -49,4 +50,5 @@ is_granted conflict x last (Void cause) = all_held_back conflict x
 -- along a journal, with the number of the invocation that the entry before started
 abbrev pub grants_in_order : ConflictTest → Roll → ℕ → List Event → Bool
 grants_in_order conflict x last [] = all_held_back conflict x
-grants_in_order conflict x last (e ∷ es) = is_granted conflict x last e.told && grants_in_order conflict (rolled x e.told) (start_of e.told) es
+grants_in_order conflict x last (e ∷ es) = is_granted conflict x last e.told
+    && grants_in_order conflict (rolled x e.told) (start_of e.told) es

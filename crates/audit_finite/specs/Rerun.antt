@@ -6,7 +6,8 @@ use Rattle.mate_num.specs.declared.call.End.TheVariants as end
 use Rattle.mate_num.specs.declared.outcome.Outcome.{Outcome}
 use Rattle.mate_num.specs.declared.store.Store.{Store}
 use Rattle.mate_journal.specs.Machine.{Machine}
-use Rattle.mate_journal.specs.Journal.{Told, Posted, Dropped, Started, Asked, Answered, Ended, Installed, Reset, Seen, Void, Event, Phase, Unposted, Queued, Ready, Waiting, Over, is_started, Invocation, answers_of}
+use Rattle.mate_journal.specs.Journal.{Told, Posted, Dropped, Started, Asked, Answered, Ended, Installed, Reset, Seen, Void, Event, Phase}
+use Rattle.mate_journal.specs.Journal.{Unposted, Queued, Ready, Waiting, Over, is_started, Invocation, answers_of}
 use Rattle.audit_finite.specs.Roll.{Seat, Roll, rolled}
 use Rattle.audit_finite.specs.Granting.{ConflictTest}
 use Rattle.audit_finite.specs.Same.{same_calls, same_end}
@@ -36,7 +37,8 @@ all_so_far m x store = list_all (λ s. not (is_started s.invocation.phase) || is
 -- where i of that number ended, and left this store: a started one that conflicts with it is run before and after
 abbrev pub is_undisturbed : Machine → ConflictTest → Store → Store → ℕ → Invocation → Seat → Bool
 is_undisturbed m conflict before after n i s =
-    (s.number == n) || (not (is_started s.invocation.phase) || (not (conflict i.program s.invocation.program) || (is_so_far m before s.invocation && is_so_far m after s.invocation)))
+    (s.number == n) || (not (is_started s.invocation.phase)
+    || (not (conflict i.program s.invocation.program) || (is_so_far m before s.invocation && is_so_far m after s.invocation)))
 
 -- an invocation ends so
 abbrev pub ends_right : Machine → ConflictTest → Roll → Store → ℕ → End → Seat → Bool
@@ -79,4 +81,5 @@ serial_after m x store (Void cause) = store
 -- along a journal
 abbrev pub replays_right : Machine → ConflictTest → Roll → Store → List Event → Bool
 replays_right m conflict x store [] = all_so_far m x store
-replays_right m conflict x store (e ∷ es) = runs_right m conflict x store e.told && replays_right m conflict (rolled x e.told) (serial_after m x store e.told) es
+replays_right m conflict x store (e ∷ es) = runs_right m conflict x store e.told
+    && replays_right m conflict (rolled x e.told) (serial_after m x store e.told) es

@@ -1,10 +1,12 @@
 -- The roll of a node: whoever is live, and what is installed. It is what a reader of a journal has to keep.
-use Rattle.std.specs.Prelude.{◌≡◌, ℕ, ℤ, ◌==◌, ◌&&◌, not, Bool, true, false, List, [], ◌∷◌, ◌++◌, map, filter, Option, Some, None, unwrap_or, Contains, IsTrue, if◌then◌else◌}
+use Rattle.std.specs.Prelude.{◌≡◌, ℕ, ℤ, ◌==◌, ◌&&◌, not, Bool, true, false, List, [], ◌∷◌, ◌++◌, map, filter, Option, Some, None}
+use Rattle.std.specs.Prelude.{unwrap_or, Contains, IsTrue, if◌then◌else◌}
 use Rattle.std.specs.List.{list_any}
 use Rattle.mate_num.specs.declared.call.Call.{Call}
 use Rattle.mate_num.specs.declared.id.HandlerId.{HandlerId}
 use Rattle.mate_journal.specs.Machine.{HeldProgram}
-use Rattle.mate_journal.specs.Journal.{Told, Posted, Dropped, Started, Asked, Answered, Ended, Installed, Reset, Seen, Void, Phase, Unposted, Queued, Ready, Waiting, Over, is_live, Invocation, Reading, no_program, in_phase}
+use Rattle.mate_journal.specs.Journal.{Told, Posted, Dropped, Started, Asked, Answered, Ended, Installed, Reset, Seen, Void, Phase}
+use Rattle.mate_journal.specs.Journal.{Unposted, Queued, Ready, Waiting, Over, is_live, Invocation, Reading, no_program, in_phase}
 
 -- a live invocation, with its number
 pub record Seat : Type 0 where
@@ -73,7 +75,14 @@ with_answer value i = record i { calls = calls_with i.phase value i.calls; phase
 abbrev pub rolled : Roll → Told → Roll
 rolled x (Posted n h c payload) = record x {
   posts = n;
-  seats = x.seats ++ seat n (record { handler = h; context = c; program = unwrap_or (x.installed h) no_program; payload = payload; calls = []; phase = Queued }) ∷ [];
+  seats = x.seats ++ seat n (record {
+    handler = h;
+    context = c;
+    program = unwrap_or (x.installed h) no_program;
+    payload = payload;
+    calls = [];
+    phase = Queued;
+  }) ∷ [];
 }
 rolled x (Dropped h cause) = x
 rolled x (Started n) = roll_changed n (in_phase Ready) x

@@ -5,7 +5,8 @@ use Rattle.mate_num.specs.declared.resource.Resource.{Resource}
 use Rattle.mate_num.specs.declared.resource.Resource.TheVariants.{Shared, Buffer}
 use Rattle.mate_num.specs.declared.store.Store.{Store}
 use Rattle.mate_journal.specs.Machine.{Machine}
-use Rattle.mate_journal.specs.Journal.{Told, Posted, Dropped, Started, Asked, Answered, Ended, Installed, Reset, Seen, Void, store_seen, Event, is_started, Reading, whole_run}
+use Rattle.mate_journal.specs.Journal.{Told, Posted, Dropped, Started, Asked, Answered, Ended, Installed, Reset, Seen, Void, store_seen}
+use Rattle.mate_journal.specs.Journal.{Event, is_started, Reading, whole_run}
 use Rattle.mate_journal.specs.Stores.{values_at, Writes}
 use Rattle.mate_journal.specs.WellFormed.{IsWaiting}
 use Rattle.audit_finite.specs.Roll.{Seat, Roll, rolled, is_waiting}
@@ -42,11 +43,13 @@ writes_at m at s = is_started s.invocation.phase && (m.meaning.uses s.invocation
 
 abbrev pub agrees_at : Machine → Store → Store → Resource → Seat → Bool
 agrees_at m store seen at s =
-    not (writes_at m at s && is_waiting s.invocation.phase) || same_values (values_at seen at) (values_at (run_on m store s.invocation).store at)
+    not (writes_at m at s && is_waiting s.invocation.phase)
+    || same_values (values_at seen at) (values_at (run_on m store s.invocation).store at)
 
 abbrev pub is_shown_at : Machine → Roll → Store → Store → Resource → Bool
 is_shown_at m x store seen at =
-    (list_any (writes_at m at) x.seats || same_values (values_at seen at) (values_at store at)) && list_all (agrees_at m store seen at) x.seats
+    (list_any (writes_at m at) x.seats || same_values (values_at seen at) (values_at store at))
+    && list_all (agrees_at m store seen at) x.seats
 
 -- a test passes for each number below n
 abbrev pub all_below : (ℕ → Bool) → ℕ → Bool

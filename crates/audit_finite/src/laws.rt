@@ -34,13 +34,15 @@ pub fn grants_are_told()
 /// A journal whose entries follow one another is serial exactly where its runs are right at ends alone: at the end of each
 /// invocation, and at the end of its era. Where one ends that conflicts with others, these are run before it and after it.
 pub fn ends_are_enough()
-    ensures { (m : Machine) (conflict : ConflictTest) (es : List Event) → GoesByParts m.meaning → TellsConflicts m.meaning conflict → EntriesFollow m es →
+    ensures { (m : Machine) (conflict : ConflictTest) (es : List Event) → GoesByParts m.meaning → TellsConflicts m.meaning conflict
+        → EntriesFollow m es →
         IsSerial m (nothing_heard m) es ↔ ReplaysAtEnds m (nothing_heard m) es }
 {}
 
 /// Whether such a journal is serial is told by runs at ends.
 pub fn replay_is_told()
-    ensures { (m : Machine) (conflict : ConflictTest) (es : List Event) → GoesByParts m.meaning → TellsConflicts m.meaning conflict → EntriesFollow m es →
+    ensures { (m : Machine) (conflict : ConflictTest) (es : List Event) → GoesByParts m.meaning → TellsConflicts m.meaning conflict
+        → EntriesFollow m es →
         Decides (replays_right m conflict nobody m.zero_store es) (IsSerial m (nothing_heard m) es) }
 {}
 

@@ -50,7 +50,8 @@ fn waits_rightly(trial: &Trial, roll: &ReadyRoll, seat: &Seat) -> bool
     requires seat { IsSeatReady trial.now roll.now seat.now }
     requires ready { All (IsSeatReady trial.now roll.now) roll.now.roll.seats.items }
     ensures { let images = trial.now.log.now.images in
-        result ≡ (not (is_queued (seat_in images seat.now).invocation.phase) || told.is_held_back (conflict_of trial.now.desc.now) (roll_in images roll.now.roll) (seat_in images seat.now)) }
+        result ≡ (not (is_queued (seat_in images seat.now).invocation.phase)
+        || told.is_held_back (conflict_of trial.now.desc.now) (roll_in images roll.now.roll) (seat_in images seat.now)) }
 {
     !seat.phase.is(Stage::Queued) || is_held_back(trial, roll, seat)
 }
@@ -60,7 +61,8 @@ fn starts_rightly(trial: &Trial, roll: &ReadyRoll, seat: &Seat, number: u32) -> 
     requires seat { IsSeatReady trial.now roll.now seat.now }
     requires ready { All (IsSeatReady trial.now roll.now) roll.now.roll.seats.items }
     ensures { let images = trial.now.log.now.images in
-        result ≡ (not (seat.now.number == number) || not (told.is_held_back (conflict_of trial.now.desc.now) (roll_in images roll.now.roll) (seat_in images seat.now))) }
+        result ≡ (not (seat.now.number == number)
+        || not (told.is_held_back (conflict_of trial.now.desc.now) (roll_in images roll.now.roll) (seat_in images seat.now))) }
 {
     seat.number != number || !is_held_back(trial, roll, seat)
 }

@@ -32,7 +32,8 @@ ghost use Rattle.audit_laws.specs.Reading.{IsReadWith};
 pub fn node_reports_are_serial()
     ensures steps { (d : Description) (ps : List Program) (k : Clock) (steps : List Step) (how : RunEnd) (r : Report) →
         InstallPrograms ps steps → IsNodeReport d k (meaning_by d ps) steps how r → IsVerdict d ps r Serial }
-    ensures installs { (d : Description) (script : NodeScript) (ps : List Program) → AreProgramsOf d script ps → InstallPrograms ps (steps_of script ps) }
+    ensures installs { (d : Description) (script : NodeScript) (ps : List Program) → AreProgramsOf d script ps
+        → InstallPrograms ps (steps_of script ps) }
 {}
 
 /// What the nodes of a world tell is serial for the programs that its script injects, however its run ends.
@@ -44,7 +45,9 @@ pub fn world_reports_are_serial()
 /// A report that is read back from its text has the verdict that it had; and the text of a tidy report whose numbers are in the ranges of
 /// their types is read, where it has at most 4,000,000,000 bytes, but for want of memory.
 pub fn verdicts_are_read_back()
-    ensures same { (d : Description) (ps : List Program) (x r : Report) (v : Verdict) → IsSameReport x r → IsVerdict d ps r v → IsVerdict d ps x v }
+    ensures same { (d : Description) (ps : List Program) (x r : Report) (v : Verdict) → IsSameReport x r → IsVerdict d ps r v
+        → IsVerdict d ps x v }
     ensures text { (d : Description) (ps : List Program) (r : Report) (v : Verdict) (answer : Result Report TextFault) →
-        length (text d r) ≤ 4000000000 → IsTidy d r → HasReportRanges r → IsVerdict d ps r v → ReadsReport d (text d r) answer → IsReadWith d ps v answer }
+        length (text d r) ≤ 4000000000 → IsTidy d r → HasReportRanges r → IsVerdict d ps r v → ReadsReport d (text d r) answer
+        → IsReadWith d ps v answer }
 {}

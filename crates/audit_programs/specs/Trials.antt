@@ -59,4 +59,5 @@ pub record HasReadUpTo (t : Trial) (place : ℕ) (x : ReadyRoll) : Type 0 where
 
 -- the program of a live invocation is ready
 abbrev pub IsSeatReady : Trial → ReadyRoll → Seat → Type 0
-IsSeatReady t x s = IsSomeAnd (ready_at x.ready.programs.items s.handler) (IsReadyAs t.desc.now (seat_in t.log.now.images s).invocation.program)
+IsSeatReady t x s = IsSomeAnd (ready_at x.ready.programs.items s.handler)
+    (IsReadyAs t.desc.now (seat_in t.log.now.images s).invocation.program)

@@ -112,7 +112,8 @@ impl<'a> ReadyRoll<'a> {
         ensures roll { self.new.roll ≡ self.old.roll }
         ensures places { length self.new.ready.programs.items ≡ 8 }
         ensures ready { let l = trial.now.log.now in
-            AreReady trial.now.desc.now (rolled (roll_in l.images self.old.roll) (told_of l entry.now)).installed self.new.ready.programs.items }
+            AreReady trial.now.desc.now (rolled (roll_in l.images self.old.roll) (told_of l entry.now)).installed
+            self.new.ready.programs.items }
     {
         let _place = place;
         match entry {
@@ -146,7 +147,8 @@ impl<'a> ReadyRoll<'a> {
         requires one { IsSeatReady trial.now self.now one.now }
         requires other { IsSeatReady trial.now self.now other.now }
         ensures { let images = trial.now.log.now.images in
-            result ≡ conflict_of trial.now.desc.now (seat_in images one.now).invocation.program (seat_in images other.now).invocation.program }
+            result ≡ conflict_of trial.now.desc.now (seat_in images one.now).invocation.program
+            (seat_in images other.now).invocation.program }
     {
         self.program_of(trial, one)
             .conflicts(self.program_of(trial, other))

@@ -39,7 +39,8 @@ fn is_undisturbed(
     requires before { HasLengthsOf (machine_for trial.now) stores.now.before.now }
     requires after { HasLengthsOf (machine_for trial.now) stores.now.after.now }
     ensures { let images = trial.now.log.now.images in
-        IfOk result (λ b. b ≡ told.is_undisturbed (machine_for trial.now) (conflict_of trial.now.desc.now) stores.now.before.now stores.now.after.now
+        IfOk result (λ b. b ≡ told.is_undisturbed (machine_for trial.now) (conflict_of trial.now.desc.now) stores.now.before.now
+        stores.now.after.now
         ended.now.number (seat_in images ended.now).invocation (seat_in images seat.now)) }
 {
     if seat.number == ended.number || seat.phase.is(Stage::Queued) {
@@ -68,7 +69,8 @@ fn all_undisturbed(
     requires before { HasLengthsOf (machine_for trial.now) stores.now.before.now }
     requires after { HasLengthsOf (machine_for trial.now) stores.now.after.now }
     ensures { let images = trial.now.log.now.images in
-        IfOk result (λ b. b ≡ list_all (told.is_undisturbed (machine_for trial.now) (conflict_of trial.now.desc.now) stores.now.before.now stores.now.after.now
+        IfOk result (λ b. b ≡ list_all (told.is_undisturbed (machine_for trial.now) (conflict_of trial.now.desc.now) stores.now.before.now
+        stores.now.after.now
         ended.now.number (seat_in images ended.now).invocation) (roll_in images roll.now.roll).seats) }
 {
     for seat in roll.roll.seats.as_slice() {
@@ -102,8 +104,10 @@ fn end_of(
     requires lengths { HasLengthsOf (machine_for trial.now) store.now }
     ensures { let images = trial.now.log.now.images in
         let m = machine_for trial.now in
-        let test = told.ends_right m (conflict_of trial.now.desc.now) (roll_in images roll.now.roll) store.now ended.now.number how.now (seat_in images ended.now) in
-        IfOk result (λ found. MatchOption found (test ≡ false) (λ left. (test ≡ true) × (left ≡ (told.run_on m store.now (seat_in images ended.now).invocation).store) × HasLengthsOf m left)) }
+        let test = told.ends_right m (conflict_of trial.now.desc.now) (roll_in images roll.now.roll) store.now ended.now.number how.now
+        (seat_in images ended.now) in
+        IfOk result (λ found. MatchOption found (test ≡ false) (λ left. (test ≡ true)
+        × (left ≡ (told.run_on m store.now (seat_in images ended.now).invocation).store) × HasLengthsOf m left)) }
 {
     let outcome = roll.run(alloc, trial, ended, store)?;
     if !ends_so(&outcome, how, ended) {
@@ -135,7 +139,8 @@ pub(crate) fn after_end(
     ensures { let m = machine_for trial.now in
         let x = roll_in trial.now.log.now.images roll.now.roll in
         let test = list_all (told.ends_right m (conflict_of trial.now.desc.now) x store.now number how.now) x.seats in
-        IfOk result (λ found. MatchOption found (test ≡ false) (λ left. (test ≡ true) × (left ≡ told.store_left m store.now number x.seats) × HasLengthsOf m left)) }
+        IfOk result (λ found. MatchOption found (test ≡ false) (λ left. (test ≡ true)
+        × (left ≡ told.store_left m store.now number x.seats) × HasLengthsOf m left)) }
 {
     let mut left: Option<Store> = None;
     for seat in roll.roll.seats.as_slice() {

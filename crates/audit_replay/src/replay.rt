@@ -65,7 +65,8 @@ fn after_entry(
         let m = machine_for trial.now in
         let x = roll_in l.images roll.now.roll in
         let test = told.runs_right m (conflict_of trial.now.desc.now) x store.now (told_of l entry.now) in
-        IfOk result (λ found. MatchOption found (test ≡ false) (λ next. (test ≡ true) × (next ≡ told.serial_after m x store.now (told_of l entry.now)) × HasLengthsOf m next)) }
+        IfOk result (λ found. MatchOption found (test ≡ false) (λ next. (test ≡ true)
+        × (next ≡ told.serial_after m x store.now (told_of l entry.now)) × HasLengthsOf m next)) }
 {
     match entry {
         Entry::Halt { inv } => after_end(alloc, trial, roll, store, *inv, &End::Halt),

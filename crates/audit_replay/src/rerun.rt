@@ -50,7 +50,8 @@ pub(crate) fn is_so_far(
     requires tried { IsTried trial.now }
     requires ready { IsSeatReady trial.now roll.now seat.now }
     requires lengths { HasLengthsOf (machine_for trial.now) store.now }
-    ensures { IfOk result (λ b. b ≡ told.is_so_far (machine_for trial.now) store.now (seat_in trial.now.log.now.images seat.now).invocation) }
+    ensures { IfOk result (λ b. b ≡ told.is_so_far (machine_for trial.now) store.now
+        (seat_in trial.now.log.now.images seat.now).invocation) }
 {
     let outcome = roll.run(alloc, trial, seat, store)?;
     Ok(outcome_is_so_far(seat, &outcome))
@@ -68,7 +69,8 @@ fn runs_rightly(
     requires ready { IsSeatReady trial.now roll.now seat.now }
     requires lengths { HasLengthsOf (machine_for trial.now) store.now }
     ensures { let seat = seat_in trial.now.log.now.images seat.now in
-        IfOk result (λ b. b ≡ (not (is_started seat.invocation.phase) || told.is_so_far (machine_for trial.now) store.now seat.invocation)) }
+        IfOk result (λ b. b ≡ (not (is_started seat.invocation.phase)
+        || told.is_so_far (machine_for trial.now) store.now seat.invocation)) }
 {
     if seat.phase.is(Stage::Queued) {
         return Ok(true);

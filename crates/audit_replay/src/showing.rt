@@ -126,7 +126,8 @@ fn shows_unwritten(
     requires ready { All (IsSeatReady trial.now roll.now) roll.now.roll.seats.items }
     requires known { IsTrue (is_resource at) }
     ensures { let x = roll_in trial.now.log.now.images roll.now.roll in
-        result ≡ (list_any (told.writes_at (machine_for trial.now) at) x.seats || are_same (journal.values_at seen.now at) (journal.values_at store.now at)) }
+        result ≡ (list_any (told.writes_at (machine_for trial.now) at) x.seats
+        || are_same (journal.values_at seen.now at) (journal.values_at store.now at)) }
 {
     is_written(trial, roll, at) || same_at(seen, store, at)
 }
@@ -166,7 +167,8 @@ fn all_agree(
     requires tried { IsTried trial.now }
     requires ready { All (IsSeatReady trial.now roll.now) roll.now.roll.seats.items }
     requires known { IsTrue (is_resource at) }
-    requires stores { stores.now ≡ map (waiting_store (machine_for trial.now) store.now) (roll_in trial.now.log.now.images roll.now.roll).seats }
+    requires stores { stores.now ≡ map (waiting_store (machine_for trial.now) store.now)
+        (roll_in trial.now.log.now.images roll.now.roll).seats }
     ensures { let x = roll_in trial.now.log.now.images roll.now.roll in
         result ≡ list_all (told.agrees_at (machine_for trial.now) store.now seen.now at) x.seats }
 {
@@ -191,7 +193,8 @@ fn is_shown_at(
     requires tried { IsTried trial.now }
     requires ready { All (IsSeatReady trial.now roll.now) roll.now.roll.seats.items }
     requires known { IsTrue (is_resource at) }
-    requires stores { stores.now ≡ map (waiting_store (machine_for trial.now) store.now) (roll_in trial.now.log.now.images roll.now.roll).seats }
+    requires stores { stores.now ≡ map (waiting_store (machine_for trial.now) store.now)
+        (roll_in trial.now.log.now.images roll.now.roll).seats }
     ensures { result ≡ told.is_shown_at (machine_for trial.now) (roll_in trial.now.log.now.images roll.now.roll) store.now seen.now at }
 {
     shows_unwritten(trial, roll, store, seen, at) && all_agree(trial, roll, store, stores, seen, at)
@@ -208,7 +211,8 @@ fn all_variables_shown(
 ) -> bool
     requires tried { IsTried trial.now }
     requires ready { All (IsSeatReady trial.now roll.now) roll.now.roll.seats.items }
-    requires stores { stores.now ≡ map (waiting_store (machine_for trial.now) store.now) (roll_in trial.now.log.now.images roll.now.roll).seats }
+    requires stores { stores.now ≡ map (waiting_store (machine_for trial.now) store.now)
+        (roll_in trial.now.log.now.images roll.now.roll).seats }
     requires few { count ≤ 16 }
     ensures { let x = roll_in trial.now.log.now.images roll.now.roll in
         result ≡ all_below (λ (v : ℕ). told.is_shown_at (machine_for trial.now) x store.now seen.now (cell.Shared record { 0 = v })) count }
@@ -239,7 +243,8 @@ fn all_buffers_shown(
 ) -> bool
     requires tried { IsTried trial.now }
     requires ready { All (IsSeatReady trial.now roll.now) roll.now.roll.seats.items }
-    requires stores { stores.now ≡ map (waiting_store (machine_for trial.now) store.now) (roll_in trial.now.log.now.images roll.now.roll).seats }
+    requires stores { stores.now ≡ map (waiting_store (machine_for trial.now) store.now)
+        (roll_in trial.now.log.now.images roll.now.roll).seats }
     requires few { count ≤ 8 }
     ensures { let x = roll_in trial.now.log.now.images roll.now.roll in
         result ≡ all_below (λ (b : ℕ). told.is_shown_at (machine_for trial.now) x store.now seen.now (cell.Buffer record { 0 = b })) count }

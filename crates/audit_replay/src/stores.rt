@@ -55,7 +55,8 @@ fn store_after(
     requires lengths { HasLengthsOf (machine_for trial.now) store.now }
     ensures { let l = trial.now.log.now in
         let m = machine_for trial.now in
-        IfOk result (λ next. (next ≡ serial_after m (roll_in l.images roll.now.roll) store.now (told_of l entry.now)) × HasLengthsOf m next) }
+        IfOk result (λ next. (next ≡ serial_after m (roll_in l.images roll.now.roll) store.now (told_of l entry.now))
+        × HasLengthsOf m next) }
 {
     match entry {
         Entry::Halt { inv } => left_by(alloc, trial, roll, store, *inv),

@@ -1,5 +1,6 @@
 -- What the roll in memory stands for.
-use Rattle.std.specs.Prelude.{ℕ, ℤ, ◌==◌, ◌&&◌, Bool, true, false, List, [], ◌∷◌, ◌++◌, map, Option, Some, None, unwrap_or, slice_index_or, not, ◌<◌, if◌then◌else◌}
+use Rattle.std.specs.Prelude.{ℕ, ℤ, ◌==◌, ◌&&◌, Bool, true, false, List, [], ◌∷◌, ◌++◌, map, Option, Some, None, unwrap_or, slice_index_or}
+use Rattle.std.specs.Prelude.{not, ◌<◌, if◌then◌else◌}
 use Rattle.arrayvec.specs.ArrayVec.{ArrayVec}
 use Rattle.mate_num.specs.declared.call.Call.{Call}
 use Rattle.mate_num.specs.declared.id.ContextId.{ContextId}

@@ -73,7 +73,8 @@ fn is_context_of(desc: &Description, handler: HandlerId, context: ContextId) -> 
 fn may_follow(desc: &Description, roll: &Roll, entry: &Entry) -> bool
     requires few { length desc.now.handlers.items ≤ 8 }
     requires handler { HasHandlerBelow (length desc.now.handlers.items) entry.now }
-    ensures { (l : Log) (meaning : Meaning) → result ≡ told.may_follow (machine_of desc.now meaning) (roll_in l.images roll.now) (told_of l entry.now) }
+    ensures { (l : Log) (meaning : Meaning)
+        → result ≡ told.may_follow (machine_of desc.now meaning) (roll_in l.images roll.now) (told_of l entry.now) }
 {
     match entry {
         Entry::Post {

@@ -25,7 +25,8 @@ ghost use Rattle.audit_verdict.specs.declared.law.Verdict.TheVariants.{Serial};
 /// The order of calls to devices follows from the other laws: it is never the first to fail.
 pub fn devices_follow()
     ensures { (d : Description) (ps : List Program) (es : List Event) → AreRightPrograms d ps →
-        EntriesFollow (machine_by d ps) es → IsSerial (machine_by d ps) (nothing_heard (machine_by d ps)) es → GrantsInOrder (machine_by d ps) (nothing_heard (machine_by d ps)) 0 es →
+        EntriesFollow (machine_by d ps) es → IsSerial (machine_by d ps) (nothing_heard (machine_by d ps)) es
+        → GrantsInOrder (machine_by d ps) (nothing_heard (machine_by d ps)) 0 es →
         AsksDevicesInOrder (machine_by d ps).device_of es }
 {}
 
@@ -33,24 +34,28 @@ pub fn devices_follow()
 /// tidy logs.
 pub fn right_programs_can_be_told()
     ensures parts { (d : Description) (ps : List Program) → AreRightPrograms d ps → GoesByParts (machine_by d ps).meaning }
-    ensures conflicts { (d : Description) (ps : List Program) → AreRightPrograms d ps → TellsConflicts (machine_by d ps).meaning (conflict_of d) }
+    ensures conflicts { (d : Description) (ps : List Program) → AreRightPrograms d ps
+        → TellsConflicts (machine_by d ps).meaning (conflict_of d) }
     ensures lengths { (d : Description) (ps : List Program) → AreRightPrograms d ps → KeepsLengths (machine_by d ps) }
     ensures seen { (d : Description) (ps : List Program) (l : Log) → IsTidyLog d l → SeenLengths (machine_by d ps) (journal_of l) }
 {}
 
 /// The tests tell the first law that a tidy log fails, where the programs are right: each law is decided.
 pub fn the_first_failure_is_told()
-    ensures { (d : Description) (ps : List Program) (l : Log) → AreRightPrograms d ps → IsTidyLog d l → MatchOption (failed_by d ps l) (LogKeepsAll d ps l) (LogFails d ps l) }
+    ensures { (d : Description) (ps : List Program) (l : Log) → AreRightPrograms d ps → IsTidyLog d l
+        → MatchOption (failed_by d ps l) (LogKeepsAll d ps l) (LogFails d ps l) }
 {}
 
 /// The tests tell the verdict on a tidy report, where the programs are right.
 pub fn the_verdict_is_told()
-    ensures { (d : Description) (ps : List Program) (r : Report) → AreRightPrograms d ps → IsTidy d r → IsVerdict d ps r (verdict_of d ps r) }
+    ensures { (d : Description) (ps : List Program) (r : Report) → AreRightPrograms d ps → IsTidy d r
+        → IsVerdict d ps r (verdict_of d ps r) }
 {}
 
 /// A verdict is on the journals of a report alone, whatever room is left in its logs.
 pub fn verdicts_are_on_journals()
-    ensures { (d : Description) (ps : List Program) (r s : Report) (v : Verdict) → TellSameJournals r s → IsVerdict d ps r v → IsVerdict d ps s v }
+    ensures { (d : Description) (ps : List Program) (r s : Report) (v : Verdict) → TellSameJournals r s → IsVerdict d ps r v
+        → IsVerdict d ps s v }
 {}
 
 /// A report has one verdict; and a tidy one is found serial exactly where it is a serial report.

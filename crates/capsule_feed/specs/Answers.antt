@@ -7,7 +7,8 @@ use Rattle.code_verifier.specs.declared.fault.VerifyFault.{VerifyFault}
 use Rattle.code_verifier.specs.declared.fault.VerifyFault.TheVariants as fault
 use Rattle.mate_code.specs.BytesVerification.{bytes_verification}
 use Rattle.mate_code.specs.Run.{Code}
-use Rattle.mate_code.specs.Verification.{Refusal, Decode, BadTarget, BackJump, Underflow, Overflow, DepthDiffers, BadIndex, NoHalt, TooLong, Marks}
+use Rattle.mate_code.specs.Verification.{Refusal, Decode, BadTarget, BackJump, Underflow, Overflow, DepthDiffers, BadIndex, NoHalt, TooLong}
+use Rattle.mate_code.specs.Verification.{Marks}
 use Rattle.slip_gateway.specs.Stream.{frames}
 use Rattle.slip_gateway.specs.declared.frames.Frame.{Frame}
 use Rattle.slip_gateway.specs.declared.frames.Frame.TheVariants as frame

@@ -26,7 +26,8 @@ pub record HasAnswered (d : Description) (s : StreamAnswers) (fed : List ℕ) : 
   pub number : s.number ≡ length (frames fed)
 
 -- what the next byte adds to the text of the answers is printed
-pub record PrintsNext (d : Description) (fed : List ℕ) (byte : ℕ) (w : Option (List ℕ)) (f : ℕ) (r : Result (Unit {0}) SinkFault) (w' : Option (List ℕ)) (f' : ℕ) (r' : Result (Unit {0}) SinkFault) : Type 0 where
+pub record PrintsNext (d : Description) (fed : List ℕ) (byte : ℕ) (w : Option (List ℕ)) (f : ℕ) (r : Result (Unit {0}) SinkFault)
+    (w' : Option (List ℕ)) (f' : ℕ) (r' : Result (Unit {0}) SinkFault) : Type 0 where
   pub piece : List ℕ
   pub adds : feed_text d (fed ++ byte ∷ []) ≡ feed_text d fed ++ piece
   pub prints : Prints w f r w' f' r' piece

@@ -35,7 +35,8 @@ impl Answer {
     /// The words that tell it, and a line feed.
     pub(crate) fn print<S: Sink>(self, pen: &mut Pen, out: &mut S, desc: &Description)
         requires { HasHandler desc.now self }
-        ensures { Prints (S.written out.old) (S.faults out.old) pen.old.result (S.written out.new) (S.faults out.new) pen.new.result (answer_words desc.now self) }
+        ensures { Prints (S.written out.old) (S.faults out.old) pen.old.result (S.written out.new) (S.faults out.new) pen.new.result
+            (answer_words desc.now self) }
     {
         match self {
             Answer::Installed { handler, version } => {
@@ -52,7 +53,8 @@ impl Answer {
 
 /// The words of a refused capsule, and a line feed.
 fn print_refused<S: Sink>(pen: &mut Pen, out: &mut S, cause: CapsuleCause)
-    ensures { Prints (S.written out.old) (S.faults out.old) pen.old.result (S.written out.new) (S.faults out.new) pen.new.result (codes "refused " ++ capsule_words cause) }
+    ensures { Prints (S.written out.old) (S.faults out.old) pen.old.result (S.written out.new) (S.faults out.new) pen.new.result
+        (codes "refused " ++ capsule_words cause) }
 {
     pen.text(out, "refused ");
     cause.print(pen, out);

@@ -49,7 +49,8 @@ impl StreamAnswers {
         requires table { table.now ≡ table_of (shape_of desc.now) }
         ensures reads { (fed : List ℕ) → HasAnswered desc.now self.old fed → HasAnswered desc.now self.new (fed ++ byte ∷ []) }
         ensures prints { (fed : List ℕ) → HasAnswered desc.now self.old fed
-            → PrintsNext desc.now fed byte (S.written out.old) (S.faults out.old) pen.old.result (S.written out.new) (S.faults out.new) pen.new.result }
+            → PrintsNext desc.now fed byte (S.written out.old) (S.faults out.old) pen.old.result (S.written out.new) (S.faults out.new)
+            pen.new.result }
     {
         let Some(frame) = self.slip.read_byte(byte) else {
             return;
@@ -63,7 +64,8 @@ impl StreamAnswers {
 /// The line of an answer, with the number of its frame.
 fn print_line<S: Sink>(pen: &mut Pen, out: &mut S, desc: &Description, number: u64, answer: Answer)
     requires { HasHandler desc.now answer }
-    ensures { Prints (S.written out.old) (S.faults out.old) pen.old.result (S.written out.new) (S.faults out.new) pen.new.result (answer_line desc.now number answer) }
+    ensures { Prints (S.written out.old) (S.faults out.old) pen.old.result (S.written out.new) (S.faults out.new) pen.new.result
+        (answer_line desc.now number answer) }
 {
     pen.number(out, number);
     pen.text(out, " ");

@@ -23,7 +23,8 @@ head_line handler version size =
 -- the text of a capsule whose bytes of code are these instructions; its locks are what the code reads and writes
 abbrev pub capsule_text : Description → CapsuleParts → Code → List ℕ
 capsule_text d c code =
-    head_line (handler_name_at d c.handler) c.version (length c.code) ++ listing_text (names_of_functions d) code ++ lock_line d (uses_of (shape_of d) code)
+    head_line (handler_name_at d c.handler) c.version (length c.code) ++ listing_text (names_of_functions d) code
+    ++ lock_line d (uses_of (shape_of d) code)
 
 -- the capsule is for the machine, and this is its code, verified for the machine
 pub record IsVerifiedFor (d : Description) (c : CapsuleParts) (v : VerifiedCode) : Type 0 where

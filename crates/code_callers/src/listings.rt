@@ -80,7 +80,8 @@ pub fn a_name_that_is_read_and_written_is_not_marked<S: Sink>(
     requires devices { desc.now.devices.items ≡ [] }
     requires written { (lock_uses set.now).writes (Shared (record { 0 = 0 })) ≡ true }
     requires read { (lock_uses set.now).reads (Shared (record { 0 = 0 })) ≡ true }
-    ensures { Prints (S.written out.old) (S.faults out.old) pen.old.result (S.written out.new) (S.faults out.new) pen.new.result (codes "locks a\n") }
+    ensures { Prints (S.written out.old) (S.faults out.old) pen.old.result (S.written out.new) (S.faults out.new) pen.new.result
+        (codes "locks a\n") }
 {
     print_lock_line(pen, out, desc, set)
 }

@@ -4,7 +4,8 @@ use Rattle.mate_code.specs.declared.decoding.DecodeFault.TheVariants.{BadOpcode,
 use Rattle.mate_code.specs.Verification.{Refusal}
 use Rattle.mate_code.specs.Verification as refusal
 use Rattle.code_verifier.specs.declared.fault.VerifyFault.{VerifyFault}
-use Rattle.code_verifier.specs.declared.fault.VerifyFault.TheVariants.{Decode, BadTarget, BackJump, Underflow, Overflow, DepthDiffers, BadIndex, NoHalt, TooLong}
+use Rattle.code_verifier.specs.declared.fault.VerifyFault.TheVariants.{Decode, BadTarget, BackJump, Underflow, Overflow, DepthDiffers}
+use Rattle.code_verifier.specs.declared.fault.VerifyFault.TheVariants.{BadIndex, NoHalt, TooLong}
 
 abbrev pub refusal_of : VerifyFault → Refusal
 refusal_of (Decode place) = refusal.Decode place

@@ -9,7 +9,11 @@ installing name = record { steps = Install (record { 0 = 0 }) 1 0 ∷ []; files 
 
 -- and of another file as version 2
 abbrev pub installing_two : List ℕ → List ℕ → NodeScript
-installing_two first second = record { steps = Install (record { 0 = 0 }) 1 0 ∷ Install (record { 0 = 0 }) 2 1 ∷ []; files = first ∷ second ∷ [] }
+installing_two first second = record {
+  steps = Install (record { 0 = 0 }) 1 0 ∷ Install (record { 0 = 0 }) 2 1 ∷ [];
+  files = first
+      ∷ second ∷ [];
+}
 
 -- `load`
 abbrev pub loading : List ℕ → NodeScript

@@ -85,7 +85,8 @@ pub fn a_bad_line_is_told_by_its_number<F: Files>(
     desc: &Description,
     name: &str,
 ) -> Result<Steps, Refusal>
-    ensures { (bytes : List ℕ) (cause : Cause) → HoldsFile (record { told = F.contents files.old; steady = F.steady files.old }) name.now (Some bytes) → length bytes ≤ 1048576
+    ensures { (bytes : List ℕ) (cause : Cause)
+        → HoldsFile (record { told = F.contents files.old; steady = F.steady files.old }) name.now (Some bytes) → length bytes ≤ 1048576
         → node_script_in desc.now bytes ≡ Err (BadLine 3 cause) → RefusesAs (BadScript 3 cause) result }
 {
     script_of(alloc, files, desc, name)

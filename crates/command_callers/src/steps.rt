@@ -38,7 +38,8 @@ pub fn a_large_file_is_told_as_large<F: Files>(
     files: &mut F,
     name: &str,
 ) -> Result<Vec<u8>, Refusal>
-    ensures { (bytes : List ℕ) → HoldsFile (record { told = F.contents files.old; steady = F.steady files.old }) name.now (Some bytes) → 1048576 < length bytes
+    ensures { (bytes : List ℕ) → HoldsFile (record { told = F.contents files.old; steady = F.steady files.old }) name.now (Some bytes)
+        → 1048576 < length bytes
         → RefusesAs (InFile name.now (UnreadCause Large)) result }
 {
     read_file(alloc, files, name)
@@ -76,7 +77,8 @@ pub fn a_right_description_is_refused_for_memory_alone<F: Files>(
     word: &str,
 ) -> Result<Description, Refusal>
     requires { word.now ≢ builtin_word }
-    ensures { (bytes : List ℕ) (parts : Parts) → HoldsFile (record { told = F.contents files.old; steady = F.steady files.old }) word.now (Some bytes) → length bytes ≤ 1048576
+    ensures { (bytes : List ℕ) (parts : Parts)
+        → HoldsFile (record { told = F.contents files.old; steady = F.steady files.old }) word.now (Some bytes) → length bytes ≤ 1048576
         → description_of bytes ≡ Ok parts → IfErr result (λ r. r ≡ NoMemory) }
 {
     machine_of(alloc, files, word)
@@ -88,7 +90,8 @@ pub fn a_source_that_is_there_is_never_unread<F: Files>(
     files: &mut F,
     name: &str,
 ) -> Result<Script, Refusal>
-    ensures { (bytes : List ℕ) → HoldsFile (record { told = F.contents files.old; steady = F.steady files.old }) name.now (Some bytes) → length bytes ≤ 1048576
+    ensures { (bytes : List ℕ) → HoldsFile (record { told = F.contents files.old; steady = F.steady files.old }) name.now (Some bytes)
+        → length bytes ≤ 1048576
         → IfErr result (λ r. (why : Unread) → r ≢ InFile name.now (UnreadCause why)) }
 {
     expansion_of(alloc, files, name)

@@ -64,7 +64,8 @@ fn take_arguments(
     fun: FunId,
 ) -> StepEnd
     requires { args_of shape.now fun ≤ registers.old.depth }
-    ensures does { (store : Store) → DoesIn shape.now (instrs.Fun fun) (private_in registers.old memory.old) store result (private_in registers.new memory.new) store }
+    ensures does { (store : Store)
+        → DoesIn shape.now (instrs.Fun fun) (private_in registers.old memory.old) store result (private_in registers.new memory.new) store }
     ensures waits { result ≡ Next → ⊥ }
 {
     registers.has_depth(memory);
@@ -81,7 +82,8 @@ fn take_values(
     buffer: BufId,
 ) -> StepEnd
     requires { buffer.0 < length heap.now.buffers.items }
-    ensures does { Does (instrs.FunBuf fun buffer) (private_in registers.old memory.old) heap.now result (private_in registers.new memory.new) heap.now }
+    ensures does { Does (instrs.FunBuf fun buffer) (private_in registers.old memory.old) heap.now result
+        (private_in registers.new memory.new) heap.now }
     ensures waits { result ≡ Next → ⊥ }
 {
     let _ = registers;

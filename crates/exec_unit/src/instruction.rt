@@ -21,7 +21,8 @@ use mate_code::Instr;
 use mate_num::{Num16, Shape};
 use node_heap::Heap;
 
-/// Does the instruction at the registers' place, unless it asks a function. Each arm goes past its own number of bytes, so that the next place waits
+/// Does the instruction at the registers' place, unless it asks a function. Each arm goes past its own number of bytes, so that the
+/// next place waits
 /// for nothing that is read from the code.
 #[inline(always)]
 pub fn act(
@@ -36,7 +37,8 @@ pub fn act(
     requires names { IsTrue (is_in_range shape.now instr.now) }
     requires lengths { HasLengths shape.now heap.old }
     requires within { registers.old.place + size_of instr.now ≤ CODE_MAX }
-    ensures { Acts result shape.now instr.now registers.old.place (private_in registers.old memory.old) heap.old (private_in registers.new memory.new) heap.new }
+    ensures { Acts result shape.now instr.now registers.old.place (private_in registers.old memory.old) heap.old
+        (private_in registers.new memory.new) heap.new }
 {
     match *instr {
         Instr::Halt => Act::Done(PlainEnd::Halt),

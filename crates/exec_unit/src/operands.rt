@@ -92,7 +92,8 @@ pub fn divide<F: FnOnce(Num16, Num16) -> Option<Num16>>(
 // Pushes a quotient or a remainder, or faults where there is none.
 fn give_quotient(registers: &mut Registers, memory: &mut Memory, value: Option<Num16>) -> PlainEnd
     requires { registers.old.depth < 16 }
-    ensures { FollowsAlone (gives (or_div_zero value) (private_in registers.old memory.old)) (step_end result) (private_in registers.new memory.new) }
+    ensures { FollowsAlone (gives (or_div_zero value) (private_in registers.old memory.old)) (step_end result)
+        (private_in registers.new memory.new) }
 {
     match value {
         Some(value) => give(registers, memory, value.0),
@@ -103,7 +104,8 @@ fn give_quotient(registers: &mut Registers, memory: &mut Memory, value: Option<N
 pub fn get_private(registers: &mut Registers, memory: &mut Memory, private: u8) -> PlainEnd
     requires known { private < 8 }
     requires room { registers.old.depth < 16 }
-    ensures { DoesAlone (instrs.GetP private) (private_in registers.old memory.old) (step_end result) (private_in registers.new memory.new) }
+    ensures { DoesAlone (instrs.GetP private) (private_in registers.old memory.old) (step_end result)
+        (private_in registers.new memory.new) }
 {
     let value = memory.private(private);
     give(registers, memory, value)
@@ -112,7 +114,8 @@ pub fn get_private(registers: &mut Registers, memory: &mut Memory, private: u8) 
 pub fn set_private(registers: &mut Registers, memory: &mut Memory, private: u8) -> PlainEnd
     requires known { private < 8 }
     requires operand { 1 ≤ registers.old.depth }
-    ensures { DoesAlone (instrs.SetP private) (private_in registers.old memory.old) (step_end result) (private_in registers.new memory.new) }
+    ensures { DoesAlone (instrs.SetP private) (private_in registers.old memory.old) (step_end result)
+        (private_in registers.new memory.new) }
 {
     let value = registers.pop(memory);
     memory.set_private(private, value);

@@ -1,4 +1,5 @@
-//! The instructions that use shared variables and buffers. Each function does its instruction for registers that are already at the place after it.
+//! The instructions that use shared variables and buffers. Each function does its instruction for registers that are already at the
+//! place after it.
 
 ghost use Rattle.std.specs.Prelude.{◌≡◌, ◌<◌, ◌≤◌, length};
 ghost use Rattle.mate_code.specs.declared.instr.Instr.TheVariants as instrs;
@@ -19,7 +20,8 @@ pub fn get_variable(
 ) -> PlainEnd
     requires known { variable.0 < length heap.now.shared.items }
     requires room { registers.old.depth < 16 }
-    ensures { Does (instrs.GetS variable) (private_in registers.old memory.old) heap.now (step_end result) (private_in registers.new memory.new) heap.now }
+    ensures { Does (instrs.GetS variable) (private_in registers.old memory.old) heap.now (step_end result)
+        (private_in registers.new memory.new) heap.now }
 {
     give(registers, memory, heap.get(variable))
 }
@@ -32,7 +34,8 @@ pub fn set_variable(
 ) -> PlainEnd
     requires known { variable.0 < length heap.old.shared.items }
     requires operand { 1 ≤ registers.old.depth }
-    ensures { Does (instrs.SetS variable) (private_in registers.old memory.old) heap.old (step_end result) (private_in registers.new memory.new) heap.new }
+    ensures { Does (instrs.SetS variable) (private_in registers.old memory.old) heap.old (step_end result)
+        (private_in registers.new memory.new) heap.new }
 {
     let value = registers.pop(memory);
     heap.put(variable, value);
@@ -47,7 +50,8 @@ pub fn get_item(
 ) -> PlainEnd
     requires known { buffer.0 < length heap.now.buffers.items }
     requires operand { 1 ≤ registers.old.depth }
-    ensures { Does (instrs.BGet buffer) (private_in registers.old memory.old) heap.now (step_end result) (private_in registers.new memory.new) heap.now }
+    ensures { Does (instrs.BGet buffer) (private_in registers.old memory.old) heap.now (step_end result)
+        (private_in registers.new memory.new) heap.now }
 {
     let index = registers.pop(memory);
     give_or_fault(registers, memory, heap.item(buffer, index))
@@ -61,7 +65,8 @@ pub fn set_item(
 ) -> PlainEnd
     requires known { buffer.0 < length heap.old.buffers.items }
     requires operands { 2 ≤ registers.old.depth }
-    ensures { Does (instrs.BSet buffer) (private_in registers.old memory.old) heap.old (step_end result) (private_in registers.new memory.new) heap.new }
+    ensures { Does (instrs.BSet buffer) (private_in registers.old memory.old) heap.old (step_end result)
+        (private_in registers.new memory.new) heap.new }
 {
     let value = registers.pop(memory);
     let index = registers.pop(memory);
@@ -76,7 +81,8 @@ pub fn append(
 ) -> PlainEnd
     requires known { buffer.0 < length heap.old.buffers.items }
     requires operand { 1 ≤ registers.old.depth }
-    ensures { Does (instrs.BAdd buffer) (private_in registers.old memory.old) heap.old (step_end result) (private_in registers.new memory.new) heap.new }
+    ensures { Does (instrs.BAdd buffer) (private_in registers.old memory.old) heap.old (step_end result)
+        (private_in registers.new memory.new) heap.new }
 {
     let value = registers.pop(memory);
     end_of(heap.append(buffer, value))
@@ -90,7 +96,8 @@ pub fn take(
 ) -> PlainEnd
     requires known { buffer.0 < length heap.old.buffers.items }
     requires room { registers.old.depth < 16 }
-    ensures { Does (instrs.BTake buffer) (private_in registers.old memory.old) heap.old (step_end result) (private_in registers.new memory.new) heap.new }
+    ensures { Does (instrs.BTake buffer) (private_in registers.old memory.old) heap.old (step_end result)
+        (private_in registers.new memory.new) heap.new }
 {
     give_or_fault(registers, memory, heap.take(buffer))
 }
@@ -103,7 +110,8 @@ pub fn get_size(
 ) -> PlainEnd
     requires known { buffer.0 < length heap.now.buffers.items }
     requires room { registers.old.depth < 16 }
-    ensures { Does (instrs.BSize buffer) (private_in registers.old memory.old) heap.now (step_end result) (private_in registers.new memory.new) heap.now }
+    ensures { Does (instrs.BSize buffer) (private_in registers.old memory.old) heap.now (step_end result)
+        (private_in registers.new memory.new) heap.now }
 {
     give(registers, memory, heap.size(buffer))
 }
@@ -115,7 +123,8 @@ pub fn clear(
     buffer: BufId,
 ) -> PlainEnd
     requires { buffer.0 < length heap.old.buffers.items }
-    ensures { Does (instrs.BClear buffer) (private_in registers.old memory.old) heap.old (step_end result) (private_in registers.new memory.new) heap.new }
+    ensures { Does (instrs.BClear buffer) (private_in registers.old memory.old) heap.old (step_end result)
+        (private_in registers.new memory.new) heap.new }
 {
     let _ = registers;
     let _ = memory;

@@ -68,7 +68,8 @@ impl Registers {
     pub(crate) fn pop_arguments(&mut self, memory: &Memory, count: u8) -> Payload
         requires { count ≤ self.old.depth }
         ensures value { result ≡ arguments count (private_in self.old memory.now).stack }
-        ensures left { private_in self.new memory.now ≡ with_stack (drop count (private_in self.old memory.now).stack) (private_in self.old memory.now) }
+        ensures left { private_in self.new memory.now ≡ with_stack (drop count (private_in self.old memory.now).stack)
+            (private_in self.old memory.now) }
     {
         let first = self.depth - usize::from(count);
         let values = between(&memory.stack, first, self.depth);
@@ -99,7 +100,10 @@ impl Memory {
 
     pub(crate) fn set_private(&mut self, private: u8, value: i16)
         requires { private < 8 }
-        ensures { (r : AnyRegisters) → private_in r self.new ≡ record (private_in r self.old) { privates = slice_set (private_in r self.old).privates private value } }
+        ensures { (r : AnyRegisters)
+            → private_in r self.new ≡ record (private_in r self.old) {
+              privates = slice_set (private_in r self.old).privates private value;
+            } }
     {
         self.privates[usize::from(private)] = value;
     }

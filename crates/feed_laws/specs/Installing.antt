@@ -28,7 +28,8 @@ answer_of (NoNewer version) = NotNewer version
 pub data IsAnswered (d : Description) (r : Reading) (f : Frame) (a : Answer) (after : Reading) : Type 0 where
   installs : (image : ArrayVec ℕ) (p : Pace) (told : List Told) (i : InstallsBytes d r image.items p told) → f ≡ frame.Whole image
       → a ≡ Installed (capsule_handler i.capsule) i.capsule.version → after ≡ heard_told (machine_in d) r told → IsAnswered d r f a after
-  refuses : (image : ArrayVec ℕ) (why : InstallFault) → Refuses d r image.items why → f ≡ frame.Whole image → a ≡ answer_of why → after ≡ r → IsAnswered d r f a after
+  refuses : (image : ArrayVec ℕ) (why : InstallFault) → Refuses d r image.items why → f ≡ frame.Whole image → a ≡ answer_of why
+      → after ≡ r → IsAnswered d r f a after
   long : f ≡ frame.TooLong → a ≡ Long → after ≡ r → IsAnswered d r f a after
   broken : f ≡ frame.BadEscape → a ≡ Broken → after ≡ r → IsAnswered d r f a after
 
@@ -36,4 +37,5 @@ pub data IsAnswered (d : Description) (r : Reading) (f : Frame) (a : Answer) (af
 abbrev pub AreAnswered : Description → Reading → List Frame → List Answer → Type 0
 AreAnswered d r [] told = told ≡ []
 AreAnswered d r (f ∷ fs) told =
-    (a : Answer) × (others : List Answer) × (after : Reading) × (told ≡ a ∷ others) × IsAnswered d r f a after × AreAnswered d after fs others
+    (a : Answer) × (others : List Answer) × (after : Reading) × (told ≡ a ∷ others) × IsAnswered d r f a after
+    × AreAnswered d after fs others

@@ -11,5 +11,6 @@ ghost use Rattle.feed_laws.specs.Installing.{AreAnswered};
 
 /// What the calls of a new node's `install` answer to the frames of a stream, one after another, are the stream's answers.
 pub fn answers_are_of_install()
-    ensures { (d : Description) (bytes : List ℕ) (told : List Answer) → AreAnswered d (nothing_heard (machine_in d)) (frames bytes) told → told ≡ answers_to d bytes }
+    ensures { (d : Description) (bytes : List ℕ) (told : List Answer) → AreAnswered d (nothing_heard (machine_in d)) (frames bytes) told
+        → told ≡ answers_to d bytes }
 {}

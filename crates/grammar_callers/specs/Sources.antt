@@ -34,4 +34,5 @@ stepping sign =
 
 -- the script that these spell, whose step has a minus or none
 abbrev pub loop_by_three : Bool → Source
-loop_by_three minus = without_declarations (act_then (for_next (x_at 4) (number 1) (number 2) (Some (record { minus = minus; size = 3; place = 21 })) no_acts (x_at 28)) no_acts)
+loop_by_three minus = without_declarations
+    (act_then (for_next (x_at 4) (number 1) (number 2) (Some (record { minus = minus; size = 3; place = 21 })) no_acts (x_at 28)) no_acts)

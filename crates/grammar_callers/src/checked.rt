@@ -8,7 +8,8 @@ ghost use Rattle.ts_syntax.specs.TreeOf.{args_trees, block_trees, expr_tree, stm
 use ts_syntax::{CArgs, CBlock, CExpr, CStmt};
 
 pub fn the_argument_at_one_is_the_second(args: &CArgs) -> Option<&CExpr>
-    ensures { (first second : Expression) → args_trees args.now ≡ first ∷ second ∷ [] → option_map (λ e. expr_tree e.now) result ≡ Some second }
+    ensures { (first second : Expression) → args_trees args.now ≡ first ∷ second ∷ []
+        → option_map (λ e. expr_tree e.now) result ≡ Some second }
 {
     args.get(1)
 }
@@ -32,7 +33,8 @@ pub fn two_statements_are_two(block: &CBlock) -> usize
 }
 
 pub fn the_statement_at_zero_is_the_first(block: &CBlock) -> Option<&CStmt>
-    ensures { (first second : Statement) → block_trees block.now ≡ first ∷ second ∷ [] → option_map (λ s. stmt_tree s.now) result ≡ Some first }
+    ensures { (first second : Statement) → block_trees block.now ≡ first ∷ second ∷ []
+        → option_map (λ s. stmt_tree s.now) result ≡ Some first }
 {
     block.get(0)
 }

@@ -25,7 +25,8 @@ pub fn a_difference_is_from_its_left(
 }
 
 pub fn a_pushed_statement_is_the_last(block: &mut CBlock, statement: CStmt) -> Result<(), NoMemory>
-    ensures { (first : Statement) → block_trees block.old ≡ first ∷ [] → OnOk result (block_trees block.new ≡ first ∷ stmt_tree statement ∷ []) }
+    ensures { (first : Statement) → block_trees block.old ≡ first ∷ []
+        → OnOk result (block_trees block.new ≡ first ∷ stmt_tree statement ∷ []) }
 {
     block.push(statement)
 }

@@ -40,7 +40,8 @@ pub record HoldsBy (w : World) (p : HeldProgram) (b by : ℕ) (before later : Li
 -- Let a program be injected on a node, and let b be d hops away. Where the run reached the time 3 * L * d later, and no
 -- newer one was injected and no node reset until then, b holds it by then.
 abbrev pub HopBound : World → Type 0
-HopBound w = (before later : List Moment) (m : Moment) (i b d : ℕ) (p : HeldProgram) → HaveCome w (later ++ (m ∷ before)) → m.cause ≡ event.Planned i → InjectsAt w i p → IsWorldVersion w (version_of p)
+HopBound w = (before later : List Moment) (m : Moment) (i b d : ℕ) (p : HeldProgram) → HaveCome w (later ++ (m ∷ before))
+    → m.cause ≡ event.Planned i → InjectsAt w i p → IsWorldVersion w (version_of p)
     → event_node w m.cause < w.nodes → IsAway w.links (event_node w m.cause) b d
     → IsUndisturbed w p (m.time + 3 * longest w.description.trickle * d) (m ∷ before) later
     → IsDone (state w (later ++ (m ∷ before))) (m.time + 3 * longest w.description.trickle * d)

@@ -40,7 +40,8 @@ pub record IsInjectedProgram (handler : HandlerId) (version : ℕ) (p : HeldProg
   pub image_is : p.image.items ≡ image_of capsule
 
 abbrev pub AreInjectedPrograms : Script → (ℕ → HeldProgram) → Type 0
-AreInjectedPrograms script programs = (i program version : ℕ) (handler : HandlerId) (l : Planned) → slice_get script.events i ≡ Some l → l.what ≡ what.Inject program handler version → IsInjectedProgram handler version (programs program)
+AreInjectedPrograms script programs = (i program version : ℕ) (handler : HandlerId) (l : Planned) → slice_get script.events i ≡ Some l
+    → l.what ≡ what.Inject program handler version → IsInjectedProgram handler version (programs program)
 
 -- a right script whose programs are those of its lines
 pub record IsRightScript (d : Description) (script : Script) (programs : ℕ → HeldProgram) : Type 0 where
@@ -48,10 +49,12 @@ pub record IsRightScript (d : Description) (script : Script) (programs : ℕ →
   pub programs_are : AreInjectedPrograms script programs
 
 abbrev pub OpenScriptsAreOpen : Type 0
-OpenScriptsAreOpen = (d : Description) (meaning : Meaning) (clock : Clock) (script : Script) (programs : ℕ → HeldProgram) → IsRightScript d script programs → IsOpenScript script → IsOpenWorld (world_of d meaning clock script programs)
+OpenScriptsAreOpen = (d : Description) (meaning : Meaning) (clock : Clock) (script : Script) (programs : ℕ → HeldProgram)
+    → IsRightScript d script programs → IsOpenScript script → IsOpenWorld (world_of d meaning clock script programs)
 
 abbrev pub RightScriptsPlanRightly : Type 0
-RightScriptsPlanRightly = (d : Description) (meaning : Meaning) (clock : Clock) (script : Script) (programs : ℕ → HeldProgram) → IsRightScript d script programs → IsRightPlan (world_of d meaning clock script programs)
+RightScriptsPlanRightly = (d : Description) (meaning : Meaning) (clock : Clock) (script : Script) (programs : ℕ → HeldProgram)
+    → IsRightScript d script programs → IsRightPlan (world_of d meaning clock script programs)
 
 -- the image of every capsule has 1 to 22 fragments
 abbrev pub CapsulesHaveFewFragments : Type 0
@@ -59,10 +62,12 @@ CapsulesHaveFewFragments = (c : CapsuleParts) → IsCapsule c → (1 ≤ count_o
 
 -- no install is refused
 abbrev pub ScriptsInstallsAreNewer : Type 0
-ScriptsInstallsAreNewer = (d : Description) (meaning : Meaning) (clock : Clock) (script : Script) (programs : ℕ → HeldProgram) → IsRightScript d script programs → InstallsAreNewer (world_of d meaning clock script programs)
+ScriptsInstallsAreNewer = (d : Description) (meaning : Meaning) (clock : Clock) (script : Script) (programs : ℕ → HeldProgram)
+    → IsRightScript d script programs → InstallsAreNewer (world_of d meaning clock script programs)
 
 abbrev pub InjectedAreVersions : Type 0
-InjectedAreVersions = (d : Description) (meaning : Meaning) (clock : Clock) (script : Script) (programs : ℕ → HeldProgram) (i : ℕ) (p : HeldProgram) → IsRightScript d script programs
+InjectedAreVersions = (d : Description) (meaning : Meaning) (clock : Clock) (script : Script) (programs : ℕ
+    → HeldProgram) (i : ℕ) (p : HeldProgram) → IsRightScript d script programs
     → InjectsAt (world_of d meaning clock script programs) i p → IsWorldVersion (world_of d meaning clock script programs) (version_of p)
 
 -- some of the events `later` came by this time, one of all that came then has the node's Install entry of the program, and
@@ -73,13 +78,15 @@ pub record InstalledBy (w : World) (p : HeldProgram) (b by : ℕ) (before later 
   pub split : later ≡ newer ++ older
   pub in_time : last_time (older ++ before) ≤ by
   pub installed : WasInstalled w (older ++ before) b p.handler.0 p.version
-  pub ever : (last mid : List Moment) → newer ≡ last ++ mid → p.version ≤ held_version p.handler.0 ((state w (mid ++ (older ++ before))).nodes b).exchange
+  pub ever : (last mid : List Moment) → newer ≡ last ++ mid
+      → p.version ≤ held_version p.handler.0 ((state w (mid ++ (older ++ before))).nodes b).exchange
 
 -- In the world of a right script without loss or suppression let a program be injected on a node, and let b be d hops away.
 -- Where the run reached the time 3 * L * d later, and no newer one was injected and no node reset until then, b installed
 -- it by then, and holds it or a newer one ever after.
 abbrev pub InjectedIsInstalled : Type 0
-InjectedIsInstalled = (d : Description) (meaning : Meaning) (clock : Clock) (script : Script) (programs : ℕ → HeldProgram) → IsRightScript d script programs → IsOpenScript script
+InjectedIsInstalled = (d : Description) (meaning : Meaning) (clock : Clock) (script : Script) (programs : ℕ → HeldProgram)
+    → IsRightScript d script programs → IsOpenScript script
     → (before later : List Moment) (m : Moment) (i b hops : ℕ) (p : HeldProgram)
     → (let w = world_of d meaning clock script programs in
     HaveCome w (later ++ (m ∷ before)) → m.cause ≡ event.Planned i → InjectsAt w i p → IsAway w.links (event_node w m.cause) b hops

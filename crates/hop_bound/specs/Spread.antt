@@ -38,10 +38,12 @@ HoldsVersion w v k ms = held_version v.handler ((state w ms).nodes k).exchange �
 abbrev pub HopsInTime : World → Version → Type 0
 HopsInTime w v = (a b time : ℕ) (before later : List Moment) → a < w.nodes → HasLink w.links a b → HasLink w.links b a
     → HaveCome w (later ++ before) → IsNewest w v (later ++ before) → AreQuiet w v.handler before later → last_time before ≤ time
-    → IsDone (state w (later ++ before)) (time + 3 * longest w.description.trickle) → HoldsVersion w v a before → HoldsVersion w v b (later ++ before)
+    → IsDone (state w (later ++ before)) (time + 3 * longest w.description.trickle) → HoldsVersion w v a before
+    → HoldsVersion w v b (later ++ before)
 
 -- d hops take d times as long
 abbrev pub SpreadsInTime : World → Version → Type 0
 SpreadsInTime w v = (a b d time : ℕ) (before later : List Moment) → a < w.nodes → IsAway w.links a b d
     → HaveCome w (later ++ before) → IsNewest w v (later ++ before) → AreQuiet w v.handler before later → last_time before ≤ time
-    → IsDone (state w (later ++ before)) (time + 3 * longest w.description.trickle * d) → HoldsVersion w v a before → HoldsVersion w v b (later ++ before)
+    → IsDone (state w (later ++ before)) (time + 3 * longest w.description.trickle * d) → HoldsVersion w v a before
+    → HoldsVersion w v b (later ++ before)

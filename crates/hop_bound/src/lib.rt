@@ -3,7 +3,8 @@
 
 ghost use Rattle.world_rules.specs.World.{World};
 ghost use Rattle.hop_bound.specs.HopBound.{HopBound, IsRightPlan};
-ghost use Rattle.hop_bound.specs.Premises.{CapsulesHaveFewFragments, InjectedAreVersions, InjectedIsInstalled, OpenScriptsAreOpen, RightScriptsPlanRightly, ScriptsInstallsAreNewer};
+ghost use Rattle.hop_bound.specs.Premises.{CapsulesHaveFewFragments, InjectedAreVersions, InjectedIsInstalled, OpenScriptsAreOpen};
+ghost use Rattle.hop_bound.specs.Premises.{RightScriptsPlanRightly, ScriptsInstallsAreNewer};
 ghost use Rattle.hop_bound.specs.Spread.{HopsInTime, IsOpenWorld, SpreadsInTime};
 ghost use Rattle.world_images.specs.Newest.{IsWorldVersion, Version};
 

@@ -22,6 +22,8 @@ pub fn script_has_one_journal()
 
 /// And so of its report: the text, and the summary.
 pub fn script_has_one_text()
-    ensures { (d : Description) (k : Clock) (meaning : Meaning) (steps : List Step) (how how' : RunEnd) (r r' : Report) → EndsByItself how → EndsByItself how'
-        → IsNodeReport d k meaning steps how r → IsNodeReport d k meaning steps how' r' → (text d r ≡ text d r') × (brief d r ≡ brief d r') }
+    ensures { (d : Description) (k : Clock) (meaning : Meaning) (steps : List Step) (how how' : RunEnd) (r r' : Report) → EndsByItself how
+        → EndsByItself how'
+        → IsNodeReport d k meaning steps how r → IsNodeReport d k meaning steps how' r'
+        → (text d r ≡ text d r') × (brief d r ≡ brief d r') }
 {}

@@ -7,7 +7,8 @@ use Rattle.mate_journal.specs.Positions.{EndsAt}
 
 -- two started live invocations don't conflict
 abbrev pub AreApart : Machine → Reading → Type 0
-AreApart m r = (j k : ℕ) → j ≢ k → IsTrue (is_started (r.invocations j).phase) → IsTrue (is_started (r.invocations k).phase) → AreConflicting m r j k → ⊥
+AreApart m r = (j k : ℕ) → j ≢ k → IsTrue (is_started (r.invocations j).phase) → IsTrue (is_started (r.invocations k).phase)
+    → AreConflicting m r j k → ⊥
 
 -- no more were posted than their number says, and nothing that is ahead of a started live invocation conflicts with it
 pub record IsOrderly (m : Machine) (r : Reading) : Type 0 where

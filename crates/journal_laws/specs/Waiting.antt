@@ -63,7 +63,8 @@ JournalsWaitApart m = (es : List Event) → IsWellFormed m (nothing_heard m) es 
 
 -- and in contexts of the machine, where it has few
 abbrev pub JournalsWaitSmall : Machine → Type 0
-JournalsWaitSmall m = HasFewContexts m → (es : List Event) → IsWellFormed m (nothing_heard m) es → WaitSmall (heard_all m (nothing_heard m) es)
+JournalsWaitSmall m = HasFewContexts m → (es : List Event) → IsWellFormed m (nothing_heard m) es
+    → WaitSmall (heard_all m (nothing_heard m) es)
 
 -- behind a well-formed journal an invocation that waits stays as it is until an entry ends its wait
 abbrev pub WaitingGoesOn : Machine → Type 0
@@ -73,12 +74,14 @@ WaitingGoesOn m = (es : List Event) (told : List Told) (n : ℕ) → IsWellForme
 
 -- an invocation that waits goes on waiting, in its context, while turns settle
 abbrev pub SettlingLeavesWaiting : Machine → Type 0
-SettlingLeavesWaiting m = (k : Clock) (r : Reading) (p : Pace) (told : List Told) (q : Pace) (n : ℕ) → Settles k m r p told q → AreFollowing m r told → IsWaiting r n
+SettlingLeavesWaiting m = (k : Clock) (r : Reading) (p : Pace) (told : List Told) (q : Pace) (n : ℕ) → Settles k m r p told q
+    → AreFollowing m r told → IsWaiting r n
     → IsWaiting (heard_told m r told) n × (((heard_told m r told).invocations n).context ≡ (r.invocations n).context)
 
 -- what calls while turns settle waits at their end
 abbrev pub SettlingAwaits : Machine → Type 0
-SettlingAwaits m = (k : Clock) (r : Reading) (p : Pace) (told : List Told) (q : Pace) → Settles k m r p told q → AreFollowing m r told → WaitSmall (heard_told m r told) → AreAwaited (heard_told m r told) told
+SettlingAwaits m = (k : Clock) (r : Reading) (p : Pace) (told : List Told) (q : Pace) → Settles k m r p told q → AreFollowing m r told
+    → WaitSmall (heard_told m r told) → AreAwaited (heard_told m r told) told
 
 -- behind a well-formed journal, of a machine with few contexts, turns tell at most two entries for each context while they settle
 abbrev pub SettlingTellsFew : Machine → Type 0

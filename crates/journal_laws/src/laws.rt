@@ -27,7 +27,8 @@ pub fn ends_as_posted()
 /// the order of their ends, and after them those that never end.
 pub fn asks_devices_in_order()
     ensures { (m : Machine) (es : List Event) (device_of : DeviceOf) →
-        WritesWhatItAsks device_of m.meaning → IsWellFormed m (nothing_heard m) es → IsSerial m (nothing_heard m) es → GrantsInOrder m (nothing_heard m) 0 es →
+        WritesWhatItAsks device_of m.meaning → IsWellFormed m (nothing_heard m) es → IsSerial m (nothing_heard m) es
+        → GrantsInOrder m (nothing_heard m) 0 es →
         AsksDevicesInOrder device_of es }
 {}
 

@@ -1,7 +1,8 @@
 //! Who waits for the answers to its calls.
 
 ghost use Rattle.mate_journal.specs.Machine.{Machine};
-ghost use Rattle.journal_laws.specs.Waiting.{JournalsWaitApart, JournalsWaitSmall, WaitingGoesOn, SettlingLeavesWaiting, SettlingAwaits, SettlingTellsFew};
+ghost use Rattle.journal_laws.specs.Waiting.{JournalsWaitApart, JournalsWaitSmall, WaitingGoesOn, SettlingLeavesWaiting, SettlingAwaits};
+ghost use Rattle.journal_laws.specs.Waiting.{SettlingTellsFew};
 
 /// In a well-formed journal the invocations that wait have contexts of their own; of a machine with at most 16 contexts, these
 /// are below 16.

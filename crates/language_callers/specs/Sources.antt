@@ -30,7 +30,8 @@ private_entry name index = record { name = name; symbol = Variable (variable.Pri
 -- `private a; private b; ..` with nine names
 abbrev pub nine_privates : List Decl
 nine_privates =
-    private_named (codes "a") ∷ private_named (codes "b") ∷ private_named (codes "c") ∷ private_named (codes "d") ∷ private_named (codes "e")
+    private_named (codes "a") ∷ private_named (codes "b") ∷ private_named (codes "c") ∷ private_named (codes "d")
+    ∷ private_named (codes "e")
     ∷ private_named (codes "f") ∷ private_named (codes "g") ∷ private_named (codes "h") ∷ private_named (codes "i") ∷ []
 
 -- `f();`

@@ -44,7 +44,8 @@ pub fn a_round_may_take_the_whole_interval() -> Result<(), DescFault>
 }
 
 pub fn an_actuator_pops_its_values(desc: &Description) -> Shape
-    ensures { (f : Called) → desc.now.functions.items ≡ f ∷ [] → f.kind ≡ Act 3 → result.functions.items ≡ record { args = 3; send = false; device = f.device } ∷ [] }
+    ensures { (f : Called) → desc.now.functions.items ≡ f ∷ [] → f.kind ≡ Act 3
+        → result.functions.items ≡ record { args = 3; send = false; device = f.device } ∷ [] }
 {
     shape(desc)
 }

@@ -35,7 +35,8 @@ pub fn each_call_takes_its_own_answer(
     requires { tree_of script.now ≡ two_calls fun }
     ensures end { IfOk result (λ played. played.end ≡ Halt) }
     ensures calls { IfOk result (λ played. played.calls ≡
-        record { fun = fun; args = record { items = [] }; result = pos 7 } ∷ record { fun = fun; args = record { items = [] }; result = pos 9 } ∷ []) }
+        record { fun = fun; args = record { items = [] }; result = pos 7 }
+        ∷ record { fun = fun; args = record { items = [] }; result = pos 9 } ∷ []) }
 {
     play(alloc, script, store, &Payload::new(), &[7, 9, 4], 0)
 }

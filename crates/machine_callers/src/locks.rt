@@ -41,7 +41,8 @@ pub fn a_writer_waits_for_another() -> Option<u8>
 
 /// A waiter that one started context holds back is not started.
 pub fn what_is_started_conflicts_with_nothing_started(locks: &mut Locks) -> Option<ContextId>
-    ensures { IfSome result (λ ctx. (set : Claimed) (other : Claim) → set_of locks.new.started ctx ≡ Some set → Contains locks.old.started other → IsCompatible (lock_uses set) (lock_uses other.set)) }
+    ensures { IfSome result (λ ctx. (set : Claimed) (other : Claim) → set_of locks.new.started ctx ≡ Some set
+        → Contains locks.old.started other → IsCompatible (lock_uses set) (lock_uses other.set)) }
 {
     locks.grant()
 }
@@ -53,7 +54,8 @@ pub fn a_conflict_outlasts_anothers_release(
     waiter: ContextId,
 ) -> Option<u8>
     requires { IsSome (set_of locks.old.started gone) }
-    ensures { (first second third : Claim) → locks.old.started ≡ first ∷ second ∷ [] → locks.old.waiting ≡ third ∷ [] → first.ctx.0 ≡ gone.0 → second.ctx.0 ≢ gone.0
+    ensures { (first second third : Claim) → locks.old.started ≡ first ∷ second ∷ [] → locks.old.waiting ≡ third ∷ []
+        → first.ctx.0 ≡ gone.0 → second.ctx.0 ≢ gone.0
         → third.ctx.0 ≡ waiter.0 → conflict third.set second.set ≡ true → result ≡ Some 1 }
 {
     locks.release(gone);

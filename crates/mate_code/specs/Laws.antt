@@ -16,16 +16,20 @@ use Rattle.mate_code.specs.Run.{Code, Run, Going, Over, Stuck, run_after, code_a
 
 -- a run changes nothing outside what its code writes
 pub record OnlyWrites (shape : Shape) (code : Code) (store : Store) (msg : ArrayVec ℤ) (answers : List ℤ) (turns : ℕ) : Type 0 where
-  pub on_the_way : (n : ℕ) (r : Resource) → IsFalse ((uses_of shape code).writes r) → read (code_after n shape code store msg answers turns) r ≡ read store r
-  pub in_the_end : (r : Resource) → IsFalse ((uses_of shape code).writes r) → read (code_run shape code store msg answers turns).store r ≡ read store r
+  pub on_the_way : (n : ℕ) (r : Resource) → IsFalse ((uses_of shape code).writes r)
+      → read (code_after n shape code store msg answers turns) r ≡ read store r
+  pub in_the_end : (r : Resource) → IsFalse ((uses_of shape code).writes r)
+      → read (code_run shape code store msg answers turns).store r ≡ read store r
 
 -- the run on another store that agrees on what its code uses: the same end, calls and marks, and the same values there
 pub record IsSameRun (shape : Shape) (code : Code) (s t : Store) (msg : ArrayVec ℤ) (answers : List ℤ) (turns : ℕ) : Type 0 where
   pub end : (code_run shape code s msg answers turns).end ≡ (code_run shape code t msg answers turns).end
   pub calls : (code_run shape code s msg answers turns).calls ≡ (code_run shape code t msg answers turns).calls
   pub marks_are : call_marks shape code s msg answers turns ≡ call_marks shape code t msg answers turns
-  pub values : Agree (uses (uses_of shape code)) (code_run shape code s msg answers turns).store (code_run shape code t msg answers turns).store
-  pub on_the_way : (n : ℕ) → Agree (uses (uses_of shape code)) (code_after n shape code s msg answers turns) (code_after n shape code t msg answers turns)
+  pub values : Agree (uses (uses_of shape code)) (code_run shape code s msg answers turns).store
+      (code_run shape code t msg answers turns).store
+  pub on_the_way : (n : ℕ) → Agree (uses (uses_of shape code)) (code_after n shape code s msg answers turns)
+      (code_after n shape code t msg answers turns)
 
 -- a run that waits for an answer to a call, given this answer
 abbrev pub resumed : FunId → ArrayVec ℤ → ℤ → Run → Run
@@ -49,7 +53,8 @@ GoesOnAnswered shape code store msg answers turns =
 -- two ends of one run are one
 abbrev pub EndsOnce : Shape → Code → Store → ArrayVec ℤ → List ℤ → ℕ → Type 0
 EndsOnce shape code store msg answers turns =
-    (m n : ℕ) → (run_after m shape code store msg answers turns).own.status ≢ Going → (run_after n shape code store msg answers turns).own.status ≢ Going →
+    (m n : ℕ) → (run_after m shape code store msg answers turns).own.status ≢ Going
+    → (run_after n shape code store msg answers turns).own.status ≢ Going →
     run_after m shape code store msg answers turns ≡ run_after n shape code store msg answers turns
 
 -- verified code never sticks, its stack has room, its whole run is over, and it executes at most
@@ -59,4 +64,5 @@ pub record EndsInTime (shape : Shape) (code : Code) (store : Store) (msg : Array
   pub has_room : (n : ℕ) → length (run_after n shape code store msg answers turns).own.own.stack ≤ STACK_MAX
   pub is_over : (end : End) × ((whole_code_run shape code store msg answers turns).own.status ≡ Over end)
   pub in_time : (n : ℕ) → (run_after n shape code store msg answers turns).own.count ≤ (turns + 1) * size_of_code code
-  pub in_limit : size_of_code code ≤ CODE_MAX → (n : ℕ) → (run_after n shape code store msg answers turns).own.count ≤ (turns + 1) * CODE_MAX
+  pub in_limit : size_of_code code ≤ CODE_MAX → (n : ℕ)
+      → (run_after n shape code store msg answers turns).own.count ≤ (turns + 1) * CODE_MAX

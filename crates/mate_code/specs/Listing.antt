@@ -19,7 +19,8 @@ operand_text SignedWord n = codes " " ++ signed_decimal (cast_signed w16 n)
 -- the line of an instruction at its place
 abbrev pub line : List (List ℕ) → ℕ × Instr → List ℕ
 line functions pair =
-    decimal pair.0 ++ codes " " ++ name_of functions (kind_of pair.1) ++ operand_text (form_of (kind_of pair.1)) (operand_of pair.1) ++ codes "\n"
+    decimal pair.0 ++ codes " " ++ name_of functions (kind_of pair.1) ++ operand_text (form_of (kind_of pair.1)) (operand_of pair.1)
+    ++ codes "\n"
 
 -- the lines of instructions, one after another
 abbrev pub listing_text : List (List ℕ) → List (ℕ × Instr) → List ℕ

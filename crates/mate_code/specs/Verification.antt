@@ -1,5 +1,6 @@
 -- Verification: one pass over code, with a depth of the stack at each place, and the first refusal.
-use Rattle.std.specs.Prelude.{◌≡◌, ℕ, ◌+◌, ◌-◌, ◌<◌, ◌≤◌, Bool, true, false, not, IsTrue, ℤ, [], ◌∷◌, length, Option, None, Some, is_some, Result, Ok, Err, nat_lt, nat_le, ◌==◌, if◌then◌else◌, ⊤}
+use Rattle.std.specs.Prelude.{◌≡◌, ℕ, ◌+◌, ◌-◌, ◌<◌, ◌≤◌, Bool, true, false, not, IsTrue, ℤ, [], ◌∷◌, length, Option, None, Some, is_some}
+use Rattle.std.specs.Prelude.{Result, Ok, Err, nat_lt, nat_le, ◌==◌, if◌then◌else◌, ⊤}
 use Rattle.mate_num.specs.declared.bounds.TheConstants.{STACK_MAX}
 use Rattle.mate_num.specs.declared.shape.Shape.{Shape}
 use Rattle.mate_code.specs.declared.instr.Instr.{Instr}

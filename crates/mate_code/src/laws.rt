@@ -52,5 +52,6 @@ pub fn is_sound_where_verified()
         AreBytes bytes → bytes_verification shape bytes ≡ Ok (code, marks) → AreVerified shape bytes code marks }
     ensures sound { (shape : Shape) (code : Code) (marks : Marks) → IsVerified shape code marks → IsSoundCode shape code (depth_at marks) }
     ensures fits { (shape : Shape) (code : Code) (marks : Marks) (p : Private) (i : Instr) (cell : List ℤ) →
-        IsVerified shape code marks → IsFitting code (depth_at marks) p → fetch code p.pc ≡ Some i → GoesOnFitting code (depth_at marks) (effect shape i p cell) }
+        IsVerified shape code marks → IsFitting code (depth_at marks) p → fetch code p.pc ≡ Some i
+        → GoesOnFitting code (depth_at marks) (effect shape i p cell) }
 {}

@@ -38,7 +38,8 @@ HasCause before now (Err Failed) = Rose before now
 HasCause before now (Err NoMemory) = ⊤
 
 -- what a call does that writes bs: `put` itself, or one that writes a text of many pieces
-pub record Puts {T : Type 0} (written : Option (List ℕ)) (faults : ℕ) (written' : Option (List ℕ)) (faults' : ℕ) (result : Result T SinkFault) (bs : List ℕ) : Type 0 where
+pub record Puts {T : Type 0} (written : Option (List ℕ)) (faults : ℕ) (written' : Option (List ℕ)) (faults' : ℕ)
+    (result : Result T SinkFault) (bs : List ℕ) : Type 0 where
   pub writes : Writes written written' result bs
   pub short : StopsShort written written' result bs
   pub cause : HasCause faults faults' result

@@ -122,7 +122,8 @@ fn next_read(held: usize) -> usize
 fn read_more<F: Read>(file: &mut F, bytes: &mut Vec<u8>, most: usize) -> Result<usize, FilesFault>
     requires some { 0 < most }
     requires few { length bytes.old.items + most ≤ FILE_MAX + 1 }
-    ensures appends { IfOk result (λ count. (more : List ℕ) × (bytes.new.items ≡ bytes.old.items ++ more) × (length more ≡ count) × (count ≤ most)
+    ensures appends { IfOk result (λ count. (more : List ℕ) × (bytes.new.items ≡ bytes.old.items ++ more) × (length more ≡ count)
+        × (count ≤ most)
         × Consumes (F.remaining file.old) (F.remaining file.new) more) }
     ensures end { IfOk result (λ count. count ≡ 0 → IsAtEnd (F.remaining file.new)) }
     ensures refusal { IfErr result (λ fault. (fault ≡ FilesFault.Failed) ⊎ (fault ≡ FilesFault.NoMemory)) }

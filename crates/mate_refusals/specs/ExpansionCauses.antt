@@ -7,7 +7,8 @@ use Rattle.mate_refusals.specs.SpellingCauses.{spelling_words}
 use Rattle.mate_refusals.specs.declared.spelling_cause.SpellingCause.{SpellingCause}
 use Rattle.mate_refusals.specs.declared.spelling_cause.SpellingCause.TheVariants as spelling
 use Rattle.mate_refusals.specs.declared.expansion_cause.ExpansionCause.{ExpansionCause}
-use Rattle.mate_refusals.specs.declared.expansion_cause.ExpansionCause.TheVariants.{Spelling, NoProc, Params, Again, Reserved, TooLarge, TooNested}
+use Rattle.mate_refusals.specs.declared.expansion_cause.ExpansionCause.TheVariants.{Spelling, NoProc, Params, Again, Reserved, TooLarge}
+use Rattle.mate_refusals.specs.declared.expansion_cause.ExpansionCause.TheVariants.{TooNested}
 
 abbrev pub spelling_fault : SpellingCause → ProcFault
 spelling_fault (spelling.BadByte place) = fault.BadByte place

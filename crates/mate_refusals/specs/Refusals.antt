@@ -63,4 +63,5 @@ TellsLine written faults written' faults' line = Sent written written' line ⊎ 
 -- the refusal's status comes and its line is told, or want of memory comes and a prefix of the line is told
 abbrev pub TellsRefusal : Option (List ℕ) → ℕ → Option (List ℕ) → ℕ → Refusal → Status → Type 0
 TellsRefusal written faults written' faults' r s =
-    ((s ≡ status_of r) × TellsLine written faults written' faults' (line_of r)) ⊎ ((s ≡ status.NoMemory) × SentPart written written' (line_of r))
+    ((s ≡ status_of r) × TellsLine written faults written' faults' (line_of r))
+    ⊎ ((s ≡ status.NoMemory) × SentPart written written' (line_of r))

@@ -23,7 +23,8 @@ pub enum CapsuleCause {
 impl CapsuleCause {
     /// What is wrong, for its code with the place, and a line feed.
     pub fn print<E: Sink>(self, pen: &mut Pen, err: &mut E)
-        ensures { Prints (E.written err.old) (E.faults err.old) pen.old.result (E.written err.new) (E.faults err.new) pen.new.result (capsule_words self) }
+        ensures { Prints (E.written err.old) (E.faults err.old) pen.old.result (E.written err.new) (E.faults err.new) pen.new.result
+            (capsule_words self) }
     {
         match self {
             CapsuleCause::Digits(fault) => pen.text(err, words_of_digits(fault)),
@@ -56,7 +57,8 @@ fn words_of_image(fault: CapsuleFault) -> &'static str
 }
 
 fn print_code<E: Sink>(pen: &mut Pen, err: &mut E, fault: VerifyFault)
-    ensures { Prints (E.written err.old) (E.faults err.old) pen.old.result (E.written err.new) (E.faults err.new) pen.new.result (verify_words fault) }
+    ensures { Prints (E.written err.old) (E.faults err.old) pen.old.result (E.written err.new) (E.faults err.new) pen.new.result
+        (verify_words fault) }
 {
     match fault {
         VerifyFault::Decode { place } => print_numbered(pen, err, "decode ", place),

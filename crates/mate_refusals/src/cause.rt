@@ -55,7 +55,8 @@ impl Cause {
 
     /// The line that tells of it in the file of this name.
     pub(crate) fn print<E: Sink>(&self, pen: &mut Pen, err: &mut E, name: &str)
-        ensures { Prints (E.written err.old) (E.faults err.old) pen.old.result (E.written err.new) (E.faults err.new) pen.new.result (file_line name.now self.now) }
+        ensures { Prints (E.written err.old) (E.faults err.old) pen.old.result (E.written err.new) (E.faults err.new) pen.new.result
+            (file_line name.now self.now) }
     {
         match self {
             Cause::Unread(Unread::Failed) => print_about(pen, err, "file fault ", name),
@@ -70,7 +71,8 @@ impl Cause {
 
 /// The line of a refused source.
 fn bad_source<E: Sink>(pen: &mut Pen, err: &mut E, name: &str, cause: &SourceCause)
-    ensures { Prints (E.written err.old) (E.faults err.old) pen.old.result (E.written err.new) (E.faults err.new) pen.new.result (codes "bad source " ++ name.now ++ codes " " ++ source_words cause.now) }
+    ensures { Prints (E.written err.old) (E.faults err.old) pen.old.result (E.written err.new) (E.faults err.new) pen.new.result
+        (codes "bad source " ++ name.now ++ codes " " ++ source_words cause.now) }
 {
     pen.text(err, "bad source ");
     pen.text(err, name);
@@ -80,7 +82,8 @@ fn bad_source<E: Sink>(pen: &mut Pen, err: &mut E, name: &str, cause: &SourceCau
 
 /// The line of a source that has no code.
 fn bad_code<E: Sink>(pen: &mut Pen, err: &mut E, name: &str, fault: CompileFault)
-    ensures { Prints (E.written err.old) (E.faults err.old) pen.old.result (E.written err.new) (E.faults err.new) pen.new.result (codes "bad source " ++ name.now ++ codes " " ++ code_words fault) }
+    ensures { Prints (E.written err.old) (E.faults err.old) pen.old.result (E.written err.new) (E.faults err.new) pen.new.result
+        (codes "bad source " ++ name.now ++ codes " " ++ code_words fault) }
 {
     pen.text(err, "bad source ");
     pen.text(err, name);
@@ -89,7 +92,8 @@ fn bad_code<E: Sink>(pen: &mut Pen, err: &mut E, name: &str, fault: CompileFault
 }
 
 fn print_fault<E: Sink>(pen: &mut Pen, err: &mut E, fault: CompileFault)
-    ensures { Prints (E.written err.old) (E.faults err.old) pen.old.result (E.written err.new) (E.faults err.new) pen.new.result (code_words fault) }
+    ensures { Prints (E.written err.old) (E.faults err.old) pen.old.result (E.written err.new) (E.faults err.new) pen.new.result
+        (code_words fault) }
 {
     match fault {
         CompileFault::StackDepth { need } => print_numbered(pen, err, "depth ", need),
@@ -99,7 +103,8 @@ fn print_fault<E: Sink>(pen: &mut Pen, err: &mut E, fault: CompileFault)
 
 /// The line of a refused capsule.
 fn bad_capsule<E: Sink>(pen: &mut Pen, err: &mut E, name: &str, cause: CapsuleCause)
-    ensures { Prints (E.written err.old) (E.faults err.old) pen.old.result (E.written err.new) (E.faults err.new) pen.new.result (codes "bad capsule " ++ name.now ++ codes " " ++ capsule_words cause) }
+    ensures { Prints (E.written err.old) (E.faults err.old) pen.old.result (E.written err.new) (E.faults err.new) pen.new.result
+        (codes "bad capsule " ++ name.now ++ codes " " ++ capsule_words cause) }
 {
     pen.text(err, "bad capsule ");
     pen.text(err, name);
@@ -109,7 +114,8 @@ fn bad_capsule<E: Sink>(pen: &mut Pen, err: &mut E, name: &str, cause: CapsuleCa
 
 /// The line of a source that has no expansion.
 fn bad_expansion<E: Sink>(pen: &mut Pen, err: &mut E, name: &str, cause: &ExpansionCause)
-    ensures { Prints (E.written err.old) (E.faults err.old) pen.old.result (E.written err.new) (E.faults err.new) pen.new.result (codes "bad source " ++ name.now ++ codes " " ++ expansion_words cause.now) }
+    ensures { Prints (E.written err.old) (E.faults err.old) pen.old.result (E.written err.new) (E.faults err.new) pen.new.result
+        (codes "bad source " ++ name.now ++ codes " " ++ expansion_words cause.now) }
 {
     pen.text(err, "bad source ");
     pen.text(err, name);

@@ -38,7 +38,8 @@ impl DescriptionCause {
 
     /// What is wrong, and a line feed.
     pub fn print<E: Sink>(&self, pen: &mut Pen, err: &mut E)
-        ensures { Prints (E.written err.old) (E.faults err.old) pen.old.result (E.written err.new) (E.faults err.new) pen.new.result (description_words self.now) }
+        ensures { Prints (E.written err.old) (E.faults err.old) pen.old.result (E.written err.new) (E.faults err.new) pen.new.result
+            (description_words self.now) }
     {
         match self {
             DescriptionCause::NotToml => pen.text(err, "toml\n"),
@@ -56,7 +57,8 @@ impl DescriptionCause {
 }
 
 fn print_slow<E: Sink>(pen: &mut Pen, err: &mut E, need: u64, have: u64)
-    ensures { Prints (E.written err.old) (E.faults err.old) pen.old.result (E.written err.new) (E.faults err.new) pen.new.result (codes "slow " ++ decimal need ++ codes " " ++ decimal have ++ codes "\n") }
+    ensures { Prints (E.written err.old) (E.faults err.old) pen.old.result (E.written err.new) (E.faults err.new) pen.new.result
+        (codes "slow " ++ decimal need ++ codes " " ++ decimal have ++ codes "\n") }
 {
     pen.text(err, "slow ");
     pen.number(err, need);

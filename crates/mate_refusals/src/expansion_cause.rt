@@ -61,7 +61,8 @@ impl ExpansionCause {
 
     /// What is wrong, with its name and place or its number, and a line feed.
     pub fn print<E: Sink>(&self, pen: &mut Pen, err: &mut E)
-        ensures { Prints (E.written err.old) (E.faults err.old) pen.old.result (E.written err.new) (E.faults err.new) pen.new.result (expansion_words self.now) }
+        ensures { Prints (E.written err.old) (E.faults err.old) pen.old.result (E.written err.new) (E.faults err.new) pen.new.result
+            (expansion_words self.now) }
     {
         match self {
             ExpansionCause::Spelling(cause) => cause.print(pen, err),

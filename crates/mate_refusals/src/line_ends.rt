@@ -9,7 +9,8 @@ use mate_num::Name;
 
 /// A word, a number and a line feed.
 pub fn print_numbered<E: Sink>(pen: &mut Pen, err: &mut E, word: &str, number: u32)
-    ensures { Prints (E.written err.old) (E.faults err.old) pen.old.result (E.written err.new) (E.faults err.new) pen.new.result (number_line word.now number) }
+    ensures { Prints (E.written err.old) (E.faults err.old) pen.old.result (E.written err.new) (E.faults err.new) pen.new.result
+        (number_line word.now number) }
 {
     pen.text(err, word);
     pen.number(err, number as u64);
@@ -18,7 +19,8 @@ pub fn print_numbered<E: Sink>(pen: &mut Pen, err: &mut E, word: &str, number: u
 
 /// A word, a name and a line feed.
 pub fn print_about<E: Sink>(pen: &mut Pen, err: &mut E, word: &str, name: &str)
-    ensures { Prints (E.written err.old) (E.faults err.old) pen.old.result (E.written err.new) (E.faults err.new) pen.new.result (name_line word.now name.now) }
+    ensures { Prints (E.written err.old) (E.faults err.old) pen.old.result (E.written err.new) (E.faults err.new) pen.new.result
+        (name_line word.now name.now) }
 {
     pen.text(err, word);
     pen.text(err, name);
@@ -33,7 +35,8 @@ pub fn print_numbered_name<E: Sink>(
     name: &Name,
     number: u32,
 )
-    ensures { Prints (E.written err.old) (E.faults err.old) pen.old.result (E.written err.new) (E.faults err.new) pen.new.result (numbered_name_line word.now name.now number) }
+    ensures { Prints (E.written err.old) (E.faults err.old) pen.old.result (E.written err.new) (E.faults err.new) pen.new.result
+        (numbered_name_line word.now name.now number) }
 {
     pen.text(err, word);
     pen.text(err, name.as_str());

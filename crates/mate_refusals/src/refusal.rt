@@ -62,7 +62,8 @@ impl Refusal {
     }
 
     fn print<E: Sink>(&self, pen: &mut Pen, err: &mut E)
-        ensures { Prints (E.written err.old) (E.faults err.old) pen.old.result (E.written err.new) (E.faults err.new) pen.new.result (line_of self.now) }
+        ensures { Prints (E.written err.old) (E.faults err.old) pen.old.result (E.written err.new) (E.faults err.new) pen.new.result
+            (line_of self.now) }
     {
         match self {
             Refusal::Usage => pen.text(err, "usage\n"),
@@ -99,14 +100,16 @@ impl Refusal {
 }
 
 fn bad_description<E: Sink>(pen: &mut Pen, err: &mut E, cause: &DescriptionCause)
-    ensures { Prints (E.written err.old) (E.faults err.old) pen.old.result (E.written err.new) (E.faults err.new) pen.new.result (codes "bad description " ++ description_words cause.now) }
+    ensures { Prints (E.written err.old) (E.faults err.old) pen.old.result (E.written err.new) (E.faults err.new) pen.new.result
+        (codes "bad description " ++ description_words cause.now) }
 {
     pen.text(err, "bad description ");
     cause.print(pen, err);
 }
 
 fn bad_script<E: Sink>(pen: &mut Pen, err: &mut E, line: u32, cause: script_reader::Cause)
-    ensures { Prints (E.written err.old) (E.faults err.old) pen.old.result (E.written err.new) (E.faults err.new) pen.new.result (codes "bad script line " ++ bad_line_words line cause) }
+    ensures { Prints (E.written err.old) (E.faults err.old) pen.old.result (E.written err.new) (E.faults err.new) pen.new.result
+        (codes "bad script line " ++ bad_line_words line cause) }
 {
     pen.text(err, "bad script line ");
     print_line(pen, err, line, cause);

@@ -21,7 +21,8 @@ impl Refutation {
     ghost use Rattle.mate_refusals.specs.Refutations.{refutation_words};
 
     pub(crate) fn print<E: Sink>(self, pen: &mut Pen, err: &mut E)
-        ensures { Prints (E.written err.old) (E.faults err.old) pen.old.result (E.written err.new) (E.faults err.new) pen.new.result (refutation_words self) }
+        ensures { Prints (E.written err.old) (E.faults err.old) pen.old.result (E.written err.new) (E.faults err.new) pen.new.result
+            (refutation_words self) }
     {
         match self {
             Refutation::Line { line } => print_numbered(pen, err, "refuted line ", line),
@@ -32,7 +33,8 @@ impl Refutation {
 
 // The node's number and the law's word, and a line feed.
 fn print_node<E: Sink>(pen: &mut Pen, err: &mut E, node: u8, law: Law)
-    ensures { Prints (E.written err.old) (E.faults err.old) pen.old.result (E.written err.new) (E.faults err.new) pen.new.result (node_words node law) }
+    ensures { Prints (E.written err.old) (E.faults err.old) pen.old.result (E.written err.new) (E.faults err.new) pen.new.result
+        (node_words node law) }
 {
     pen.text(err, "refuted node ");
     pen.number(err, node as u64);

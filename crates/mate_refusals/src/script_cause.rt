@@ -9,7 +9,8 @@ use script_reader::Cause;
 
 /// The line's number, why it is refused, and a line feed.
 pub fn print_line<E: Sink>(pen: &mut Pen, err: &mut E, line: u32, cause: Cause)
-    ensures { Prints (E.written err.old) (E.faults err.old) pen.old.result (E.written err.new) (E.faults err.new) pen.new.result (bad_line_words line cause) }
+    ensures { Prints (E.written err.old) (E.faults err.old) pen.old.result (E.written err.new) (E.faults err.new) pen.new.result
+        (bad_line_words line cause) }
 {
     pen.number(err, line as u64);
     pen.text(err, " ");

@@ -27,7 +27,8 @@ pub enum SourceCause {
 impl SourceCause {
     /// What is wrong, its place, and a line feed.
     pub fn print<E: Sink>(&self, pen: &mut Pen, err: &mut E)
-        ensures { Prints (E.written err.old) (E.faults err.old) pen.old.result (E.written err.new) (E.faults err.new) pen.new.result (source_words self.now) }
+        ensures { Prints (E.written err.old) (E.faults err.old) pen.old.result (E.written err.new) (E.faults err.new) pen.new.result
+            (source_words self.now) }
     {
         match self {
             SourceCause::Spelling(cause) => cause.print(pen, err),

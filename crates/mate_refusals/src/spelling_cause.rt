@@ -22,7 +22,8 @@ pub enum SpellingCause {
 impl SpellingCause {
     /// What is wrong, its place, and a line feed.
     pub fn print<E: Sink>(&self, pen: &mut Pen, err: &mut E)
-        ensures { Prints (E.written err.old) (E.faults err.old) pen.old.result (E.written err.new) (E.faults err.new) pen.new.result (spelling_words self.now) }
+        ensures { Prints (E.written err.old) (E.faults err.old) pen.old.result (E.written err.new) (E.faults err.new) pen.new.result
+            (spelling_words self.now) }
     {
         match self {
             SpellingCause::BadByte { place } => print_numbered(pen, err, "byte ", *place),

@@ -1,4 +1,5 @@
--- What a file is that should hold a capsule in hexadecimal digits: a capsule of the machine with code that the verifier takes, or the first refusal.
+-- What a file is that should hold a capsule in hexadecimal digits: a capsule of the machine with code that the verifier takes, or the
+-- first refusal.
 use Rattle.std.specs.Prelude.{◌≡◌, ℕ, List, Option, Some, None, Result, Ok, Err, ⊤}
 use Rattle.std.specs.declared.alloc.Global.{Global}
 use Rattle.std.specs.declared.boxed.Box.{Box}

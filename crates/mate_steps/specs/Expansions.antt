@@ -17,7 +17,8 @@ use Rattle.mate_steps.specs.Steps.{judged, ◌▸◌}
 
 -- the refusal of the source `name` for this fault, unless memory is wanting
 abbrev pub RefusesExpansion : List ℕ → ProcFault → Refusal → Type 0
-RefusesExpansion name fault r = ((why : ExpansionCause) × (fault ≡ expansion_fault why) × (r ≡ InFile name (cause.Expansion why))) ⊎ (r ≡ NoMemory)
+RefusesExpansion name fault r = ((why : ExpansionCause) × (fault ≡ expansion_fault why) × (r ≡ InFile name (cause.Expansion why)))
+    ⊎ (r ≡ NoMemory)
 
 -- the script with procedures that the bytes of the source `name` spell
 abbrev pub script_with_procedures : List ℕ → List ℕ → Result PScript Refusal → Type 0

@@ -1,5 +1,6 @@
 -- The parts that commands share: the bytes of a file, the machine of a word, and a machine's handler.
-use Rattle.std.specs.Prelude.{◌≡◌, ◌≢◌, ℕ, ◌<◌, ◌≤◌, Bool, List, length, position, Option, Some, None, Result, Ok, Err, IsTrue, IsSomeAnd, ◌⊎◌, ⊤}
+use Rattle.std.specs.Prelude.{◌≡◌, ◌≢◌, ℕ, ◌<◌, ◌≤◌, Bool, List, length, position, Option, Some, None, Result, Ok, Err, IsTrue, IsSomeAnd}
+use Rattle.std.specs.Prelude.{◌⊎◌, ⊤}
 use Rattle.std.specs.Global.{Vec}
 use Rattle.std.specs.Str.{bytes_eq}
 use Rattle.mate_num.specs.declared.id.HandlerId.{HandlerId}
@@ -49,7 +50,8 @@ IsUnreadAnswer (Err (InFile name why)) = IsUnreadCause why
 IsUnreadAnswer (Err _) = ⊥
 
 -- a call that reads files leaves them as they are, and can't read one only where their count of faults rose in it
-pub record ReadsFiles {A : Type 0} (told : Option Names) (steady : Bool) (faults : ℕ) (told' : Option Names) (steady' : Bool) (faults' : ℕ) (answer : Result A Refusal) : Type 0 where
+pub record ReadsFiles {A : Type 0} (told : Option Names) (steady : Bool) (faults : ℕ) (told' : Option Names) (steady' : Bool)
+    (faults' : ℕ) (answer : Result A Refusal) : Type 0 where
   pub same_told : told' ≡ told
   pub same_steady : steady' ≡ steady
   pub later : faults ≤ faults'

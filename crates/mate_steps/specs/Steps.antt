@@ -14,7 +14,8 @@ judged Is IsNot refusal (Ok a) = Is a
 judged {E} Is IsNot refusal (Err r) = ((e : E) × IsNot e × (r ≡ refusal e)) ⊎ (r ≡ NoMemory)
 
 -- a step gives a value, and the answer is that of the steps after it; or it gives a refusal, and that is the answer
-pub data Then {A B : Type 0} (step : Result A Refusal → Type 0) (next : A → Result B Refusal → Type 0) (answer : Result B Refusal) : Type 0 where
+pub data Then {A B : Type 0} (step : Result A Refusal → Type 0) (next : A → Result B Refusal
+    → Type 0) (answer : Result B Refusal) : Type 0 where
   goes_on : (a : A) → step (Ok a) → next a answer → Then step next answer
   stops : (r : Refusal) → step (Err r) → answer ≡ Err r → Then step next answer
 

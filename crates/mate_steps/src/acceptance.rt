@@ -9,8 +9,12 @@ ghost use Rattle.ts_checker.specs.Accepted.{IsAccepted, IsRefusedBy, TextRefusal
 /// The law of acceptance: for a machine, any bytes either mean one tree or have one first refusal, and not both. No refusal is one
 /// for want of memory.
 pub fn acceptance_law()
-    ensures one_tree { (machine : Description) (bytes : List ℕ) (a b : Block) → IsAccepted machine bytes a → IsAccepted machine bytes b → a ≡ b }
-    ensures one_refusal { (machine : Description) (bytes : List ℕ) (r s : TextRefusal) → IsRefusedBy machine bytes r → IsRefusedBy machine bytes s → r ≡ s }
-    ensures apart { (machine : Description) (bytes : List ℕ) (tree : Block) (r : TextRefusal) → IsAccepted machine bytes tree → IsRefusedBy machine bytes r → ⊥ }
-    ensures some { (machine : Description) (bytes : List ℕ) → ((tree : Block) × IsAccepted machine bytes tree) ⊎ ((r : TextRefusal) × IsRefusedBy machine bytes r × (r ≢ by_check NoMemory)) }
+    ensures one_tree { (machine : Description) (bytes : List ℕ) (a b : Block) → IsAccepted machine bytes a → IsAccepted machine bytes b
+        → a ≡ b }
+    ensures one_refusal { (machine : Description) (bytes : List ℕ) (r s : TextRefusal) → IsRefusedBy machine bytes r
+        → IsRefusedBy machine bytes s → r ≡ s }
+    ensures apart { (machine : Description) (bytes : List ℕ) (tree : Block) (r : TextRefusal) → IsAccepted machine bytes tree
+        → IsRefusedBy machine bytes r → ⊥ }
+    ensures some { (machine : Description) (bytes : List ℕ) → ((tree : Block) × IsAccepted machine bytes tree)
+        ⊎ ((r : TextRefusal) × IsRefusedBy machine bytes r × (r ≢ by_check NoMemory)) }
 {}

@@ -28,7 +28,8 @@ pub fn capsule_of<F: Files>(
     name: &str,
 ) -> Result<Box<VerifiedCapsule>, Refusal>
     ensures does { capsule (record { told = F.contents files.old; steady = F.steady files.old }) desc.now name.now (held_pair result) }
-    ensures reads { ReadsFiles (F.contents files.old) (F.steady files.old) (F.faults files.old) (F.contents files.new) (F.steady files.new) (F.faults files.new) result }
+    ensures reads { ReadsFiles (F.contents files.old) (F.steady files.old) (F.faults files.old) (F.contents files.new)
+        (F.steady files.new) (F.faults files.new) result }
 {
     let text = read_file(alloc, files, name)?;
     let read = match read_capsule(alloc, desc, text.as_slice()) {

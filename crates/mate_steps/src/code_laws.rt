@@ -15,11 +15,14 @@ ghost use Rattle.lock_inference.specs.Locks.{AreLocksOf, held_uses};
 
 /// The verifier takes whatever the compiler gives for a tree, and finds the tree's code in it.
 pub fn compiled_code_is_verified()
-    ensures taken { (shape : Shape) (tree : Block) (bytes : ArrayVec ℕ) (fault : VerifyFaultValue) → AreAccepted shape tree bytes → Verifies shape bytes.items (Err fault) → ⊥ }
-    ensures code { (shape : Shape) (tree : Block) (bytes : ArrayVec ℕ) (v : VerifiedCode) → AreAccepted shape tree bytes → Verifies shape bytes.items (Ok v) → v.code ≡ code_of tree }
+    ensures taken { (shape : Shape) (tree : Block) (bytes : ArrayVec ℕ) (fault : VerifyFaultValue) → AreAccepted shape tree bytes
+        → Verifies shape bytes.items (Err fault) → ⊥ }
+    ensures code { (shape : Shape) (tree : Block) (bytes : ArrayVec ℕ) (v : VerifiedCode) → AreAccepted shape tree bytes
+        → Verifies shape bytes.items (Ok v) → v.code ≡ code_of tree }
 {}
 
 /// The locks of a tree's code hold as read exactly what the tree reads, and as written exactly what it writes.
 pub fn locks_of_compiled_code()
-    ensures { (shape : Shape) (tree : Block) (set : LockSetValue) → AreLocksOf shape (code_of tree) set → IsSameUses (held_uses set) (uses_of shape tree) }
+    ensures { (shape : Shape) (tree : Block) (set : LockSetValue) → AreLocksOf shape (code_of tree) set
+        → IsSameUses (held_uses set) (uses_of shape tree) }
 {}

@@ -17,7 +17,8 @@ use ts_syntax::Script;
 /// The plain script that the source with procedures in a file stands for.
 pub fn expansion_of<F: Files>(alloc: Global, files: &mut F, name: &str) -> Result<Script, Refusal>
     ensures does { expanded_source (record { told = F.contents files.old; steady = F.steady files.old }) name.now result }
-    ensures reads { ReadsFiles (F.contents files.old) (F.steady files.old) (F.faults files.old) (F.contents files.new) (F.steady files.new) (F.faults files.new) result }
+    ensures reads { ReadsFiles (F.contents files.old) (F.steady files.old) (F.faults files.old) (F.contents files.new)
+        (F.steady files.new) (F.faults files.new) result }
 {
     let bytes = read_file(alloc, files, name)?;
     expanded_bytes(alloc, name, bytes.as_slice())

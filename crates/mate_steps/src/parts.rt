@@ -11,7 +11,8 @@ use vm_desc::{Description, builtin};
 /// The bytes of a file.
 pub fn read_file<F: Files>(alloc: Global, files: &mut F, name: &str) -> Result<Vec<u8>, Refusal>
     ensures does { file (record { told = F.contents files.old; steady = F.steady files.old }) name.now result }
-    ensures reads { ReadsFiles (F.contents files.old) (F.steady files.old) (F.faults files.old) (F.contents files.new) (F.steady files.new) (F.faults files.new) result }
+    ensures reads { ReadsFiles (F.contents files.old) (F.steady files.old) (F.faults files.old) (F.contents files.new)
+        (F.steady files.new) (F.faults files.new) result }
 {
     match files.read(name) {
         Ok(bytes) => Ok(bytes),
@@ -28,7 +29,8 @@ pub fn machine_of<F: Files>(
     word: &str,
 ) -> Result<Description, Refusal>
     ensures does { machine (record { told = F.contents files.old; steady = F.steady files.old }) word.now result }
-    ensures reads { ReadsFiles (F.contents files.old) (F.steady files.old) (F.faults files.old) (F.contents files.new) (F.steady files.new) (F.faults files.new) result }
+    ensures reads { ReadsFiles (F.contents files.old) (F.steady files.old) (F.faults files.old) (F.contents files.new)
+        (F.steady files.new) (F.faults files.new) result }
 {
     if word == "builtin" {
         Ok(builtin())
@@ -41,7 +43,8 @@ pub fn machine_of<F: Files>(
 #[inline(never)]
 fn machine_file<F: Files>(alloc: Global, files: &mut F, name: &str) -> Result<Description, Refusal>
     ensures does { machine_file (record { told = F.contents files.old; steady = F.steady files.old }) name.now result }
-    ensures reads { ReadsFiles (F.contents files.old) (F.steady files.old) (F.faults files.old) (F.contents files.new) (F.steady files.new) (F.faults files.new) result }
+    ensures reads { ReadsFiles (F.contents files.old) (F.steady files.old) (F.faults files.old) (F.contents files.new)
+        (F.steady files.new) (F.faults files.new) result }
 {
     let bytes = read_file(alloc, files, name)?;
     machine_text(alloc, bytes.as_slice())

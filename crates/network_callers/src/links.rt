@@ -73,7 +73,8 @@ pub fn a_loss_names_the_end_of_the_link(
     bytes: &PacketBytes,
     air: &mut Airs,
 ) -> Result<(), NoMemory>
-    ensures { IfOk result (λ _. air.new ≡ air.old ++ record { stamp = sending.at; node = sending.node; air = air_kind.Lost sending.number 9 } ∷ []) }
+    ensures { IfOk result (λ _. air.new ≡ air.old
+        ++ record { stamp = sending.at; node = sending.node; air = air_kind.Lost sending.number 9 } ∷ []) }
 {
     let mut wires = Wires::new(alloc);
     wires.push(a_link(300, 5299))?;

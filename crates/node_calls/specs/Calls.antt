@@ -19,7 +19,8 @@ use Rattle.node_invariant.specs.Starting.{Rests}
 pub record RestsAgain (d : Description) (old new : Parts) (at : Stamp) (Rule : List Told → Type 0) : Type 0 where
   pub adds : TellsMore old.log.all new.log.all at Rule
   pub rests : Rests d new
-  pub pace : (p : Pace) → IsPace (reading d old.log.all) old.contexts p → IsPace (reading d new.log.all) new.contexts (paced_all p adds.told)
+  pub pace : (p : Pace) → IsPace (reading d old.log.all) old.contexts p
+      → IsPace (reading d new.log.all) new.contexts (paced_all p adds.told)
 
 -- the rule, at each pace that the node may have
 abbrev pub AtPace : Description → Parts → (Pace → List Told → Type 0) → List Told → Type 0
@@ -32,7 +33,8 @@ NobodyWaits r c = (n : ℕ) → IsWaiting r n → (r.invocations n).context ≡ 
 -- the store is told, and nothing else changes
 pub record TellsStore (d : Description) (old new : Parts) (at : Stamp) : Type 0 where
   pub again : RestsAgain d old new at (λ told. told ≡ Seen old.heap ∷ [])
-  pub shown : (p : Pace) → IsPace (reading d old.log.all) old.contexts p → ShowsReady (clock_of d) (machine_in d) (reading d old.log.all) p old.heap
+  pub shown : (p : Pace) → IsPace (reading d old.log.all) old.contexts p
+      → ShowsReady (clock_of d) (machine_in d) (reading d old.log.all) p old.heap
   pub same : new ≡ record old { log = new.log }
 
 -- all contexts are idle, and the store is as at first

@@ -75,7 +75,11 @@ pub record HasMoved (d : Description) (old new : Parts) (at_ : Stamp) (c : Conte
   pub pace : (p : Pace) → IsPace (reading d old.log.all) old.contexts p
       → (mark_of (clock_of d) (machine_in d) (reading d old.log.all) invocation ≤ p.counts invocation + n)
       × (p.counts invocation + ran ≡ mark_of (clock_of d) (machine_in d) (reading d old.log.all) invocation)
-      × IsPace (reading d new.log.all) new.contexts (paced_all (record p { counts = changed p.counts invocation (min (p.counts invocation + n) (mark_of (clock_of d) (machine_in d) (reading d old.log.all) invocation)) }) (told ∷ []))
+      × IsPace (reading d new.log.all) new.contexts
+      (paced_all (record p {
+        counts = changed p.counts invocation
+            (min (p.counts invocation + n) (mark_of (clock_of d) (machine_in d) (reading d old.log.all) invocation));
+      }) (told ∷ []))
   pub owed : owes new.contexts + 1 ≡ owes old.contexts
   pub left_is : starts_left new.contexts ≡ starts_left old.contexts
   pub falls_by : falls (most d) new.contexts < falls (most d) old.contexts
@@ -93,7 +97,8 @@ pub record TakesTurn (d : Description) (old new : Parts) (at_ : Stamp) (c : Cont
   pub turn : (p : Pace) → IsPace (reading d old.log.all) old.contexts p
       → IsTurn (clock_of d) (machine_in d) (reading d old.log.all) p n record { invocation = invocation; told = told }
       × (p.counts invocation + ran ≡ min (p.counts invocation + n) (mark_of (clock_of d) (machine_in d) (reading d old.log.all) invocation))
-      × IsPace (reading d new.log.all) new.contexts (after_step (clock_of d) (machine_in d) (reading d old.log.all) p n record { invocation = invocation; told = told })
+      × IsPace (reading d new.log.all) new.contexts (after_step (clock_of d) (machine_in d) (reading d old.log.all) p n
+      record { invocation = invocation; told = told })
   pub within : mark_of (clock_of d) (machine_in d) (reading d old.log.all) invocation ≤ most d
   pub owed : owes new.contexts + length told ≤ owes old.contexts
   pub falls_by : falls (most d) new.contexts < falls (most d) old.contexts
@@ -109,7 +114,8 @@ pub record AreQuanta (quantum ready n : ℕ) : Type 0 where
 -- in each of these turns the invocation's next mark is within the bound; so no invocation executes more instructions since its start
 abbrev pub AreWithin : Clock → Machine → ℕ → Reading → Pace → List Turn → Type 0
 AreWithin k m bound r p [] = Unit {0}
-AreWithin k m bound r p (t ∷ ts) = (mark_of k m r t.invocation ≤ bound) × AreWithin k m bound (heard_told m r t.told) (after_turn k m r p t) ts
+AreWithin k m bound r p (t ∷ ts) = (mark_of k m r t.invocation ≤ bound)
+    × AreWithin k m bound (heard_told m r t.told) (after_turn k m r p t) ts
 
 -- turns from this pace to that one, one after another
 pub record AreTogether (k : Clock) (m : Machine) (bound : ℕ) (r : Reading) (p q : Pace) (told : List Told) : Type 0 where
@@ -137,7 +143,9 @@ pub record SettlesAll (d : Description) (old new : Parts) (at_ : Stamp) : Type 0
   pub told : List Told
   pub rests : Rests d new
   pub grows : Grows old.log.all new.log.all at_ told
-  pub settles : (p : Pace) → IsPace (reading d old.log.all) old.contexts p → (q : Pace) × SettlesWithin (clock_of d) (machine_in d) (most d) (reading d old.log.all) p told q × IsPace (reading d new.log.all) new.contexts q
+  pub settles : (p : Pace) → IsPace (reading d old.log.all) old.contexts p
+      → (q : Pace) × SettlesWithin (clock_of d) (machine_in d) (most d) (reading d old.log.all) p told q
+      × IsPace (reading d new.log.all) new.contexts q
   pub handlers : new.handlers ≡ old.handlers
   pub posts : new.posts ≡ old.posts
 

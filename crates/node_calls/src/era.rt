@@ -31,7 +31,9 @@ pub fn reset_in(description: &Description, parts: &mut Parts, at: Stamp)
     requires timely { IsTimely at parts.old.log.all }
     requires room { 2 ≤ parts.old.log.all.spare }
     requires few { length parts.old.log.all.entries < 4100000000 }
-    ensures again { RestsAgain description.now parts.old parts.new at (AtPace description.now parts.old (Resets (clock_of description.now) (machine_in description.now) (reading description.now parts.old.log.all))) }
+    ensures again { RestsAgain description.now parts.old parts.new at
+        (AtPace description.now parts.old (Resets (clock_of description.now) (machine_in description.now)
+        (reading description.now parts.old.log.all))) }
     ensures gone { parts.new.log.gone ≡ parts.old.log.gone }
 {
     seen_in(description, parts, at);

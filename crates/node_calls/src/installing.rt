@@ -82,7 +82,8 @@ fn begin(description: &Description, parts: &mut Parts, program: Installable, at:
     requires seen { last_is_seen false (journal_of parts.old.log.all) ≡ true }
     requires held { IsHeld description.now program.held }
     requires handler { program.handler.0 < length description.now.handlers.items }
-    ensures again { RestsAgain description.now parts.old parts.new at (λ told. told ≡ Installed (program_of program.handler program.held) ∷ []) }
+    ensures again { RestsAgain description.now parts.old parts.new at (λ told. told ≡ Installed (program_of program.handler program.held)
+        ∷ []) }
     ensures gone { parts.new.log.gone ≡ parts.old.log.gone }
 {
     parts.log.push_install(

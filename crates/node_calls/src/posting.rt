@@ -112,7 +112,8 @@ pub fn post_in(
     requires room { 2 ≤ parts.old.log.all.spare }
     requires few { length parts.old.log.all.entries < 4100000000 }
     requires handler { handler.0 < length description.now.handlers.items }
-    ensures again { RestsAgain description.now parts.old parts.new at (PostGives (machine_in description.now) (reading description.now parts.old.log.all) handler payload.now result) }
+    ensures again { RestsAgain description.now parts.old parts.new at
+        (PostGives (machine_in description.now) (reading description.now parts.old.log.all) handler payload.now result) }
     ensures gone { parts.new.log.gone ≡ parts.old.log.gone }
 {
     let Some(held) = parts.handlers.get(handler) else {

@@ -20,7 +20,13 @@ abbrev pub seat_at : List (Option Seat) → ContextId → Option Seat
 seat_at seats c = slice_index_or seats c.0 None
 
 abbrev pub at : Contexts → ContextId → At
-at s c = record { seat = seat_at s.seats c; waits = set_of s.locks.waiting c; holds = set_of s.locks.started c; ready = holds s.ring c; call = call_at s.pending c }
+at s c = record {
+  seat = seat_at s.seats c;
+  waits = set_of s.locks.waiting c;
+  holds = set_of s.locks.started c;
+  ready = holds s.ring c;
+  call = call_at s.pending c;
+}
 
 -- no invocation is there
 abbrev pub idle : At

@@ -24,7 +24,8 @@ pub struct Contexts {
 }
 
 impl Contexts {
-    ghost use Rattle.node_contexts.specs.At.{at, idle, queued, ready, waiting, seat_at, Becomes, AreIdle, CanStart, Starts, Asks, Ends, GivesWay, IsAsking, IsNoneAsking};
+    ghost use Rattle.node_contexts.specs.At.{at, idle, queued, ready, waiting, seat_at, Becomes, AreIdle, CanStart, Starts, Asks, Ends};
+    ghost use Rattle.node_contexts.specs.At.{GivesWay, IsAsking, IsNoneAsking};
 
     /// All contexts are idle. No other call takes memory.
     pub fn new(alloc: Global) -> Result<Contexts, NoMemory>

@@ -80,7 +80,8 @@ impl Node {
         requires timely { IsTimely at self.old.log }
         requires room { 16 ≤ self.old.log.spare }
         ensures { MatchResult result
-            (λ ran. Tells self.old self.new at (HasStepped (clock_of self.old.description) (machine_in self.old.description) (heard_of self.old) ctx n ran))
+            (λ ran. Tells self.old self.new at (HasStepped (clock_of self.old.description) (machine_in self.old.description)
+            (heard_of self.old) ctx n ran))
             (λ _. (IsReadyIn (heard_of self.old) ctx → ⊥) × (self.new ≡ self.old)) }
     {
         self.node.step(ctx, n, at)
@@ -91,7 +92,8 @@ impl Node {
     pub fn settle(&mut self, at: Stamp)
         requires timely { IsTimely at self.old.log }
         requires room { 32 ≤ self.old.log.spare }
-        ensures { Tells self.old self.new at (SettlesWithin (clock_of self.old.description) (machine_in self.old.description) ((self.old.description.turns + 1) * CODE_MAX) (heard_of self.old)) }
+        ensures { Tells self.old self.new at (SettlesWithin (clock_of self.old.description) (machine_in self.old.description)
+            ((self.old.description.turns + 1) * CODE_MAX) (heard_of self.old)) }
     {
         self.node.settle(at);
     }
@@ -120,7 +122,8 @@ impl Node {
 
     /// The image that is installed for the handler; None exactly where none is.
     pub fn image(&self, handler: HandlerId) -> Option<&Image>
-        ensures { MatchOption result (held_version (heard_of self.now) handler ≡ 0) (λ image. IsImageOf (heard_of self.now) handler image.now) }
+        ensures { MatchOption result (held_version (heard_of self.now) handler
+            ≡ 0) (λ image. IsImageOf (heard_of self.now) handler image.now) }
     {
         self.node.image(handler)
     }
@@ -149,7 +152,8 @@ impl Node {
         requires timely { IsTimely at self.old.log }
         requires few { length self.old.log.entries < 4000000000 }
         requires room { 2 ≤ self.old.log.spare }
-        ensures { Tells self.old self.new at (Pacing (λ _. PostGives (machine_in self.old.description) (heard_of self.old) handler payload.now result)) }
+        ensures { Tells self.old self.new at
+            (Pacing (λ _. PostGives (machine_in self.old.description) (heard_of self.old) handler payload.now result)) }
     {
         self.node.post(handler, payload, at)
     }
@@ -187,7 +191,8 @@ impl Node {
         requires timely { IsTimely at self.old.log }
         requires few { length self.old.log.entries < 4000000000 }
         requires room { 2 ≤ self.old.log.spare }
-        ensures { Tells self.old self.new at (Pacing (Resets (clock_of self.old.description) (machine_in self.old.description) (heard_of self.old))) }
+        ensures { Tells self.old self.new at
+            (Pacing (Resets (clock_of self.old.description) (machine_in self.old.description) (heard_of self.old))) }
     {
         self.node.reset(at);
     }
@@ -197,7 +202,8 @@ impl Node {
         requires timely { IsTimely at self.old.log }
         requires few { length self.old.log.entries < 4000000000 }
         requires room { 1 ≤ self.old.log.spare }
-        ensures { Tells self.old self.new at (Pacing (ShowsOnce (clock_of self.old.description) (machine_in self.old.description) (heard_of self.old))) }
+        ensures { Tells self.old self.new at
+            (Pacing (ShowsOnce (clock_of self.old.description) (machine_in self.old.description) (heard_of self.old))) }
     {
         self.node.seen(at);
     }

@@ -63,7 +63,9 @@ RunsOwn d Gone i s serial heap = Unit {0}
 -- is as in the serial store.
 pub record Agrees (d : Description) (r : Reading) (contexts : Contexts) (heap : Store) : Type 0 where
   pub as_long : AreAsLong heap r.serial
-  pub each : (c : ContextId) (s : Seat) → (at contexts c).seat ≡ Some s → RunsOwn d (r.invocations s.inv).phase (r.invocations s.inv) s r.serial heap
+  pub each : (c : ContextId) (s : Seat) → (at contexts c).seat ≡ Some s
+      → RunsOwn d (r.invocations s.inv).phase (r.invocations s.inv) s r.serial heap
   pub apart : (j k : ℕ) → j ≢ k → is_started (r.invocations j).phase ≡ true → is_started (r.invocations k).phase ≡ true
       → IsCompatible (uses_for d (r.invocations j)) (uses_for d (r.invocations k))
-  pub elsewhere : (q : Resource) → ((n : ℕ) → is_started (r.invocations n).phase ≡ true → (uses_for d (r.invocations n)).writes q ≡ false) → read heap q ≡ read r.serial q
+  pub elsewhere : (q : Resource) → ((n : ℕ) → is_started (r.invocations n).phase ≡ true → (uses_for d (r.invocations n)).writes q ≡ false)
+      → read heap q ≡ read r.serial q

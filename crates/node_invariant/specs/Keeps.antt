@@ -1,4 +1,5 @@
--- What the parts of a node keep: its log is tidy; its journal is well formed, is serial and shows stores as they are, and the parts agree with
+-- What the parts of a node keep: its log is tidy; its journal is well formed, is serial and shows stores as they are, and the parts
+-- agree with
 -- what was heard.
 use Rattle.std.specs.Prelude.{◌≡◌, ◌+◌, ◌≤◌, List, length, map, ◌++◌}
 use Rattle.mate_num.specs.declared.call.Stamp.{Stamp}

@@ -10,4 +10,5 @@ use Rattle.mate_journal.specs.Pace.{Pace}
 
 pub record IsPace (r : Reading) (s : Contexts) (p : Pace) : Type 0 where
   pub line : p.line ≡ map (invocation_in s) s.ring
-  pub counts : (c : ContextId) (t : Seat) → (at s c).seat ≡ Some t → is_started (r.invocations t.inv).phase ≡ true → t.count ≡ p.counts t.inv
+  pub counts : (c : ContextId) (t : Seat) → (at s c).seat ≡ Some t → is_started (r.invocations t.inv).phase ≡ true
+      → t.count ≡ p.counts t.inv

@@ -47,7 +47,8 @@ AllButHeld m r n = (k : ℕ) → k ≢ n → (r.invocations k).phase ≡ Queued 
 
 -- there is room for a start, where one can follow
 abbrev pub HasRoomToStart : Description → Parts → Type 0
-HasRoomToStart d s = AreOnce (s.contexts.locks.started ++ s.contexts.locks.waiting) → (n : ℕ) → ((reading d s.log.all).invocations n).phase ≡ Queued → (IsHeldBack (machine_in d) (reading d s.log.all) n → ⊥) → 1 ≤ s.log.all.spare
+HasRoomToStart d s = AreOnce (s.contexts.locks.started ++ s.contexts.locks.waiting) → (n : ℕ)
+    → ((reading d s.log.all).invocations n).phase ≡ Queued → (IsHeldBack (machine_in d) (reading d s.log.all) n → ⊥) → 1 ≤ s.log.all.spare
 
 -- one invocation may start, and there is room for it
 pub record IsRoomForOne (d : Description) (s : Parts) : Type 0 where
@@ -70,7 +71,8 @@ pub record StartsNext (d : Description) (old new : Parts) (at : Stamp) : Type 0 
   pub owed : owes new.contexts + 1 ≡ owes old.contexts
   pub left_is : starts_left new.contexts + 1 ≡ starts_left old.contexts
   pub falls_by : (bound : ℕ) → falls bound new.contexts < falls bound old.contexts
-  pub pace : (p : Pace) → IsPace (reading d old.log.all) old.contexts p → IsPace (reading d new.log.all) new.contexts (paced_all p (Started invocation ∷ []))
+  pub pace : (p : Pace) → IsPace (reading d old.log.all) old.contexts p
+      → IsPace (reading d new.log.all) new.contexts (paced_all p (Started invocation ∷ []))
   pub heap : new.heap ≡ old.heap
   pub handlers : new.handlers ≡ old.handlers
   pub posts : new.posts ≡ old.posts

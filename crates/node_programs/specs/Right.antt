@@ -19,7 +19,8 @@ use Rattle.node_invariant.specs.Meaning.{code_of}
 -- the source has the machine's shape, and the code has its run, its reads and its writes
 pub record IsSourceOf (shape : Shape) (code : Code) (source : Checked) : Type 0 where
   pub shape_is : shape_in source ≡ shape
-  pub runs : (store : Store) (msg : ArrayVec ℤ) (answers : List ℤ) (turns : ℕ) → code_run shape code store msg answers turns ≡ run_of (tree_of source) store msg answers turns
+  pub runs : (store : Store) (msg : ArrayVec ℤ) (answers : List ℤ) (turns : ℕ)
+      → code_run shape code store msg answers turns ≡ run_of (tree_of source) store msg answers turns
   pub uses : code_uses shape code ≡ uses_of shape (tree_of source)
 
 -- the image is the encoding of a capsule of this machine with the program's handler and version; its code is verified by

@@ -35,7 +35,8 @@ steps_of script ps = map (step_of ps) script.steps
 
 -- the program of an install has a source, and the handler and version of its line; that of a load has no source
 abbrev pub IsProgramOf : List Program → Step → Type 0
-IsProgramOf ps (step.Install h version program) = IsSomeAnd (slice_get ps program) (λ p. IsSome p.source × (p.handler ≡ h) × (p.version ≡ version))
+IsProgramOf ps (step.Install h version program) = IsSomeAnd (slice_get ps program) (λ p. IsSome p.source × (p.handler ≡ h)
+    × (p.version ≡ version))
 IsProgramOf ps (step.Load program) = IsSomeAnd (slice_get ps program) (λ p. IsNone p.source)
 IsProgramOf ps _ = ⊤
 

@@ -11,7 +11,8 @@ use Rattle.world_script.specs.World.{IsRightWorld}
 
 -- the program of an injection has the handler and the version of its line
 abbrev pub IsProgramOfWhat : List Program → What → Type 0
-IsProgramOfWhat ps (what.Inject program handler version) = IsSomeAnd (slice_get ps program) (λ p. (p.handler ≡ handler) × (p.version ≡ version))
+IsProgramOfWhat ps (what.Inject program handler version) = IsSomeAnd (slice_get ps program) (λ p. (p.handler ≡ handler)
+    × (p.version ≡ version))
 IsProgramOfWhat ps _ = ⊤
 
 -- a world can be run with the programs: both are right for the description, there is a program for each file, and each is of its line

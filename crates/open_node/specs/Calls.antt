@@ -23,7 +23,8 @@ Pacing Rule p told q = Rule p told × (q ≡ paced_all p told)
 
 -- One turn of n instructions. So many are executed: those up to the next mark, which is within what one invocation executes at
 -- most from its start to its end.
-pub record HasStepped (k : Clock) (m : Machine) (r : Reading) (c : ContextId) (n ran : ℕ) (p : Pace) (told : List Told) (q : Pace) : Type 0 where
+pub record HasStepped (k : Clock) (m : Machine) (r : Reading) (c : ContextId) (n ran : ℕ) (p : Pace) (told : List Told) (q : Pace) : Type
+    0 where
   pub turn : TurnsIn k m r p c n told q
   pub ran_is : p.counts turn.invocation + ran ≡ min (p.counts turn.invocation + n) (mark_of k m r turn.invocation)
   pub within : mark_of k m r turn.invocation ≤ (m.turns + 1) * CODE_MAX

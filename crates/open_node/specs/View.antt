@@ -10,7 +10,8 @@ use Rattle.mate_journal.specs.Pace.{Pace}
 use Rattle.mate_journal.specs.OpenLog.{Gone}
 use Rattle.node_invariant.specs.Keeps.{reading, Grows}
 
--- `log` is the whole log, of which `gone` may be forgotten. `line` has the ready invocations, the one that has the next turn first. `counts` has for each context the number of its
+-- `log` is the whole log, of which `gone` may be forgotten. `line` has the ready invocations, the one that has the next turn first.
+-- `counts` has for each context the number of its
 -- invocation and how many instructions this one executed, or 0 and 0.
 pub record NodeView : Type 0 where
   pub description : Description
@@ -29,7 +30,8 @@ count_at v c = slice_index_or v.counts c.0 (0, 0)
 -- the pace of the node
 pub record HasPace (v : NodeView) (p : Pace) : Type 0 where
   pub line : p.line ≡ v.line
-  pub counts : (c : ContextId) → is_started ((heard_of v).invocations (count_at v c).0).phase ≡ true → (count_at v c).1 ≡ p.counts (count_at v c).0
+  pub counts : (c : ContextId) → is_started ((heard_of v).invocations (count_at v c).0).phase ≡ true
+      → (count_at v c).1 ≡ p.counts (count_at v c).0
 
 -- the node tells more with this stamp, and what it tells and the pace after it meet the rule
 pub record Tells (old new : NodeView) (at : Stamp) (Rule : Pace → List Told → Pace → Type 0) : Type 0 where

@@ -30,7 +30,8 @@ impl OpenNode {
         requires timely { IsTimely at self.old.log }
         requires few { length self.old.log.entries < 4000000000 }
         requires room { 2 ≤ self.old.log.spare }
-        ensures { Tells self.old self.new at (Pacing (λ _. PostGives (machine_in self.old.description) (heard_of self.old) handler payload.now result)) }
+        ensures { Tells self.old self.new at
+            (Pacing (λ _. PostGives (machine_in self.old.description) (heard_of self.old) handler payload.now result)) }
     {
         post_in(&self.description, &mut self.parts, handler, payload, at)
     }
@@ -68,7 +69,8 @@ impl OpenNode {
         requires timely { IsTimely at self.old.log }
         requires few { length self.old.log.entries < 4000000000 }
         requires room { 2 ≤ self.old.log.spare }
-        ensures { Tells self.old self.new at (Pacing (Resets (clock_of self.old.description) (machine_in self.old.description) (heard_of self.old))) }
+        ensures { Tells self.old self.new at
+            (Pacing (Resets (clock_of self.old.description) (machine_in self.old.description) (heard_of self.old))) }
     {
         reset_in(&self.description, &mut self.parts, at);
     }
@@ -78,7 +80,8 @@ impl OpenNode {
         requires timely { IsTimely at self.old.log }
         requires few { length self.old.log.entries < 4000000000 }
         requires room { 1 ≤ self.old.log.spare }
-        ensures { Tells self.old self.new at (Pacing (ShowsOnce (clock_of self.old.description) (machine_in self.old.description) (heard_of self.old))) }
+        ensures { Tells self.old self.new at
+            (Pacing (ShowsOnce (clock_of self.old.description) (machine_in self.old.description) (heard_of self.old))) }
     {
         seen_in(&self.description, &mut self.parts, at);
     }

@@ -76,7 +76,8 @@ impl OpenNode {
 
     /// A node of this machine. Nothing is installed, all variables are 0, all buffers are empty, and nothing was told.
     pub fn new(alloc: Global, description: &Description) -> Result<OpenNode, NoMemory>
-        ensures { IfOk result (λ made. (made.description ≡ description.now) × IsEmpty made.log × HasPace made no_pace × (made.gone ≡ nothing_gone)) }
+        ensures { IfOk result (λ made. (made.description ≡ description.now) × IsEmpty made.log × HasPace made no_pace
+            × (made.gone ≡ nothing_gone)) }
     {
         Ok(OpenNode {
             description: description.copy(),
@@ -117,7 +118,8 @@ impl OpenNode {
         requires timely { IsTimely at self.old.log }
         requires room { 16 ≤ self.old.log.spare }
         ensures { MatchResult result
-            (λ ran. Tells self.old self.new at (HasStepped (clock_of self.old.description) (machine_in self.old.description) (heard_of self.old) ctx n ran))
+            (λ ran. Tells self.old self.new at (HasStepped (clock_of self.old.description) (machine_in self.old.description)
+            (heard_of self.old) ctx n ran))
             (λ _. (IsReadyIn (heard_of self.old) ctx → ⊥) × (self.new ≡ self.old)) }
     {
         if !self.parts.contexts.is_ready(ctx) {
@@ -131,7 +133,8 @@ impl OpenNode {
     pub fn settle(&mut self, at: Stamp)
         requires timely { IsTimely at self.old.log }
         requires room { 32 ≤ self.old.log.spare }
-        ensures { Tells self.old self.new at (SettlesWithin (clock_of self.old.description) (machine_in self.old.description) ((self.old.description.turns + 1) * CODE_MAX) (heard_of self.old)) }
+        ensures { Tells self.old self.new at (SettlesWithin (clock_of self.old.description) (machine_in self.old.description)
+            ((self.old.description.turns + 1) * CODE_MAX) (heard_of self.old)) }
     {
         settle(&self.description, &mut self.parts, at);
     }
@@ -175,7 +178,8 @@ impl OpenNode {
 
     /// The image that is installed for the handler; None exactly where none is.
     pub fn image(&self, handler: HandlerId) -> Option<&Image>
-        ensures { MatchOption result (held_version (heard_of self.now) handler ≡ 0) (λ image. IsImageOf (heard_of self.now) handler image.now) }
+        ensures { MatchOption result (held_version (heard_of self.now) handler
+            ≡ 0) (λ image. IsImageOf (heard_of self.now) handler image.now) }
     {
         match self.parts.handlers.get(handler) {
             Some(held) => Some(&held.image),

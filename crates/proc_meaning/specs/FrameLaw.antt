@@ -27,5 +27,6 @@ RunsAsExpanded source =
 -- the same of any plain script that is the expansion, as `expand` answers it and `check` takes it
 abbrev pub RunsAsAnswered : ProcedureSource → Type 0
 RunsAsAnswered source =
-    (plain : Script) → IsExpansion source plain → (machine : Description) (tree : Block) → checked_source machine (source_of plain) ≡ Ok tree →
+    (plain : Script) → IsExpansion source plain → (machine : Description) (tree : Block)
+    → checked_source machine (source_of plain) ≡ Ok tree →
     RunsWithFrames machine source tree

@@ -9,7 +9,8 @@ use Rattle.ts_syntax.specs.declared.word.Word.{Word}
 use Rattle.ts_syntax.specs.declared.checked_stmt.CVar.TheVariants.{Private}
 use Rattle.ts_syntax.specs.Expression.{Expression, Arguments}
 use Rattle.ts_syntax.specs.Statement.{Statement}
-use Rattle.ts_syntax.specs.Tree.{Act, set, set_item, append, take_last, clear, call_alone, if_then, if_else, for_next, while_do, run_procedure, Acts, no_acts, act_then, Procedure, ProcedureSource}
+use Rattle.ts_syntax.specs.Tree.{Act, set, set_item, append, take_last, clear, call_alone, if_then, if_else, for_next, while_do}
+use Rattle.ts_syntax.specs.Tree.{run_procedure, Acts, no_acts, act_then, Procedure, ProcedureSource}
 use Rattle.ts_scope.specs.declared.scope.Symbol.TheVariants.{Variable}
 use Rattle.ts_scope.specs.declared.scope.Entry.{Entry}
 use Rattle.ts_scope.specs.declared.fault.CheckFault.{CheckFault}
@@ -76,7 +77,8 @@ abbrev mutual
   act_run known n (take_last w b) s = stmt_checked (checked_stmt n (take_last w b)) s
   act_run known n (clear w) s = stmt_checked (checked_stmt n (clear w)) s
   act_run known n (call_alone w es) s = stmt_checked (checked_stmt n (call_alone w es)) s
-  act_run known n (if_then e a) s = then_do (value_checked (checked_expr n true e) s) (λ v s. choose (is_truth v) (acts_run known n a) (Done tt) s)
+  act_run known n (if_then e a) s = then_do (value_checked (checked_expr n true e) s)
+      (λ v s. choose (is_truth v) (acts_run known n a) (Done tt) s)
   act_run known n (if_else e a b) s =
       then_do (value_checked (checked_expr n true e) s) (λ v s. choose (is_truth v) (acts_run known n a) (acts_run known n b) s)
   act_run known n (for_next w from to step a next) s = for_checked (checked_head n w from to step) (acts_run known n a) s

@@ -40,14 +40,16 @@ pub fn the_else_comes_last(
     requires body { acts_of body ≡ act_then (clear_act (named (codes "p"))) no_acts }
     requires other { acts_of other ≡ no_acts }
     requires none { map act_of written.old ≡ [] }
-    ensures { OnOk result (map act_of written.new ≡ if_else_act (number 1) (act_then (clear_act (named (codes "p"))) no_acts) no_acts ∷ []) }
+    ensures { OnOk result (map act_of written.new ≡ if_else_act (number 1) (act_then (clear_act (named (codes "p"))) no_acts) no_acts
+        ∷ []) }
 {
     if_else(alloc, hidden, test, body, other, written)
 }
 
 pub fn the_first_parameter_has_the_keyword(alloc: Global) -> Result<Decls, NoMemory>
     ensures { IfOk result (λ all. all ≡
-        record { kind = DeclKind.Private; word = named (parameter_name 0); first = true } ∷ record { kind = DeclKind.Private; word = named (parameter_name 1); first = false } ∷ []) }
+        record { kind = DeclKind.Private; word = named (parameter_name 0); first = true }
+        ∷ record { kind = DeclKind.Private; word = named (parameter_name 1); first = false } ∷ []) }
 {
     declarations(alloc, &[], 2)
 }

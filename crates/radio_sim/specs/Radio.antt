@@ -55,7 +55,8 @@ pub record StartsRadio (w : World) (d : Description) (e : Ether) : Type 0 where
   pub stands : IsEtherOf w [] e
 
 -- what the radio keeps, with the records that are gone and those that are at hand
-pub record IsRightRadio (past : List Aired) (gone : ℕ) (airs : List Aired) (sent delay : ℕ) (wires : List (List Wire)) (left : List Event) : Type 0 where
+pub record IsRightRadio (past : List Aired) (gone : ℕ) (airs : List Aired) (sent delay : ℕ) (wires : List (List Wire))
+    (left : List Event) : Type 0 where
   pub none_left : left ≡ []
   pub gone_is : gone ≡ length past
   pub gone_few : gone < 4000000000

@@ -25,12 +25,19 @@ link_word random position n = (pcg32 (words_from random position n)).0
 
 -- a link of a world after n packets: word number n decides over the next one
 abbrev pub wire_after : ℕ → ℕ → ℕ → Link → Wire
-wire_after random n position l = record { link = position; to = l.to; loss = l.loss; word = link_word random position n; words = words_from random position (n + 1) }
+wire_after random n position l = record {
+  link = position;
+  to = l.to;
+  loss = l.loss;
+  word = link_word random position n;
+  words = words_from random position (n + 1);
+}
 
 -- the links that leave a node, of those from a position on, after n packets of the node
 abbrev pub leaving : ℕ → ℕ → ℕ → ℕ → List Link → List Wire
 leaving random n node position [] = []
-leaving random n node position (l ∷ links) = if l.from == node then wire_after random n position l ∷ leaving random n node (suc position) links else leaving random n node (suc position) links
+leaving random n node position (l ∷ links) = if l.from == node then wire_after random n position l
+    ∷ leaving random n node (suc position) links else leaving random n node (suc position) links
 
 abbrev pub turned_wire : Wire → Wire
 turned_wire w = record w { word = (pcg32 w.words).0; words = (pcg32 w.words).1 }

@@ -1,6 +1,7 @@
 //! The radio of a world.
 
-ghost use Rattle.std.specs.Prelude.{◌≡◌, ◌+◌, ◌<◌, ◌≤◌, ◌^◌, [], ◌∷◌, ◌++◌, ℕ, drop, filter, slice_index_or, length, MatchOption, MatchResult, IfNone, IfOk, OnOk};
+ghost use Rattle.std.specs.Prelude.{◌≡◌, ◌+◌, ◌<◌, ◌≤◌, ◌^◌, [], ◌∷◌, ◌++◌, ℕ, drop, filter, slice_index_or, length, MatchOption};
+ghost use Rattle.std.specs.Prelude.{MatchResult, IfNone, IfOk, OnOk};
 ghost use Rattle.event_queue.specs.Agenda.{scheduled, scheduled_all, is_other, Adds, AddsAll, Comes};
 ghost use Rattle.world_script.specs.World.{IsRightWorld};
 ghost use Rattle.std.specs.List.{All};
@@ -52,7 +53,15 @@ impl Model for Radio {
 
     ghost use Rattle.std.specs.Prelude.{◌++◌};
 
-    ghost view = { λ r. record { agenda = r.queue; air = r.past.air ++ r.air; gone = r.gone; sent = r.sent; delay = r.delay; wires = r.wires.items } };
+    ghost view = { λ r. record {
+      agenda = r.queue;
+      air = r.past.air
+          ++ r.air;
+      gone = r.gone;
+      sent = r.sent;
+      delay = r.delay;
+      wires = r.wires.items;
+    } };
 
     ghost invariant = { λ r. IsRightRadio r.past.air r.gone r.air r.sent r.delay r.wires.items r.carried.items };
 }
@@ -86,7 +95,8 @@ impl Radio {
     /// `NoMemory` leaves the radio as it was.
     pub fn schedule(&mut self, time: u32, event: Event) -> Result<(), NoMemory>
         requires { self.old.agenda.now ≤ time }
-        ensures list { MatchResult result (λ _. self.new ≡ record self.old { agenda = scheduled self.old.agenda time event }) (λ _. self.new ≡ self.old) }
+        ensures list { MatchResult result (λ _. self.new ≡ record self.old { agenda = scheduled self.old.agenda time event })
+            (λ _. self.new ≡ self.old) }
         ensures due { OnOk result (Adds self.old.agenda time event self.new.agenda) }
         ensures now { self.new.agenda.now ≡ self.old.agenda.now }
     {
@@ -101,10 +111,13 @@ impl Radio {
         requires ahead { self.old.agenda.now ≤ at.time }
         requires hour { at.time ≤ 3600000 }
         requires few { length self.old.air < 4000000000 }
-        ensures sends { MatchResult result (λ _. self.new ≡ transmitted self.old (record { at = at; node = node; number = self.old.sent + 1 }) bytes.now) (λ _. self.new ≡ self.old) }
-        ensures due { OnOk result (AddsAll self.old.agenda (at.time + self.old.delay) (delivered (record { at = at; node = node; number = self.old.sent + 1 }) bytes.now (wires_of self.old node)) self.new.agenda) }
+        ensures sends { MatchResult result (λ _. self.new
+            ≡ transmitted self.old (record { at = at; node = node; number = self.old.sent + 1 }) bytes.now) (λ _. self.new ≡ self.old) }
+        ensures due { OnOk result (AddsAll self.old.agenda (at.time + self.old.delay)
+            (delivered (record { at = at; node = node; number = self.old.sent + 1 }) bytes.now (wires_of self.old node)) self.new.agenda) }
         ensures now { self.new.agenda.now ≡ self.old.agenda.now }
-        ensures stands { OnOk result ((world : World) (senders : List ℕ) → IsEtherOf world senders self.old → IsEtherOf world (senders ++ node ∷ []) self.new) }
+        ensures stands { OnOk result ((world : World) (senders : List ℕ) → IsEtherOf world senders self.old
+            → IsEtherOf world (senders ++ node ∷ []) self.new) }
     {
         let sending = Sending {
             at,
@@ -134,7 +147,8 @@ impl Radio {
 
     /// Takes out the first event with its time. None where no event waits, which changes nothing.
     pub fn next(&mut self) -> Option<(u32, Event)>
-        ensures first { MatchOption result (self.old.agenda.items ≡ []) (λ first. Comes self.old.agenda (record { time = first.0; item = first.1 }) self.new.agenda) }
+        ensures first { MatchOption result (self.old.agenda.items ≡ [])
+            (λ first. Comes self.old.agenda (record { time = first.0; item = first.1 }) self.new.agenda) }
         ensures others { self.new ≡ record self.old { agenda = self.new.agenda } }
         ensures none { IfNone result (self.new ≡ self.old) }
     {
@@ -144,7 +158,10 @@ impl Radio {
 
     /// Cancels events of a node: the others stay, in their order.
     pub fn cancel(&mut self, which: Cancel)
-        ensures { self.new ≡ record self.old { agenda = record self.old.agenda { items = filter (is_other group_of (cancel_number which)) self.old.agenda.items } } }
+        ensures { self.new ≡ record self.old {
+          agenda = record self.old.agenda
+              { items = filter (is_other group_of (cancel_number which)) self.old.agenda.items };
+        } }
     {
         self.queue.cancel(which.number());
     }
@@ -202,7 +219,8 @@ fn send(
     requires none { carried.old.items ≡ [] }
     requires ahead { queue.old.now ≤ sending.at.time }
     requires room { sending.at.time + delay < 2 ^ 32 }
-    ensures queue { MatchResult result (λ _. queue.new ≡ scheduled_all queue.old (sending.at.time + delay) (delivered sending bytes.now wires.now)) (λ _. queue.new ≡ queue.old) }
+    ensures queue { MatchResult result (λ _. queue.new
+        ≡ scheduled_all queue.old (sending.at.time + delay) (delivered sending bytes.now wires.now)) (λ _. queue.new ≡ queue.old) }
     ensures air { IfOk result (λ _. air.new ≡ air.old ++ sent_record sending bytes.now ∷ [] ++ losts sending wires.now) }
     ensures kept { IsFurther air.old air.new }
     ensures due { OnOk result (AddsAll queue.old (sending.at.time + delay) (delivered sending bytes.now wires.now) queue.new) }

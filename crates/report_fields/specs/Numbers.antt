@@ -1,5 +1,6 @@
 -- What numbers and values are written as, and what a word tells as one.
-use Rattle.std.specs.Prelude.{ℕ, zero, suc, ◌^◌, ◌==◌, nat_lt, nat_le, Bool, false, not, ◌&&◌, ◌||◌, if◌then◌else◌, List, [], ◌∷◌, ◌++◌, length, ℤ, pos, negsuc, Option, None, Some}
+use Rattle.std.specs.Prelude.{ℕ, zero, suc, ◌^◌, ◌==◌, nat_lt, nat_le, Bool, false, not, ◌&&◌, ◌||◌, if◌then◌else◌, List, [], ◌∷◌, ◌++◌}
+use Rattle.std.specs.Prelude.{length, ℤ, pos, negsuc, Option, None, Some}
 use Rattle.std.specs.Char.{is_ascii_digit}
 use Rattle.std.specs.List.{list_all}
 use Rattle.std.specs.Option.{option_and_then}
@@ -37,4 +38,5 @@ value_of (b ∷ bs) = if b == 45 then option_and_then negative (unsigned_of bs) 
 -- the values that words tell, behind others; at most 10 in all
 abbrev pub values_after : List ℤ → List (List ℕ) → Option (List ℤ)
 values_after before [] = Some before
-values_after before (word ∷ words) = option_and_then (λ v. if nat_lt (length before) 10 then values_after (before ++ v ∷ []) words else None) (value_of word)
+values_after before (word ∷ words) = option_and_then (λ v. if nat_lt (length before) 10 then values_after (before ++ v ∷ []) words
+    else None) (value_of word)

@@ -1,5 +1,6 @@
 -- What words tell of a store.
-use Rattle.std.specs.Prelude.{ℕ, ◌-◌, ◌==◌, nat_lt, not, ◌&&◌, if◌then◌else◌, List, [], ◌∷◌, ◌++◌, length, take, drop, min, slice_index, codes, ℤ, Option, None, Some}
+use Rattle.std.specs.Prelude.{ℕ, ◌-◌, ◌==◌, nat_lt, not, ◌&&◌, if◌then◌else◌, List, [], ◌∷◌, ◌++◌, length, take, drop, min, slice_index}
+use Rattle.std.specs.Prelude.{codes, ℤ, Option, None, Some}
 use Rattle.std.specs.Option.{option_map, option_and_then}
 use Rattle.std.specs.Str.{bytes_eq}
 use Rattle.arrayvec.specs.ArrayVec.{ArrayVec}
@@ -28,7 +29,8 @@ shared_after before (name ∷ names) words =
     option_and_then (λ v. shared_after (before ++ v ∷ []) names (rest words)) (first (shared_value name) words)
 
 -- one more value: where `closed` is what stands before a `]`, it is the last one
-abbrev pub item : Option (List ℕ) → List ℤ → List ℕ → List (List ℕ) → (List ℤ → Option (List ℤ × List (List ℕ))) → Option (List ℤ × List (List ℕ))
+abbrev pub item : Option (List ℕ) → List ℤ → List ℕ → List (List ℕ) → (List ℤ → Option (List ℤ × List (List ℕ)))
+    → Option (List ℤ × List (List ℕ))
 item (Some inner) before word words go = option_map (λ v. (before ++ v ∷ [], words)) (value_of inner)
 item None before word words go = option_and_then (λ v. go (before ++ v ∷ [])) (value_of word)
 

@@ -3,7 +3,8 @@
 ghost use Rattle.std.specs.Prelude.{◌≡◌, [], codes};
 ghost use Rattle.std.specs.Option.{option_copied, option_map};
 ghost use Rattle.report_fields.specs.Words.{first, rest, only_at_end};
-ghost use Rattle.report_fields.specs.Stores.{after, closed, shared_value, shared_after, items_after, opened, buffer_of, buffers_after, store_of};
+ghost use Rattle.report_fields.specs.Stores.{after, closed, shared_value, shared_after, items_after, opened, buffer_of, buffers_after};
+ghost use Rattle.report_fields.specs.Stores.{store_of};
 
 use crate::numbers::value;
 use crate::words::Words;

@@ -116,7 +116,8 @@ line_with event time node what = record { stamp = record { event = event; time =
 -- the line that bytes tell: the event, its time, the node and what happened
 abbrev pub line_of_words : Description → List (List ℕ) → Option Line
 line_of_words d =
-    reads unsigned_of (λ event. reads number_of (λ time. reads node_of (λ node words. option_map (line_with event time node) (told_of d words))))
+    reads unsigned_of (λ event. reads number_of (λ time. reads node_of
+    (λ node words. option_map (line_with event time node) (told_of d words))))
 
 abbrev pub line_in : Description → List ℕ → Option Line
 line_in d bytes = line_of_words d (words_of bytes)

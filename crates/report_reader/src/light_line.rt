@@ -8,7 +8,9 @@ ghost use Rattle.report_reader.specs.declared.light_line.Bulk.{Bulk};
 ghost use Rattle.report_reader.specs.declared.line.Line.{Line};
 ghost use Rattle.report_reader.specs.LightLine.{told_with, bulky_line};
 ghost use Rattle.report_reader.specs.Verbs.{verb_of};
-ghost use Rattle.report_reader.specs.Reading.{started_of, halted_of, shown_of, interval_of, told_by, told_of, line_of_words, line_in, post_of, dropped_of, ask_of, answer_of, faulted_of, installed_of, void_of, not_newer_of, sent_of, lost_of, got_of, noise_told};
+ghost use Rattle.report_reader.specs.Reading.{started_of, halted_of, shown_of, interval_of, told_by, told_of, line_of_words, line_in};
+ghost use Rattle.report_reader.specs.Reading.{post_of, dropped_of, ask_of, answer_of, faulted_of, installed_of, void_of, not_newer_of};
+ghost use Rattle.report_reader.specs.Reading.{sent_of, lost_of, got_of, noise_told};
 
 use crate::verb::{Verb, verb_of};
 use arrayvec::ArrayVec;

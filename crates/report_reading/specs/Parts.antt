@@ -27,7 +27,11 @@ log_with_line l at (told.Installed h version image) = record l {
   entries = l.entries ++ stamped at (entry.Install h version (length l.images)) ∷ [];
   images = l.images ++ image ∷ [];
 }
-log_with_line l at (told.Shown s) = record l { entries = l.entries ++ stamped at (entry.Seen (length l.stores)) ∷ []; stores = l.stores ++ s ∷ [] }
+log_with_line l at (told.Shown s) = record l {
+  entries = l.entries ++ stamped at (entry.Seen (length l.stores)) ∷ [];
+  stores = l.stores
+      ++ s ∷ [];
+}
 
 -- the log of a node after one more line
 abbrev pub log_after : ℕ → Log → Line → Log

@@ -1,5 +1,6 @@
 -- What the code keeps of the lines that it has read, and when it takes the next one. It follows the code; `Fits.antt` has the rules.
-use Rattle.std.specs.Prelude.{◌≡◌, ℕ, ◌==◌, nat_le, nat_lt, Bool, true, false, not, ◌&&◌, ◌||◌, if◌then◌else◌, List, [], All, Contains, Option, Some, None}
+use Rattle.std.specs.Prelude.{◌≡◌, ℕ, ◌==◌, nat_le, nat_lt, Bool, true, false, not, ◌&&◌, ◌||◌, if◌then◌else◌, List, [], All, Contains}
+use Rattle.std.specs.Prelude.{Option, Some, None}
 use Rattle.report_reader.specs.declared.line.Line.{Line}
 use Rattle.report_reading.specs.Fits.{is_on_air, is_shown, StandsBehind}
 use Rattle.report_reading.specs.declared.place.Place.{Place}

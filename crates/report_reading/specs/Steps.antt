@@ -1,5 +1,6 @@
 -- How far the code has come in a text. It follows the code; `Reads.antt` has what is promised.
-use Rattle.std.specs.Prelude.{◌≡◌, ◌<◌, ◌≤◌, ◌+◌, ℕ, List, [], ◌∷◌, ◌++◌, length, slice_index_or, not, ◌==◌, ◌&&◌, nat_le, Bool, true, max, All, Some, Result, Ok, Err, ⊤}
+use Rattle.std.specs.Prelude.{◌≡◌, ◌<◌, ◌≤◌, ◌+◌, ℕ, List, [], ◌∷◌, ◌++◌, length, slice_index_or, not, ◌==◌, ◌&&◌, nat_le, Bool, true, max}
+use Rattle.std.specs.Prelude.{All, Some, Result, Ok, Err, ⊤}
 use Rattle.std.specs.List.{list_all}
 use Rattle.vm_desc.specs.declared.description.Description.{Description}
 use Rattle.mate_journal.specs.Log.{Log, IsSameLog}
@@ -67,7 +68,8 @@ ReadsLast d ls left (Err NoMemory) = ⊤
 -- a line was added
 pub record AddsLine (l : Line) (old new : Parts) : Type 0 where
   pub logs : length new.logs.items ≡ length old.logs.items
-  pub here : (d : Log) → IsSameLog (slice_index_or new.logs.items l.node d) (log_with_line (slice_index_or old.logs.items l.node d) l.stamp l.told)
+  pub here : (d : Log) → IsSameLog (slice_index_or new.logs.items l.node d)
+      (log_with_line (slice_index_or old.logs.items l.node d) l.stamp l.told)
   pub others : (node : ℕ) (d : Log) → (node ≡ l.node → ⊥) → slice_index_or new.logs.items node d ≡ slice_index_or old.logs.items node d
   pub air : new.air ≡ old.air ++ aired_of l
   pub place : new.place ≡ Some (place_after old.place l)

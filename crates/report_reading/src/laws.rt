@@ -16,7 +16,9 @@ pub fn read_report_is_tidy()
 /// Of any bytes one verdict holds: the lines of at most one report, or at most one bad line, and never both. So `read` refuses
 /// exactly what is the text of no lines that fit, at the first bad line.
 pub fn one_verdict_holds()
-    ensures lines { (d : Description) (bytes : List ℕ) (ls ms : List Line) (e f : LastLine) → AreLines d bytes ls e → AreLines d bytes ms f → (ls ≡ ms) × (e ≡ f) }
+    ensures lines { (d : Description) (bytes : List ℕ) (ls ms : List Line) (e f : LastLine) → AreLines d bytes ls e
+        → AreLines d bytes ms f → (ls ≡ ms) × (e ≡ f) }
     ensures bad { (d : Description) (bytes : List ℕ) (m n : ℕ) → IsBadLine d bytes m → IsBadLine d bytes n → m ≡ n }
-    ensures apart { (d : Description) (bytes : List ℕ) (ls : List Line) (e : LastLine) (n : ℕ) → AreLines d bytes ls e → IsBadLine d bytes n → ⊥ }
+    ensures apart { (d : Description) (bytes : List ℕ) (ls : List Line) (e : LastLine) (n : ℕ) → AreLines d bytes ls e
+        → IsBadLine d bytes n → ⊥ }
 {}

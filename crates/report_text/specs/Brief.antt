@@ -1,5 +1,6 @@
 -- The summary of a report.
-use Rattle.std.specs.Prelude.{ℕ, ◌==◌, Bool, true, false, if◌then◌else◌, List, ◌++◌, codes, length, max, fold, flat_map, filter_map, count_by, sum_by, Option, None, Some}
+use Rattle.std.specs.Prelude.{ℕ, ◌==◌, Bool, true, false, if◌then◌else◌, List, ◌++◌, codes, length, max, fold, flat_map, filter_map}
+use Rattle.std.specs.Prelude.{count_by, sum_by, Option, None, Some}
 use Rattle.vm_desc.specs.declared.description.Description.{Description}
 use Rattle.mate_journal.specs.Log.{Log}
 use Rattle.mate_journal.specs.declared.air.Air.{Air}

@@ -36,7 +36,8 @@ AreCuts event logs cursors =
 -- no record that is left is of an event before `event`
 pub record AreLeftFrom (r : Report) (air : ℕ) (cursors : List ℕ) (event : ℕ) : Type 0 where
   pub on_air : IsLeftFrom air_event event r.air air
-  pub in_logs : (k : ℕ) (d : Log) → k < length r.nodes → IsLeftFrom entry_event event (slice_index_or r.nodes k d).entries (slice_index_or cursors k 0)
+  pub in_logs : (k : ℕ) (d : Log) → k < length r.nodes
+      → IsLeftFrom entry_event event (slice_index_or r.nodes k d).entries (slice_index_or cursors k 0)
 
 -- the greatest number that is a bound; None where each number is one
 abbrev pub IsGreatest : Option ℕ → (ℕ → Type 0) → Type 0

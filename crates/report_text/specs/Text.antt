@@ -1,5 +1,6 @@
 -- The text of a report: a line per record, in the order of events, and a last line.
-use Rattle.std.specs.Prelude.{ℕ, suc, ◌+◌, ◌==◌, Bool, true, false, List, [], ◌∷◌, ◌++◌, codes, length, drop, map, flat_map, filter, max, fold, sum_by}
+use Rattle.std.specs.Prelude.{ℕ, suc, ◌+◌, ◌==◌, Bool, true, false, List, [], ◌∷◌, ◌++◌, codes, length, drop, map, flat_map, filter, max}
+use Rattle.std.specs.Prelude.{fold, sum_by}
 use Rattle.vm_desc.specs.declared.description.Description.{Description}
 use Rattle.mate_journal.specs.Log.{Log}
 use Rattle.mate_journal.specs.Tidy.{below}

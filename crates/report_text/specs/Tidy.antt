@@ -35,7 +35,8 @@ pub record Mark : Type 0 where
 -- the records of the nodes from `node` on
 abbrev pub marks_of : ℕ → List Log → List Mark
 marks_of node [] = []
-marks_of node (l ∷ ls) = map (λ (e : Stamped). record { stamp = e.stamp; node = node; is_seen = is_some (store_named e.entry) }) l.entries ++ marks_of (suc node) ls
+marks_of node (l ∷ ls) = map (λ (e : Stamped). record { stamp = e.stamp; node = node; is_seen = is_some (store_named e.entry) }) l.entries
+    ++ marks_of (suc node) ls
 
 abbrev pub marks : Report → List Mark
 marks r = map (λ (a : Aired). record { stamp = a.stamp; node = a.node; is_seen = false }) r.air ++ marks_of 0 r.nodes
@@ -53,7 +54,8 @@ abbrev pub AreOfOneNode : List Mark → Mark → Mark → Type 0
 AreOfOneNode ms a b = a.stamp.event ≡ b.stamp.event → (a.node ≡ b.node) ⊎ ((a.stamp.event ≡ 0) ⊎ IsLastSeen ms a.stamp.event)
 
 -- A report is tidy for a description: its logs are, and no image is empty; node numbers and packets are in range; event
--- numbers don't fall on the air, nor do nodes within one event there; events agree in time and, but for the first and the last, are each of one
+-- numbers don't fall on the air, nor do nodes within one event there; events agree in time and, but for the first and the last, are
+-- each of one
 -- node.
 pub record IsTidy (d : Description) (r : Report) : Type 0 where
   pub nodes_low : 1 ≤ length r.nodes

@@ -13,7 +13,8 @@ use mate_journal::{Air, Aired};
 
 /// The line of what happened on the air.
 pub fn air_line<S: Sink>(pen: &mut Pen, out: &mut S, aired: &Aired)
-    ensures { Prints (S.written out.old) (S.faults out.old) pen.old.result (S.written out.new) (S.faults out.new) pen.new.result (air_line aired.now) }
+    ensures { Prints (S.written out.old) (S.faults out.old) pen.old.result (S.written out.new) (S.faults out.new) pen.new.result
+        (air_line aired.now) }
 {
     let mut line: Chunk<LINE> = Chunk::new();
     line.byte(b'\n');

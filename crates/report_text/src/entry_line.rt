@@ -4,7 +4,8 @@ ghost use Rattle.std.specs.Prelude.{◌≡◌, ◌+◌, ◌*◌, ◌≤◌, ◌+
 ghost use Rattle.mate_files.specs.Pen.{Prints};
 ghost use Rattle.mate_journal.specs.Log.{Log};
 ghost use Rattle.report_text.specs.Chunk.{IsInFront};
-ghost use Rattle.report_text.specs.Words.{handler_name, function_name, number, word, values, void_words, image_word, image_of, seen_words, stamp_words, entry_words, IsShort};
+ghost use Rattle.report_text.specs.Words.{handler_name, function_name, number, word, values, void_words, image_word, image_of, seen_words};
+ghost use Rattle.report_text.specs.Words.{stamp_words, entry_words, IsShort};
 ghost use Rattle.report_text.specs.Text.{entry_line};
 
 use crate::chunk::Chunk;
@@ -28,7 +29,8 @@ pub fn entry_line<S: Sink>(
     node: u8,
     stamped: &Stamped,
 )
-    ensures { Prints (S.written out.old) (S.faults out.old) pen.old.result (S.written out.new) (S.faults out.new) pen.new.result (entry_line desc.now log.now node stamped.now) }
+    ensures { Prints (S.written out.old) (S.faults out.old) pen.old.result (S.written out.new) (S.faults out.new) pen.new.result
+        (entry_line desc.now log.now node stamped.now) }
 {
     match &stamped.entry {
         Entry::Install {
@@ -59,7 +61,8 @@ fn short_line<S: Sink>(
     entry: &Entry,
 )
     requires { IsShort entry.now }
-    ensures { (log : Log) → Prints (S.written out.old) (S.faults out.old) pen.old.result (S.written out.new) (S.faults out.new) pen.new.result
+    ensures { (log : Log) → Prints (S.written out.old) (S.faults out.old) pen.old.result (S.written out.new) (S.faults out.new)
+        pen.new.result
         (stamp_words stamp node ++ entry_words desc.now log entry.now ++ codes "\n") }
 {
     let mut line: Chunk<LINE> = Chunk::new();

@@ -94,7 +94,8 @@ pub fn print_line<S: Sink, const ROOM: usize>(
     node: u8,
 )
     requires { length line.old + 35 ≤ ROOM }
-    ensures { Prints (S.written out.old) (S.faults out.old) pen.old.result (S.written out.new) (S.faults out.new) pen.new.result (stamp_words stamp node ++ line.old) }
+    ensures { Prints (S.written out.old) (S.faults out.old) pen.old.result (S.written out.new) (S.faults out.new) pen.new.result
+        (stamp_words stamp node ++ line.old) }
 {
     stamp_in_front(line, stamp, node);
     pen.bytes(out, line.as_slice());

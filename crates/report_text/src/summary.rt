@@ -54,7 +54,8 @@ pub fn brief<S: Sink>(desc: &Description, report: &Report, out: &mut S) -> Resul
 
 fn count_lines<S: Sink>(pen: &mut Pen, out: &mut S, report: &Report)
     requires { length report.now.nodes ≤ 64 }
-    ensures { Prints (S.written out.old) (S.faults out.old) pen.old.result (S.written out.new) (S.faults out.new) pen.new.result (count_lines report.now) }
+    ensures { Prints (S.written out.old) (S.faults out.old) pen.old.result (S.written out.new) (S.faults out.new) pen.new.result
+        (count_lines report.now) }
 {
     let counts = EntryCounts::of(report.nodes());
     let aired = AirCounts::of(report.air());
@@ -72,7 +73,8 @@ fn count_lines<S: Sink>(pen: &mut Pen, out: &mut S, report: &Report)
 }
 
 fn count_line<S: Sink>(pen: &mut Pen, out: &mut S, name: &str, n: u64)
-    ensures { Prints (S.written out.old) (S.faults out.old) pen.old.result (S.written out.new) (S.faults out.new) pen.new.result (count_line name.now n) }
+    ensures { Prints (S.written out.old) (S.faults out.old) pen.old.result (S.written out.new) (S.faults out.new) pen.new.result
+        (count_line name.now n) }
 {
     pen.text(out, name);
     number(pen, out, n);
@@ -95,7 +97,8 @@ fn newest_line<S: Sink>(
     logs: &[NodeLog],
     handler: HandlerId,
 )
-    ensures { Prints (S.written out.old) (S.faults out.old) pen.old.result (S.written out.new) (S.faults out.new) pen.new.result (newest_line desc.now logs.now handler.0) }
+    ensures { Prints (S.written out.old) (S.faults out.old) pen.old.result (S.written out.new) (S.faults out.new) pen.new.result
+        (newest_line desc.now logs.now handler.0) }
 {
     pen.text(out, "newest");
     word(pen, out, handler_name(desc, handler));

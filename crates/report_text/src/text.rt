@@ -52,7 +52,8 @@ fn entry_lines<S: Sink>(
 
 /// The lines of what happened on the air.
 fn air_lines<S: Sink>(pen: &mut Pen, out: &mut S, air: &[Aired])
-    ensures { Prints (S.written out.old) (S.faults out.old) pen.old.result (S.written out.new) (S.faults out.new) pen.new.result (flat_map air_line air.now) }
+    ensures { Prints (S.written out.old) (S.faults out.old) pen.old.result (S.written out.new) (S.faults out.new) pen.new.result
+        (flat_map air_line air.now) }
 {
     for aired in air {
         air_line(pen, out, aired);
@@ -74,7 +75,8 @@ pub fn end_line<S: Sink>(
     nodes: u64,
     whole: bool,
 )
-    ensures { Prints (S.written out.old) (S.faults out.old) pen.old.result (S.written out.new) (S.faults out.new) pen.new.result (end_line records events nodes whole) }
+    ensures { Prints (S.written out.old) (S.faults out.old) pen.old.result (S.written out.new) (S.faults out.new) pen.new.result
+        (end_line records events nodes whole) }
 {
     pen.text(out, end_word(whole));
     number(pen, out, records);
@@ -116,7 +118,8 @@ pub fn write_end<S: Sink>(
     whole: bool,
     out: &mut S,
 ) -> Result<(), SinkFault>
-    ensures { Puts (S.written out.old) (S.faults out.old) (S.written out.new) (S.faults out.new) result (end_line records events nodes whole) }
+    ensures { Puts (S.written out.old) (S.faults out.old) (S.written out.new) (S.faults out.new) result
+        (end_line records events nodes whole) }
 {
     let mut pen = Pen::new();
     end_line(&mut pen, out, records, events, nodes as u64, whole);

@@ -10,7 +10,8 @@ use mate_num::FaultKind;
 
 /// A space and a number.
 pub fn number<S: Sink>(pen: &mut Pen, out: &mut S, n: u64)
-    ensures { Prints (S.written out.old) (S.faults out.old) pen.old.result (S.written out.new) (S.faults out.new) pen.new.result (number n) }
+    ensures { Prints (S.written out.old) (S.faults out.old) pen.old.result (S.written out.new) (S.faults out.new) pen.new.result
+        (number n) }
 {
     pen.text(out, " ");
     pen.number(out, n);
@@ -18,7 +19,8 @@ pub fn number<S: Sink>(pen: &mut Pen, out: &mut S, n: u64)
 
 /// A space and a word.
 pub fn word<S: Sink>(pen: &mut Pen, out: &mut S, bytes: &[u8])
-    ensures { Prints (S.written out.old) (S.faults out.old) pen.old.result (S.written out.new) (S.faults out.new) pen.new.result (word bytes.now) }
+    ensures { Prints (S.written out.old) (S.faults out.old) pen.old.result (S.written out.new) (S.faults out.new) pen.new.result
+        (word bytes.now) }
 {
     pen.text(out, " ");
     pen.bytes(out, bytes);
@@ -49,7 +51,8 @@ pub fn fault_word(kind: FaultKind) -> &'static str
 
 /// An image in hexadecimal digits; `-` stands for one without bytes.
 pub fn image_word<S: Sink>(pen: &mut Pen, out: &mut S, image: &[u8])
-    ensures { Prints (S.written out.old) (S.faults out.old) pen.old.result (S.written out.new) (S.faults out.new) pen.new.result (image_word image.now) }
+    ensures { Prints (S.written out.old) (S.faults out.old) pen.old.result (S.written out.new) (S.faults out.new) pen.new.result
+        (image_word image.now) }
 {
     if image.is_empty() {
         pen.text(out, "-");

@@ -47,7 +47,8 @@ fn installs_of(alloc: Global, script: &str) -> Result<String, AllocError> {
 
 /// Whether each file has a program, and each injection one of its handler and version.
 pub fn are_of(world: &World, programs: &Programs) -> bool
-    ensures { IsTrue result ↔ (length programs.now ≡ length world.now.files) × All (λ (p : PlannedEvent). IsProgramOfWhat programs.now p.what) world.now.events }
+    ensures { IsTrue result ↔ (length programs.now ≡ length world.now.files)
+        × All (λ (p : PlannedEvent). IsProgramOfWhat programs.now p.what) world.now.events }
 {
     programs.len() == world.files.len() && have_theirs(world.events.as_slice(), programs)
 }

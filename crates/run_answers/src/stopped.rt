@@ -123,7 +123,8 @@ fn is_of(alloc: Global, desc: &Description, report: &Report, text: &str) -> bool
     }
 }
 
-/// The text of the report that is handed out where so many bytes were written. The next line that was to be written is of the last event that
+/// The text of the report that is handed out where so many bytes were written. The next line that was to be written is of the last
+/// event that
 /// ended, and its report has all that this one and those before it told. Behind the events it is the whole report.
 fn wanted_text(alloc: Global, text: &str, written: usize) -> Result<String, AllocError> {
     let (events, nodes) = counts(text);

@@ -1,5 +1,6 @@
 -- The programs of the files that a node script names, in the order of its steps.
-use Rattle.std.specs.Prelude.{◌≡◌, ℕ, Bool, true, false, List, [], ◌∷◌, ◌++◌, slice_index_or, Option, Some, None, option_to_list, Result, Ok, Err, ⊤}
+use Rattle.std.specs.Prelude.{◌≡◌, ℕ, Bool, true, false, List, [], ◌∷◌, ◌++◌, slice_index_or, Option, Some, None, option_to_list, Result}
+use Rattle.std.specs.Prelude.{Ok, Err, ⊤}
 use Rattle.mate_num.specs.declared.id.HandlerId.{HandlerId}
 use Rattle.capsule_codec.specs.Image.{capsule_parts, image_of}
 use Rattle.capsule_codec.specs.declared.capsule.Capsule.{Capsule}
@@ -85,4 +86,5 @@ script_programs f d fold script = programs_after f d fold script.files [] script
 
 -- what is left to be owed at a step, after these programs, is all that is owed
 pub record Owing (f : Folder) (d : Description) (fold : Bool) (script : NodeScript) (ps : List Program) (left : List Step) : Type 0 where
-  pub owed : (answer : Result (List Program) Refusal) → programs_after f d fold script.files ps left answer → script_programs f d fold script answer
+  pub owed : (answer : Result (List Program) Refusal) → programs_after f d fold script.files ps left answer
+      → script_programs f d fold script answer

@@ -43,7 +43,8 @@ pub(crate) fn source_of<F: Files>(
 ) -> Result<CompiledScript, Refusal>
     requires known { AreKnown desc.now fold known.old }
     ensures does { source (record { told = F.contents files.old; steady = F.steady files.old }) desc.now fold name.now result }
-    ensures reads { ReadsFiles (F.contents files.old) (F.steady files.old) (F.faults files.old) (F.contents files.new) (F.steady files.new) (F.faults files.new) result }
+    ensures reads { ReadsFiles (F.contents files.old) (F.steady files.old) (F.faults files.old) (F.contents files.new)
+        (F.steady files.new) (F.faults files.new) result }
     ensures filled { IfOk result (λ c. 1 ≤ length c.code.items) }
     ensures known { AreKnown desc.now fold known.new }
 {

@@ -14,12 +14,14 @@ ghost use Rattle.vm_desc.specs.declared.description.Description.{Description};
 
 /// A steady file has one script, or one refusal.
 pub fn file_has_one_script()
-    ensures { (names : Names) (d : Description) (name : List ℕ) → AnswersAgree ◌≡◌ (script (steady names) d name) (script (steady names) d name) }
+    ensures { (names : Names) (d : Description) (name : List ℕ)
+        → AnswersAgree ◌≡◌ (script (steady names) d name) (script (steady names) d name) }
 {}
 
 /// The steady files that a script names have one list of programs, or one refusal.
 pub fn files_have_one_list()
-    ensures { (names : Names) (d : Description) (fold : Bool) (s : NodeScript) → AnswersAgree SamePrograms (script_programs (steady names) d fold s) (script_programs (steady names) d fold s) }
+    ensures { (names : Names) (d : Description) (fold : Bool) (s : NodeScript)
+        → AnswersAgree SamePrograms (script_programs (steady names) d fold s) (script_programs (steady names) d fold s) }
 {}
 
 /// The same programs make the same steps of a script.

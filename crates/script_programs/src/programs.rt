@@ -33,7 +33,8 @@ pub fn programs_of<F: Files>(
     requires right { IsRightSteps desc.now script.now }
     requires in_order { NamesInOrder script.now }
     ensures does { script_programs (record { told = F.contents files.old; steady = F.steady files.old }) desc.now fold script.now result }
-    ensures reads { ReadsFiles (F.contents files.old) (F.steady files.old) (F.faults files.old) (F.contents files.new) (F.steady files.new) (F.faults files.new) result }
+    ensures reads { ReadsFiles (F.contents files.old) (F.steady files.old) (F.faults files.old) (F.contents files.new)
+        (F.steady files.new) (F.faults files.new) result }
     ensures programs { IfOk result (AreProgramsOf desc.now script.now) }
 {
     let mut programs = Programs::new(alloc);
@@ -92,8 +93,10 @@ fn step_program<F: Files>(
 ) -> Result<Option<Program>, Refusal>
     requires right { IsRightStep desc.now (length names.now) step.now }
     requires known { AreKnown desc.now fold known.old }
-    ensures does { step_program (record { told = F.contents files.old; steady = F.steady files.old }) desc.now fold names.now step.now result }
-    ensures reads { ReadsFiles (F.contents files.old) (F.steady files.old) (F.faults files.old) (F.contents files.new) (F.steady files.new) (F.faults files.new) result }
+    ensures does { step_program (record { told = F.contents files.old; steady = F.steady files.old }) desc.now fold names.now step.now
+        result }
+    ensures reads { ReadsFiles (F.contents files.old) (F.steady files.old) (F.faults files.old) (F.contents files.new)
+        (F.steady files.new) (F.faults files.new) result }
     ensures right { IfOk result (λ program. IfSome program (IsRightProgram desc.now)) }
     ensures known { AreKnown desc.now fold known.new }
 {
@@ -136,8 +139,10 @@ fn installed<F: Files>(
     requires handler { handler.0 < length desc.now.handlers.items }
     requires version { 1 ≤ version }
     requires known { AreKnown desc.now fold known.old }
-    ensures does { installed (record { told = F.contents files.old; steady = F.steady files.old }) desc.now fold handler version name.now result }
-    ensures reads { ReadsFiles (F.contents files.old) (F.steady files.old) (F.faults files.old) (F.contents files.new) (F.steady files.new) (F.faults files.new) result }
+    ensures does { installed (record { told = F.contents files.old; steady = F.steady files.old }) desc.now fold handler version name.now
+        result }
+    ensures reads { ReadsFiles (F.contents files.old) (F.steady files.old) (F.faults files.old) (F.contents files.new)
+        (F.steady files.new) (F.faults files.new) result }
     ensures right { IfOk result (IsRightProgram desc.now) }
     ensures known { AreKnown desc.now fold known.new }
 {
@@ -165,7 +170,8 @@ fn loaded<F: Files>(
     name: &str,
 ) -> Result<Program, Refusal>
     ensures does { loaded (record { told = F.contents files.old; steady = F.steady files.old }) desc.now name.now result }
-    ensures reads { ReadsFiles (F.contents files.old) (F.steady files.old) (F.faults files.old) (F.contents files.new) (F.steady files.new) (F.faults files.new) result }
+    ensures reads { ReadsFiles (F.contents files.old) (F.steady files.old) (F.faults files.old) (F.contents files.new)
+        (F.steady files.new) (F.faults files.new) result }
     ensures right { IfOk result (IsRightProgram desc.now) }
 {
     let held = capsule_of(alloc, files, desc, name)?;

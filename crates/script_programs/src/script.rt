@@ -22,7 +22,8 @@ pub fn script_of<F: Files>(
     name: &str,
 ) -> Result<Steps, Refusal>
     ensures does { script (record { told = F.contents files.old; steady = F.steady files.old }) desc.now name.now result }
-    ensures reads { ReadsFiles (F.contents files.old) (F.steady files.old) (F.faults files.old) (F.contents files.new) (F.steady files.new) (F.faults files.new) result }
+    ensures reads { ReadsFiles (F.contents files.old) (F.steady files.old) (F.faults files.old) (F.contents files.new)
+        (F.steady files.new) (F.faults files.new) result }
     ensures right { IfOk result (IsRightSteps desc.now) }
     ensures in_order { IfOk result NamesInOrder }
 {

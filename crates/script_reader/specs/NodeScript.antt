@@ -1,5 +1,6 @@
 -- The node script in bytes, line by line; where a line is refused, the first such line and its first cause.
-use Rattle.std.specs.Prelude.{ℕ, if◌then◌else◌, List, [], ◌∷◌, ◌++◌, length, codes, slice_index, slice_set, replicate, Option, Some, None, Result, Ok, Err}
+use Rattle.std.specs.Prelude.{ℕ, if◌then◌else◌, List, [], ◌∷◌, ◌++◌, length, codes, slice_index, slice_set, replicate, Option, Some, None}
+use Rattle.std.specs.Prelude.{Result, Ok, Err}
 use Rattle.std.specs.Str.{bytes_eq}
 use Rattle.vm_desc.specs.declared.description.Description.{Description}
 use Rattle.script_reader.specs.declared.fault.Cause.{Cause}
@@ -9,7 +10,8 @@ use Rattle.script_reader.specs.declared.steps.Step.{Step}
 use Rattle.script_reader.specs.declared.steps.Step.TheVariants as step
 use Rattle.script_reader.specs.Lines.{lines, is_skipped}
 use Rattle.script_reader.specs.Script.{script_from}
-use Rattle.script_reader.specs.Words.{Taken, Reading, ◌>>=◌, give, found, a_word, nothing_more, a_number, a_value, a_payload, a_handler, a_version, a_context}
+use Rattle.script_reader.specs.Words.{Taken, Reading, ◌>>=◌, give, found, a_word, nothing_more, a_number, a_value, a_payload, a_handler}
+use Rattle.script_reader.specs.Words.{a_version, a_context}
 use Rattle.script_reader.specs.Steps.{NodeScript}
 
 -- what a line says: a step, and the name of its file

@@ -12,9 +12,11 @@ numbered number next (Err cause) = Err (BadLine number cause)
 
 -- what the lines from a number on tell, behind p: each line leads from one state to the next, and at the end, one line
 -- further, the state is what was told
-abbrev pub script_from : {P A : Type 0} → (P → List (List ℕ) → Result P Cause) → (ℕ → P → Result A ScriptFault) → ℕ → P → List (List ℕ) → Result A ScriptFault
+abbrev pub script_from : {P A : Type 0} → (P → List (List ℕ) → Result P Cause) → (ℕ → P → Result A ScriptFault) → ℕ → P → List (List ℕ)
+    → Result A ScriptFault
 script_from after ends number p [] = ends number p
-script_from after ends number p (line ∷ lines) = numbered number (λ p. script_from after ends (number + 1) p lines) (after p (words_of line))
+script_from after ends number p (line ∷ lines) = numbered number (λ p. script_from after ends (number + 1) p lines)
+    (after p (words_of line))
 
 -- a reader's answer is the script, or the first line that is refused; only want of memory may come in place of either
 abbrev pub Answers : {A : Type 0} → Result A ScriptFault → Result A ScriptFault → Type 0

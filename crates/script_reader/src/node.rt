@@ -4,7 +4,8 @@ ghost use Rattle.std.specs.Prelude.{◌≡◌, ◌<◌, ◌≤◌, ◌^◌, ℕ,
 ghost use Rattle.script_reader.specs.Lines.{words_of};
 ghost use Rattle.script_reader.specs.Words.{Reads};
 ghost use Rattle.script_reader.specs.Steps.{IsRightSteps};
-ghost use Rattle.script_reader.specs.NodeScript.{an_install, a_load, a_post, a_step, an_answer, behind, behind_others, a_line, with_said, newest_after, after_line, node_script_in};
+ghost use Rattle.script_reader.specs.NodeScript.{an_install, a_load, a_post, a_step, an_answer, behind, behind_others, a_line, with_said};
+ghost use Rattle.script_reader.specs.NodeScript.{newest_after, after_line, node_script_in};
 ghost use Rattle.script_reader.specs.Script.{Answers, Follows};
 ghost use Rattle.script_reader.specs.NodeReader.{progress_of, said_of, IsRightSaid, KeepsProgress};
 ghost use Rattle.vm_desc.specs.declared.description.Description.{Description};

@@ -1,13 +1,15 @@
 //! The words of a line, read from left to right.
 
-ghost use Rattle.std.specs.Prelude.{◌≡◌, ◌<◌, ◌≤◌, ◌+◌, ◌*◌, ◌^◌, ◌∷◌, [], length, true, not, ◌==◌, IfOk, MatchOption, MatchResult, pos, neg_ℤ, Ok, Err};
+ghost use Rattle.std.specs.Prelude.{◌≡◌, ◌<◌, ◌≤◌, ◌+◌, ◌*◌, ◌^◌, ◌∷◌, [], length, true, not, ◌==◌, IfOk, MatchOption, MatchResult, pos};
+ghost use Rattle.std.specs.Prelude.{neg_ℤ, Ok, Err};
 ghost use Rattle.std.specs.List.{prefix_len, list_all};
 ghost use Rattle.std.specs.Char.{is_ascii_digit, digit_value};
 ghost use Rattle.std.specs.Str.{bytes_eq};
 ghost use Rattle.std.specs.Str.Parse.{digits_value};
 ghost use Rattle.vm_desc.specs.Whole.{context_count};
 ghost use Rattle.script_reader.specs.Lines.{is_blank, words_of, is_skipped};
-ghost use Rattle.script_reader.specs.Words.{Reads, is_printable, printed, a_word, nothing_more, is_numeral, number_of, within, a_number, signed, value_of, a_value, a_payload, handler_of, a_handler, newer, a_version, a_context};
+ghost use Rattle.script_reader.specs.Words.{Reads, is_printable, printed, a_word, nothing_more, is_numeral, number_of, within, a_number};
+ghost use Rattle.script_reader.specs.Words.{signed, value_of, a_value, a_payload, handler_of, a_handler, newer, a_version, a_context};
 
 use crate::fault::Cause;
 use mate_num::{ContextId, HandlerId, Payload};
@@ -38,7 +40,8 @@ impl<'a> Words<'a> {
 
     /// The next word, whatever its bytes are.
     fn next(&mut self) -> Option<&'a [u8]>
-        ensures { MatchOption result ((words_of self.old ≡ []) × (words_of self.new ≡ [])) (λ w. words_of self.old ≡ w.now ∷ words_of self.new) }
+        ensures { MatchOption result ((words_of self.old ≡ []) × (words_of self.new ≡ [])) (λ w. words_of self.old ≡ w.now
+            ∷ words_of self.new) }
     {
         let (_, rest) = self.rest.split_at(blanks_len(self.rest));
         let (word, rest) = rest.split_at(word_len(rest));

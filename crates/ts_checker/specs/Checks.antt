@@ -1,5 +1,6 @@
 -- The checks of a script, word by word from left to right, and the checked tree that they give.
-use Rattle.std.specs.Prelude.{ℕ, zero, suc, ◌==◌, nat_lt, nat_le, ℤ, pos, neg_ℤ, Bool, true, false, ◌&&◌, if◌then◌else◌, Option, Some, None, Result, Ok, Err}
+use Rattle.std.specs.Prelude.{ℕ, zero, suc, ◌==◌, nat_lt, nat_le, ℤ, pos, neg_ℤ, Bool, true, false, ◌&&◌, if◌then◌else◌, Option, Some, None}
+use Rattle.std.specs.Prelude.{Result, Ok, Err}
 use Rattle.mate_num.specs.Number.{wrap}
 use Rattle.mate_num.specs.declared.id.FunId.{FunId}
 use Rattle.mate_num.specs.declared.id.BufId.{BufId}
@@ -13,8 +14,10 @@ use Rattle.ts_syntax.specs.declared.checked_stmt.CVar.{CVar}
 use Rattle.ts_syntax.specs.declared.checked_stmt.CVar.TheVariants as var
 use Rattle.ts_syntax.specs.Tree as given
 use Rattle.ts_syntax.specs.Tree.{Tree, Trees, no_trees, tree_then, Act, Acts, no_acts, act_then, Source}
-use Rattle.ts_syntax.specs.Expression.{Expression, Arguments, no_arguments, argument, Num, Shared, Private, Item, Size, MsgItem, MsgSize, Call, SendBuf, Neg, Not, Two}
-use Rattle.ts_syntax.specs.Statement.{Statement, Block, no_statements, statement, Set, SetItem, Append, Take, Clear, Do, DoSend, If, IfElse, For, While}
+use Rattle.ts_syntax.specs.Expression.{Expression, Arguments, no_arguments, argument, Num, Shared, Private, Item, Size, MsgItem, MsgSize}
+use Rattle.ts_syntax.specs.Expression.{Call, SendBuf, Neg, Not, Two}
+use Rattle.ts_syntax.specs.Statement.{Statement, Block, no_statements, statement, Set, SetItem, Append, Take, Clear, Do, DoSend, If, IfElse}
+use Rattle.ts_syntax.specs.Statement.{For, While}
 use Rattle.ts_scope.specs.declared.fault.CheckFault.{CheckFault}
 use Rattle.ts_scope.specs.declared.fault.CheckFault.TheVariants.{Undeclared, Kind, Arity}
 use Rattle.ts_scope.specs.Refusal.{◌>>=◌, unless_refused}
@@ -139,7 +142,8 @@ abbrev mutual
   checked_stmt n (given.if_else e a b) =
       checked_expr n true e >>= (λ test. checked_block n a >>= (λ body. checked_block n b >>= (λ other. Ok (IfElse test body other))))
   checked_stmt n (given.for_next w from to step a next) =
-      checked_head n w from to step >>= (λ h. checked_block n a >>= (λ body. closes_for n w next >>= (λ _. Ok (For h.var h.from h.to h.step body))))
+      checked_head n w from to step >>= (λ h. checked_block n a >>=
+      (λ body. closes_for n w next >>= (λ _. Ok (For h.var h.from h.to h.step body))))
   checked_stmt n (given.while_do e a) = checked_expr n true e >>= (λ test. checked_block n a >>= (λ body. Ok (While test body)))
   checked_stmt n (given.run_procedure w es) = Err (Undeclared w.name w.place)
 

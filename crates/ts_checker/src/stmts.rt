@@ -73,7 +73,8 @@ fn for_next(
 ) -> Result<CStmt, CheckFault>
     ensures { let from = tree_of head.now.from in
         let to = tree_of head.now.to in
-        GivesChecked stmt_tree result (checked_stmt (scope_names scope.now) (given.for_next head.now.var from to head.now.step (acts_of body.now) next.now)) }
+        GivesChecked stmt_tree result (checked_stmt (scope_names scope.now)
+        (given.for_next head.now.var from to head.now.step (acts_of body.now) next.now)) }
 {
     let checked = for_head(alloc, scope, head)?;
     let body = block(alloc, scope, body)?;
@@ -111,7 +112,8 @@ fn set_item(
     index: &Expr,
     value: &Expr,
 ) -> Result<CStmt, CheckFault>
-    ensures { GivesChecked stmt_tree result (checked_stmt (scope_names scope.now) (given.set_item word.now (tree_of index.now) (tree_of value.now))) }
+    ensures { GivesChecked stmt_tree result (checked_stmt (scope_names scope.now)
+        (given.set_item word.now (tree_of index.now) (tree_of value.now))) }
 {
     let buffer = scope.buffer(word)?;
     let index = expression(alloc, scope, true, index)?;

@@ -6,7 +6,8 @@ ghost use Rattle.mate_code.specs.declared.instr.Instr.TheVariants.{Add, BSet, BT
 ghost use Rattle.ts_syntax.specs.Expression.{arguments};
 ghost use Rattle.ts_syntax.specs.Statement.{If, For, While};
 ghost use Rattle.ts_syntax.specs.TreeOf.{expr_tree, args_trees, stmt_tree, block_tree};
-ghost use Rattle.ts_meaning.specs.Translation.{size_of_instrs, get_code, set_code, expr_code, args_code, stmt_code, block_code, for_test, script_code, script_size};
+ghost use Rattle.ts_meaning.specs.Translation.{size_of_instrs, get_code, set_code, expr_code, args_code, stmt_code, block_code, for_test};
+ghost use Rattle.ts_meaning.specs.Translation.{script_code, script_size};
 ghost use Rattle.ts_compiler.specs.Parts.{HasRoom, WritesInstrs, guarded_code, head_code, other_code};
 
 use crate::extent::small_block_size;

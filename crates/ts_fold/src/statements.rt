@@ -84,7 +84,8 @@ fn for_next(
 ) -> Result<(), NoMemory>
     ensures { let from = expr_tree head.now.from in
         let to = expr_tree head.now.to in
-        OnOk result (block_trees into.new ≡ block_trees into.old ++ folded_stmt (For head.now.var from to head.now.step (block_tree body.now))) }
+        OnOk result (block_trees into.new ≡ block_trees into.old
+        ++ folded_stmt (For head.now.var from to head.now.step (block_tree body.now))) }
 {
     let head = for_head(alloc, head)?;
     into.push(CStmt::For(head, block(alloc, body)?))

@@ -1,5 +1,6 @@
 -- What a run of a script holds on its way, and how a part of it ends.
-use Rattle.std.specs.Prelude.{ℕ, zero, suc, ℤ, pos, Bool, true, false, List, [], ◌∷◌, ◌++◌, Result, Ok, Err, take, replicate, slice_index_or, slice_set, ⊤}
+use Rattle.std.specs.Prelude.{ℕ, zero, suc, ℤ, pos, Bool, true, false, List, [], ◌∷◌, ◌++◌, Result, Ok, Err, take, replicate}
+use Rattle.std.specs.Prelude.{slice_index_or, slice_set, ⊤}
 use Rattle.arrayvec.specs.ArrayVec.{ArrayVec}
 use Rattle.mate_num.specs.Store.{value_at, set_value, buffer_at, set_buffer, without_last}
 use Rattle.mate_num.specs.declared.store.Store.{Store}

@@ -5,8 +5,10 @@ use Rattle.mate_code.specs.declared.instr.Instr.TheVariants as instr
 use Rattle.mate_code.specs.Code.{placed}
 use Rattle.mate_code.specs.Instr.{size_of}
 use Rattle.mate_code.specs.Run.{Code}
-use Rattle.ts_syntax.specs.Expression.{Expression, Arguments, no_arguments, argument, Num, Shared, Private, Item, Size, MsgItem, MsgSize, Call, SendBuf, Neg, Not, Two}
-use Rattle.ts_syntax.specs.Statement.{Statement, Block, no_statements, statement, Set, SetItem, Append, Take, Clear, Do, DoSend, If, IfElse, For, While}
+use Rattle.ts_syntax.specs.Expression.{Expression, Arguments, no_arguments, argument, Num, Shared, Private, Item, Size, MsgItem, MsgSize}
+use Rattle.ts_syntax.specs.Expression.{Call, SendBuf, Neg, Not, Two}
+use Rattle.ts_syntax.specs.Statement.{Statement, Block, no_statements, statement, Set, SetItem, Append, Take, Clear, Do, DoSend, If, IfElse}
+use Rattle.ts_syntax.specs.Statement.{For, While}
 use Rattle.ts_syntax.specs.declared.bin_op.BinOp.{BinOp}
 use Rattle.ts_syntax.specs.declared.bin_op.BinOp.TheVariants as op
 use Rattle.ts_syntax.specs.declared.checked_stmt.CVar.{CVar}
@@ -102,7 +104,8 @@ abbrev mutual
   stmt_size (DoSend f p) = expr_size (SendBuf f p) + 1
   stmt_size (If e a) = expr_size e + 3 + block_size a
   stmt_size (IfElse e a b) = expr_size e + 3 + block_size a + 3 + block_size b
-  stmt_size (For x from to step a) = expr_size from + 2 + 2 + expr_size to + 1 + 3 + block_size a + 2 + size_of (number_code step) + 1 + 2 + 3
+  stmt_size (For x from to step a) = expr_size from + 2 + 2 + expr_size to + 1 + 3 + block_size a + 2 + size_of
+      (number_code step) + 1 + 2 + 3
   stmt_size (While e a) = expr_size e + 3 + block_size a + 3
 
   pub block_size : Block → ℕ

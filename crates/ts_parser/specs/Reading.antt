@@ -12,7 +12,8 @@ use Rattle.ts_parser.specs.declared.fault.SourceFault.{SourceFault}
 use Rattle.ts_parser.specs.declared.fault.SourceFault.TheVariants as fault
 
 -- the answer is that of the tokens that the bytes are cut into, or their first fault
-pub data ReadsText {S : Type 0} (d : Dialect) (bytes : List ℕ) (Answer : List Token → Result S SourceFault → Type 0) (result : Result S SourceFault) : Type 0 where
+pub data ReadsText {S : Type 0} (d : Dialect) (bytes : List ℕ) (Answer : List Token → Result S SourceFault
+    → Type 0) (result : Result S SourceFault) : Type 0 where
   cuts : (tokens : List Token) → cut_in d bytes ≡ Ok tokens → Answer tokens result → ReadsText d bytes Answer result
   fails : (f : SourceFault) → SourceCuts d bytes (Err f) → result ≡ Err f → ReadsText d bytes Answer result
 

@@ -3,7 +3,8 @@
 ghost use Rattle.std.specs.Prelude.{◌≤◌, ◌<◌, ◌++◌, ◌∷◌, [], List, length, map, IfOk};
 ghost use Rattle.ts_syntax.specs.Machine.{main, block, decls, proc_word, procedures};
 ghost use Rattle.ts_syntax.specs.Parsing.{Reads};
-ghost use Rattle.ts_parser.specs.Scripts.{LacksDecl, Header, params_due, header_read, Routine, routine_due, routine_read, script_frame, FewIn};
+ghost use Rattle.ts_parser.specs.Scripts.{LacksDecl, Header, params_due, header_read, Routine, routine_due, routine_read, script_frame};
+ghost use Rattle.ts_parser.specs.Scripts.{FewIn};
 ghost use Rattle.ts_syntax.specs.Seen.{acts_of, procedure_of};
 ghost use Rattle.ts_syntax.specs.Tree.{Procedure, no_acts};
 ghost use Rattle.ts_syntax.specs.declared.script.Decl.{Decl};
@@ -21,7 +22,8 @@ pub fn procedures_in<'a>(
     tokens: &'a [Token],
 ) -> Result<(Procs, &'a [Token]), Halt<'a>>
     requires { LacksDecl tokens.now }
-    ensures reads { Reads {K = List Decl} tokens.now (λ ds. decls dialect ds) (λ ps ds. block no_acts (script_frame dialect ds (map procedure_of ps))) result }
+    ensures reads { Reads {K = List Decl} tokens.now (λ ds. decls dialect ds)
+        (λ ps ds. block no_acts (script_frame dialect ds (map procedure_of ps))) result }
     ensures few { IfOk result (λ x. FewIn dialect (map procedure_of x.0)) }
 {
     match dialect {
@@ -45,7 +47,8 @@ fn procedures<'a>(alloc: Global, tokens: &'a [Token]) -> Result<(Procs, &'a [Tok
 
 /// Reads a procedure, from behind `proc`.
 fn procedure<'a>(alloc: Global, tokens: &'a [Token]) -> Result<(Proc, &'a [Token]), Halt<'a>>
-    ensures reads { Reads {K = List Decl × List Procedure} tokens.now (λ k. proc_word k.0 k.1) (λ p k. procedures k.0 (k.1 ++ procedure_of p ∷ [])) result }
+    ensures reads { Reads {K = List Decl × List Procedure} tokens.now (λ k. proc_word k.0 k.1)
+        (λ p k. procedures k.0 (k.1 ++ procedure_of p ∷ [])) result }
     ensures shorter { IfOk result (λ x. length x.1.now < length tokens.now) }
 {
     let (word, rest) = ended(name(tokens), &TokenKind::Open)?;

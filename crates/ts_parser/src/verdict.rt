@@ -15,6 +15,7 @@ pub fn verdict_law()
     ensures one { (tokens : List Token) (len : ℕ) (v w : Verdict) → IsSo tokens len v → IsSo tokens len w → v ≡ w }
     ensures some { (tokens : List Token) (len : ℕ) → (v : Verdict) × IsSo tokens len v }
     ensures one_tree_in { (d : Dialect) (tokens : List Token) (s t : ProcedureSource) → SpellsIn d tokens s → SpellsIn d tokens t → s ≡ t }
-    ensures one_in { (d : Dialect) (tokens : List Token) (len : ℕ) (v w : VerdictOf ProcedureSource) → IsSoIn d tokens len v → IsSoIn d tokens len w → v ≡ w }
+    ensures one_in { (d : Dialect) (tokens : List Token) (len : ℕ) (v w : VerdictOf ProcedureSource) → IsSoIn d tokens len v
+        → IsSoIn d tokens len w → v ≡ w }
     ensures some_in { (d : Dialect) (tokens : List Token) (len : ℕ) → (v : VerdictOf ProcedureSource) × IsSoIn d tokens len v }
 {}

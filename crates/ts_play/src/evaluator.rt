@@ -41,7 +41,8 @@ impl From<FaultKind> for Stop {
 impl<'a> Evaluator<'a> {
     ghost use Rattle.std.specs.Prelude.{◌≡◌, ◌<◌, ◌≤◌, [], length, OnOk, pos};
     ghost use Rattle.mate_num.specs.Store.{value_at, buffer_at, item_of, appended, item_set, last_of};
-    ghost use Rattle.ts_meaning.specs.State.{value_or_fault, private_at, variable_at, with_variable, with_buffer, buffer_changed, moved, next_answer, begun_state, go_back, Done};
+    ghost use Rattle.ts_meaning.specs.State.{value_or_fault, private_at, variable_at, with_variable, with_buffer, buffer_changed, moved};
+    ghost use Rattle.ts_meaning.specs.State.{next_answer, begun_state, go_back, Done};
     ghost use Rattle.ts_meaning.specs.Meaning.{outcome_at};
     ghost use Rattle.ts_play.specs.Follows.{state_of, FollowsMeaning};
 

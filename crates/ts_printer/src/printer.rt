@@ -6,7 +6,8 @@ ghost use Rattle.ts_syntax.specs.declared.token.TokenKind.{TokenKind};
 ghost use Rattle.ts_syntax.specs.declared.token.TokenKind.TheVariants as kind;
 ghost use Rattle.ts_printer.specs.Print.{PrintsTokens, comma_before, head_spelled, closing};
 ghost use Rattle.ts_syntax.specs.Seen.{tree_of, trees_of, act_of, acts_of, source_of};
-ghost use Rattle.ts_syntax.specs.Spelling.{sign, name, decl_keyword, decl_start, spelled, args_spelled, minus_spelled, step_spelled, act_spelled, acts_spelled, decls_spelled, source_spelled};
+ghost use Rattle.ts_syntax.specs.Spelling.{sign, name, decl_keyword, decl_start, spelled, args_spelled, minus_spelled, step_spelled};
+ghost use Rattle.ts_syntax.specs.Spelling.{act_spelled, acts_spelled, decls_spelled, source_spelled};
 ghost use Rattle.ts_syntax.specs.Text.{space, token_text, text_of};
 
 use mate_files::{Pen, Sink, SinkFault};
@@ -267,7 +268,8 @@ impl Printer {
     /// Prints a call that is a statement, and its end.
     fn call_alone<S: Sink>(&mut self, out: &mut S, word: &Word, args: &Args)
         ensures { PrintsTokens (S.written out.old) (S.faults out.old) self.old
-            (S.written out.new) (S.faults out.new) self.new (name word.now ∷ kind.Open ∷ args_spelled (trees_of args.now) ++ (kind.Close ∷ kind.Semi ∷ [])) }
+            (S.written out.new) (S.faults out.new) self.new (name word.now ∷ kind.Open ∷ args_spelled (trees_of args.now)
+            ++ (kind.Close ∷ kind.Semi ∷ [])) }
     {
         self.name(out, word);
         self.token(out, " (");
@@ -380,7 +382,8 @@ impl Printer {
     /// Prints a declared name; `behind` says whether another one stands before it.
     fn decl<S: Sink>(&mut self, out: &mut S, behind: bool, decl: &Decl)
         ensures { PrintsTokens (S.written out.old) (S.faults out.old) self.old
-            (S.written out.new) (S.faults out.new) self.new (closing (behind && decl.now.first) ++ (decl_start decl.now.first decl.now.kind ∷ name decl.now.word ∷ [])) }
+            (S.written out.new) (S.faults out.new) self.new (closing (behind && decl.now.first)
+            ++ (decl_start decl.now.first decl.now.kind ∷ name decl.now.word ∷ [])) }
     {
         self.close(out, ends(behind, decl.first));
         self.token(out, start_text(decl.first, decl.kind));

@@ -8,7 +8,8 @@ use Rattle.ts_syntax.specs.Tree.{ProcedureSource}
 use Rattle.ts_parser.specs.declared.fault.SourceFault.{SourceFault}
 use Rattle.ts_parser.specs.declared.fault.SourceFault.TheVariants as text
 use Rattle.proc_names.specs.declared.fault.ProcFault.{ProcFault}
-use Rattle.proc_names.specs.declared.fault.ProcFault.TheVariants.{BadByte, BigLiteral, Unexpected, TooDeep, NoProc, Params, Again, Reserved, TooLarge, TooNested, NoMemory}
+use Rattle.proc_names.specs.declared.fault.ProcFault.TheVariants.{BadByte, BigLiteral, Unexpected, TooDeep, NoProc, Params, Again, Reserved}
+use Rattle.proc_names.specs.declared.fault.ProcFault.TheVariants.{TooLarge, TooNested, NoMemory}
 use Rattle.proc_names.specs.declared.named.PScript.{PScript}
 use Rattle.proc_names.specs.Named.{written_of}
 use Rattle.proc_names.specs.NameFaults.{name_fault}

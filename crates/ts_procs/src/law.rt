@@ -11,6 +11,7 @@ ghost use Rattle.ts_procs.specs.Reading.{Reads};
 /// want of memory.
 pub fn reading_law()
     ensures one_script { (bytes : List ℕ) (a b : PScript) → Reads bytes (Ok a) → Reads bytes (Ok b) → written_of a ≡ written_of b }
-    ensures one_refusal { (bytes : List ℕ) (f g : ProcFault) → Reads bytes (Err f) → Reads bytes (Err g) → (f ≡ NoMemory → ⊥) → (g ≡ NoMemory → ⊥) → f ≡ g }
+    ensures one_refusal { (bytes : List ℕ) (f g : ProcFault) → Reads bytes (Err f) → Reads bytes (Err g) → (f ≡ NoMemory → ⊥)
+        → (g ≡ NoMemory → ⊥) → f ≡ g }
     ensures not_both { (bytes : List ℕ) (a : PScript) (f : ProcFault) → Reads bytes (Ok a) → Reads bytes (Err f) → (f ≡ NoMemory → ⊥) → ⊥ }
 {}

@@ -1,5 +1,6 @@
 -- The names of a script: what declarations make of them, and what a name stands for where it is used.
-use Rattle.std.specs.Prelude.{ℕ, ◌+◌, nat_lt, Bool, true, false, if◌then◌else◌, List, [], ◌∷◌, ◌++◌, Option, Some, None, is_none, ok_or, position, count_by, Result, Ok, Err, bytes_eq, ⊤}
+use Rattle.std.specs.Prelude.{ℕ, ◌+◌, nat_lt, Bool, true, false, if◌then◌else◌, List, [], ◌∷◌, ◌++◌, Option, Some, None, is_none, ok_or}
+use Rattle.std.specs.Prelude.{position, count_by, Result, Ok, Err, bytes_eq, ⊤}
 use Rattle.mate_num.specs.declared.id.FunId.{FunId}
 use Rattle.mate_num.specs.declared.id.BufId.{BufId}
 use Rattle.vm_desc.specs.declared.description.Description.{Description}

@@ -96,7 +96,8 @@ fn function_among(functions: &[Function], name: &Name) -> Option<(FunId, FunKind
 impl<'a> Scope<'a> {
     ghost use Rattle.std.specs.Prelude.{Ok, Err, MatchResult, OnOk};
     ghost use Rattle.ts_scope.specs.Room.{IsFit};
-    ghost use Rattle.ts_scope.specs.Names.{names_before, private_count, made, declare, declare_all, found_symbol, variable, buffer, function, closes_for};
+    ghost use Rattle.ts_scope.specs.Names.{names_before, private_count, made, declare, declare_all, found_symbol, variable, buffer};
+    ghost use Rattle.ts_scope.specs.Names.{function, closes_for};
     ghost use Rattle.ts_scope.specs.Seen.{scope_names};
 
     /// The names that the declarations make known, from left to right, or the first refusal of them. It takes no memory.

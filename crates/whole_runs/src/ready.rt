@@ -71,7 +71,8 @@ impl<'a> ReadyProgram<'a> {
 
     /// Whether one of the two writes what the other reads or writes.
     pub fn conflicts(&self, other: &ReadyProgram) -> bool
-        ensures { Decides result (Conflicts (uses_of self.now.code.shape self.now.code.code) (uses_of other.now.code.shape other.now.code.code)) }
+        ensures { Decides result (Conflicts (uses_of self.now.code.shape self.now.code.code)
+            (uses_of other.now.code.shape other.now.code.code)) }
     {
         !self.locks.compatible(&other.locks)
     }

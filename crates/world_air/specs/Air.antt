@@ -44,7 +44,16 @@ aired_at at node a = record { stamp = at; node = node; air = a }
 
 -- the radio of this world, where these nodes sent so far, in order; the script has what a radio reads of a world
 abbrev pub air_script : World → Script
-air_script w = record { nodes = w.nodes; random = w.random; until = w.until; suppress = w.suppress; links = w.links; series = []; events = []; files = [] }
+air_script w = record {
+  nodes = w.nodes;
+  random = w.random;
+  until = w.until;
+  suppress = w.suppress;
+  links = w.links;
+  series = [];
+  events = [];
+  files = [];
+}
 
 pub record IsAirOf (w : World) (senders : List ℕ) (e : Ether) : Type 0 where
   pub stands : IsEtherOf (air_script w) senders e
@@ -82,7 +91,8 @@ deliveries_of_all w node time xs = flat_map (deliveries w node time) xs
 -- In this event the node sent these packets, in their order: they are recorded with what links lose of them, and are
 -- delivered, as the rules say.
 pub record SendsAll (w : World) (node : ℕ) (at : Stamp) (senders : List ℕ) (packets : List Packet) (old new : Ether) : Type 0 where
-  pub grows : EtherGrows old new (map (aired_at at node) (air_of_all w node (sendings_next node senders packets))) (timed_events w (deliveries_of_all w node at.time (sendings_next node senders packets)))
+  pub grows : EtherGrows old new (map (aired_at at node) (air_of_all w node (sendings_next node senders packets)))
+      (timed_events w (deliveries_of_all w node at.time (sendings_next node senders packets)))
   pub stands : IsAirOf w (senders ++ map (λ (p : Packet). node) packets) new
   pub fit : AreFitPackets w packets
 

@@ -38,4 +38,5 @@ first_periods node i (h ∷ hs) = period_item node (record { 0 = i }) h.kind ++ 
 -- the point and the end of a node's first interval, and its first periods
 abbrev pub first_items : Description → ℕ → Timer → List (Timed Event)
 first_items d node t =
-    record { time = t.running.point; item = radio.Fire node } ∷ record { time = t.running.begin + t.running.length; item = radio.Expire node } ∷ [] ++ first_periods node 0 d.handlers.items
+    record { time = t.running.point; item = radio.Fire node }
+    ∷ record { time = t.running.begin + t.running.length; item = radio.Expire node } ∷ [] ++ first_periods node 0 d.handlers.items

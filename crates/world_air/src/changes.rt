@@ -33,7 +33,10 @@ pub fn cancel(radio: &mut Radio, node: u8, ends: Ends)
 
 /// Cancels, or does nothing.
 fn cancel_if(radio: &mut Radio, ends: bool, which: Cancel)
-    ensures { radio.new ≡ record radio.old { agenda = record radio.old.agenda { items = left_items ends (cancel_number which) radio.old.agenda.items } } }
+    ensures { radio.new ≡ record radio.old {
+      agenda = record radio.old.agenda
+          { items = left_items ends (cancel_number which) radio.old.agenda.items };
+    } }
 {
     if ends {
         radio.cancel(which);
@@ -95,7 +98,8 @@ pub fn schedule(radio: &mut Radio, time: u32, event: Event) -> Result<(), NoMemo
 pub fn schedule_interval(radio: &mut Radio, node: u8, point: u32, end: u32) -> Result<(), NoMemory>
     requires point { radio.old.agenda.now ≤ point }
     requires end { radio.old.agenda.now ≤ end }
-    ensures { OnOk result (AddsToAir radio.old radio.new [] (record { time = point; item = radio_event.Fire node } ∷ record { time = end; item = radio_event.Expire node } ∷ [])) }
+    ensures { OnOk result (AddsToAir radio.old radio.new [] (record { time = point; item = radio_event.Fire node }
+        ∷ record { time = end; item = radio_event.Expire node } ∷ [])) }
 {
     schedule(radio, point, Event::Fire { node })?;
     schedule(radio, end, Event::Expire { node })?;

@@ -33,7 +33,8 @@ pub fn send(
     requires hour { at.time ≤ 3600000 }
     requires few { length radio.old.air < 4000000000 }
     requires right { IsRight (length desc.now.handlers.items) packet.now }
-    ensures sends { OnOk result ((w : World) (senders : List ℕ) → w.description ≡ desc.now → IsAirOf w senders radio.old → SendsAll w node at senders (packet.now ∷ []) radio.old radio.new) }
+    ensures sends { OnOk result ((w : World) (senders : List ℕ) → w.description ≡ desc.now → IsAirOf w senders radio.old
+        → SendsAll w node at senders (packet.now ∷ []) radio.old radio.new) }
     ensures steady { OnOk result (IsSteady node 1 radio.old radio.new) }
 {
     let bytes = encode(desc, packet);
@@ -53,7 +54,8 @@ pub fn send_all(
     requires hour { at.time ≤ 3600000 }
     requires few { air_room radio.old node (length packets.now) < 4000000000 }
     requires right { All (IsRight (length desc.now.handlers.items)) packets.now }
-    ensures sends { OnOk result ((w : World) (senders : List ℕ) → w.description ≡ desc.now → IsAirOf w senders radio.old → SendsAll w node at senders packets.now radio.old radio.new) }
+    ensures sends { OnOk result ((w : World) (senders : List ℕ) → w.description ≡ desc.now → IsAirOf w senders radio.old
+        → SendsAll w node at senders packets.now radio.old radio.new) }
     ensures steady { OnOk result (IsSteady node (length packets.now) radio.old radio.new) }
 {
     for packet in packets {
@@ -127,7 +129,8 @@ fn message_of(desc: &Description, entry: &Entry) -> Option<Packet>
 
 /// The message of a call of the function with these values.
 fn message_by(desc: &Description, fun: FunId, args: &Payload) -> Option<Packet>
-    ensures value { (w : World) → w.description ≡ desc.now → result ≡ (if is_send_kind (called_kind w fun) then Some (App args.now) else None) }
+    ensures value { (w : World) → w.description ≡ desc.now
+        → result ≡ (if is_send_kind (called_kind w fun) then Some (App args.now) else None) }
     ensures right { (n : ℕ) (p : SentPacket) → result ≡ Some p → IsRight n p }
 {
     match kind_in(desc, fun) {

@@ -36,7 +36,8 @@ pub fn begin_node(
     timer: &Trickle,
 ) -> Result<(), NoMemory>
     requires { radio.old.agenda.now ≡ 0 }
-    ensures { OnOk result (AddsToAir radio.old radio.new (aired_at beginning node (air.Interval timer.now.running.length) ∷ []) (first_items desc.now node timer.now)) }
+    ensures { OnOk result (AddsToAir radio.old radio.new (aired_at beginning node (air.Interval timer.now.running.length)
+        ∷ []) (first_items desc.now node timer.now)) }
 {
     note_interval(radio, node, BEGINNING, Some(timer.length()))?;
     schedule_interval(radio, node, timer.point(), timer.begin() + timer.length())?;

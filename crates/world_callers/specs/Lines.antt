@@ -14,7 +14,17 @@ use Rattle.world_lines.specs.WorldLines.{WorldProgress}
 abbrev pub linked_world : WorldProgress
 linked_world = record {
   stage = Settings;
-  world = record { nodes = 3; random = 0; until = 9; suppress = true; links = record { from = 0; to = 1; loss = 0 } ∷ []; series = []; events = []; files = [] };
+  world = record {
+    nodes = 3;
+    random = 0;
+    until = 9;
+    suppress = true;
+    links = record { from = 0; to = 1; loss = 0 }
+        ∷ [];
+    series = [];
+    events = [];
+    files = [];
+  };
   time = 5;
   newest = replicate 8 0;
 }

@@ -25,7 +25,8 @@ pub fn a_sensor_sends_nothing(
     requires ahead { radio.old.agenda.now ≤ at.time }
     requires hour { at.time ≤ 3600000 }
     requires few { air_room radio.old node 1 < 4000000000 }
-    ensures { OnOk result ((w : World) (senders : List ℕ) (log : Log) → w.description ≡ desc.now → IsAirOf w senders radio.old → called_kind w fun ≡ kind.Sense → radio.new.air ≡ radio.old.air) }
+    ensures { OnOk result ((w : World) (senders : List ℕ) (log : Log) → w.description ≡ desc.now → IsAirOf w senders radio.old
+        → called_kind w fun ≡ kind.Sense → radio.new.air ≡ radio.old.air) }
 {
     let asked = Stamped {
         stamp: at,

@@ -25,11 +25,14 @@ pub fn a_call_is_answered_by_its_kind(
     requires fun { fun.0 < length desc.now.functions.items }
     requires counts { length calls.old.counts.items ≡ length desc.now.functions.items }
     requires hour { now ≤ 3600000 }
-    ensures clock { (w : World) (called : List FunName) → HasSensors w desc.now series.now → AreCallsOf w node called calls.old → called_kind w fun ≡ kind.Clock
+    ensures clock { (w : World) (called : List FunName) → HasSensors w desc.now series.now → AreCallsOf w node called calls.old
+        → called_kind w fun ≡ kind.Clock
         → result.value ≡ pos (result.time / 1000 % 32768) }
-    ensures random { (w : World) (called : List FunName) → HasSensors w desc.now series.now → AreCallsOf w node called calls.old → called_kind w fun ≡ kind.Rand
+    ensures random { (w : World) (called : List FunName) → HasSensors w desc.now series.now → AreCallsOf w node called calls.old
+        → called_kind w fun ≡ kind.Rand
         → result.value ≡ pos (stream_word w (node + (node + 1)) (words_taken w called) % 32768) }
-    ensures sensor { (w : World) (called : List FunName) → HasSensors w desc.now series.now → AreCallsOf w node called calls.old → called_kind w fun ≡ kind.Sense
+    ensures sensor { (w : World) (called : List FunName) → HasSensors w desc.now series.now → AreCallsOf w node called calls.old
+        → called_kind w fun ≡ kind.Sense
         → result.value ≡ series_value (w.series node fun.0) (count_by (λ g. g.0 == fun.0) called) }
 {
     calls.answer(desc, series, node, fun, now)

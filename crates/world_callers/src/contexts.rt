@@ -16,7 +16,8 @@ use std::alloc::Global;
 /// The value that comes is the one that is pushed.
 pub fn an_answer_is_pushed(contexts: &mut Contexts, handlers: &Handlers, ctx: ContextId)
     requires { CanAnswer (held_at handlers.now.programs) contexts.old ctx }
-    ensures { (before after : Sitting) → (at contexts.old ctx).seat ≡ Some before → (at contexts.new ctx).seat ≡ Some after → after.machine ≡ push (pos 7) before.machine }
+    ensures { (before after : Sitting) → (at contexts.old ctx).seat ≡ Some before → (at contexts.new ctx).seat ≡ Some after
+        → after.machine ≡ push (pos 7) before.machine }
 {
     answer(contexts, handlers, ctx, 7);
 }
@@ -35,7 +36,8 @@ pub fn a_posted_invocation_waits_for_its_locks(
     alloc: Global,
     seat: Seat,
 ) -> Result<Contexts, NoMemory>
-    ensures { IfOk result (λ contexts. IsSomeAnd (at contexts (record { 0 = 3 })).waits (λ set. IsTrue ((lock_uses set).writes (Shared (record { 0 = 0 }))))) }
+    ensures { IfOk result (λ contexts. IsSomeAnd (at contexts (record { 0 = 3 })).waits
+        (λ set. IsTrue ((lock_uses set).writes (Shared (record { 0 = 0 }))))) }
 {
     let mut contexts = Contexts::new(alloc)?;
     let set = LockSet::empty().with_write(Resource::Shared(VarId(0)));

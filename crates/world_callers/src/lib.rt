@@ -1,4 +1,5 @@
-//! Callers of the parts of a world's run, and of what is read and made for one: each is named for what a body that gives another value would break.
+//! Callers of the parts of a world's run, and of what is read and made for one: each is named for what a body that gives another value
+//! would break.
 #![tactic(auto)]
 
 pub mod air;

@@ -15,7 +15,8 @@ pub fn an_injection_comes_before_a_post(
     desc: &Description,
 ) -> Result<Generated, NoMemory>
     requires { length desc.now.handlers.items ≡ 1 }
-    ensures { IfOk result (λ made. slice_get made.world.events 151 ≡ Some (record { time = 300000; node = 6; what = what.Post (record { 0 = 0 }) (record { items = pos 50 ∷ [] }) })) }
+    ensures { IfOk result (λ made. slice_get made.world.events 151
+        ≡ Some (record { time = 300000; node = 6; what = what.Post (record { 0 = 0 }) (record { items = pos 50 ∷ [] }) })) }
 {
     generate(alloc, desc, 0)
 }
@@ -25,7 +26,8 @@ pub fn a_second_injection_has_version_2(
     desc: &Description,
 ) -> Result<Generated, NoMemory>
     requires { length desc.now.handlers.items ≡ 1 }
-    ensures { IfOk result (λ made. slice_get made.world.events 150 ≡ Some (record { time = 300000; node = 3; what = what.Inject 1 (record { 0 = 0 }) 2 })) }
+    ensures { IfOk result (λ made. slice_get made.world.events 150
+        ≡ Some (record { time = 300000; node = 3; what = what.Inject 1 (record { 0 = 0 }) 2 })) }
 {
     generate(alloc, desc, 0)
 }

@@ -15,7 +15,8 @@ use packet_codec::Packet;
 use world_step::{Effect, Mote};
 
 pub fn a_silent_point_sends_nothing(mote: &mut Mote, suppress: bool) -> Effect
-    ensures { (n : ℕ) (hs : List Happening) → mote.old.exchange ≡ knowledge n hs → at_point mote.old.timer.set mote.old.timer.running suppress ≡ Keep → result.sends.items ≡ [] }
+    ensures { (n : ℕ) (hs : List Happening) → mote.old.exchange ≡ knowledge n hs
+        → at_point mote.old.timer.set mote.old.timer.running suppress ≡ Keep → result.sends.items ≡ [] }
 {
     let mut effect = Effect::none();
     mote.fire(suppress, &mut effect);
@@ -26,7 +27,8 @@ pub fn a_consistent_vector_counts(mote: &mut Mote, packet: &Packet, at: Stamp) -
     requires right { IsRight (length mote.old.exchange.handlers) packet.now }
     requires hour { at.time ≤ 3600000 }
     requires within { mote.old.timer.running.begin ≤ at.time }
-    ensures { (n : ℕ) (hs : List Happening) (versions : ArrayVec ℕ) → mote.old.exchange ≡ knowledge n hs → packet.now ≡ Vector versions → versions.items ≡ held_versions n hs
+    ensures { (n : ℕ) (hs : List Happening) (versions : ArrayVec ℕ) → mote.old.exchange ≡ knowledge n hs → packet.now ≡ Vector versions
+        → versions.items ≡ held_versions n hs
         → mote.new.timer ≡ timed mote.old.timer at.time Consistent }
 {
     let mut effect = Effect::none();

@@ -37,7 +37,8 @@ pub fn the_newest_version_is_kept(alloc: Global, desc: &Description) -> Result<W
 
 /// Values go to the series of their sensor, and not to the first one.
 pub fn values_go_to_their_series(alloc: Global, desc: &Description) -> Result<World, ScriptFault>
-    ensures { (f g : Called) → desc.now.functions.items ≡ f ∷ g ∷ [] → f.name ≡ codes "f" → g.name ≡ codes "g" → f.kind ≡ Sense → g.kind ≡ Sense
+    ensures { (f g : Called) → desc.now.functions.items ≡ f ∷ g ∷ [] → f.name ≡ codes "f" → g.name ≡ codes "g" → f.kind ≡ Sense
+        → g.kind ≡ Sense
         → IfOk result (λ world. series_in world.series 0 1 ≡ pos 2 ∷ pos 3 ∷ []) }
 {
     world_script(

@@ -55,8 +55,10 @@ impl Calls {
         requires fun { fun.0 < length desc.now.functions.items }
         requires counts { length self.old.counts.items ≡ length desc.now.functions.items }
         requires hour { now ≤ 3600000 }
-        ensures value { (w : World) (called : List FunName) → HasSensors w desc.now series.now → AreCallsOf w node called self.old → result ≡ call_answer w node called fun now }
-        ensures calls { (w : World) (called : List FunName) → HasSensors w desc.now series.now → AreCallsOf w node called self.old → AreCallsOf w node (called ++ fun ∷ []) self.new }
+        ensures value { (w : World) (called : List FunName) → HasSensors w desc.now series.now → AreCallsOf w node called self.old
+            → result ≡ call_answer w node called fun now }
+        ensures calls { (w : World) (called : List FunName) → HasSensors w desc.now series.now → AreCallsOf w node called self.old
+            → AreCallsOf w node (called ++ fun ∷ []) self.new }
         ensures counts { length self.new.counts.items ≡ length self.old.counts.items }
         ensures later { now ≤ result.time }
     {
@@ -77,7 +79,8 @@ impl Calls {
         place: u64,
         time: u32,
     ) -> i16
-        ensures value { (n : ℕ) → place ≡ min n u64.MAX → result ≡ value_by (series_in series.now node fun.0) n node (pcg32 self.old.words).0 time kind }
+        ensures value { (n : ℕ) → place ≡ min n u64.MAX
+            → result ≡ value_by (series_in series.now node fun.0) n node (pcg32 self.old.words).0 time kind }
         ensures words { self.new ≡ record self.old { words = words_past kind self.old.words } }
     {
         match kind {
@@ -94,7 +97,11 @@ impl Calls {
     fn count(&mut self, fun: FunId) -> u64
         requires { fun.0 < length self.old.counts.items }
         ensures before { result ≡ slice_index self.old.counts.items fun.0 }
-        ensures after { self.new ≡ record self.old { counts = record { items = slice_set self.old.counts.items fun.0 (min (slice_index self.old.counts.items fun.0 + 1) u64.MAX) } } }
+        ensures after { self.new ≡ record self.old {
+          counts = record {
+            items = slice_set self.old.counts.items fun.0 (min (slice_index self.old.counts.items fun.0 + 1) u64.MAX);
+          };
+        } }
     {
         let count = &mut self.counts.as_mut_slice()[usize::from(fun.0)];
         let before = *count;

@@ -9,7 +9,8 @@ use Rattle.event_queue.specs.Agenda.{due_at}
 use Rattle.radio_sim.specs.Radio.{Ether}
 use Rattle.world_rules.specs.World.{World, handlers}
 use Rattle.world_rules.specs.Effect.{event_node}
-use Rattle.world_rules.specs.State.{Moment, WorldState, node_at, effect_at, air_made, messages, timer_after, still_pumps, node_after, after_moment}
+use Rattle.world_rules.specs.State.{Moment, WorldState, node_at, effect_at, air_made, messages, timer_after, still_pumps, node_after}
+use Rattle.world_rules.specs.State.{after_moment}
 use Rattle.world_air.specs.Air.{radio_event, aired_at, IsAirOf, AreFitPackets}
 use Rattle.world_air.specs.Changes.{AreNear}
 use Rattle.world_calls.specs.Calls.{AreCallsOf}

@@ -38,7 +38,8 @@ abbrev pub coming : ℕ → Cause → Moment
 coming time c = record { time = time; cause = c; told = []; pace = no_pace }
 
 -- the event is the next that is due behind these events, it was taken from the radio, and it has room
-pub record MayPerform (w : World) (ms : List Moment) (c : Cause) (number : ℕ) (event : Event) (at : Stamp) (e : Ether) (x : Mote) : Type 0 where
+pub record MayPerform (w : World) (ms : List Moment) (c : Cause) (number : ℕ) (event : Event) (at : Stamp) (e : Ether) (x : Mote) : Type
+    0 where
   pub come : HaveCome w ms
   pub next : IsNext (state w ms) at.time c
   pub in_time : at.time ≤ w.until
@@ -52,7 +53,8 @@ pub record MayPerform (w : World) (ms : List Moment) (c : Cause) (number : ℕ) 
   pub mote : IsMoteAfter w ms number x
 
 -- the event came: the radio and its node are those after it, and nothing is forgotten
-pub record Performed (w : World) (ms : List Moment) (c : Cause) (number : ℕ) (at : Stamp) (old new : Ether) (before after : Mote) : Type 0 where
+pub record Performed (w : World) (ms : List Moment) (c : Cause) (number : ℕ) (at : Stamp) (old new : Ether) (before after : Mote) : Type
+    0 where
   pub moment : Moment
   pub time : moment.time ≡ at.time
   pub cause : moment.cause ≡ c

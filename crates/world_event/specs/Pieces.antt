@@ -18,7 +18,8 @@ length_of true t = Some t.running.length
 -- its point and its end
 abbrev pub interval_items : Bool → ℕ → Timer → List (Timed Event)
 interval_items false node t = []
-interval_items true node t = record { time = t.running.point; item = radio.Fire node } ∷ record { time = t.running.begin + t.running.length; item = radio.Expire node } ∷ []
+interval_items true node t = record { time = t.running.point; item = radio.Fire node }
+    ∷ record { time = t.running.begin + t.running.length; item = radio.Expire node } ∷ []
 
 -- the period of a handler, if it is a timer's
 abbrev pub handler_period : Description → HandlerId → Option ℕ

@@ -33,9 +33,11 @@ pub fn perform(
     effect: &mut Effect,
 ) -> Result<(), NoMemory>
     requires right { AreProgramsOfWorld desc.now world.now programs.now }
-    requires may { (ms : List Moment) × (c : Cause) × MayPerform (code_world desc.now world.now programs.now) ms c number event.now at radio.old mote.old }
+    requires may { (ms : List Moment) × (c : Cause)
+        × MayPerform (code_world desc.now world.now programs.now) ms c number event.now at radio.old mote.old }
     requires plain { effect.old ≡ plain_effect }
-    ensures performed { OnOk result ((ms : List Moment) (c : Cause) → MayPerform (code_world desc.now world.now programs.now) ms c number event.now at radio.old mote.old
+    ensures performed { OnOk result ((ms : List Moment) (c : Cause)
+        → MayPerform (code_world desc.now world.now programs.now) ms c number event.now at radio.old mote.old
         → Performed (code_world desc.now world.now programs.now) ms c number at radio.old radio.new mote.old mote.new) }
     ensures plain { OnOk result (effect.new ≡ plain_effect) }
 {

@@ -44,9 +44,12 @@ pub fn finish(
     requires right { All (IsRight (length desc.now.handlers.items)) effect.old.sends.items }
     requires interval { effect.old.begins ≡ true → at.time ≤ mote.old.timer.running.begin }
     requires counts { length mote.old.calls.counts.items ≡ length desc.now.functions.items }
-    ensures { OnOk result ((programs : List ProgramOfFile) (s : WorldState) (m : Moment) → m.time ≡ at.time → radio_event (code_world desc.now world.now programs) m.cause ≡ event.now
-        → event_node (code_world desc.now world.now programs) m.cause ≡ number → IsTakenFrom (code_world desc.now world.now programs) s m radio.old
-        → HasSettled (code_world desc.now world.now programs) s m from mote.old effect.old → IsFinished (code_world desc.now world.now programs) s m at radio.old radio.new mote.old mote.new) }
+    ensures { OnOk result ((programs : List ProgramOfFile) (s : WorldState) (m : Moment) → m.time ≡ at.time
+        → radio_event (code_world desc.now world.now programs) m.cause ≡ event.now
+        → event_node (code_world desc.now world.now programs) m.cause ≡ number
+        → IsTakenFrom (code_world desc.now world.now programs) s m radio.old
+        → HasSettled (code_world desc.now world.now programs) s m from mote.old effect.old
+        → IsFinished (code_world desc.now world.now programs) s m at radio.old radio.new mote.old mote.new) }
 {
     let begins = effect.begins;
     note_all(radio, number, at, effect.first.take(), begins, &mote.timer)?;

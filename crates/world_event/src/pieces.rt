@@ -29,7 +29,8 @@ pub(crate) fn note_all(
     begins: bool,
     timer: &Trickle,
 ) -> Result<(), NoMemory>
-    ensures { OnOk result (AddsToAir radio.old radio.new (map (aired_at at node) (option_to_list first) ++ map (aired_at at node) (if_begins (length_of begins timer.now))) []) }
+    ensures { OnOk result (AddsToAir radio.old radio.new (map (aired_at at node) (option_to_list first)
+        ++ map (aired_at at node) (if_begins (length_of begins timer.now))) []) }
 {
     note_first(radio, node, at, first)?;
     note_interval(radio, node, at, length_begun(begins, timer))?;
@@ -159,7 +160,8 @@ pub(crate) fn send_packets(
     requires few { air_room radio.old node (length packets.now + length entries.now) < 4000000000 }
     requires right { All (IsRight (length desc.now.handlers.items)) packets.now }
     ensures sends { OnOk result ((w : World) (senders : List ℕ) (l : Log) → w.description ≡ desc.now → IsAirOf w senders radio.old →
-        SendsAll w node at senders (packets.now ++ messages w (map (λ (e : StampedEntry). told_of l e.entry) entries.now)) radio.old radio.new) }
+        SendsAll w node at senders (packets.now ++ messages w (map (λ (e : StampedEntry). told_of l e.entry) entries.now)) radio.old
+        radio.new) }
     ensures now { OnOk result (radio.new.agenda.now ≡ radio.old.agenda.now) }
 {
     send_all(radio, desc, node, packets, at)?;

@@ -15,11 +15,13 @@ use journal_laws::{settling_leaves_waiting, settling_tells_few, waits_are_apart}
 use mate_num::{NoMemory, Stamp};
 use open_node::OpenNode;
 
-/// The node has turns until nobody is ready there, none where nobody is. They tell at most 32 entries, and what calls in them waits behind them.
+/// The node has turns until nobody is ready there, none where nobody is. They tell at most 32 entries, and what calls in them waits
+/// behind them.
 pub(crate) fn have_turns(node: &mut OpenNode, at: Stamp) -> Result<(), NoMemory>
     requires timely { IsTimely at node.old.log }
     requires paced { IsPaced node.old }
-    ensures tells { OnOk result (Tells node.old node.new at (Settles (clock_of node.old.description) (machine_in node.old.description) (heard_of node.old))) }
+    ensures tells { OnOk result (Tells node.old node.new at (Settles (clock_of node.old.description) (machine_in node.old.description)
+        (heard_of node.old))) }
     ensures few { OnOk result (length node.new.log.entries ≤ length node.old.log.entries + 32) }
     ensures apart { OnOk result (WaitApart (heard_of node.new)) }
     ensures awaited { OnOk result (AreAwaited (heard_of node.new) (told_from (length node.old.log.entries) node.new.log)) }

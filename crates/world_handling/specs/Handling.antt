@@ -97,7 +97,8 @@ pub record DoesEffect (w : World) (n : Node) (e : NodeEffect) (at : Stamp) (old 
 abbrev pub DoesBy : Stamp → (World → Node → NodeEffect) → Mote → Mote → Effect → Type 0
 DoesBy at effect old new r =
     (d : Description) (script : Script) (ps : List Program) (k : ℕ) (n : Node) → IsMoteOf (code_world d script ps) k n old
-    → TakesProgram (code_world d script ps) n (effect (code_world d script ps) n) → DoesEffect (code_world d script ps) n (effect (code_world d script ps) n) at old new r
+    → TakesProgram (code_world d script ps) n (effect (code_world d script ps) n)
+    → DoesEffect (code_world d script ps) n (effect (code_world d script ps) n) at old new r
 
 -- the node has a pace
 pub record IsPaced (v : NodeView) : Type 0 where

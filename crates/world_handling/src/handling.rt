@@ -18,7 +18,8 @@ ghost use Rattle.world_rules.specs.World.{want_of, is_receiver as receives};
 ghost use Rattle.world_air.specs.Air.{radio_event};
 ghost use Rattle.world_step.specs.Motes.{IsTellable, TellsAlone, plain_effect};
 ghost use Rattle.world_states.specs.Coming.{code_world, MayComeTo};
-ghost use Rattle.world_handling.specs.Handling.{IsMoteOf, IsFitEvent, IsOpenExchange, IsPaced, Handled, DoesBy, IsFragmentOf, receivers_below};
+ghost use Rattle.world_handling.specs.Handling.{IsMoteOf, IsFitEvent, IsOpenExchange, IsPaced, Handled, DoesBy, IsFragmentOf};
+ghost use Rattle.world_handling.specs.Handling.{receivers_below};
 
 use mate_journal::{Air, Programs};
 use mate_num::{HandlerId, NoMemory, PacketBytes, Payload, Stamp};
@@ -54,7 +55,8 @@ pub fn handle(
     requires within { mote.old.timer.running.begin ≤ at.time }
     requires plain { effect.old ≡ plain_effect }
     ensures handled { OnOk result ((k : ℕ) (n : NodeState) (c : Cause) → IsMoteOf (code_world desc.now world.now programs.now) k n mote.old
-        → radio_event (code_world desc.now world.now programs.now) c ≡ event.now → MayComeTo (code_world desc.now world.now programs.now) n at.time c
+        → radio_event (code_world desc.now world.now programs.now) c ≡ event.now
+        → MayComeTo (code_world desc.now world.now programs.now) n at.time c
         → Handled (code_world desc.now world.now programs.now) k n c at mote.old mote.new effect.new) }
     ensures right { OnOk result (All (IsRight (length desc.now.handlers.items)) effect.new.sends.items) }
 {
@@ -142,8 +144,10 @@ fn receive(
     requires hour { at.time ≤ 3600000 }
     requires within { mote.old.timer.running.begin ≤ at.time }
     requires plain { effect.old ≡ plain_effect }
-    ensures does { OnOk result ((packet : RadioPacket) → IsRight (length desc.now.handlers.items) packet → HasRanges packet → bytes.now.items ≡ packet_bytes desc.now.vm_id packet
-        → DoesBy at (λ w n. record (of_packet w n.exchange packet) { first = Got number link.now.from ∷ [] }) mote.old mote.new effect.new) }
+    ensures does { OnOk result ((packet : RadioPacket) → IsRight (length desc.now.handlers.items) packet → HasRanges packet
+        → bytes.now.items ≡ packet_bytes desc.now.vm_id packet
+        → DoesBy at (λ w n. record (of_packet w n.exchange packet) { first = Got number link.now.from ∷ [] }) mote.old mote.new
+        effect.new) }
     ensures right { OnOk result (All (IsRight (length desc.now.handlers.items)) effect.new.sends.items) }
 {
     let Ok(packet) = decode(desc, bytes.as_slice()) else {
@@ -234,7 +238,9 @@ fn post_received(
     requires tellable { IsTellable mote.old.node at }
     requires few { length mote.old.node.log.entries < 1000000000 }
     requires paced { IsPaced mote.old.node }
-    ensures { OnOk result (TellsAlone at (Pacing (Occasions (machine_in desc.now) payload.now (receivers_below desc.now (length desc.now.handlers.items)) (heard_of mote.old.node))) mote.old mote.new) }
+    ensures { OnOk result (TellsAlone at
+        (Pacing (Occasions (machine_in desc.now) payload.now (receivers_below desc.now (length desc.now.handlers.items))
+        (heard_of mote.old.node))) mote.old mote.new) }
 {
     for h in 0..desc.handlers.len() as u8 {
         if is_receiver(desc, HandlerId(h)) {

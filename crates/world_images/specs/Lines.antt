@@ -12,4 +12,5 @@ IsPlanTimely w = (i j : ℕ) (a b : PlannedLine) → slice_get w.plan i ≡ Some
 
 -- an event of a later line comes later
 abbrev pub LinesInOrder : World → Type 0
-LinesInOrder w = (before later : List Moment) (x y : Moment) (i j : ℕ) → HaveCome w (x ∷ (later ++ (y ∷ before))) → y.cause ≡ event.Planned i → x.cause ≡ event.Planned j → i < j
+LinesInOrder w = (before later : List Moment) (x y : Moment) (i j : ℕ) → HaveCome w (x ∷ (later ++ (y ∷ before)))
+    → y.cause ≡ event.Planned i → x.cause ≡ event.Planned j → i < j

@@ -23,4 +23,5 @@ abbrev pub IsNewest : World → Version → List Moment → Type 0
 IsNewest w v [] = Unit {0}
 IsNewest w v (m ∷ before) =
     IsNewest w v before
-    × ((p : HeldProgram) → (effect_at w (state w before) m).deed ≡ Installing p → p.handler.0 ≡ v.handler → (p.version ≤ v.version) × (p.version ≡ v.version → p.image.items ≡ v.image))
+    × ((p : HeldProgram) → (effect_at w (state w before) m).deed ≡ Installing p → p.handler.0 ≡ v.handler
+    → (p.version ≤ v.version) × (p.version ≡ v.version → p.image.items ≡ v.image))

@@ -29,11 +29,13 @@ pub record WasInjected (w : World) (ms : List Moment) (h version : ℕ) (image :
 
 -- the lines of a handler inject one image for a version
 abbrev pub IsOneImage : World → Type 0
-IsOneImage w = (i j : ℕ) (p q : HeldProgram) → InjectsAt w i p → InjectsAt w j q → p.handler.0 ≡ q.handler.0 → p.version ≡ q.version → p.image.items ≡ q.image.items
+IsOneImage w = (i j : ℕ) (p q : HeldProgram) → InjectsAt w i p → InjectsAt w j q → p.handler.0 ≡ q.handler.0 → p.version ≡ q.version
+    → p.image.items ≡ q.image.items
 
 -- the versions that lines inject for a handler rise
 abbrev pub AreVersionsRising : World → Type 0
-AreVersionsRising w = (i j : ℕ) (p q : HeldProgram) → InjectsAt w i p → InjectsAt w j q → p.handler.0 ≡ q.handler.0 → i < j → p.version < q.version
+AreVersionsRising w = (i j : ℕ) (p q : HeldProgram) → InjectsAt w i p → InjectsAt w j q → p.handler.0 ≡ q.handler.0 → i < j
+    → p.version < q.version
 
 -- they are from 1 on
 abbrev pub AreVersionsPositive : World → Type 0
@@ -41,11 +43,13 @@ AreVersionsPositive w = (i : ℕ) (p : HeldProgram) → InjectsAt w i p → 1 �
 
 -- each install is of a program that a line injected in the same or an earlier event
 abbrev pub InstallsInjected : World → Type 0
-InstallsInjected w = (m : Moment) (before : List Moment) (p : HeldProgram) → HaveCome w (m ∷ before) → (effect_at w (state w before) m).deed ≡ Installing p → WasInjected w (m ∷ before) p.handler.0 p.version p.image.items
+InstallsInjected w = (m : Moment) (before : List Moment) (p : HeldProgram) → HaveCome w (m ∷ before)
+    → (effect_at w (state w before) m).deed ≡ Installing p → WasInjected w (m ∷ before) p.handler.0 p.version p.image.items
 
 -- the lines that came inject nothing newer for the handler, and of this version only this image
 abbrev pub InjectsAtMost : World → Version → List Moment → Type 0
-InjectsAtMost w v ms = (newer older : List Moment) (x : Moment) (i : ℕ) (p : HeldProgram) → ms ≡ newer ++ x ∷ older → x.cause ≡ event.Planned i → InjectsAt w i p → p.handler.0 ≡ v.handler
+InjectsAtMost w v ms = (newer older : List Moment) (x : Moment) (i : ℕ) (p : HeldProgram) → ms ≡ newer ++ x ∷ older
+    → x.cause ≡ event.Planned i → InjectsAt w i p → p.handler.0 ≡ v.handler
     → (p.version ≤ v.version) × (p.version ≡ v.version → p.image.items ≡ v.image)
 
 -- then nothing newer was installed

@@ -3,7 +3,8 @@
 
 ghost use Rattle.world_rules.specs.World.{World};
 ghost use Rattle.world_images.specs.Held.{HeldAgrees};
-ghost use Rattle.world_images.specs.Installs.{HeldNeverFalls, HeldWasInstalled, InstallsAreNewer, InstallsAreTold, InstallsItsOwn, InstallsRise};
+ghost use Rattle.world_images.specs.Installs.{HeldNeverFalls, HeldWasInstalled, InstallsAreNewer, InstallsAreTold, InstallsItsOwn};
+ghost use Rattle.world_images.specs.Installs.{InstallsRise};
 ghost use Rattle.world_images.specs.Lines.{IsPlanTimely, LinesInOrder};
 ghost use Rattle.world_images.specs.Versions.{AreVersionsPositive, AreVersionsRising, InstallsAtMost, InstallsInjected, IsOneImage};
 

@@ -15,7 +15,8 @@ sent_by w s m = sendings w s (event_node w m.cause) (packets_of w s m)
 -- over each link that leaves the sender and doesn't lose it, a packet arrives then
 abbrev pub SentArrive : World → Type 0
 SentArrive w = (before later : List Moment) (m : Moment) (i k j : ℕ) (x : Sending) → HaveCome w (later ++ (m ∷ before))
-    → slice_get (sent_by w (state w before) m) i ≡ Some x → slice_get (links_from w (event_node w m.cause)) k ≡ Some j → is_lost w x j ≡ false
+    → slice_get (sent_by w (state w before) m) i ≡ Some x → slice_get (links_from w (event_node w m.cause)) k ≡ Some j
+    → is_lost w x j ≡ false
     → IsDone (state w (later ++ (m ∷ before))) (m.time + w.description.radio.delay)
     → HasEvent later (m.time + w.description.radio.delay) (event.Deliver j x.number x.packet)
 
@@ -35,4 +36,5 @@ pub record WasSent (w : World) (ms : List Moment) (time j number : ℕ) (packet 
 
 -- and each arrival is of such a packet
 abbrev pub ArrivalsWereSent : World → Type 0
-ArrivalsWereSent w = (before : List Moment) (x : Moment) (j number : ℕ) (packet : Packet) → HaveCome w (x ∷ before) → x.cause ≡ event.Deliver j number packet → WasSent w before x.time j number packet
+ArrivalsWereSent w = (before : List Moment) (x : Moment) (j number : ℕ) (packet : Packet) → HaveCome w (x ∷ before)
+    → x.cause ≡ event.Deliver j number packet → WasSent w before x.time j number packet

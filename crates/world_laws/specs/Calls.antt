@@ -19,9 +19,11 @@ answer_for w s m front n f =
 
 -- a call has its answer then, or an event before cuts its invocation
 abbrev pub CallsAreAnswered : World → Type 0
-CallsAreAnswered w = (before later : List Moment) (m : Moment) (front rest : List Told) (n : ℕ) (f : FunId) (args : ArrayVec ℤ) → HaveCome w (later ++ (m ∷ before))
+CallsAreAnswered w = (before later : List Moment) (m : Moment) (front rest : List Told) (n : ℕ) (f : FunId) (args : ArrayVec ℤ)
+    → HaveCome w (later ++ (m ∷ before))
     → m.told ≡ front ++ Asked n f args ∷ rest → IsDone (state w (later ++ (m ∷ before))) (m.time + latency_of w f)
-    → HasEvent later (m.time + latency_of w f) (answer_for w (state w before) m front n f) ⊎ IsCancelled w (m ∷ before) later (answer_for w (state w before) m front n f)
+    → HasEvent later (m.time + latency_of w f) (answer_for w (state w before) m front n f)
+    ⊎ IsCancelled w (m ∷ before) later (answer_for w (state w before) m front n f)
 
 -- where an answer comes from
 pub record WasCalled (w : World) (ms : List Moment) (x : Moment) : Type 0 where
@@ -40,4 +42,5 @@ pub record WasCalled (w : World) (ms : List Moment) (x : Moment) : Type 0 where
 
 -- and each answer is of such a call
 abbrev pub AnswersWereCalled : World → Type 0
-AnswersWereCalled w = (before : List Moment) (x : Moment) (node n : ℕ) (c : _) (value : ℤ) → HaveCome w (x ∷ before) → x.cause ≡ event.Due node c n value → WasCalled w before x
+AnswersWereCalled w = (before : List Moment) (x : Moment) (node n : ℕ) (c : _) (value : ℤ) → HaveCome w (x ∷ before)
+    → x.cause ≡ event.Due node c n value → WasCalled w before x

@@ -42,12 +42,14 @@ pub record IsCancelled (w : World) (before later : List Moment) (c : Cause) : Ty
   pub older : List Moment
   pub split : later ≡ newer ++ moment ∷ older
   pub cancels : is_kept (event_node w moment.cause) (effect_at w (state w (older ++ before)) moment)
-      (is_some_length (begun_length (node_at w (state w (older ++ before)) moment) (effect_at w (state w (older ++ before)) moment))) c ≡ false
+      (is_some_length (begun_length (node_at w (state w (older ++ before)) moment) (effect_at w (state w (older ++ before)) moment))) c
+      ≡ false
 
 -- what is due at a time that the run reached has its event at that time, or is cancelled
 abbrev pub EachComes : World → Type 0
 EachComes w = (before later : List Moment) (t : ℕ) (c : Cause) → HaveCome w (later ++ before) → IsDone (state w (later ++ before)) t
-    → (rest : List Cause) (front : List Cause) → (state w before).due t ≡ front ++ c ∷ rest → HasEvent later t c ⊎ IsCancelled w before later c
+    → (rest : List Cause) (front : List Cause) → (state w before).due t ≡ front ++ c ∷ rest
+    → HasEvent later t c ⊎ IsCancelled w before later c
 
 -- each multiple of a timer handler's period that the run reached has its event
 abbrev pub PeriodsCome : World → Type 0

@@ -1,4 +1,5 @@
--- What the journals of a whole run tell of what comes from outside the invocations: posts, answers, installs, resets, and stores that are seen.
+-- What the journals of a whole run tell of what comes from outside the invocations: posts, answers, installs, resets, and stores that
+-- are seen.
 use Rattle.std.specs.Prelude.{◌≡◌, ℕ, ◌==◌, if◌then◌else◌, List, [], ◌∷◌, ◌++◌, map, ℤ, Option, Some, None, All}
 use Rattle.std.specs.List.{filter_map}
 use Rattle.arrayvec.specs.ArrayVec.{ArrayVec}
@@ -45,12 +46,14 @@ given_by m Resetting = SeesItsStore ∷ GivesReset ∷ []
 
 -- an event's entries tell just that: nothing else is posted, answered, installed or reset, and nothing is refused
 abbrev pub EventsGiveTheirs : World → Type 0
-EventsGiveTheirs w = (before : List Moment) (m : Moment) → HaveCome w (m ∷ before) → filter_map given_in m.told ≡ given_by w.machine (effect_at w (state w before) m).deed
+EventsGiveTheirs w = (before : List Moment) (m : Moment) → HaveCome w (m ∷ before)
+    → filter_map given_in m.told ≡ given_by w.machine (effect_at w (state w before) m).deed
 
 -- what the events of a node gave it
 abbrev pub given_to : World → ℕ → List Moment → List Given
 given_to w k [] = []
-given_to w k (m ∷ before) = given_to w k before ++ (if k == event_node w m.cause then given_by w.machine (effect_at w (state w before) m).deed else [])
+given_to w k (m ∷ before) = given_to w k before ++ (if k == event_node w m.cause
+    then given_by w.machine (effect_at w (state w before) m).deed else [])
 
 -- and so does the journal of each node
 abbrev pub JournalsTellWhatCame : World → Type 0
@@ -78,7 +81,8 @@ payload_given Showing = record { items = [] }
 payload_given Resetting = record { items = [] }
 
 abbrev pub PostsHaveTheirPayload : World → Type 0
-PostsHaveTheirPayload w = (before : List Moment) (m : Moment) → HaveCome w (m ∷ before) → All (HasPayload (payload_given (effect_at w (state w before) m).deed)) m.told
+PostsHaveTheirPayload w = (before : List Moment) (m : Moment) → HaveCome w (m ∷ before)
+    → All (HasPayload (payload_given (effect_at w (state w before) m).deed)) m.told
 
 -- the calls by whose places answers are chosen are all calls that the node's journal tells
 abbrev pub CalledAreTold : World → Type 0

@@ -7,4 +7,5 @@ use Rattle.world_rules.specs.Run.{journal}
 
 -- the readings of the definitions are those of the journals
 abbrev pub ReadsJournals : World → Type 0
-ReadsJournals w = (k : ℕ) (ms : List Moment) → ((state w ms).nodes k).reading ≡ heard_all w.machine (nothing_heard w.machine) (journal w k ms)
+ReadsJournals w = (k : ℕ) (ms : List Moment) → ((state w ms).nodes k).reading
+    ≡ heard_all w.machine (nothing_heard w.machine) (journal w k ms)

@@ -44,4 +44,5 @@ pub record Fires (i : ℕ) (by : ℕ) (later : List Moment) : Type 0 where
 -- whenever: a node that isn't reset comes to a point within twice the longest interval
 abbrev pub FiresInTime : World → Type 0
 FiresInTime w = (i time : ℕ) (before later : List Moment) → i < w.nodes → HaveCome w (later ++ before) → last_time before ≤ time
-    → NeverResets w i before later → IsDone (state w (later ++ before)) (time + 2 * longest w.description.trickle) → Fires i (time + 2 * longest w.description.trickle) later
+    → NeverResets w i before later → IsDone (state w (later ++ before)) (time + 2 * longest w.description.trickle)
+    → Fires i (time + 2 * longest w.description.trickle) later

@@ -14,7 +14,8 @@ timed_happening time (Some e) = record { event = e; time = time } ∷ []
 -- all that happened to a node's timer, in order
 abbrev pub timer_happenings : World → ℕ → List Moment → List trickle.Happening
 timer_happenings w k [] = []
-timer_happenings w k (m ∷ before) = timer_happenings w k before ++ (if k == event_node w m.cause then timed_happening m.time (effect_at w (state w before) m).timer else [])
+timer_happenings w k (m ∷ before) = timer_happenings w k before
+    ++ (if k == event_node w m.cause then timed_happening m.time (effect_at w (state w before) m).timer else [])
 
 abbrev pub timer_start : World → ℕ → trickle.Start
 timer_start w k = record { set = w.description.trickle; random = w.random; node = k; time = 0 }
@@ -24,4 +25,6 @@ TimersStand w = (k : ℕ) (ms : List Moment) → IsTimerOf (timer_start w k) (ti
 
 -- what a node's point does is what the rule says of all that happened
 abbrev pub PointsDecide : World → Type 0
-PointsDecide w = (k : ℕ) (ms : List Moment) → Decides ((state w ms).nodes k).timer w.suppress (trickle.at_point ((state w ms).nodes k).timer.set ((state w ms).nodes k).timer.running w.suppress)
+PointsDecide w = (k : ℕ) (ms : List Moment)
+    → Decides ((state w ms).nodes k).timer w.suppress (trickle.at_point ((state w ms).nodes k).timer.set
+    ((state w ms).nodes k).timer.running w.suppress)

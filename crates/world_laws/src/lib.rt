@@ -1,4 +1,5 @@
-//! What follows from the rules of a world: of causes and their order, calls and answers, packets, intervals, journals, and what comes from outside.
+//! What follows from the rules of a world: of causes and their order, calls and answers, packets, intervals, journals, and what comes
+//! from outside.
 #![tactic(auto)]
 
 ghost use Rattle.world_rules.specs.World.{World};

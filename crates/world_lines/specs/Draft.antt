@@ -1,5 +1,6 @@
 -- What was read of a world's script, and what is right of it and of a line: this follows the code.
-use Rattle.std.specs.Prelude.{◌≡◌, ℕ, ◌+◌, ◌*◌, ◌<◌, ◌≤◌, ◌==◌, ◌&&◌, Bool, true, false, if◌then◌else◌, List, [], ◌∷◌, length, slice_index, slice_index_or, All, Option, option_map, Result, Ok, Err, ⊤}
+use Rattle.std.specs.Prelude.{◌≡◌, ℕ, ◌+◌, ◌*◌, ◌<◌, ◌≤◌, ◌==◌, ◌&&◌, Bool, true, false, if◌then◌else◌, List, [], ◌∷◌, length, slice_index}
+use Rattle.std.specs.Prelude.{slice_index_or, All, Option, option_map, Result, Ok, Err, ⊤}
 use Rattle.std.specs.List.{AllPairs}
 use Rattle.vm_desc.specs.declared.description.Description.{Description}
 use Rattle.world_script.specs.declared.world.World.{World}
@@ -15,7 +16,8 @@ use Rattle.world_lines.specs.declared.refusal.Refusal.TheVariants as refusal
 use Rattle.world_lines.specs.declared.command.Command.{Command}
 use Rattle.world_lines.specs.declared.command.Command.TheVariants as command
 use Rattle.world_lines.specs.declared.draft.Draft.{Draft}
-use Rattle.world_lines.specs.WorldLines.{WorldSaid, SaysNodes, SaysRandom, SaysUntil, SaysSuppress, SaysLink, SaysSeries, SaysPlanned, WorldProgress, is_free, is_linked}
+use Rattle.world_lines.specs.WorldLines.{WorldSaid, SaysNodes, SaysRandom, SaysUntil, SaysSuppress, SaysLink, SaysSeries, SaysPlanned}
+use Rattle.world_lines.specs.WorldLines.{WorldProgress, is_free, is_linked}
 
 -- what a function returned, seen by view, and the words that it left are what the reading gives, where memory was not refused
 abbrev pub ReadsWithMemory : {X Y : Type 0} → (X → Y) → Reading Y → List (List ℕ) → Result X Refusal → List (List ℕ) → Type 0
@@ -81,7 +83,8 @@ IsRightWorldSaid d p (SaysNodes nodes) = (1 ≤ nodes) × (nodes ≤ 64) × (p.s
 IsRightWorldSaid d p (SaysRandom random) = p.stage ≡ stage.Random
 IsRightWorldSaid d p (SaysUntil until) = (1 ≤ until) × (until ≤ 3600000) × (p.stage ≡ stage.Until)
 IsRightWorldSaid d p (SaysSuppress on) = Unit {0}
-IsRightWorldSaid d p (SaysLink link both) = IsRightLink p.world.nodes link × (is_free p.world.links both link.from link.to ≡ true) × (p.stage ≡ stage.Settings)
+IsRightWorldSaid d p (SaysLink link both) = IsRightLink p.world.nodes link × (is_free p.world.links both link.from link.to ≡ true)
+    × (p.stage ≡ stage.Settings)
 IsRightWorldSaid d p (SaysSeries series) = IsRightSeries d p.world.nodes series × (p.stage ≡ stage.Settings)
 IsRightWorldSaid d p (SaysPlanned e file) = IsRightEvent d p e file
 

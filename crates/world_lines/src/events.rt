@@ -24,7 +24,8 @@ impl Draft {
     ) -> Result<Command<'a>, Cause>
         requires keeps { KeepsWorld desc.now (world_progress_of self.now) }
         requires files { length self.now.world.files < 2 ^ 32 }
-        ensures value { Reads world_said_of (by_its_verb verb.now (codes "at") (an_event desc.now (world_progress_of self.now))) (words_of words.old) result (words_of words.new) }
+        ensures value { Reads world_said_of (by_its_verb verb.now (codes "at") (an_event desc.now (world_progress_of self.now)))
+            (words_of words.old) result (words_of words.new) }
         ensures right { IfOk result (λ c. IsRightWorldSaid desc.now (world_progress_of self.now) (world_said_of c)) }
     {
         if verb == "at" {
@@ -38,7 +39,8 @@ impl Draft {
     fn timed<'a>(&self, desc: &Description, words: &mut Words<'a>) -> Result<Command<'a>, Cause>
         requires keeps { KeepsWorld desc.now (world_progress_of self.now) }
         requires files { length self.now.world.files < 2 ^ 32 }
-        ensures value { Reads world_said_of (an_event desc.now (world_progress_of self.now)) (words_of words.old) result (words_of words.new) }
+        ensures value { Reads world_said_of (an_event desc.now (world_progress_of self.now)) (words_of words.old) result
+            (words_of words.new) }
         ensures right { IfOk result (λ c. IsRightWorldSaid desc.now (world_progress_of self.now) (world_said_of c)) }
     {
         let time = time_in(self.world.until, self.time, words)?;
@@ -59,7 +61,8 @@ impl Draft {
         requires files { length self.now.world.files < 2 ^ 32 }
         requires low { self.now.time ≤ time }
         requires high { time ≤ self.now.world.until }
-        ensures value { Reads world_said_of (behind_time desc.now (world_progress_of self.now) time verb.now) (words_of words.old) result (words_of words.new) }
+        ensures value { Reads world_said_of (behind_time desc.now (world_progress_of self.now) time verb.now) (words_of words.old) result
+            (words_of words.new) }
         ensures right { IfOk result (λ c. IsRightWorldSaid desc.now (world_progress_of self.now) (world_said_of c)) }
     {
         if verb == "inject" {
@@ -88,7 +91,8 @@ impl Draft {
         requires files { length self.now.world.files < 2 ^ 32 }
         requires low { self.now.time ≤ time }
         requires high { time ≤ self.now.world.until }
-        ensures value { Reads world_said_of (an_injection desc.now (world_progress_of self.now) time) (words_of words.old) result (words_of words.new) }
+        ensures value { Reads world_said_of (an_injection desc.now (world_progress_of self.now) time) (words_of words.old) result
+            (words_of words.new) }
         ensures right { IfOk result (λ c. IsRightWorldSaid desc.now (world_progress_of self.now) (world_said_of c)) }
     {
         let node = node_in(self.world.nodes, words)?;

@@ -25,7 +25,8 @@ impl Draft {
         requires keeps { KeepsWorld desc.now (world_progress_of self.now) }
         requires tables { AreTables self.now.linked self.now.places self.now.world }
         requires files { length self.now.world.files < 2 ^ 32 }
-        ensures value { ReadsWithMemory world_said_of (a_world_line desc.now (world_progress_of self.now)) (words_of words.old) result (words_of words.new) }
+        ensures value { ReadsWithMemory world_said_of (a_world_line desc.now (world_progress_of self.now)) (words_of words.old) result
+            (words_of words.new) }
         ensures right { IfOk result (λ c. IsRightWorldSaid desc.now (world_progress_of self.now) (world_said_of c)) }
     {
         let verb = words.word()?;
@@ -44,7 +45,8 @@ impl Draft {
         requires keeps { KeepsWorld desc.now (world_progress_of self.now) }
         requires tables { AreTables self.now.linked self.now.places self.now.world }
         requires files { length self.now.world.files < 2 ^ 32 }
-        ensures value { ReadsWithMemory world_said_of (behind_verb desc.now (world_progress_of self.now) self.now.stage verb.now) (words_of words.old) result (words_of words.new) }
+        ensures value { ReadsWithMemory world_said_of (behind_verb desc.now (world_progress_of self.now) self.now.stage verb.now)
+            (words_of words.old) result (words_of words.new) }
         ensures right { IfOk result (λ c. IsRightWorldSaid desc.now (world_progress_of self.now) (world_said_of c)) }
     {
         match self.stage {

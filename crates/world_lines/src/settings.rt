@@ -28,7 +28,8 @@ impl Draft {
         requires tables { AreTables self.now.linked self.now.places self.now.world }
         requires files { length self.now.world.files < 2 ^ 32 }
         requires stage { self.now.stage ≡ stages.Settings }
-        ensures value { ReadsWithMemory world_said_of (a_setting desc.now (world_progress_of self.now) verb.now) (words_of words.old) result (words_of words.new) }
+        ensures value { ReadsWithMemory world_said_of (a_setting desc.now (world_progress_of self.now) verb.now) (words_of words.old)
+            result (words_of words.new) }
         ensures right { IfOk result (λ c. IsRightWorldSaid desc.now (world_progress_of self.now) (world_said_of c)) }
     {
         if verb == "suppress" {

@@ -1,5 +1,6 @@
 -- The world of a number.
-use Rattle.std.specs.Prelude.{ℕ, zero, suc, ◌+◌, ◌-◌, ◌*◌, ◌%◌, nat_lt, pos, true, if◌then◌else◌, List, [], ◌∷◌, ◌++◌, length, map, replicate}
+use Rattle.std.specs.Prelude.{ℕ, zero, suc, ◌+◌, ◌-◌, ◌*◌, ◌%◌, nat_lt, pos, true, if◌then◌else◌, List, [], ◌∷◌, ◌++◌, length, map}
+use Rattle.std.specs.Prelude.{replicate}
 use Rattle.std.specs.List.{range_with_len}
 use Rattle.vm_desc.specs.declared.description.Description.{Description}
 use Rattle.world_maker.specs.Source.{source_of}
@@ -41,7 +42,8 @@ second_injection handlers nodes h = injected (300000 + 1000 * h) ((11 * h + 3) %
 -- post number j
 abbrev pub posting : ℕ → ℕ → ℕ → ℕ → Planned
 posting number handlers nodes j =
-    planned_line (2000 * j) ((number % nodes + 13 * j) % nodes) (what.Post (record { 0 = j % handlers }) (record { items = pos (j % 100) ∷ [] }))
+    planned_line (2000 * j) ((number % nodes + 13 * j) % nodes)
+    (what.Post (record { 0 = j % handlers }) (record { items = pos (j % 100) ∷ [] }))
 
 -- all injections by handler, and then so many posts by number
 abbrev pub unsorted : ℕ → ℕ → ℕ → ℕ → List Planned

@@ -29,7 +29,8 @@ pub fn programs_of_world<F: Files>(
     requires right { IsRightWorld desc.now world.now }
     requires in_order { InjectsInOrder world.now }
     ensures does { world_programs (record { told = F.contents files.old; steady = F.steady files.old }) desc.now fold world.now result }
-    ensures reads { ReadsFiles (F.contents files.old) (F.steady files.old) (F.faults files.old) (F.contents files.new) (F.steady files.new) (F.faults files.new) result }
+    ensures reads { ReadsFiles (F.contents files.old) (F.steady files.old) (F.faults files.old) (F.contents files.new)
+        (F.steady files.new) (F.faults files.new) result }
     ensures programs { IfOk result (AreProgramsOfWorld desc.now world.now) }
 {
     let Ok(installs) = installs_of(alloc, world) else {

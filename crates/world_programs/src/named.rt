@@ -18,7 +18,8 @@ use script_reader::{Lines, Words};
 use std::alloc::Global;
 use vm_desc::Description;
 
-/// The programs of what the script in a file names, in the order of its lines; or the first refusal, of the script and then of the files that it names. It is
+/// The programs of what the script in a file names, in the order of its lines; or the first refusal, of the script and then of the
+/// files that it names. It is
 /// read as a world's script if its first command is `nodes`, and else as a node's.
 pub fn programs_named<F: Files>(
     alloc: Global,
@@ -28,7 +29,8 @@ pub fn programs_named<F: Files>(
     name: &str,
 ) -> Result<Programs, Refusal>
     ensures does { programs_named (record { told = F.contents files.old; steady = F.steady files.old }) desc.now fold name.now result }
-    ensures reads { ReadsFiles (F.contents files.old) (F.steady files.old) (F.faults files.old) (F.contents files.new) (F.steady files.new) (F.faults files.new) result }
+    ensures reads { ReadsFiles (F.contents files.old) (F.steady files.old) (F.faults files.old) (F.contents files.new)
+        (F.steady files.new) (F.faults files.new) result }
     ensures right { IfOk result (AreRightPrograms desc.now) }
 {
     let bytes = read_file(alloc, files, name)?;
@@ -50,7 +52,8 @@ fn programs_in_world<F: Files>(
 ) -> Result<Programs, Refusal>
     requires { length bytes.now ≤ FILE_MAX }
     ensures does { programs_by true (record { told = F.contents files.old; steady = F.steady files.old }) desc.now fold bytes.now result }
-    ensures reads { ReadsFiles (F.contents files.old) (F.steady files.old) (F.faults files.old) (F.contents files.new) (F.steady files.new) (F.faults files.new) result }
+    ensures reads { ReadsFiles (F.contents files.old) (F.steady files.old) (F.faults files.old) (F.contents files.new)
+        (F.steady files.new) (F.faults files.new) result }
     ensures right { IfOk result (AreRightPrograms desc.now) }
 {
     let world = world_in(alloc, desc, bytes)?;
@@ -68,7 +71,8 @@ fn programs_in_script<F: Files>(
 ) -> Result<Programs, Refusal>
     requires { length bytes.now ≤ FILE_MAX }
     ensures does { programs_by false (record { told = F.contents files.old; steady = F.steady files.old }) desc.now fold bytes.now result }
-    ensures reads { ReadsFiles (F.contents files.old) (F.steady files.old) (F.faults files.old) (F.contents files.new) (F.steady files.new) (F.faults files.new) result }
+    ensures reads { ReadsFiles (F.contents files.old) (F.steady files.old) (F.faults files.old) (F.contents files.new)
+        (F.steady files.new) (F.faults files.new) result }
     ensures right { IfOk result (AreRightPrograms desc.now) }
 {
     let script = script_in(alloc, desc, bytes)?;

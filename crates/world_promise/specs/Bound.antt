@@ -28,7 +28,8 @@ pub record InjectsOn (script : Script) (i time node : ℕ) (h : HandlerId) (vers
 
 -- no line behind line i, up to a time, resets a node or injects for the handler
 abbrev pub IsLeftAlone : Script → ℕ → HandlerId → ℕ → Type 0
-IsLeftAlone script i h by = (j : ℕ) (l : Planned) → i < j → slice_get script.events j ≡ Some l → l.time ≤ by → (l.what ≢ what.Reset) × IfInjects l.what (λ g version. g ≢ h)
+IsLeftAlone script i h by = (j : ℕ) (l : Planned) → i < j → slice_get script.events j ≡ Some l → l.time ≤ by
+    → (l.what ≢ what.Reset) × IfInjects l.what (λ g version. g ≢ h)
 
 -- the journal installs the version by the time, and at each place from there on the node holds it or a newer one
 pub record TellsInstallBy (m : Machine) (h : HandlerId) (version by : ℕ) (es : List Event) : Type 0 where
@@ -47,12 +48,14 @@ pub record TellsInstallBy (m : Machine) (h : HandlerId) (version by : ℕ) (es :
 -- many hops away, and let the line be left alone for 3 * L a hop. Where the run reached that time, b's journal installs the
 -- version by then, and the node holds it or a newer one ever after.
 abbrev pub ReportsKeepTheBound : Type 0
-ReportsKeepTheBound = (d : Description) (script : Script) (ps : List Program) (how : RunEnd) (r : Report) (i time a b hops : ℕ) (h : HandlerId) (version : ℕ)
+ReportsKeepTheBound = (d : Description) (script : Script) (ps : List Program) (how : RunEnd) (r : Report) (i time a b hops : ℕ)
+    (h : HandlerId) (version : ℕ)
     → AreProgramsOfWorld d script ps → IsOpenScript script → (of : IsWorldReport (source_world d script ps) how r)
     → InjectsOn script i time a h version → IsAway script.links a b hops
     → IsLeftAlone script i h (time + 3 * longest d.trickle * hops)
     → HasReached (source_world d script ps) how of.moments (time + 3 * longest d.trickle * hops)
-    → IsSomeAnd (slice_get r.nodes b) (λ l. TellsInstallBy (source_world d script ps).machine h version (time + 3 * longest d.trickle * hops) (journal_of l))
+    → IsSomeAnd (slice_get r.nodes b) (λ l. TellsInstallBy (source_world d script ps).machine h version
+    (time + 3 * longest d.trickle * hops) (journal_of l))
 
 -- The report shows that its run reached the time: it is whole and the time is at most the script's last, or a record on the
 -- air or an entry of a journal is later.
@@ -62,7 +65,8 @@ pub data ShowsTime (script : Script) (r : Report) (t : ℕ) : Type 0 where
   told : (k : ℕ) (l : Log) (e : Event) → slice_get r.nodes k ≡ Some l → Contains (journal_of l) e → t < e.stamp.time → ShowsTime script r t
 
 abbrev pub ShownIsReached : Type 0
-ShownIsReached = (d : Description) (script : Script) (ps : List Program) (how : RunEnd) (r : Report) (t : ℕ) → (of : IsWorldReport (source_world d script ps) how r) → ShowsTime script r t → HasReached (source_world d script ps) how of.moments t
+ShownIsReached = (d : Description) (script : Script) (ps : List Program) (how : RunEnd) (r : Report) (t : ℕ)
+    → (of : IsWorldReport (source_world d script ps) how r) → ShowsTime script r t → HasReached (source_world d script ps) how of.moments t
 
 -- The report of a right script without loss or suppression keeps the bound where it shows that its run reached the time: let line
 -- i inject a version on node a, let b be so many hops away, and let the line be left alone for 3 * L a hop; then b's journal
@@ -72,7 +76,9 @@ KeepsTheBound d script ps r = IsOpenScript script → (i time a b hops : ℕ) (h
     → InjectsOn script i time a h version → IsAway script.links a b hops
     → IsLeftAlone script i h (time + 3 * longest d.trickle * hops)
     → ShowsTime script r (time + 3 * longest d.trickle * hops)
-    → IsSomeAnd (slice_get r.nodes b) (λ l. TellsInstallBy (source_world d script ps).machine h version (time + 3 * longest d.trickle * hops) (journal_of l))
+    → IsSomeAnd (slice_get r.nodes b) (λ l. TellsInstallBy (source_world d script ps).machine h version
+    (time + 3 * longest d.trickle * hops) (journal_of l))
 
 abbrev pub ReportsShowTheBound : Type 0
-ReportsShowTheBound = (d : Description) (script : Script) (ps : List Program) (how : RunEnd) (r : Report) → AreProgramsOfWorld d script ps → IsWorldReport (source_world d script ps) how r → KeepsTheBound d script ps r
+ReportsShowTheBound = (d : Description) (script : Script) (ps : List Program) (how : RunEnd) (r : Report) → AreProgramsOfWorld d script ps
+    → IsWorldReport (source_world d script ps) how r → KeepsTheBound d script ps r

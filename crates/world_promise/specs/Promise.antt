@@ -18,7 +18,8 @@ use Rattle.world_rules.specs.Report.{IsWorldReport}
 use Rattle.world_states.specs.SourceWorld.{source_world}
 use Rattle.world_promise.specs.Bound.{KeepsTheBound}
 
--- It is a report of a run, that ends so, of the world whose programs, which are right, mean their sources. It is tidy, and its numbers are in the ranges
+-- It is a report of a run, that ends so, of the world whose programs, which are right, mean their sources. It is tidy, and its numbers
+-- are in the ranges
 -- of their types: so its text is read back. Where suppression
 -- is off and no link loses a packet, it keeps the hop bound. In each node's journal, wherever no start follows, some invocation
 -- is ready, or one waits for the outside, or none is live; and conflicting invocations end in the order of their posts.
@@ -28,8 +29,10 @@ pub record IsReportOfWorld (d : Description) (script : Script) (ps : List Progra
   pub tidy : IsTidy d r
   pub ranges : HasReportRanges r
   pub bound : KeepsTheBound d script ps r
-  pub progress : All (λ (l : Log). IsNeverStuck (source_world d script ps).machine (nothing_heard (source_world d script ps).machine) (journal_of l)) r.nodes
-  pub order : All (λ (l : Log). EndAsPosted (source_world d script ps).machine (nothing_heard (source_world d script ps).machine) (journal_of l)) r.nodes
+  pub progress : All (λ (l : Log). IsNeverStuck (source_world d script ps).machine (nothing_heard (source_world d script ps).machine)
+      (journal_of l)) r.nodes
+  pub order : All (λ (l : Log). EndAsPosted (source_world d script ps).machine (nothing_heard (source_world d script ps).machine)
+      (journal_of l)) r.nodes
 
 -- a whole report, or one whose records are too many before an event
 abbrev pub WorldRunGives : Description → Script → List Program → Result Report RunFault → Type 0

@@ -26,6 +26,7 @@ pub fn reports_keep_the_bound()
 
 /// The report of a right script's world is tidy, whatever its programs mean and however its run ends.
 pub fn world_report_is_tidy()
-    ensures { (d : Description) (meaning : Meaning) (clock : Clock) (script : Script) (programs : ℕ → HeldProgram) (how : RunEnd) (r : Report) →
+    ensures { (d : Description) (meaning : Meaning) (clock : Clock) (script : Script) (programs : ℕ
+        → HeldProgram) (how : RunEnd) (r : Report) →
         IsRightWorld d script → IsWorldReport (world_of d meaning clock script programs) how r → IsTidy d r }
 {}

@@ -19,7 +19,8 @@ use world_states::worlds_hold_by_their_sources;
 /// A report of the world whose nodes run their code keeps all that is promised of one, where its numbers are in the ranges of their types.
 pub fn reports_keep_the_promise()
     ensures { (d : Description) (script : Script) (ps : List Program) (how : RunEnd) (r : Report) →
-        AreProgramsOfWorld d script ps → IsWorldReport (code_world d script ps) how r → HasReportRanges r → IsReportOfWorld d script ps how r }
+        AreProgramsOfWorld d script ps → IsWorldReport (code_world d script ps) how r → HasReportRanges r
+        → IsReportOfWorld d script ps how r }
 {
     worlds_hold_by_their_sources();
     world_report_is_tidy();

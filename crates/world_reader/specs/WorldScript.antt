@@ -16,7 +16,8 @@ use Rattle.script_reader.specs.Words.{Taken}
 use Rattle.script_reader.specs.NodeScript.{with_file}
 use Rattle.world_lines.specs.declared.stage.Stage.{Stage}
 use Rattle.world_lines.specs.declared.stage.Stage.TheVariants as stage
-use Rattle.world_lines.specs.WorldLines.{WorldSaid, SaysNodes, SaysRandom, SaysUntil, SaysSuppress, SaysLink, SaysSeries, SaysPlanned, WorldProgress, a_world_line}
+use Rattle.world_lines.specs.WorldLines.{WorldSaid, SaysNodes, SaysRandom, SaysUntil, SaysSuppress, SaysLink, SaysSeries, SaysPlanned}
+use Rattle.world_lines.specs.WorldLines.{WorldProgress, a_world_line}
 use Rattle.world_lines.specs.Draft.{is_of_pair}
 
 abbrev pub turned_back : Link → Link
@@ -28,7 +29,8 @@ links_of l both = if both then l ∷ turned_back l ∷ [] else l ∷ []
 -- the values go behind those of the same node and function, or are a new series
 abbrev pub with_series : Series → List Series → List Series
 with_series s [] = s ∷ []
-with_series s (r ∷ series) = if is_of_pair s.node s.fun.0 r then record r { values = r.values ++ s.values } ∷ series else r ∷ with_series s series
+with_series s (r ∷ series) = if is_of_pair s.node s.fun.0 r then record r { values = r.values ++ s.values } ∷ series
+    else r ∷ with_series s series
 
 abbrev pub newest_with : List ℕ → What → List ℕ
 newest_with newest (what.Inject program handler version) = slice_set newest handler.0 version

@@ -94,7 +94,8 @@ fn give(draft: &mut Draft, series: Series) -> Result<(), NoMemory>
 
 fn plan(draft: &mut Draft, planned: Planned, file: Option<&str>) -> Result<(), NoMemory>
     requires tables { AreTables draft.old.linked draft.old.places draft.old.world }
-    ensures value { OnOk result (world_progress_of draft.new ≡ with_told (world_progress_of draft.old) (SaysPlanned planned (option_map (λ f. f.now) file.entry))) }
+    ensures value { OnOk result (world_progress_of draft.new
+        ≡ with_told (world_progress_of draft.old) (SaysPlanned planned (option_map (λ f. f.now) file.entry))) }
     ensures tables { OnOk result (AreTables draft.new.linked draft.new.places draft.new.world) }
 {
     if let Some(file) = file {

@@ -74,7 +74,8 @@ fn read_line(
     requires small { number < 2 ^ 32 }
     requires keeps { KeepsWorld desc.now (world_progress_of draft.old) }
     requires tables { AreTables draft.old.linked draft.old.places draft.old.world }
-    ensures value { Follows (after_world_line desc.now (world_progress_of draft.old) (words_of line.now)) number result (world_progress_of draft.new) }
+    ensures value { Follows (after_world_line desc.now (world_progress_of draft.old) (words_of line.now)) number result
+        (world_progress_of draft.new) }
     ensures count { OnOk result (length draft.new.world.events ≤ number) }
     ensures files { OnOk result (length draft.new.world.files ≤ number) }
     ensures keeps { OnOk result (KeepsWorld desc.now (world_progress_of draft.new)) }

@@ -16,13 +16,15 @@ use Rattle.trickle_timer.specs.Intervals as trickle
 use Rattle.trickle_timer.specs.Timer.{Timer, heard}
 use Rattle.trickle_timer.specs.declared.timer.Fire.{Fire}
 use Rattle.trickle_timer.specs.declared.timer.Fire.TheVariants as fire
-use Rattle.capsule_exchange.specs.Happenings.{Happening, Hears, Sends, Installs, Forgets, held_versions, target_version, collected_image, asks_after, completed_by, next_slot, fragment_for, is_marked_slot, slots_from}
+use Rattle.capsule_exchange.specs.Happenings.{Happening, Hears, Sends, Installs, Forgets, held_versions, target_version, collected_image}
+use Rattle.capsule_exchange.specs.Happenings.{asks_after, completed_by, next_slot, fragment_for, is_marked_slot, slots_from}
 use Rattle.world_script.specs.declared.world.Link.{Link}
 use Rattle.world_rules.specs.Cause.{Cause}
 use Rattle.world_rules.specs.Cause as event
 use Rattle.world_rules.specs.World.{World, PlannedLine, Want, Inject, Post, Show, ResetNode, Noise, handlers, receiver, receivers}
 
--- what was heard of a node: its journal, the pace of its invocations, its Trickle timer, what happened to its exchange, the latest first, whether a
+-- what was heard of a node: its journal, the pace of its invocations, its Trickle timer, what happened to its exchange, the latest
+-- first, whether a
 -- pump is due, and the functions that it called, in order
 pub record Node : Type 0 where
   pub reading : Reading
@@ -54,7 +56,12 @@ abbrev pub no_effect : NodeEffect
 no_effect = record { first = []; deed = Nothing; happened = []; timer = None; sends = [] }
 
 abbrev pub of_line : Want → NodeEffect
-of_line (Inject p) = record no_effect { deed = Installing p; happened = Installs p.handler.0 p.version p.image.items ∷ []; timer = Some trickle.Reset }
+of_line (Inject p) = record no_effect {
+  deed = Installing p;
+  happened = Installs p.handler.0 p.version p.image.items
+      ∷ [];
+  timer = Some trickle.Reset;
+}
 of_line (Post h payload) = record no_effect { deed = Posting (h ∷ []) payload }
 of_line Show = record no_effect { deed = Showing }
 of_line ResetNode = record no_effect { deed = Resetting; happened = Forgets ∷ []; timer = Some trickle.Again }
@@ -68,7 +75,12 @@ abbrev pub of_fragment : Packet → List Happening → Option HandlerId → Node
 of_fragment packet before None = record no_effect { happened = Hears packet ∷ [] }
 of_fragment packet before (Some h) =
     let p = collected h (Hears packet ∷ before) in
-    record no_effect { deed = Installing p; happened = Installs h.0 p.version p.image.items ∷ Hears packet ∷ []; timer = Some trickle.Reset }
+    record no_effect {
+      deed = Installing p;
+      happened = Installs h.0 p.version p.image.items ∷ Hears packet
+          ∷ [];
+      timer = Some trickle.Reset;
+    }
 
 abbrev pub of_packet : World → List Happening → Packet → NodeEffect
 of_packet w before (Vector versions) = record no_effect {

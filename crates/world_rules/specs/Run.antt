@@ -55,7 +55,8 @@ pub record MayCome (w : World) (s : WorldState) (m : Moment) : Type 0 where
   pub room : s.records < records_max
   pub next : IsNext s m.time m.cause
   pub in_time : m.time ≤ w.until
-  pub makes : FirstThen w.machine (DeedMakes w.clock w.machine (effect_at w s m).deed) (λ r p told. Settles w.clock w.machine r p told m.pace) (node_at w s m).reading (node_at w s m).pace m.told
+  pub makes : FirstThen w.machine (DeedMakes w.clock w.machine (effect_at w s m).deed)
+      (λ r p told. Settles w.clock w.machine r p told m.pace) (node_at w s m).reading (node_at w s m).pace m.told
 
 -- these events came, the latest first
 abbrev pub HaveCome : World → List Moment → Type 0
@@ -80,13 +81,16 @@ stamp_of m before = record { event = suc (length before); time = m.time }
 
 -- the air records, in order: the first interval of each node, and then those of the events
 abbrev pub airs : World → List Moment → List Aired
-airs w [] = map (λ k. record { stamp = record { event = 0; time = 0 }; node = k; air = air.Interval w.description.trickle.imin }) (range_with_len 0 w.nodes)
-airs w (m ∷ before) = airs w before ++ map (λ a. record { stamp = stamp_of m before; node = event_node w m.cause; air = a }) (air_made w (state w before) m)
+airs w [] = map (λ k. record { stamp = record { event = 0; time = 0 }; node = k; air = air.Interval w.description.trickle.imin })
+    (range_with_len 0 w.nodes)
+airs w (m ∷ before) = airs w before ++ map (λ a. record { stamp = stamp_of m before; node = event_node w m.cause; air = a })
+    (air_made w (state w before) m)
 
 -- the journal of a node
 abbrev pub journal : World → ℕ → List Moment → List Entered
 journal w k [] = []
-journal w k (m ∷ before) = journal w k before ++ (if k == event_node w m.cause then map (λ t. record { stamp = stamp_of m before; told = t }) m.told else [])
+journal w k (m ∷ before) = journal w k before ++ (if k == event_node w m.cause
+    then map (λ t. record { stamp = stamp_of m before; told = t }) m.told else [])
 
 -- a whole run ends with the store of each node seen, under the next number, at the last time
 pub record SeesStore (w : World) (k : ℕ) (ms : List Moment) (last : List Entered) : Type 0 where

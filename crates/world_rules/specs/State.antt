@@ -1,12 +1,14 @@
 -- A world's state: what is due at each time, and what was heard of each node; and the state after an event.
-use Rattle.std.specs.Prelude.{ℕ, suc, ◌+◌, ◌*◌, ◌/◌, ◌%◌, min, pred, Bool, true, false, not, ◌&&◌, ◌||◌, nat_lt, ◌==◌, if◌then◌else◌, List, [], ◌∷◌, ◌++◌, map, length, drop, ℤ, pos, Option, Some, None, slice_index_or, count_by}
+use Rattle.std.specs.Prelude.{ℕ, suc, ◌+◌, ◌*◌, ◌/◌, ◌%◌, min, pred, Bool, true, false, not, ◌&&◌, ◌||◌, nat_lt, ◌==◌, if◌then◌else◌, List}
+use Rattle.std.specs.Prelude.{[], ◌∷◌, ◌++◌, map, length, drop, ℤ, pos, Option, Some, None, slice_index_or, count_by}
 use Rattle.std.specs.List.{filter, filter_map, flat_map, range_with_len}
 use Rattle.std.specs.Option.{option_map_or, option_to_list}
 use Rattle.arrayvec.specs.ArrayVec.{ArrayVec}
 use Rattle.mate_num.specs.declared.id.FunId.{FunId}
 use Rattle.vm_desc.specs.declared.function.FunKind.{FunKind}
 use Rattle.vm_desc.specs.declared.function.FunKind.TheVariants as fun
-use Rattle.mate_journal.specs.Journal.{Told, Posted, Dropped, Started, Asked, Answered, Ended, Installed, Reset, Seen, Void, Reading, heard_told, nothing_heard}
+use Rattle.mate_journal.specs.Journal.{Told, Posted, Dropped, Started, Asked, Answered, Ended, Installed, Reset, Seen, Void, Reading}
+use Rattle.mate_journal.specs.Journal.{heard_told, nothing_heard}
 use Rattle.mate_journal.specs.Pace.{Pace, no_pace}
 use Rattle.mate_journal.specs.declared.air.Air.{Air}
 use Rattle.mate_journal.specs.declared.air.Air.TheVariants as air
@@ -17,7 +19,8 @@ use Rattle.trickle_timer.specs.Intervals as trickle
 use Rattle.trickle_timer.specs.Timer.{Timer, after, started_timer}
 use Rattle.world_rules.specs.Cause.{Cause}
 use Rattle.world_rules.specs.Cause as event
-use Rattle.world_rules.specs.World.{World, PlannedLine, handlers, stream_word, receiver, links_from, loss, period_of, called_kind, latency_of}
+use Rattle.world_rules.specs.World.{World, PlannedLine, handlers, stream_word, receiver, links_from, loss, period_of, called_kind}
+use Rattle.world_rules.specs.World.{latency_of}
 use Rattle.world_rules.specs.Effect.{Node, NodeEffect, node_effect, event_node, begun_length, cuts, resets, is_owing}
 
 -- an event: when, what it comes from, the entries that it made in its node's journal, and the pace that it left there
@@ -114,24 +117,25 @@ answer_at w node called f time = by (called_kind w f) where
 -- the answers that fall due
 abbrev pub answers_due : World → ℕ → ℕ → Reading → List FunId → List Told → List Scheduled
 answers_due w node time r called [] = []
-answers_due w node time r called (t ∷ told) = option_map_or (λ (a : FunId × ℕ). due_for a.0 a.1 ∷ answers_due w node time r (called ++ a.0 ∷ []) told) (call_in t) (answers_due w node time r called told) where
-  call_in : Told → Option (FunId × ℕ)
-  call_in (Posted n h c payload) = None
-  call_in (Dropped h cause) = None
-  call_in (Started n) = None
-  call_in (Asked n f args) = Some (f, n)
-  call_in (Answered n value) = None
-  call_in (Ended n how) = None
-  call_in (Installed p) = None
-  call_in Reset = None
-  call_in (Seen store) = None
-  call_in (Void cause) = None
+answers_due w node time r called (t ∷ told) = option_map_or (λ (a : FunId × ℕ). due_for a.0 a.1
+    ∷ answers_due w node time r (called ++ a.0 ∷ []) told) (call_in t) (answers_due w node time r called told) where
+      call_in : Told → Option (FunId × ℕ)
+      call_in (Posted n h c payload) = None
+      call_in (Dropped h cause) = None
+      call_in (Started n) = None
+      call_in (Asked n f args) = Some (f, n)
+      call_in (Answered n value) = None
+      call_in (Ended n how) = None
+      call_in (Installed p) = None
+      call_in Reset = None
+      call_in (Seen store) = None
+      call_in (Void cause) = None
 
-  due_for : FunId → ℕ → Scheduled
-  due_for f n = record {
-    time = time + latency_of w f;
-    cause = event.Due node (r.invocations n).context n (answer_at w node called f (time + latency_of w f));
-  }
+      due_for : FunId → ℕ → Scheduled
+      due_for f n = record {
+        time = time + latency_of w f;
+        cause = event.Due node (r.invocations n).context n (answer_at w node called f (time + latency_of w f));
+      }
 
 -- ---- transmissions
 
@@ -143,7 +147,8 @@ pub record Sending : Type 0 where
 
 abbrev pub numbered_sendings : ℕ → ℕ → List Packet → List Sending
 numbered_sendings number before [] = []
-numbered_sendings number before (p ∷ ps) = record { number = number; before = before; packet = p } ∷ numbered_sendings (suc number) (suc before) ps
+numbered_sendings number before (p ∷ ps) = record { number = number; before = before; packet = p }
+    ∷ numbered_sendings (suc number) (suc before) ps
 
 abbrev pub sent_bytes : World → Packet → ArrayVec ℕ
 sent_bytes w packet = record { items = packet_bytes w.description.vm_id packet }
@@ -157,11 +162,13 @@ abbrev pub is_lost : World → Sending → ℕ → Bool
 is_lost w x j = nat_lt (stream_word w (128 + j) x.before % 1000) (loss w j)
 
 abbrev pub air_of_sending : World → ℕ → Sending → List Air
-air_of_sending w node x = air.Sent x.number (sent_bytes w x.packet) ∷ flat_map (λ j. if is_lost w x j then air.Lost x.number (receiver w j) ∷ [] else []) (links_from w node)
+air_of_sending w node x = air.Sent x.number (sent_bytes w x.packet)
+    ∷ flat_map (λ j. if is_lost w x j then air.Lost x.number (receiver w j) ∷ [] else []) (links_from w node)
 
 abbrev pub deliveries : World → ℕ → ℕ → Sending → List Scheduled
 deliveries w node time x =
-    flat_map (λ j. if is_lost w x j then [] else record { time = time + w.description.radio.delay; cause = event.Deliver j x.number x.packet } ∷ []) (links_from w node)
+    flat_map (λ j. if is_lost w x j then []
+    else record { time = time + w.description.radio.delay; cause = event.Deliver j x.number x.packet } ∷ []) (links_from w node)
 
 -- ---- an event
 
@@ -214,7 +221,8 @@ node_after w n m =
 -- the next period of a timer handler
 abbrev pub next_period : World → Cause → ℕ → List Scheduled
 next_period w (event.Planned line) time = []
-next_period w (event.Period node h) time = option_map_or (λ p. record { time = time + p; cause = event.Period node h } ∷ []) (period_of w h.0) []
+next_period w (event.Period node h) time = option_map_or (λ p. record { time = time + p; cause = event.Period node h }
+    ∷ []) (period_of w h.0) []
 next_period w (event.Fire node) time = []
 next_period w (event.Expire node) time = []
 next_period w (event.Pump node) time = []
@@ -223,7 +231,8 @@ next_period w (event.Deliver link number packet) time = []
 
 -- the point and the end of an interval
 abbrev pub of_interval : ℕ → Timer → List Scheduled
-of_interval node t = record { time = t.running.point; cause = event.Fire node } ∷ record { time = t.running.begin + t.running.length; cause = event.Expire node } ∷ []
+of_interval node t = record { time = t.running.point; cause = event.Fire node }
+    ∷ record { time = t.running.begin + t.running.length; cause = event.Expire node } ∷ []
 
 abbrev pub new_interval : ℕ → Option ℕ → Timer → List Scheduled
 new_interval node None t = []
@@ -298,7 +307,8 @@ lines_from i (l ∷ ls) = record { time = l.time; cause = event.Planned i } ∷ 
 abbrev pub first_of : World → ℕ → List Scheduled
 first_of w node =
     of_interval node (start_node w node).timer
-    ++ filter_map (λ h. option_map_or (λ p. Some (record { time = p; cause = event.Period node (record { 0 = h }) })) (period_of w h) None) (range_with_len 0 (handlers w))
+    ++ filter_map (λ h. option_map_or (λ p. Some (record { time = p; cause = event.Period node (record { 0 = h }) })) (period_of w h)
+    None) (range_with_len 0 (handlers w))
 
 -- the script's lines first, then the nodes in order
 abbrev pub world_start : World → WorldState

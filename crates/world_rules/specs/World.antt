@@ -87,10 +87,11 @@ abbrev pub handler_id : ℕ → HandlerId
 handler_id h = record { 0 = h }
 
 abbrev pub receivers : World → List HandlerId
-receivers w = filter_map (λ h. if_so (is_receiver (slice_get w.description.handlers.items h)) (handler_id h)) (range_with_len 0 (handlers w)) where
-  if_so : Bool → HandlerId → Option HandlerId
-  if_so true h = Some h
-  if_so false h = None
+receivers w = filter_map (λ h. if_so (is_receiver (slice_get w.description.handlers.items h)) (handler_id h))
+    (range_with_len 0 (handlers w)) where
+      if_so : Bool → HandlerId → Option HandlerId
+      if_so true h = Some h
+      if_so false h = None
 
 -- the period of a timer handler
 abbrev pub period_in : HandlerKind → Option ℕ

@@ -9,7 +9,8 @@ use Rattle.world_script.specs.declared.world.World.{World as Script}
 use Rattle.radio_sim.specs.Radio.{Ether, wires_of}
 use Rattle.radio_sim.specs.declared.event.Event.{Event}
 use Rattle.world_rules.specs.Effect.{event_node, begun_length, is_owing}
-use Rattle.world_rules.specs.State.{Moment, WorldState, node_at, effect_at, node_after, still_pumps, next_period, deliveries, sendings, packets_of, left_due}
+use Rattle.world_rules.specs.State.{Moment, WorldState, node_at, effect_at, node_after, still_pumps, next_period, deliveries, sendings}
+use Rattle.world_rules.specs.State.{packets_of, left_due}
 use Rattle.world_rules.specs.World.{World}
 use Rattle.world_air.specs.Air.{radio_event}
 use Rattle.world_event.specs.Finishing.{IsTakenFrom, HasSettled}
@@ -32,7 +33,8 @@ pub record MayFinish (d : Description) (script : Script) (radio : Ether) (x : Mo
   pub counts : length x.calls.counts.items ≡ length d.functions.items
 
 -- it is this moment of a run, behind its node's turns
-pub record IsMoment (w : World) (s : WorldState) (m : Moment) (radio : Ether) (x : Mote) (number : ℕ) (event : Event) (r : Effect) (from time : ℕ) : Type 0 where
+pub record IsMoment (w : World) (s : WorldState) (m : Moment) (radio : Ether) (x : Mote) (number : ℕ) (event : Event) (r : Effect)
+    (from time : ℕ) : Type 0 where
   pub time_is : m.time ≡ time
   pub cause_is : radio_event w m.cause ≡ event
   pub node_is : event_node w m.cause ≡ number
@@ -40,14 +42,16 @@ pub record IsMoment (w : World) (s : WorldState) (m : Moment) (radio : Ether) (x
   pub settled : HasSettled w s m from x r
 
 -- it is one, and at this time of the run nothing else is left to come
-pub record IsMomentBefore (t : ℕ) (w : World) (s : WorldState) (m : Moment) (radio : Ether) (x : Mote) (number : ℕ) (event : Event) (r : Effect) (from time : ℕ) : Type 0 where
+pub record IsMomentBefore (t : ℕ) (w : World) (s : WorldState) (m : Moment) (radio : Ether) (x : Mote) (number : ℕ) (event : Event)
+    (r : Effect) (from time : ℕ) : Type 0 where
   pub is : IsMoment w s m radio x number event r from time
   pub in_time : t ≤ w.until
   pub none_left : left_due w s m t ≡ []
 
 -- a pump falls due that the event schedules, and before it no period, interval or delivery of that time
 pub record IsPumpFirst (w : World) (s : WorldState) (m : Moment) : Type 0 where
-  pub falls_due : (not (still_pumps m.cause (effect_at w s m) (node_at w s m)) && is_owing w (node_after w (node_at w s m) m).exchange) ≡ true
+  pub falls_due : (not (still_pumps m.cause (effect_at w s m) (node_at w s m)) && is_owing w (node_after w (node_at w s m) m).exchange)
+      ≡ true
   pub no_period : next_period w m.cause m.time ≡ []
   pub no_interval : begun_length (node_at w s m) (effect_at w s m) ≡ None
   pub no_deliveries : flat_map (deliveries w (event_node w m.cause) m.time) (sendings w s (event_node w m.cause) (packets_of w s m)) ≡ []

@@ -39,20 +39,24 @@ pub fn an_event_ends_in_its_order(
     requires { MayFinish desc.now world.now radio.old mote.old number effect.old from at.time }
     ensures interval { OnOk result ((programs : List ProgramOfFile) (s : WorldState) (m : Moment) (t : ℕ)
         → IsMoment (code_world desc.now world.now programs) s m radio.old mote.old number event.now effect.old from at.time
-        → t ≤ world.now.until → t ≢ m.time → effect.old.begins ≡ true → s.due t ≡ Expire number ∷ [] → of_time t (schedules (code_world desc.now world.now programs) s m) ≡ []
+        → t ≤ world.now.until → t ≢ m.time → effect.old.begins ≡ true → s.due t ≡ Expire number ∷ []
+        → of_time t (schedules (code_world desc.now world.now programs) s m) ≡ []
         → due_at t radio.new.agenda.items ≡ []) }
     ensures period { OnOk result ((programs : List ProgramOfFile) (s : WorldState) (m : Moment) (h : Handler) (period : ℕ)
-        → IsMomentBefore (m.time + period) (code_world desc.now world.now programs) s m radio.old mote.old number event.now effect.old from at.time
+        → IsMomentBefore (m.time + period) (code_world desc.now world.now programs) s m radio.old mote.old number event.now effect.old
+        from at.time
         → m.cause ≡ Period number h → period_of (code_world desc.now world.now programs) h.0 ≡ Some period
         → slice_get (due_at (m.time + period) radio.new.agenda.items) 0 ≡ Some (radio_kind.Period number h)) }
     ensures pump { OnOk result ((programs : List ProgramOfFile) (s : WorldState) (m : Moment)
-        → IsMomentBefore (m.time + desc.now.radio.gap) (code_world desc.now world.now programs) s m radio.old mote.old number event.now effect.old from at.time
+        → IsMomentBefore (m.time + desc.now.radio.gap) (code_world desc.now world.now programs) s m radio.old mote.old number event.now
+        effect.old from at.time
         → IsPumpFirst (code_world desc.now world.now programs) s m
         → slice_get (due_at (m.time + desc.now.radio.gap) radio.new.agenda.items) 0 ≡ Some (radio_kind.Pump number)) }
     ensures request { OnOk result ((programs : List ProgramOfFile) (s : WorldState) (m : Moment) (p : Packet)
         → IsMoment (code_world desc.now world.now programs) s m radio.old mote.old number event.now effect.old from at.time
         → SendsAlone (code_world desc.now world.now programs) s m p
-        → (rest : List Aired) × (radio.new.air ≡ radio.old.air ++ aired_at at number (Sent (suc (length s.senders)) (sent_bytes (code_world desc.now world.now programs) p)) ∷ rest)) }
+        → (rest : List Aired) × (radio.new.air ≡ radio.old.air
+        ++ aired_at at number (Sent (suc (length s.senders)) (sent_bytes (code_world desc.now world.now programs) p)) ∷ rest)) }
 {
     finish(radio, mote, desc, world, number, event, effect, from, at)?;
     Ok(())

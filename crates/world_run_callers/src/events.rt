@@ -46,10 +46,12 @@ pub fn an_injection_has_its_own_version(
     requires paced { IsPaced mote.old.node }
     requires hour { at.time ≤ 3600000 }
     requires within { mote.old.timer.running.begin ≤ at.time }
-    ensures { OnOk result ((k time node : ℕ) (n : NodeState) (p : HeldProgram) → IsMoteOf (code_world desc.now world.now programs.now) k n mote.old
+    ensures { OnOk result ((k time node : ℕ) (n : NodeState) (p : HeldProgram)
+        → IsMoteOf (code_world desc.now world.now programs.now) k n mote.old
         → MayComeTo (code_world desc.now world.now programs.now) n at.time (Planned 0)
         → slice_get (code_world desc.now world.now programs.now).plan 0 ≡ Some (record { time = time; node = node; what = Inject p })
-        → mote.new.exchange ≡ knowledge (handlers (code_world desc.now world.now programs.now)) (Installs p.handler.0 p.version p.image.items ∷ n.exchange)) }
+        → mote.new.exchange ≡ knowledge (handlers (code_world desc.now world.now programs.now))
+        (Installs p.handler.0 p.version p.image.items ∷ n.exchange)) }
 {
     let mut effect = Effect::none();
     let event = Event::Planned(0);
@@ -79,7 +81,8 @@ pub fn a_packet_is_got_from_its_sender(
     requires paced { IsPaced mote.old.node }
     requires hour { at.time ≤ 3600000 }
     requires within { mote.old.timer.running.begin ≤ at.time }
-    ensures { IfOk result (λ effect. (k : ℕ) (n : NodeState) (packet : Packet) (link : Joined) → IsMoteOf (code_world desc.now world.now programs.now) k n mote.old
+    ensures { IfOk result (λ effect. (k : ℕ) (n : NodeState) (packet : Packet) (link : Joined)
+        → IsMoteOf (code_world desc.now world.now programs.now) k n mote.old
         → MayComeTo (code_world desc.now world.now programs.now) n at.time (Deliver 0 number packet)
         → sent_bytes (code_world desc.now world.now programs.now) packet ≡ bytes → slice_get world.now.links 0 ≡ Some link
         → option_to_list effect.first ≡ Got number link.from ∷ []) }

@@ -23,7 +23,8 @@ pub fn a_full_run_has_a_million_records(
     programs: &Programs,
 ) -> Result<Report, RunFault>
     requires { AreProgramsOfWorld desc.now world.now programs.now }
-    ensures { IfErr result (λ fault. (report : Reported) → fault ≡ LogFull report → IsFullBehind (source_world desc.now world.now programs.now) report.events) }
+    ensures { IfErr result (λ fault. (report : Reported) → fault ≡ LogFull report
+        → IsFullBehind (source_world desc.now world.now programs.now) report.events) }
 {
     run(alloc, desc, world, programs)
 }

@@ -1,5 +1,6 @@
 -- What is recorded of a world's run.
-use Rattle.std.specs.Prelude.{◌≡◌, ◌≤◌, ◌<◌, ◌+◌, ◌++◌, ℕ, Bool, true, false, List, length, drop, slice_get, slice_set, Some, None, Option, ⊤}
+use Rattle.std.specs.Prelude.{◌≡◌, ◌≤◌, ◌<◌, ◌+◌, ◌++◌, ℕ, Bool, true, false, List, length, drop, slice_get, slice_set, Some, None, Option}
+use Rattle.std.specs.Prelude.{⊤}
 use Rattle.std.specs.List.{AllZip}
 use Rattle.mate_journal.specs.Log.{Log, IsSameLog, GoesOn}
 use Rattle.mate_journal.specs.OpenLog.{gone_of}

@@ -28,7 +28,8 @@ abbrev pub HasWrittenNow : Description → Simulation → Option (List ℕ) → 
 HasWrittenNow d s out0 f0 out f = HasWritten out0 f0 out f (lines d (report_now s))
 
 -- there is a report of a run that was written so, and it is what is recorded, where a record is kept
-pub record WritesRecorded (d : Description) (Is : OfRun) (out out' : Option (List ℕ)) (before now : ℕ) (pass : Pass) (kept : Option Record) : Type 0 where
+pub record WritesRecorded (d : Description) (Is : OfRun) (out out' : Option (List ℕ)) (before now : ℕ) (pass : Pass)
+    (kept : Option Record) : Type 0 where
   pub ended : Simulation
   pub gives : WritesReport d Is out out' before now pass.result (told_report ended pass.events pass.whole)
   pub recorded : IsRecorded kept ended
@@ -36,7 +37,8 @@ pub record WritesRecorded (d : Description) (Is : OfRun) (out out' : Option (Lis
 
 -- wherever the run's report began in the sink, the run ended so
 abbrev pub EndsSo : Description → World → Simulation → Option (List ℕ) → ℕ → Option (List ℕ) → ℕ → Pass → Option Record → Type 0
-EndsSo d w s out f out' f' pass kept = (out0 : Option (List ℕ)) (f0 : ℕ) → HasWrittenNow d s out0 f0 out f → WritesRecorded d (IsWorldReport w) out0 out' f0 f' pass kept
+EndsSo d w s out f out' f' pass kept = (out0 : Option (List ℕ)) (f0 : ℕ) → HasWrittenNow d s out0 f0 out f
+    → WritesRecorded d (IsWorldReport w) out0 out' f0 f' pass kept
 
 -- a world before its first event, with the record of its start
 pub record StartsRecorded (w : World) (s : Simulation) (r : Record) : Type 0 where
@@ -46,14 +48,17 @@ pub record StartsRecorded (w : World) (s : Simulation) (r : Record) : Type 0 whe
   pub ranges : AreInRange s
 
 -- the start was written, or the run ended there
-abbrev pub IsStartWritten : Description → World → Simulation → Option (List ℕ) → ℕ → Option (List ℕ) → ℕ → Result (Unit {0}) WriteFault → Type 0
+abbrev pub IsStartWritten : Description → World → Simulation → Option (List ℕ) → ℕ → Option (List ℕ) → ℕ → Result (Unit {0}) WriteFault
+    → Type 0
 IsStartWritten d w s out f out' f' (Ok all) = LogsAreKept s.motes.items × HasWrittenNow d s out f out' f'
 IsStartWritten d w s out f out' f' (Err fault) = WritesReport d (IsWorldReport w) out out' f f' (Err fault) (told_report s 0 false)
 
 -- one event came and was written, or the run ended there
-abbrev pub IsStepWritten : Description → World → ℕ → (old new : Simulation) → Option (List ℕ) → ℕ → Option (List ℕ) → ℕ → Option Record → Result (Unit {0}) Pass → Type 0
+abbrev pub IsStepWritten : Description → World → ℕ → (old new : Simulation) → Option (List ℕ) → ℕ → Option (List ℕ) → ℕ → Option Record
+    → Result (Unit {0}) Pass → Type 0
 IsStepWritten d w number old new out f out' f' kept (Ok all) =
-    StandsAfter w number new × LogsAreKept new.motes.items × ((out0 : Option (List ℕ)) (f0 : ℕ) → HasWrittenNow d old out0 f0 out f → HasWrittenNow d new out0 f0 out' f') × IsRecorded kept new × AreInRange new
+    StandsAfter w number new × LogsAreKept new.motes.items × ((out0 : Option (List ℕ)) (f0 : ℕ) → HasWrittenNow d old out0 f0 out f
+    → HasWrittenNow d new out0 f0 out' f') × IsRecorded kept new × AreInRange new
 IsStepWritten d w number old new out f out' f' kept (Err pass) = EndsSo d w old out f out' f' pass kept
 
 -- ---- the end

@@ -3,7 +3,8 @@
 ghost use Rattle.std.specs.Prelude.{◌≡◌, ◌<◌, ◌≤◌, length, MatchResult};
 ghost use Rattle.run_record.specs.Records.{IsSameRecord};
 ghost use Rattle.world_simulation.specs.Reporting.{mote_logs};
-ghost use Rattle.world_sim.specs.Recording.{IsRecordOf, IsRecordBefore, HaveStoresBehind, IsRecorded, IsRecordedBefore, AreStoresBefore, StaysRecorded, has_record};
+ghost use Rattle.world_sim.specs.Recording.{IsRecordOf, IsRecordBefore, HaveStoresBehind, IsRecorded, IsRecordedBefore, AreStoresBefore};
+ghost use Rattle.world_sim.specs.Recording.{StaysRecorded, has_record};
 
 use mate_num::NoMemory;
 use run_record::Record;
@@ -47,7 +48,8 @@ pub(crate) fn record_stores(records: &mut Option<Record>, sim: &Simulation) -> R
 pub(crate) fn add_event(records: &mut Record, sim: &Simulation, node: u8) -> Result<(), NoMemory>
     requires node { node < length sim.now.motes.items }
     requires before { IsRecordBefore records.old sim.now node }
-    ensures { MatchResult result (λ _. IsRecordOf records.new (mote_logs sim.now.motes.items) sim.now.radio.air) (λ _. IsSameRecord records.old records.new) }
+    ensures { MatchResult result (λ _. IsRecordOf records.new (mote_logs sim.now.motes.items) sim.now.radio.air)
+        (λ _. IsSameRecord records.old records.new) }
 {
     let mote = &sim.motes[usize::from(node)];
     if mote.node.told() >= ENTRIES_MAX {
@@ -60,7 +62,8 @@ pub(crate) fn add_event(records: &mut Record, sim: &Simulation, node: u8) -> Res
 fn add_stores(records: &mut Record, motes: &[Mote]) -> Result<(), NoMemory>
     requires few { length motes.now ≤ 64 }
     requires before { HaveStoresBehind records.old motes.now }
-    ensures { MatchResult result (λ _. IsRecordOf records.new (mote_logs motes.now) records.old.air) (λ _. IsSameRecord records.old records.new) }
+    ensures { MatchResult result (λ _. IsRecordOf records.new (mote_logs motes.now) records.old.air)
+        (λ _. IsSameRecord records.old records.new) }
 {
     // (an entry, and its store)
     records.reserve(2)?;

@@ -50,7 +50,8 @@ pub fn run_into<S: Sink>(
     out: &mut S,
 ) -> Result<Report, IntoFault>
     requires { AreProgramsOfWorld desc.now world.now programs.now }
-    ensures gives { RunsInto desc.now (IsReportOfWorld desc.now world.now programs.now) (S.written out.old) (S.written out.new) (S.faults out.old) (S.faults out.new) result }
+    ensures gives { RunsInto desc.now (IsReportOfWorld desc.now world.now programs.now) (S.written out.old) (S.written out.new)
+        (S.faults out.old) (S.faults out.new) result }
     ensures later { S.faults out.old ≤ S.faults out.new }
 {
     reports_keep_the_promise();
@@ -78,7 +79,8 @@ pub fn write_world<S: Sink>(
     out: &mut S,
 ) -> Result<(), WriteFault>
     requires { AreProgramsOfWorld desc.now world.now programs.now }
-    ensures gives { WritesRun desc.now (IsReportOfWorld desc.now world.now programs.now) (S.written out.old) (S.written out.new) (S.faults out.old) (S.faults out.new) result }
+    ensures gives { WritesRun desc.now (IsReportOfWorld desc.now world.now programs.now) (S.written out.old) (S.written out.new)
+        (S.faults out.old) (S.faults out.new) result }
     ensures later { S.faults out.old ≤ S.faults out.new }
 {
     reports_keep_the_promise();
@@ -122,7 +124,8 @@ fn write_run<S: Sink>(
     requires whole { IsWhole sim.old }
     requires recorded { IsRecorded records.old sim.old }
     requires ranges { AreInRange sim.old }
-    ensures gives { WritesRecorded desc.now (IsWorldReport (code_world desc.now world.now programs.now)) (S.written out.old) (S.written out.new) (S.faults out.old) (S.faults out.new) result records.new }
+    ensures gives { WritesRecorded desc.now (IsWorldReport (code_world desc.now world.now programs.now)) (S.written out.old)
+        (S.written out.new) (S.faults out.old) (S.faults out.new) result records.new }
     ensures kept { has_record records.new ≡ has_record records.old }
     ensures later { S.faults out.old ≤ S.faults out.new }
 {
@@ -185,7 +188,8 @@ fn write_start<S: Sink>(
     requires right { AreProgramsOfWorld desc.now world.now programs.now }
     requires stands { StandsAfter (code_world desc.now world.now programs.now) 0 sim.now }
     requires whole { IsWhole sim.now }
-    ensures writes { IsStartWritten desc.now (code_world desc.now world.now programs.now) sim.now (S.written out.old) (S.faults out.old) (S.written out.new) (S.faults out.new) result }
+    ensures writes { IsStartWritten desc.now (code_world desc.now world.now programs.now) sim.now (S.written out.old) (S.faults out.old)
+        (S.written out.new) (S.faults out.new) result }
     ensures later { S.faults out.old ≤ S.faults out.new }
 {
     text_grows_by_events();
@@ -218,7 +222,8 @@ fn write_step<S: Sink>(
     requires plain { effect.old ≡ plain_effect }
     requires recorded { IsRecorded records.old sim.old }
     requires ranges { AreInRange sim.old }
-    ensures writes { IsStepWritten desc.now (code_world desc.now world.now programs.now) at.event sim.old sim.new (S.written out.old) (S.faults out.old) (S.written out.new) (S.faults out.new) records.new result }
+    ensures writes { IsStepWritten desc.now (code_world desc.now world.now programs.now) at.event sim.old sim.new (S.written out.old)
+        (S.faults out.old) (S.written out.new) (S.faults out.new) records.new result }
     ensures empty { IsEmpty room.new }
     ensures plain { OnOk result (effect.new ≡ plain_effect) }
     ensures kept { has_record records.new ≡ has_record records.old }
@@ -263,7 +268,8 @@ fn write_ending<S: Sink>(
     requires few { events < 18446744073709551615 }
     requires recorded { IsRecorded records.old sim.old }
     requires ranges { AreInRange sim.old }
-    ensures writes { EndsSo desc.now (code_world desc.now world.now programs.now) sim.old (S.written out.old) (S.faults out.old) (S.written out.new) (S.faults out.new) result records.new }
+    ensures writes { EndsSo desc.now (code_world desc.now world.now programs.now) sim.old (S.written out.old) (S.faults out.old)
+        (S.written out.new) (S.faults out.new) result records.new }
     ensures kept { has_record records.new ≡ has_record records.old }
     ensures later { S.faults out.old ≤ S.faults out.new }
 {
@@ -301,7 +307,8 @@ fn write_piece<S: Sink>(
     out: &mut S,
 ) -> Result<(), SinkFault>
     requires { node < length sim.now.motes.items }
-    ensures { (mote : MoteState) → slice_get sim.now.motes.items node ≡ Some mote → Puts (S.written out.old) (S.faults out.old) (S.written out.new) (S.faults out.new) result
+    ensures { (mote : MoteState) → slice_get sim.now.motes.items node ≡ Some mote
+        → Puts (S.written out.old) (S.faults out.old) (S.written out.new) (S.faults out.new) result
         (event_piece desc.now (drop sim.now.radio.gone sim.now.radio.air) mote.node.log mote.node.gone.entries node) }
 {
     let mote = &sim.motes[usize::from(node)];
@@ -313,7 +320,8 @@ fn write_piece<S: Sink>(
 fn write_stores<S: Sink>(desc: &Description, motes: &[Mote], out: &mut S) -> Result<(), SinkFault>
     requires some { All (λ (m : MoteState). m.node.gone.entries < length m.node.log.entries) motes.now }
     requires few { length motes.now ≤ 64 }
-    ensures { Puts (S.written out.old) (S.faults out.old) (S.written out.new) (S.faults out.new) result (store_lines desc.now 0 (mote_logs motes.now)) }
+    ensures { Puts (S.written out.old) (S.faults out.old) (S.written out.new) (S.faults out.new) result
+        (store_lines desc.now 0 (mote_logs motes.now)) }
 {
     let mut node: u8 = 0;
     for mote in motes {
@@ -327,11 +335,13 @@ fn write_stores<S: Sink>(desc: &Description, motes: &[Mote], out: &mut S) -> Res
     Ok(())
 }
 
-/// Writes the last line of the report of what stands, behind its other lines. (`NoMemory` comes also where 64 bits don't count its records.)
+/// Writes the last line of the report of what stands, behind its other lines. (`NoMemory` comes also where 64 bits don't count its
+/// records.)
 #[inline(never)]
 fn write_last<S: Sink>(sim: &Simulation, events: u64, whole: bool, out: &mut S) -> Pass
     requires { length sim.now.motes.items ≤ 64 }
-    ensures { PutsLast (told_report sim.now events whole) (S.written out.old) (S.faults out.old) (S.written out.new) (S.faults out.new) result }
+    ensures { PutsLast (told_report sim.now events whole) (S.written out.old) (S.faults out.old) (S.written out.new) (S.faults out.new)
+        result }
 {
     let put = match records_in(sim) {
         Some(records) => write_end(records, events, sim.motes.len() as u8, whole, out),

@@ -14,7 +14,8 @@ use Rattle.world_simulation.specs.declared.simulation.Simulation.{Simulation}
 
 -- the store of the node is seen, with this stamp
 pub record ShowsOneStore (at : Stamp) (old new : Mote) : Type 0 where
-  pub tells : Tells old.node new.node at (Pacing (ShowsOnce (clock_of old.node.description) (machine_in old.node.description) (heard_of old.node)))
+  pub tells : Tells old.node new.node at
+      (Pacing (ShowsOnce (clock_of old.node.description) (machine_in old.node.description) (heard_of old.node)))
   pub same : new ≡ record old { node = new.node }
   pub ranges : IsInRange old.node.log old.node.gone → IsInRange new.node.log new.node.gone
 

@@ -30,7 +30,8 @@ pub record AddsEvent (number : ℕ) (old new : Simulation) (node : ℕ) : Type 0
   pub air_gone : new.radio.gone ≡ old.radio.gone
   pub goes_on : GoesOn before.node.log after.node.log
   pub air_goes_on : new.radio.air ≡ old.radio.air ++ drop (length old.radio.air) new.radio.air
-  pub adds : AddsLines (report_now old) (report_now new) number (drop (length old.radio.air) new.radio.air) after.node.log (length before.node.log.entries) node
+  pub adds : AddsLines (report_now old) (report_now new) number (drop (length old.radio.air) new.radio.air) after.node.log
+      (length before.node.log.entries) node
 
 -- the event came where what was told before it was let go, or kept
 pub record HasComeOn (written : Written) (number : ℕ) (old new : Simulation) (node : ℕ) : Type 0 where

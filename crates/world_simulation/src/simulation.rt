@@ -181,7 +181,8 @@ fn begin_motes(
 ) -> Result<Vec<Mote>, NoMemory>
     requires nodes { world.now.nodes ≤ 64 }
     requires now { radio.old.agenda.now ≡ 0 }
-    ensures { IfOk result (λ motes. (ps : List ProgramOfFile) → HaveBegun (code_world desc.now world.now ps) world.now.nodes radio.old radio.new motes.items) }
+    ensures { IfOk result (λ motes. (ps : List ProgramOfFile)
+        → HaveBegun (code_world desc.now world.now ps) world.now.nodes radio.old radio.new motes.items) }
 {
     let mut motes = Vec::with_capacity(alloc, usize::from(world.nodes))?;
     for node in 0..world.nodes {
@@ -201,7 +202,8 @@ fn begin_mote(
     requires node { node < 64 }
     requires now { radio.old.agenda.now ≡ 0 }
     ensures begins { IfOk result (BeginsMote desc.now random node) }
-    ensures adds { IfOk result (λ mote. AddsToAir radio.old radio.new (aired_at beginning node (air.Interval mote.timer.running.length) ∷ []) (first_items desc.now node mote.timer)) }
+    ensures adds { IfOk result (λ mote. AddsToAir radio.old radio.new (aired_at beginning node (air.Interval mote.timer.running.length)
+        ∷ []) (first_items desc.now node mote.timer)) }
 {
     let mote = Mote::new(alloc, desc, random, node)?;
     begin_node(radio, desc, node, &mote.timer)?;

@@ -47,12 +47,14 @@ HasWellFormed w k ms = IsWellFormed w.machine (nothing_heard w.machine) (journal
 
 -- whatever is due next finds what it needs on its node
 abbrev pub NextMayCome : World → Type 0
-NextMayCome w = (ms : List Moment) (time : ℕ) (c : Cause) → HaveCome w ms → HaveFitMessages w ms → HasWellFormed w (event_node w c) ms → IsNext (state w ms) time c → time ≤ w.until
+NextMayCome w = (ms : List Moment) (time : ℕ) (c : Cause) → HaveCome w ms → HaveFitMessages w ms → HasWellFormed w (event_node w c) ms
+    → IsNext (state w ms) time c → time ≤ w.until
     → (event_node w c < w.nodes) × (last_time ms ≤ time) × MayComeTo w ((state w ms).nodes (event_node w c)) time c
 
 -- each node is sound between events
 abbrev pub NodesAreSound : World → Type 0
-NodesAreSound w = (ms : List Moment) (k : ℕ) → HaveCome w ms → HasWellFormed w k ms → k < w.nodes → IsSoundNode w ((state w ms).nodes k) (last_time ms)
+NodesAreSound w = (ms : List Moment) (k : ℕ) → HaveCome w ms → HasWellFormed w k ms → k < w.nodes
+    → IsSoundNode w ((state w ms).nodes k) (last_time ms)
 
 -- and all that is due is of nodes of the world
 abbrev pub DuesAreOfNodes : World → Type 0

@@ -20,10 +20,14 @@ ghost use Rattle.world_states.specs.SourceWorld.{source_world};
 /// its end, and a program that it installs is taken. Each node keeps what this rests on, all that is due is of the
 /// world's nodes, and the script is right with the programs that its lines inject.
 pub fn states_are_sound()
-    ensures next { (d : Description) (script : Script) (ps : List Program) → AreProgramsOfWorld d script ps → NextMayCome (code_world d script ps) }
-    ensures nodes { (d : Description) (script : Script) (ps : List Program) → AreProgramsOfWorld d script ps → NodesAreSound (code_world d script ps) }
-    ensures dues { (d : Description) (script : Script) (ps : List Program) → AreProgramsOfWorld d script ps → DuesAreOfNodes (code_world d script ps) }
-    ensures script { (d : Description) (script : Script) (ps : List Program) → AreProgramsOfWorld d script ps → IsRightScript d script (program_at ps) }
+    ensures next { (d : Description) (script : Script) (ps : List Program) → AreProgramsOfWorld d script ps
+        → NextMayCome (code_world d script ps) }
+    ensures nodes { (d : Description) (script : Script) (ps : List Program) → AreProgramsOfWorld d script ps
+        → NodesAreSound (code_world d script ps) }
+    ensures dues { (d : Description) (script : Script) (ps : List Program) → AreProgramsOfWorld d script ps
+        → DuesAreOfNodes (code_world d script ps) }
+    ensures script { (d : Description) (script : Script) (ps : List Program) → AreProgramsOfWorld d script ps
+        → IsRightScript d script (program_at ps) }
 {}
 
 /// Where a script's programs are right, a report of the world whose nodes run their code is one of the world in which they mean

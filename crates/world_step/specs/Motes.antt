@@ -79,7 +79,8 @@ begins_with t e = is_some_length (trickle.next_length t.set t.running.length e)
 
 -- the node is reset: what its exchange collected and owed is forgotten, and its shortest interval begins
 pub record ResetsMote (at : Stamp) (old new : Mote) (r : Effect) : Type 0 where
-  pub tells : Tells old.node new.node at (Pacing (Resets (clock_of old.node.description) (machine_in old.node.description) (heard_of old.node)))
+  pub tells : Tells old.node new.node at
+      (Pacing (Resets (clock_of old.node.description) (machine_in old.node.description) (heard_of old.node)))
   pub timer : new.timer ≡ timed old.timer at.time trickle.Again
   pub exchange : Learns old.exchange Forgets new.exchange
   pub pumps : new.pumps ≡ false
@@ -140,4 +141,7 @@ pub record HearsVector (at : Stamp) (versions : List ℕ) (n : ℕ) (before : Li
   pub timer : new.timer ≡ timed old.timer at.time (heard (bytes_eq versions (held_versions n before)))
   pub exchange : new.exchange ≡ knowledge n (Hears (Vector (record { items = versions })) ∷ before)
   pub same : new ≡ record old { timer = new.timer; exchange = new.exchange }
-  pub effect : r ≡ record plain_effect { begins = begins_with old.timer (heard (bytes_eq versions (held_versions n before))); sends = record { items = asks_after n (Vector (record { items = versions })) before } }
+  pub effect : r ≡ record plain_effect {
+    begins = begins_with old.timer (heard (bytes_eq versions (held_versions n before)));
+    sends = record { items = asks_after n (Vector (record { items = versions })) before };
+  }

@@ -31,7 +31,8 @@ use world_script::Series;
 fn waits_in(node: &OpenNode, ctx: ContextId, inv: u32) -> bool
     requires { ctx.0 < CONTEXTS_MAX }
     ensures there { result ≡ true → ((heard_of node.now).invocations inv).context ≡ ctx }
-    ensures found { WaitApart (heard_of node.now) → IsWaiting (heard_of node.now) inv → ((heard_of node.now).invocations inv).context ≡ ctx → result ≡ true }
+    ensures found { WaitApart (heard_of node.now) → IsWaiting (heard_of node.now) inv
+        → ((heard_of node.now).invocations inv).context ≡ ctx → result ≡ true }
 {
     match node.asked(ctx) {
         Some(asked) => asked.inv == inv,
@@ -41,7 +42,8 @@ fn waits_in(node: &OpenNode, ctx: ContextId, inv: u32) -> bool
 
 /// The context in which the invocation waits; None where it waits in none.
 fn context_of(node: &OpenNode, inv: u32) -> Option<ContextId>
-    ensures { WaitApart (heard_of node.now) → WaitsWithin (heard_of node.now) inv → result ≡ Some ((heard_of node.now).invocations inv).context }
+    ensures { WaitApart (heard_of node.now) → WaitsWithin (heard_of node.now) inv
+        → result ≡ Some ((heard_of node.now).invocations inv).context }
 {
     for ctx in 0..CONTEXTS_MAX as u8 {
         if waits_in(node, ContextId(ctx), inv) {
@@ -67,9 +69,11 @@ fn answer_call(
     requires hour { now ≤ 3600000 }
     requires counts { length calls.old.counts.items ≡ length desc.now.functions.items }
     requires fun { fun.0 < length desc.now.functions.items }
-    ensures due { OnOk result ((w : World) (called : List FunName) → HasSensors w desc.now series.now → AreCallsOf w number called calls.old → WaitApart (heard_of node.now) → WaitsWithin (heard_of node.now) inv →
+    ensures due { OnOk result ((w : World) (called : List FunName) → HasSensors w desc.now series.now
+        → AreCallsOf w number called calls.old → WaitApart (heard_of node.now) → WaitsWithin (heard_of node.now) inv →
         AddsToAir radio.old radio.new [] (timed_event w (answer_item w number now (heard_of node.now) called fun inv) ∷ [])) }
-    ensures calls { (w : World) (called : List FunName) → HasSensors w desc.now series.now → AreCallsOf w number called calls.old → AreCallsOf w number (called ++ fun ∷ []) calls.new }
+    ensures calls { (w : World) (called : List FunName) → HasSensors w desc.now series.now → AreCallsOf w number called calls.old
+        → AreCallsOf w number (called ++ fun ∷ []) calls.new }
     ensures counts { length calls.new.counts.items ≡ length calls.old.counts.items }
     ensures now { OnOk result (radio.new.agenda.now ≡ radio.old.agenda.now) }
 {
@@ -92,7 +96,8 @@ fn answer_call(
 /// The call that an entry tells, by its invocation and its function.
 fn asked_in(entry: &Entry) -> Option<(u32, FunId)>
     ensures value { (l : Log) → result ≡ asked_of (told_of l entry.now) }
-    ensures range { (d : Machine) (n : ℕ) (f : FunName) → IsEntryInRange d entry.now → result ≡ Some (n, f) → f.0 < length d.functions.items }
+    ensures range { (d : Machine) (n : ℕ) (f : FunName) → IsEntryInRange d entry.now → result ≡ Some (n, f)
+        → f.0 < length d.functions.items }
 {
     match entry {
         Entry::Ask { inv, fun, .. } => Some((*inv, *fun)),
@@ -124,9 +129,13 @@ fn answer_entry(
     requires hour { now ≤ 3600000 }
     requires counts { length calls.old.counts.items ≡ length desc.now.functions.items }
     requires range { IsEntryInRange desc.now entry.now }
-    ensures due { OnOk result ((w : World) (called : List FunName) (l : Log) → HasSensors w desc.now series.now → AreCallsOf w number called calls.old → WaitApart (heard_of node.now) → IsAwaitedBy (heard_of node.now) (asked_of (told_of l entry.now)) →
-        AddsToAir radio.old radio.new [] (timed_events w (answer_items w number now (heard_of node.now) called (asked_of (told_of l entry.now))))) }
-    ensures calls { OnOk result ((w : World) (called : List FunName) (l : Log) → HasSensors w desc.now series.now → AreCallsOf w number called calls.old → AreCallsOf w number (with_call called (asked_of (told_of l entry.now))) calls.new) }
+    ensures due { OnOk result ((w : World) (called : List FunName) (l : Log) → HasSensors w desc.now series.now
+        → AreCallsOf w number called calls.old → WaitApart (heard_of node.now)
+        → IsAwaitedBy (heard_of node.now) (asked_of (told_of l entry.now)) →
+        AddsToAir radio.old radio.new []
+        (timed_events w (answer_items w number now (heard_of node.now) called (asked_of (told_of l entry.now))))) }
+    ensures calls { OnOk result ((w : World) (called : List FunName) (l : Log) → HasSensors w desc.now series.now
+        → AreCallsOf w number called calls.old → AreCallsOf w number (with_call called (asked_of (told_of l entry.now))) calls.new) }
     ensures counts { OnOk result (length calls.new.counts.items ≡ length calls.old.counts.items) }
     ensures now { OnOk result (radio.new.agenda.now ≡ radio.old.agenda.now) }
 {
@@ -157,9 +166,13 @@ pub fn schedule_answers(
     requires hour { now ≤ 3600000 }
     requires counts { length calls.old.counts.items ≡ length desc.now.functions.items }
     requires range { All (λ (e : StampedEntry). IsEntryInRange desc.now e.entry) entries.now }
-    ensures due { OnOk result ((w : World) (called : List FunName) (l : Log) → HasSensors w desc.now series.now → AreCallsOf w number called calls.old → WaitApart (heard_of node.now) → AreAwaited (heard_of node.now) (told_by_entries l entries.now) →
-        AddsToAir radio.old radio.new [] (timed_events w (answers_due w number now (heard_of node.now) called (told_by_entries l entries.now)))) }
-    ensures calls { OnOk result ((w : World) (called : List FunName) (l : Log) → HasSensors w desc.now series.now → AreCallsOf w number called calls.old → AreCallsOf w number (called ++ calls_in (told_by_entries l entries.now)) calls.new) }
+    ensures due { OnOk result ((w : World) (called : List FunName) (l : Log) → HasSensors w desc.now series.now
+        → AreCallsOf w number called calls.old → WaitApart (heard_of node.now)
+        → AreAwaited (heard_of node.now) (told_by_entries l entries.now) →
+        AddsToAir radio.old radio.new []
+        (timed_events w (answers_due w number now (heard_of node.now) called (told_by_entries l entries.now)))) }
+    ensures calls { OnOk result ((w : World) (called : List FunName) (l : Log) → HasSensors w desc.now series.now
+        → AreCallsOf w number called calls.old → AreCallsOf w number (called ++ calls_in (told_by_entries l entries.now)) calls.new) }
 {
     for stamped in entries {
         answer_entry(

@@ -13,7 +13,8 @@ ghost use Rattle.capsule_exchange.specs.Knowledge.{knowledge};
 ghost use Rattle.arrayvec.specs.ArrayVec.{ArrayVec};
 ghost use Rattle.packet_codec.specs.Packet.{IsRight};
 ghost use Rattle.packet_codec.specs.declared.packet.Packet.TheVariants.{Vector};
-ghost use Rattle.world_step.specs.Motes.{BeginsMote, IsTellable, TellsAlone, ResetsMote, InstallsImage, LeavesImage, PumpsMote, HearsVector, plain_effect, at_fire, timed, counted_timer, begins_counted};
+ghost use Rattle.world_step.specs.Motes.{BeginsMote, IsTellable, TellsAlone, ResetsMote, InstallsImage, LeavesImage, PumpsMote};
+ghost use Rattle.world_step.specs.Motes.{HearsVector, plain_effect, at_fire, timed, counted_timer, begins_counted};
 
 use crate::effect::Effect;
 use capsule_exchange::Exchange;
@@ -56,7 +57,9 @@ impl Mote {
     pub fn post(&mut self, handler: HandlerId, payload: &Payload, at: Stamp) -> Result<(), NoMemory>
         requires handler { handler.0 < length self.old.node.description.handlers.items }
         requires tellable { IsTellable self.old.node at }
-        ensures { OnOk result (TellsAlone at (Pacing (λ _. Occasion (machine_in self.old.node.description) (heard_of self.old.node) handler payload.now)) self.old self.new) }
+        ensures { OnOk result (TellsAlone at
+            (Pacing (λ _. Occasion (machine_in self.old.node.description) (heard_of self.old.node) handler payload.now)) self.old
+            self.new) }
     {
         self.node.reserve(2)?;
         let _ = self.node.post(handler, payload, at);
@@ -66,7 +69,9 @@ impl Mote {
     /// The store is seen.
     pub fn show(&mut self, at: Stamp) -> Result<(), NoMemory>
         requires { IsTellable self.old.node at }
-        ensures { OnOk result (TellsAlone at (Pacing (ShowsOnce (clock_of self.old.node.description) (machine_in self.old.node.description) (heard_of self.old.node))) self.old self.new) }
+        ensures { OnOk result (TellsAlone at
+            (Pacing (ShowsOnce (clock_of self.old.node.description) (machine_in self.old.node.description) (heard_of self.old.node)))
+            self.old self.new) }
     {
         self.node.reserve(1)?;
         self.node.seen(at);
@@ -77,7 +82,8 @@ impl Mote {
     pub fn answer(&mut self, ctx: ContextId, value: i16, at: Stamp) -> Result<(), NoMemory>
         requires context { ctx.0 < CONTEXTS_MAX }
         requires tellable { IsTellable self.old.node at }
-        ensures { OnOk result (NobodyWaits (heard_of self.old.node) ctx ⊎ TellsAlone at (Pacing (λ _. Answers (heard_of self.old.node) ctx value)) self.old self.new) }
+        ensures { OnOk result (NobodyWaits (heard_of self.old.node) ctx
+            ⊎ TellsAlone at (Pacing (λ _. Answers (heard_of self.old.node) ctx value)) self.old self.new) }
     {
         self.node.reserve(1)?;
         match self.node.answer(ctx, value, at) {
@@ -120,7 +126,8 @@ impl Mote {
         requires hour { at.time ≤ 3600000 }
         requires within { self.old.timer.running.begin ≤ at.time }
         requires plain { effect.old ≡ plain_effect }
-        ensures { OnOk result (InstallsImage at handler version image.now.items self.old self.new effect.new ⊎ LeavesImage handler version image.now.items self.old self.new effect.new) }
+        ensures { OnOk result (InstallsImage at handler version image.now.items self.old self.new effect.new
+            ⊎ LeavesImage handler version image.now.items self.old self.new effect.new) }
     {
         self.node.reserve(4)?;
         if version <= self.exchange.held(handler) || image.is_empty() {
@@ -141,7 +148,8 @@ impl Mote {
     pub fn fire(&mut self, suppress: bool, effect: &mut Effect)
         requires { effect.old ≡ plain_effect }
         ensures same { self.new ≡ self.old }
-        ensures effect { (n : ℕ) (hs : List Happening) → self.old.exchange ≡ knowledge n hs → effect.new ≡ at_fire (held_versions n hs) (at_point self.old.timer.set self.old.timer.running suppress) }
+        ensures effect { (n : ℕ) (hs : List Happening) → self.old.exchange ≡ knowledge n hs
+            → effect.new ≡ at_fire (held_versions n hs) (at_point self.old.timer.set self.old.timer.running suppress) }
         ensures right { All (IsRight (length self.old.exchange.handlers)) effect.new.sends.items }
     {
         match self.timer.fire(suppress) {
@@ -181,10 +189,12 @@ impl Mote {
         requires hour { at.time ≤ 3600000 }
         requires within { self.old.timer.running.begin ≤ at.time }
         requires plain { effect.old ≡ plain_effect }
-        ensures hears { (n : ℕ) (hs : List Happening) (versions : ArrayVec ℕ) → self.old.exchange ≡ knowledge n hs → packet.now ≡ Vector versions → HearsVector at versions.items n hs self.old self.new effect.new }
+        ensures hears { (n : ℕ) (hs : List Happening) (versions : ArrayVec ℕ) → self.old.exchange ≡ knowledge n hs
+            → packet.now ≡ Vector versions → HearsVector at versions.items n hs self.old self.new effect.new }
 
         // What is asked for is right, unless an image that is complete was not installed.
-        ensures asks { (n : ℕ) (hs : List Happening) → self.old.exchange ≡ knowledge n hs → IsOpen n hs → All (IsRight n) effect.new.sends.items }
+        ensures asks { (n : ℕ) (hs : List Happening) → self.old.exchange ≡ knowledge n hs → IsOpen n hs
+            → All (IsRight n) effect.new.sends.items }
     {
         let heard = self.exchange.hear(packet, &mut effect.sends);
         effect.begins = self.count(heard.consistent, at.time);
