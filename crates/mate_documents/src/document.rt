@@ -13,6 +13,7 @@ use mate_files::{Pen, Sink, SinkFault};
 use mate_journal::Report;
 use mate_num::Image;
 use mate_steps::VerifiedCapsule;
+use report_summary::Summary;
 use ts_printer::print;
 use ts_syntax::Script;
 
@@ -21,6 +22,8 @@ use ts_syntax::Script;
 pub enum Document {
     /// The summary of a report of this machine.
     Summary(BoxedMachine, Report),
+    /// The summary of a run on this machine that was counted as its events ended.
+    Counted(BoxedMachine, Summary),
     /// The opcode table of this machine.
     OpcodeTable(BoxedMachine),
     /// The image of a capsule, in hexadecimal digits.
@@ -48,6 +51,7 @@ impl Document {
             Document::Summary(machine, report) => {
                 report_text::brief(machine.description(), report, out)
             }
+            Document::Counted(machine, summary) => summary.write(machine.description(), out),
             Document::OpcodeTable(machine) => opcode_gen::print_table(machine.description(), out),
             Document::Capsule(image) => write_image(image, out),
             Document::Listing(machine, held) => {
@@ -67,6 +71,7 @@ impl Document {
     {
         match self {
             Document::Summary(_, report) => !report.whole(),
+            Document::Counted(_, summary) => !summary.whole,
             Document::OpcodeTable(_) => false,
             Document::Capsule(_) => false,
             Document::Listing(_, _) => false,
