@@ -1,9 +1,8 @@
 -- What is written of a run has one answer, where its reports have one summary.
-use Rattle.std.proofs.Common.{◌≡◌, inl, inr, Bool, true, false, sym, subst}
+use Rattle.std.proofs.Common.{◌≡◌, inl, inr, Bool, true, false, sym, ◌∙◌, subst}
 use Rattle.command_laws.specs.SameText.{SameText}
 use Rattle.journal_answers.specs.Ending.{EndsByItself}
-use Rattle.mate_cli.specs.Runs.{output_of}
-use Rattle.mate_documents.specs.declared.document.Document.TheVariants as document
+use Rattle.mate_cli.specs.Runs.{output_of, IsBrief}
 use Rattle.mate_documents.specs.declared.output.Output.{Output}
 use Rattle.mate_documents.specs.declared.output.Output.TheVariants as output
 use Rattle.mate_journal.specs.NodeScript.{RunEnd, Whole, Full}
@@ -19,6 +18,14 @@ use Rattle.vm_desc.specs.declared.description.Description.{Description}
 same_outputs : (a b o n : Output) → SameText a b → o ≡ a → n ≡ b → SameText o n
 same_outputs a b o n same is is' = subst (λ (x : Output). SameText x n) (sym is) (subst (λ (x : Output). SameText a x) (sym is') same)
 
+-- and two summaries are
+same_briefs : (d : Description) (r r' : Report) (o n : Output) → IsBrief d r o → IsBrief d r' n → brief d r ≡ brief d r' → SameText o n
+same_briefs d r r' (output.Document x) (output.Document y) is is' told = is.0 ∙ told ∙ sym is'.0
+same_briefs d r r' (output.Document x) (output.Run d' script ps) is is' told = absurd is'
+same_briefs d r r' (output.Document x) (output.World d' w ps) is is' told = absurd is'
+same_briefs d r r' (output.Run d' script ps) n is is' told = absurd is
+same_briefs d r r' (output.World d' w ps) n is is' told = absurd is
+
 module _ (d : Description) (Is Has : OfRun) (run run' : Output) (once : (how how' : RunEnd) (r r' : Report) → EndsByItself how → EndsByItself how' → Is how r → Has how' r' → brief d r ≡ brief d r') (same : SameText run run') where
   brief_ended : (r r' : Report) → IsEnded Is r → IsEnded Has r' → brief d r ≡ brief d r'
   brief_ended r r' (inl a) (inl b) = once Whole Whole r r' tt tt a b
@@ -30,5 +37,4 @@ module _ (d : Description) (Is Has : OfRun) (run run' : Output) (once : (how how
   output_agrees false = obtained_agrees SameText (λ o. o ≡ run) (λ o. o ≡ run') (λ o n is is'. same_outputs run run' o n same is is')
   output_agrees true =
       then_agrees (λ r r'. brief d r ≡ brief d r') SameText _ _ _ _ (obtained_agrees (λ r r'. brief d r ≡ brief d r') (IsEnded Is) (IsEnded Has) brief_ended)
-      (λ r r' told. obtained_agrees SameText (λ o. o ≡ output.Document (document.Summary d r)) (λ o. o ≡ output.Document (document.Summary d r'))
-      (λ o n is is'. same_outputs (output.Document (document.Summary d r)) (output.Document (document.Summary d r')) o n told is is'))
+      (λ r r' told. obtained_agrees SameText (IsBrief d r) (IsBrief d r') (λ o n is is'. same_briefs d r r' o n is is' told))

@@ -1,8 +1,7 @@
 -- The command `node`: the run of a node script with the programs of its files, or the summary of its report.
 use Rattle.std.specs.Prelude.{ℕ, Bool, List, Result}
-use Rattle.mate_cli.specs.Runs.{report_of, output_of}
+use Rattle.mate_cli.specs.Runs.{output_of}
 use Rattle.mate_journal.specs.declared.program.Program.{Program}
-use Rattle.mate_journal.specs.declared.report.Report.{Report}
 use Rattle.run_steps.specs.Running.{IsReportOf}
 use Rattle.script_programs.specs.Programs.{script_programs}
 use Rattle.script_programs.specs.Scripts.{script}
@@ -13,10 +12,6 @@ use Rattle.mate_steps.specs.Steps.{◌▸◌}
 use Rattle.mate_documents.specs.declared.output.Output.{Output}
 use Rattle.mate_documents.specs.declared.output.Output.TheVariants as output
 use Rattle.mate_refusals.specs.declared.refusal.Refusal.{Refusal}
-
--- the report of the script's run
-abbrev pub reported : Description → NodeScript → List Program → Result Report Refusal → Type 0
-reported d s ps = report_of (IsReportOf d s ps)
 
 -- what is written of the run
 abbrev pub run_output : Bool → Description → NodeScript → List Program → Result Output Refusal → Type 0

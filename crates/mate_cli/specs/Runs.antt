@@ -1,8 +1,9 @@
 -- What is written of a run, of a node script or of a world.
-use Rattle.std.specs.Prelude.{◌≡◌, Bool, true, false, Result}
+use Rattle.std.specs.Prelude.{◌≡◌, Bool, true, false, not, Result}
 use Rattle.mate_documents.specs.declared.output.Output.{Output}
 use Rattle.mate_documents.specs.declared.output.Output.TheVariants as output
-use Rattle.mate_documents.specs.declared.document.Document.TheVariants as document
+use Rattle.mate_documents.specs.Documents.{document_text, is_full}
+use Rattle.report_text.specs.Brief.{brief}
 use Rattle.mate_journal.specs.declared.report.Report.{Report}
 use Rattle.mate_refusals.specs.declared.refusal.Refusal.{Refusal}
 use Rattle.mate_steps.specs.Steps.{obtained, ◌▸◌}
@@ -13,7 +14,13 @@ use Rattle.vm_desc.specs.declared.description.Description.{Description}
 abbrev pub report_of : OfRun → Result Report Refusal → Type 0
 report_of Is = obtained (IsEnded Is)
 
+-- a document with the summary of this report, which tells whether it is whole
+abbrev pub IsBrief : Description → Report → Output → Type 0
+IsBrief d r (output.Document x) = (document_text x ≡ brief d r) × (is_full x ≡ not r.whole)
+IsBrief d r (output.Run d' script ps) = ⊥
+IsBrief d r (output.World d' w ps) = ⊥
+
 -- the run, whose report is written event by event; with `--brief` the summary of its report, when it has ended
 abbrev pub output_of : (brief : Bool) → Description → OfRun → Output → Result Output Refusal → Type 0
 output_of false d Is run = obtained (λ o. o ≡ run)
-output_of true d Is run = report_of Is ▸ λ r. obtained (λ o. o ≡ output.Document (document.Summary d r))
+output_of true d Is run = report_of Is ▸ λ r. obtained (IsBrief d r)

@@ -2,8 +2,7 @@
 
 ghost use Rattle.std.specs.Prelude.{◌≡◌, IfOk, IfErr, true};
 ghost use Rattle.mate_refusals.specs.declared.refusal.Refusal.TheVariants.{NoMemory};
-ghost use Rattle.report_text.specs.Tidy.{IsTidy};
-ghost use Rattle.mate_cli.specs.Node.{node, run_of_script, run_output, reported};
+ghost use Rattle.mate_cli.specs.Node.{node, run_of_script, run_output};
 ghost use Rattle.mate_documents.specs.Outputs.{CanBeWritten};
 ghost use Rattle.mate_steps.specs.Parts.{ReadsFiles};
 ghost use Rattle.node_programs.specs.ScriptSteps.{AreProgramsOf};
@@ -11,16 +10,14 @@ ghost use Rattle.node_programs.specs.ScriptSteps.{AreProgramsOf};
 use command_line::ScriptRun;
 use mate_documents::{BoxedMachine, Document, Output};
 use mate_files::Files;
-use mate_journal::{Programs, Report, RunFault};
+use mate_journal::Programs;
 use mate_refusals::Refusal;
-use report_text::node_report_is_tidy;
-use run_steps::run_steps;
+use run_steps::sum_steps;
 use script_programs::{programs_of, script_of};
 use script_reader::Steps;
 use std::alloc::Global;
-use vm_desc::Description;
 
-/// The run of a node script, whose report is written while it is made; or the summary of its report, when it was made.
+/// The run of a node script, whose report is written while it is made; or the summary of its report, which is counted while the run is made.
 #[inline(never)]
 pub fn output<F: Files>(
     alloc: Global,
@@ -74,7 +71,7 @@ fn run_output(
     }
 }
 
-/// The summary of the report of a script's run.
+/// The summary of the report of a script's run, whole or until its log is full. The run is made, and no report is kept.
 #[inline(never)]
 fn summary(
     alloc: Global,
@@ -87,26 +84,8 @@ fn summary(
     ensures memory { IfErr result (λ r. r ≡ NoMemory) }
     ensures writable { IfOk result CanBeWritten }
 {
-    let report = reported(alloc, machine.description(), script, programs)?;
-    Ok(Output::Document(Document::Summary(machine, report)))
-}
-
-/// The report of a script's run, whole or until its log is full.
-#[inline(never)]
-fn reported(
-    alloc: Global,
-    desc: &Description,
-    script: &Steps,
-    programs: &Programs,
-) -> Result<Report, Refusal>
-    requires { AreProgramsOf desc.now script.now programs.now }
-    ensures does { reported desc.now script.now programs.now result }
-    ensures tidy { IfOk result (IsTidy desc.now) }
-{
-    node_report_is_tidy();
-    match run_steps(alloc, desc, script, programs) {
-        Ok(report) => Ok(report),
-        Err(RunFault::LogFull(report)) => Ok(report),
-        Err(RunFault::NoMemory) => Err(Refusal::NoMemory),
+    match sum_steps(alloc, machine.description(), script, programs) {
+        Ok(summary) => Ok(Output::Document(Document::Counted(machine, summary))),
+        Err(_) => Err(Refusal::NoMemory),
     }
 }

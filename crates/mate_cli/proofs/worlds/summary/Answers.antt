@@ -12,7 +12,7 @@ returns-in_err-report-clause-does c = stops_by c.in_err-report.field-0.0 c.from_
     (subst (λ (d : Description). world_reported d c.args.world.now c.args.programs.now (Err c.in_err-report.field-0.0)) c.description.ensures c.in_err-report.ensures.does) c.from_residual.ensures.1
 
 pub returns-clause-does : goal.returns-clause-does
-returns-clause-does c = goes_on c.in_ok-report.report (subst (λ (d : Description). world_reported d c.args.world.now c.args.programs.now (Ok c.in_ok-report.report)) c.description.ensures c.in_ok-report.ensures.does) refl
+returns-clause-does c = goes_on c.in_ok-report.report (subst (λ (d : Description). world_reported d c.args.world.now c.args.programs.now (Ok c.in_ok-report.report)) c.description.ensures c.in_ok-report.ensures.does) (refl, refl)
 
 pub returns-in_err-report-clause-writable : goal.returns-in_err-report-clause-writable
 returns-in_err-report-clause-writable c = IfOk-from_err c.from_residual.result _ c.from_residual.ensures.0
