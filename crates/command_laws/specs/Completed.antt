@@ -24,8 +24,10 @@ pub record IsUnhindered (f : Folder) (names : Names) (words : List (List ℕ)) (
 -- How it ends.
 pub data Completes (names : Names) (words : List (List ℕ)) (s t : Sinks) (status : Status) : Type 0 where
   -- the whole text that is owed was written, and nothing told
-  whole : (o : Output) → Owes (steady names) words (Ok o) → (bs : List ℕ) → IsTextOf false o bs → Sent s.out t.out bs → t.err ≡ s.err → status ≡ AllDone → Completes names words s t status
+  whole : (o : Output) → Owes (steady names) words (Ok o) → (bs : List ℕ) → IsTextOf false o bs → Sent s.out t.out bs → t.err ≡ s.err
+      → status ≡ AllDone → Completes names words s t status
   -- the whole text of a run that a full log ended
-  full : (o : Output) → Owes (steady names) words (Ok o) → (bs : List ℕ) → IsTextOf true o bs → Sent s.out t.out bs → RefusesTo s t LogFull status → Completes names words s t status
+  full : (o : Output) → Owes (steady names) words (Ok o) → (bs : List ℕ) → IsTextOf true o bs → Sent s.out t.out bs
+      → RefusesTo s t LogFull status → Completes names words s t status
   -- memory was wanting
   wanting : status ≡ OutOfMemory → Completes names words s t status

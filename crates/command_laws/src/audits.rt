@@ -15,8 +15,12 @@ ghost use Rattle.mate_steps.specs.OneAnswer.{steady};
 /// is that of its whole report or of the one up to where its log was full, and a file holds this text, of 1,048,576 bytes or less:
 /// then `audit` with the same machine, the same script and this file owes `serial` and a line feed, or memory is wanting.
 pub fn written_runs_are_found_serial()
-    ensures nodes { (names : Names) (fold : Bool) (vm script report : List ℕ) (o : Output) (full : Bool) (bs : List ℕ) (answer : Result Output Refusal) →
-        node (steady names) fold false vm script (Ok o) → IsTextOf full o bs → names report ≡ Some bs → length bs ≤ 1048576 → audit (steady names) fold vm script report answer → writes (codes "serial\n") answer }
-    ensures worlds { (names : Names) (fold : Bool) (vm script report : List ℕ) (o : Output) (full : Bool) (bs : List ℕ) (answer : Result Output Refusal) →
-        sim (steady names) fold false vm script (Ok o) → IsTextOf full o bs → names report ≡ Some bs → length bs ≤ 1048576 → audit (steady names) fold vm script report answer → writes (codes "serial\n") answer }
+    ensures nodes { (names : Names) (fold : Bool) (vm script report : List ℕ) (o : Output) (full : Bool) (bs : List ℕ)
+        (answer : Result Output Refusal) →
+        node (steady names) fold false vm script (Ok o) → IsTextOf full o bs → names report ≡ Some bs → length bs ≤ 1048576
+        → audit (steady names) fold vm script report answer → writes (codes "serial\n") answer }
+    ensures worlds { (names : Names) (fold : Bool) (vm script report : List ℕ) (o : Output) (full : Bool) (bs : List ℕ)
+        (answer : Result Output Refusal) →
+        sim (steady names) fold false vm script (Ok o) → IsTextOf full o bs → names report ≡ Some bs → length bs ≤ 1048576
+        → audit (steady names) fold vm script report answer → writes (codes "serial\n") answer }
 {}

@@ -33,7 +33,9 @@ pub fn table_has_one_answer()
 
 /// The command `compile` has one answer but for want of memory, where the files are steady.
 pub fn compile_has_one_answer()
-    ensures { (names : Names) (fold : Bool) (vm handler : List ℕ) (version : ℕ) (name : List ℕ) → AnswersAgree SameText (compile (steady names) fold vm handler version name) (compile (steady names) fold vm handler version name) }
+    ensures { (names : Names) (fold : Bool) (vm handler : List ℕ) (version : ℕ) (name : List ℕ)
+        → AnswersAgree SameText (compile (steady names) fold vm handler version name)
+        (compile (steady names) fold vm handler version name) }
 {}
 
 /// The command `check` has one answer but for want of memory, where the files are steady.
@@ -53,19 +55,22 @@ pub fn feed_has_one_answer()
 
 /// The command `node` has one answer but for want of memory, where the files are steady: one run, or one summary.
 pub fn node_has_one_answer()
-    ensures { (names : Names) (fold short : Bool) (vm name : List ℕ) → AnswersAgree SameText (node (steady names) fold short vm name) (node (steady names) fold short vm name) }
+    ensures { (names : Names) (fold short : Bool) (vm name : List ℕ)
+        → AnswersAgree SameText (node (steady names) fold short vm name) (node (steady names) fold short vm name) }
 {}
 
 /// The command `sim` has one answer but for want of memory, where the files are steady: the run of one world, or one summary.
 pub fn sim_has_one_answer()
-    ensures { (names : Names) (fold short : Bool) (vm name : List ℕ) → AnswersAgree SameText (sim (steady names) fold short vm name) (sim (steady names) fold short vm name) }
+    ensures { (names : Names) (fold short : Bool) (vm name : List ℕ)
+        → AnswersAgree SameText (sim (steady names) fold short vm name) (sim (steady names) fold short vm name) }
 {
     script_has_one_report();
 }
 
 /// So has the command `gen`.
 pub fn made_run_has_one_answer()
-    ensures { (names : Names) (fold short : Bool) (number : ℕ) (vm : List ℕ) → AnswersAgree SameText (made_run (steady names) fold short number vm) (made_run (steady names) fold short number vm) }
+    ensures { (names : Names) (fold short : Bool) (number : ℕ) (vm : List ℕ)
+        → AnswersAgree SameText (made_run (steady names) fold short number vm) (made_run (steady names) fold short number vm) }
 {
     script_has_one_report();
 }
@@ -73,7 +78,8 @@ pub fn made_run_has_one_answer()
 /// The command `audit` has one answer but for want of memory, where the files are steady: programs that can't be told apart judge the same
 /// journals alike, whatever room is left in the logs that were read.
 pub fn audit_has_one_answer()
-    ensures { (names : Names) (fold : Bool) (vm script report : List ℕ) → AnswersAgree SameText (audit (steady names) fold vm script report) (audit (steady names) fold vm script report) }
+    ensures { (names : Names) (fold : Bool) (vm script report : List ℕ)
+        → AnswersAgree SameText (audit (steady names) fold vm script report) (audit (steady names) fold vm script report) }
 {}
 
 /// So words have: what they and steady files are owed is one output or one refusal, but for want of memory.
@@ -85,7 +91,8 @@ pub fn words_have_one_answer()
 
 /// Outputs that are the same have one text: all reports of one run that ended by itself have.
 pub fn same_outputs_have_one_text()
-    ensures { (o o' : Output) → SameText o o' → (full full' : Bool) (bs bs' : List ℕ) → IsTextOf full o bs → IsTextOf full' o' bs' → bs ≡ bs' }
+    ensures { (o o' : Output) → SameText o o' → (full full' : Bool) (bs bs' : List ℕ) → IsTextOf full o bs → IsTextOf full' o' bs'
+        → bs ≡ bs' }
 {
     script_has_one_report();
 }
@@ -94,6 +101,7 @@ pub fn same_outputs_have_one_text()
 /// call comes to its end: the whole text was written, or that of a run that a full log ended, or memory was wanting. So no body
 /// meets the contract of `mate` that always answers another status.
 pub fn owed_output_comes()
-    ensures { (f : Folder) (names : Names) (words : List (List ℕ)) (before now : ℕ) (s t : Sinks) (status : Status) → IsUnhindered f names words before now s t
+    ensures { (f : Folder) (names : Names) (words : List (List ℕ)) (before now : ℕ) (s t : Sinks) (status : Status)
+        → IsUnhindered f names words before now s t
         → CallEnds f words before now s t status → Completes names words s t status }
 {}

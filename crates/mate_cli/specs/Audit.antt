@@ -26,7 +26,8 @@ report_of_file f d name = file f name ▸ λ bytes. report_in d bytes.items
 
 -- the report is serial for the programs; or the first law that the lowest node fails
 abbrev pub serial : Description → List Program → Report → Result ⊤ Refusal → Type 0
-serial d ps r = judged (λ _. IsVerdict d ps r verdict.Serial) (λ (it : ℕ × Law). IsVerdict d ps r (verdict.Refuted it.0 it.1)) (λ it. Refuted (Node it.0 it.1))
+serial d ps r = judged (λ _. IsVerdict d ps r verdict.Serial) (λ (it : ℕ × Law). IsVerdict d ps r (verdict.Refuted it.0 it.1))
+    (λ it. Refuted (Node it.0 it.1))
 
 -- what is said of the report in a file, for the programs
 abbrev pub audit_of : Folder → Description → List Program → (report : List ℕ) → Result Output Refusal → Type 0

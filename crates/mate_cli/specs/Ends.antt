@@ -69,7 +69,8 @@ pub data IsDocumentWritten (x : Document) (s t : Sinks) (status : Status) : Type
   -- the whole text was written, of a run that a full log ended
   full : is_full x ≡ true → Sent s.out t.out (document_text x) → RefusesTo s t LogFull status → IsDocumentWritten x s t status
   -- `out` failed, and a prefix of the text was written
-  failed : SentPart s.out t.out (document_text x) → Rose s.out_faults t.out_faults → RefusesTo s t SinkFault status → IsDocumentWritten x s t status
+  failed : SentPart s.out t.out (document_text x) → Rose s.out_faults t.out_faults → RefusesTo s t SinkFault status
+      → IsDocumentWritten x s t status
   -- memory was wanting, and a prefix of the text was written
   wanting : SentPart s.out t.out (document_text x) → RefusesTo s t NoMemory status → IsDocumentWritten x s t status
 

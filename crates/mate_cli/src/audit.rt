@@ -23,8 +23,10 @@ use world_programs::programs_named;
 /// That the report shows serial behaviour of what the script runs; or why it doesn't.
 #[inline(never)]
 pub fn output<F: Files>(alloc: Global, files: &mut F, words: Audit<'_>) -> Result<Output, Refusal>
-    ensures does { audit (record { told = F.contents files.old; steady = F.steady files.old }) words.entry.fold words.entry.machine.now words.entry.script.now words.entry.report.now result }
-    ensures reads { ReadsFiles (F.contents files.old) (F.steady files.old) (F.faults files.old) (F.contents files.new) (F.steady files.new) (F.faults files.new) result }
+    ensures does { audit (record { told = F.contents files.old; steady = F.steady files.old }) words.entry.fold words.entry.machine.now
+        words.entry.script.now words.entry.report.now result }
+    ensures reads { ReadsFiles (F.contents files.old) (F.steady files.old) (F.faults files.old) (F.contents files.new)
+        (F.steady files.new) (F.faults files.new) result }
     ensures writable { IfOk result CanBeWritten }
 {
     let machine = BoxedMachine::named(alloc, files, words.machine)?;
@@ -39,8 +41,10 @@ fn audit_by<F: Files>(
     desc: &Description,
     words: Audit<'_>,
 ) -> Result<Output, Refusal>
-    ensures does { audit_by (record { told = F.contents files.old; steady = F.steady files.old }) words.entry.fold desc.now words.entry.script.now words.entry.report.now result }
-    ensures reads { ReadsFiles (F.contents files.old) (F.steady files.old) (F.faults files.old) (F.contents files.new) (F.steady files.new) (F.faults files.new) result }
+    ensures does { audit_by (record { told = F.contents files.old; steady = F.steady files.old }) words.entry.fold desc.now
+        words.entry.script.now words.entry.report.now result }
+    ensures reads { ReadsFiles (F.contents files.old) (F.steady files.old) (F.faults files.old) (F.contents files.new)
+        (F.steady files.new) (F.faults files.new) result }
     ensures writable { IfOk result CanBeWritten }
 {
     let programs = programs_named(alloc, files, desc, words.fold, words.script)?;
@@ -58,7 +62,8 @@ fn audit_of<F: Files>(
 ) -> Result<Output, Refusal>
     requires { AreRightPrograms desc.now programs.now }
     ensures does { audit_of (record { told = F.contents files.old; steady = F.steady files.old }) desc.now programs.now name.now result }
-    ensures reads { ReadsFiles (F.contents files.old) (F.steady files.old) (F.faults files.old) (F.contents files.new) (F.steady files.new) (F.faults files.new) result }
+    ensures reads { ReadsFiles (F.contents files.old) (F.steady files.old) (F.faults files.old) (F.contents files.new)
+        (F.steady files.new) (F.faults files.new) result }
     ensures writable { IfOk result CanBeWritten }
 {
     let report = report_of_file(alloc, files, desc, name)?;
@@ -75,7 +80,8 @@ fn report_of_file<F: Files>(
     name: &str,
 ) -> Result<Report, Refusal>
     ensures does { report_of_file (record { told = F.contents files.old; steady = F.steady files.old }) desc.now name.now result }
-    ensures reads { ReadsFiles (F.contents files.old) (F.steady files.old) (F.faults files.old) (F.contents files.new) (F.steady files.new) (F.faults files.new) result }
+    ensures reads { ReadsFiles (F.contents files.old) (F.steady files.old) (F.faults files.old) (F.contents files.new)
+        (F.steady files.new) (F.faults files.new) result }
     ensures tidy { IfOk result (IsTidy desc.now) }
 {
     let bytes = read_file(alloc, files, name)?;

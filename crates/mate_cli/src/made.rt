@@ -17,8 +17,10 @@ use world_programs::made_world;
 /// The report of the run of a number's world, or its summary.
 #[inline(never)]
 pub fn output<F: Files>(alloc: Global, files: &mut F, words: MadeRun<'_>) -> Result<Output, Refusal>
-    ensures does { made_run (record { told = F.contents files.old; steady = F.steady files.old }) words.entry.fold words.entry.brief words.entry.number words.entry.machine.now result }
-    ensures reads { ReadsFiles (F.contents files.old) (F.steady files.old) (F.faults files.old) (F.contents files.new) (F.steady files.new) (F.faults files.new) result }
+    ensures does { made_run (record { told = F.contents files.old; steady = F.steady files.old }) words.entry.fold words.entry.brief
+        words.entry.number words.entry.machine.now result }
+    ensures reads { ReadsFiles (F.contents files.old) (F.steady files.old) (F.faults files.old) (F.contents files.new)
+        (F.steady files.new) (F.faults files.new) result }
     ensures writable { IfOk result CanBeWritten }
 {
     let machine = BoxedMachine::named(alloc, files, words.machine)?;

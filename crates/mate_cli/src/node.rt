@@ -17,15 +17,18 @@ use script_programs::{programs_of, script_of};
 use script_reader::Steps;
 use std::alloc::Global;
 
-/// The run of a node script, whose report is written while it is made; or the summary of its report, which is counted while the run is made.
+/// The run of a node script, whose report is written while it is made; or the summary of its report, which is counted while the run is
+/// made.
 #[inline(never)]
 pub fn output<F: Files>(
     alloc: Global,
     files: &mut F,
     words: ScriptRun<'_>,
 ) -> Result<Output, Refusal>
-    ensures does { node (record { told = F.contents files.old; steady = F.steady files.old }) words.entry.fold words.entry.brief words.entry.machine.now words.entry.script.now result }
-    ensures reads { ReadsFiles (F.contents files.old) (F.steady files.old) (F.faults files.old) (F.contents files.new) (F.steady files.new) (F.faults files.new) result }
+    ensures does { node (record { told = F.contents files.old; steady = F.steady files.old }) words.entry.fold words.entry.brief
+        words.entry.machine.now words.entry.script.now result }
+    ensures reads { ReadsFiles (F.contents files.old) (F.steady files.old) (F.faults files.old) (F.contents files.new)
+        (F.steady files.new) (F.faults files.new) result }
     ensures writable { IfOk result CanBeWritten }
 {
     let machine = BoxedMachine::named(alloc, files, words.machine)?;
@@ -40,8 +43,10 @@ fn run_of_script<F: Files>(
     machine: BoxedMachine,
     words: ScriptRun<'_>,
 ) -> Result<Output, Refusal>
-    ensures does { run_of_script (record { told = F.contents files.old; steady = F.steady files.old }) words.entry.fold words.entry.brief machine words.entry.script.now result }
-    ensures reads { ReadsFiles (F.contents files.old) (F.steady files.old) (F.faults files.old) (F.contents files.new) (F.steady files.new) (F.faults files.new) result }
+    ensures does { run_of_script (record { told = F.contents files.old; steady = F.steady files.old }) words.entry.fold words.entry.brief
+        machine words.entry.script.now result }
+    ensures reads { ReadsFiles (F.contents files.old) (F.steady files.old) (F.faults files.old) (F.contents files.new)
+        (F.steady files.new) (F.faults files.new) result }
     ensures writable { IfOk result CanBeWritten }
 {
     let desc = machine.description();

@@ -20,8 +20,10 @@ pub fn output<F: Files>(
     files: &mut F,
     words: ScriptRun<'_>,
 ) -> Result<Output, Refusal>
-    ensures does { sim (record { told = F.contents files.old; steady = F.steady files.old }) words.entry.fold words.entry.brief words.entry.machine.now words.entry.script.now result }
-    ensures reads { ReadsFiles (F.contents files.old) (F.steady files.old) (F.faults files.old) (F.contents files.new) (F.steady files.new) (F.faults files.new) result }
+    ensures does { sim (record { told = F.contents files.old; steady = F.steady files.old }) words.entry.fold words.entry.brief
+        words.entry.machine.now words.entry.script.now result }
+    ensures reads { ReadsFiles (F.contents files.old) (F.steady files.old) (F.faults files.old) (F.contents files.new)
+        (F.steady files.new) (F.faults files.new) result }
     ensures writable { IfOk result CanBeWritten }
 {
     let machine = BoxedMachine::named(alloc, files, words.machine)?;
@@ -36,8 +38,10 @@ fn run_of_world<F: Files>(
     machine: BoxedMachine,
     words: ScriptRun<'_>,
 ) -> Result<Output, Refusal>
-    ensures does { run_of_world (record { told = F.contents files.old; steady = F.steady files.old }) words.entry.fold words.entry.brief machine words.entry.script.now result }
-    ensures reads { ReadsFiles (F.contents files.old) (F.steady files.old) (F.faults files.old) (F.contents files.new) (F.steady files.new) (F.faults files.new) result }
+    ensures does { run_of_world (record { told = F.contents files.old; steady = F.steady files.old }) words.entry.fold words.entry.brief
+        machine words.entry.script.now result }
+    ensures reads { ReadsFiles (F.contents files.old) (F.steady files.old) (F.faults files.old) (F.contents files.new)
+        (F.steady files.new) (F.faults files.new) result }
     ensures writable { IfOk result CanBeWritten }
 {
     let desc = machine.description();

@@ -31,7 +31,8 @@ use std::alloc::Global;
 /// - `expand SOURCE` writes the plain script that the source with procedures stands for, its tokens in one line.
 /// - `feed VM STREAM` cuts the bytes of the file `STREAM` into frames (RFC 1055), and writes what a new node of such a machine
 ///   answers to each, which should be a capsule that it installs.
-/// - `audit VM SCRIPT REPORT` says whether the report in the file `REPORT` shows serial behaviour of the programs that the script in the file `SCRIPT`, of a node or
+/// - `audit VM SCRIPT REPORT` says whether the report in the file `REPORT` shows serial behaviour of the programs that the script in
+/// the file `SCRIPT`, of a node or
 ///   of a world, names for such a machine: it writes `serial`, or refuses with the first line that fits no report, or with the
 ///   lowest node whose journal fails a law, and the first law that it fails.
 ///
@@ -44,7 +45,8 @@ pub fn mate<F: Files, S: Sink, E: Sink>(
     out: &mut S,
     err: &mut E,
 ) -> Status
-    ensures { CallEnds (record { told = F.contents files.old; steady = F.steady files.old }) (map string_bytes words.now.items) (F.faults files.old) (F.faults files.new)
+    ensures { CallEnds (record { told = F.contents files.old; steady = F.steady files.old }) (map string_bytes words.now.items)
+        (F.faults files.old) (F.faults files.new)
         (record { out = S.written out.old; out_faults = S.faults out.old; err = E.written err.old; err_faults = E.faults err.old })
         (record { out = S.written out.new; out_faults = S.faults out.new; err = E.written err.new; err_faults = E.faults err.new }) result }
 {
@@ -58,7 +60,8 @@ pub fn mate<F: Files, S: Sink, E: Sink>(
 #[inline(never)]
 fn output_of<F: Files>(alloc: Global, files: &mut F, words: &Vec<String>) -> Result<Output, Refusal>
     ensures does { Owes (record { told = F.contents files.old; steady = F.steady files.old }) (map string_bytes words.now.items) result }
-    ensures reads { ReadsFiles (F.contents files.old) (F.steady files.old) (F.faults files.old) (F.contents files.new) (F.steady files.new) (F.faults files.new) result }
+    ensures reads { ReadsFiles (F.contents files.old) (F.steady files.old) (F.faults files.old) (F.contents files.new)
+        (F.steady files.new) (F.faults files.new) result }
     ensures writable { IfOk result CanBeWritten }
 {
     let line = match command_line::read(alloc, words.as_slice()) {
@@ -76,7 +79,8 @@ fn output_of<F: Files>(alloc: Global, files: &mut F, words: &Vec<String>) -> Res
 #[inline(never)]
 fn task_output<F: Files>(alloc: Global, files: &mut F, task: Command<'_>) -> Result<Output, Refusal>
     ensures does { command (record { told = F.contents files.old; steady = F.steady files.old }) (task_held task.entry) result }
-    ensures reads { ReadsFiles (F.contents files.old) (F.steady files.old) (F.faults files.old) (F.contents files.new) (F.steady files.new) (F.faults files.new) result }
+    ensures reads { ReadsFiles (F.contents files.old) (F.steady files.old) (F.faults files.old) (F.contents files.new)
+        (F.steady files.new) (F.faults files.new) result }
     ensures writable { IfOk result CanBeWritten }
 {
     match task {

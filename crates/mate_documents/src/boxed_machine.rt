@@ -32,7 +32,8 @@ impl BoxedMachine {
         word: &str,
     ) -> Result<BoxedMachine, Refusal>
         ensures does { machine (record { told = F.contents files.old; steady = F.steady files.old }) word.now result }
-        ensures reads { ReadsFiles (F.contents files.old) (F.steady files.old) (F.faults files.old) (F.contents files.new) (F.steady files.new) (F.faults files.new) result }
+        ensures reads { ReadsFiles (F.contents files.old) (F.steady files.old) (F.faults files.old) (F.contents files.new)
+            (F.steady files.new) (F.faults files.new) result }
     {
         match machine_of(alloc, files, word) {
             Ok(description) => match boxed(alloc, description) {

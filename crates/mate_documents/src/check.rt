@@ -22,7 +22,8 @@ pub fn output<F: Files>(
     name: &str,
 ) -> Result<Output, Refusal>
     ensures does { check (record { told = F.contents files.old; steady = F.steady files.old }) vm.now name.now result }
-    ensures reads { ReadsFiles (F.contents files.old) (F.steady files.old) (F.faults files.old) (F.contents files.new) (F.steady files.new) (F.faults files.new) result }
+    ensures reads { ReadsFiles (F.contents files.old) (F.steady files.old) (F.faults files.old) (F.contents files.new)
+        (F.steady files.new) (F.faults files.new) result }
     ensures writable { IfOk result CanBeWritten }
 {
     let machine = BoxedMachine::named(alloc, files, vm)?;

@@ -26,8 +26,10 @@ pub fn output<F: Files>(
     files: &mut F,
     words: Compilation<'_>,
 ) -> Result<Output, Refusal>
-    ensures does { compile (record { told = F.contents files.old; steady = F.steady files.old }) words.entry.fold words.entry.machine.now words.entry.handler.now words.entry.version words.entry.source.now result }
-    ensures reads { ReadsFiles (F.contents files.old) (F.steady files.old) (F.faults files.old) (F.contents files.new) (F.steady files.new) (F.faults files.new) result }
+    ensures does { compile (record { told = F.contents files.old; steady = F.steady files.old }) words.entry.fold words.entry.machine.now
+        words.entry.handler.now words.entry.version words.entry.source.now result }
+    ensures reads { ReadsFiles (F.contents files.old) (F.steady files.old) (F.faults files.old) (F.contents files.new)
+        (F.steady files.new) (F.faults files.new) result }
     ensures writable { IfOk result CanBeWritten }
 {
     let machine = BoxedMachine::named(alloc, files, words.machine)?;

@@ -84,7 +84,8 @@ impl Document {
 
 /// Writes an image in hexadecimal digits, and a line feed.
 fn write_image<S: Sink>(image: &Image, out: &mut S) -> Result<(), SinkFault>
-    ensures { Puts (S.written out.old) (S.faults out.old) (S.written out.new) (S.faults out.new) result (encode_lower image.now.items ++ codes "\n") }
+    ensures { Puts (S.written out.old) (S.faults out.old) (S.written out.new) (S.faults out.new) result (encode_lower image.now.items
+        ++ codes "\n") }
 {
     let mut pen = Pen::new();
     pen.hex(out, image.as_slice());
@@ -94,7 +95,8 @@ fn write_image<S: Sink>(image: &Image, out: &mut S) -> Result<(), SinkFault>
 
 /// Writes the tokens of a script, and a line feed.
 fn write_script<S: Sink>(script: &Script, out: &mut S) -> Result<(), SinkFault>
-    ensures { Puts (S.written out.old) (S.faults out.old) (S.written out.new) (S.faults out.new) result (script_line (source_of script.now)) }
+    ensures { Puts (S.written out.old) (S.faults out.old) (S.written out.new) (S.faults out.new) result
+        (script_line (source_of script.now)) }
 {
     match print(script, out) {
         Ok(()) => end_line(out),

@@ -1,5 +1,6 @@
 -- The summary of a report, from what was counted.
-use Rattle.std.specs.Prelude.{◌≡◌, ◌≤◌, ◌+◌, ◌*◌, ◌^◌, ◌==◌, ℕ, Bool, if◌then◌else◌, List, [], ◌∷◌, ◌++◌, codes, length, max, fold, flat_map, count_by, sum_by, All}
+use Rattle.std.specs.Prelude.{◌≡◌, ◌≤◌, ◌+◌, ◌*◌, ◌^◌, ◌==◌, ℕ, Bool, if◌then◌else◌, List, [], ◌∷◌, ◌++◌, codes, length, max, fold}
+use Rattle.std.specs.Prelude.{flat_map, count_by, sum_by, All}
 use Rattle.vm_desc.specs.declared.description.Description.{Description}
 use Rattle.mate_journal.specs.Tidy.{below}
 use Rattle.mate_journal.specs.declared.report.Report.{Report}
@@ -46,11 +47,13 @@ newest_counted h ts = fold (λ version t. max version (versions_at h t.versions.
 
 -- how many nodes have it as their last one; 0 where there is none
 abbrev pub holders_counted : ℕ → List LogTally → ℕ
-holders_counted h ts = if newest_counted h ts == 0 then 0 else count_by (λ t. (versions_at h t.versions.items).last == newest_counted h ts) ts
+holders_counted h ts = if newest_counted h ts == 0 then 0
+    else count_by (λ t. (versions_at h t.versions.items).last == newest_counted h ts) ts
 
 abbrev pub newest_line_counted : Description → List LogTally → ℕ → List ℕ
 newest_line_counted d ts h =
-    codes "newest" ++ word (handler_name d (record { 0 = h })) ++ number (newest_counted h ts) ++ number (holders_counted h ts) ++ codes "\n"
+    codes "newest" ++ word (handler_name d (record { 0 = h })) ++ number (newest_counted h ts) ++ number (holders_counted h ts)
+    ++ codes "\n"
 
 abbrev pub counted_lines : Summary → List ℕ
 counted_lines s =
@@ -68,4 +71,5 @@ counted_lines s =
 
 -- the counts, a line per handler, and whether the run is whole
 abbrev pub summary_text : Description → Summary → List ℕ
-summary_text d s = counted_lines s ++ flat_map (newest_line_counted d s.nodes.items) (below (length d.handlers.items)) ++ end_word s.whole ++ codes "\n"
+summary_text d s = counted_lines s ++ flat_map (newest_line_counted d s.nodes.items) (below (length d.handlers.items)) ++ end_word s.whole
+    ++ codes "\n"

@@ -1,5 +1,6 @@
 -- What is counted of a log and of the air.
-use Rattle.std.specs.Prelude.{◌≡◌, ◌≤◌, ◌<◌, ◌+◌, ◌==◌, ℕ, Bool, true, false, if◌then◌else◌, List, [], ◌∷◌, length, max, fold, filter_map, count_by, slice_index_or, Option, None, Some, ⊤}
+use Rattle.std.specs.Prelude.{◌≡◌, ◌≤◌, ◌<◌, ◌+◌, ◌==◌, ℕ, Bool, true, false, if◌then◌else◌, List, [], ◌∷◌, length, max, fold, filter_map}
+use Rattle.std.specs.Prelude.{count_by, slice_index_or, Option, None, Some, ⊤}
 use Rattle.mate_journal.specs.Log.{Log}
 use Rattle.mate_journal.specs.declared.air.Aired.{Aired}
 use Rattle.mate_journal.specs.declared.entry.Entry.{Entry}
@@ -93,7 +94,8 @@ pub record IsAirTally (t : AirTally) (aired : List Aired) : Type 0 where
 -- a version more of a handler, where there is this handler
 pub record InstallsVersion (old new : List Versions) (g version : ℕ) : Type 0 where
   pub size : length new ≡ length old
-  pub versions : (h : ℕ) → h < length old → versions_at h new ≡ (if g == h then with_version (versions_at h old) version else versions_at h old)
+  pub versions : (h : ℕ) → h < length old → versions_at h new ≡ (if g == h then with_version (versions_at h old) version
+      else versions_at h old)
 
 -- what an entry installs is told
 pub record Notes (old new : List Versions) (e : Entry) : Type 0 where

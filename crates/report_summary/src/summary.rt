@@ -6,7 +6,8 @@ ghost use Rattle.mate_files.specs.Sink.{Puts};
 ghost use Rattle.mate_journal.specs.Tidy.{below};
 ghost use Rattle.report_text.specs.Brief.{count_line};
 ghost use Rattle.report_summary.specs.Tally.{versions_at};
-ghost use Rattle.report_summary.specs.Summary.{entries_summed, newest_counted, counted_lines, newest_line_counted, summary_text, AreSmall, IsSmall, IsOfNode};
+ghost use Rattle.report_summary.specs.Summary.{entries_summed, newest_counted, counted_lines, newest_line_counted, summary_text, AreSmall};
+ghost use Rattle.report_summary.specs.Summary.{IsSmall, IsOfNode};
 
 use crate::tally::{AirTally, LogTally, one_if};
 use mate_files::{Pen, Sink, SinkFault};
@@ -54,7 +55,8 @@ impl Summary {
     /// A fault is the sink's, which then holds a prefix of the summary. It takes no memory.
     pub fn write<S: Sink>(&self, desc: &Description, out: &mut S) -> Result<(), SinkFault>
         requires { IsSmall self.now }
-        ensures { Puts (S.written out.old) (S.faults out.old) (S.written out.new) (S.faults out.new) result (summary_text desc.now self.now) }
+        ensures { Puts (S.written out.old) (S.faults out.old) (S.written out.new) (S.faults out.new) result
+            (summary_text desc.now self.now) }
     {
         let mut pen = Pen::new();
         self.count_lines(&mut pen, out);
@@ -66,7 +68,8 @@ impl Summary {
 
     fn count_lines<S: Sink>(&self, pen: &mut Pen, out: &mut S)
         requires { IsSmall self.now }
-        ensures { Prints (S.written out.old) (S.faults out.old) pen.old.result (S.written out.new) (S.faults out.new) pen.new.result (counted_lines self.now) }
+        ensures { Prints (S.written out.old) (S.faults out.old) pen.old.result (S.written out.new) (S.faults out.new) pen.new.result
+            (counted_lines self.now) }
     {
         let nodes = self.nodes.as_slice();
         count_line(pen, out, "nodes", nodes.len() as u64);
@@ -84,7 +87,8 @@ impl Summary {
 }
 
 fn count_line<S: Sink>(pen: &mut Pen, out: &mut S, name: &str, n: u64)
-    ensures { Prints (S.written out.old) (S.faults out.old) pen.old.result (S.written out.new) (S.faults out.new) pen.new.result (count_line name.now n) }
+    ensures { Prints (S.written out.old) (S.faults out.old) pen.old.result (S.written out.new) (S.faults out.new) pen.new.result
+        (count_line name.now n) }
 {
     pen.text(out, name);
     number(pen, out, n);
@@ -132,7 +136,8 @@ fn newest_line<S: Sink>(
     nodes: &[LogTally],
     handler: HandlerId,
 )
-    ensures { Prints (S.written out.old) (S.faults out.old) pen.old.result (S.written out.new) (S.faults out.new) pen.new.result (newest_line_counted desc.now nodes.now handler.0) }
+    ensures { Prints (S.written out.old) (S.faults out.old) pen.old.result (S.written out.new) (S.faults out.new) pen.new.result
+        (newest_line_counted desc.now nodes.now handler.0) }
 {
     pen.text(out, "newest");
     word(pen, out, handler_name(desc, handler));

@@ -4,7 +4,8 @@ ghost use Rattle.std.specs.Prelude.{◌≡◌, ◌+◌, ◌++◌, ◌≤◌, ◌
 ghost use Rattle.mate_journal.specs.declared.entry.Stamped.{Stamped as StampedEntry};
 ghost use Rattle.report_text.specs.Brief.{is_entry};
 ghost use Rattle.report_text.specs.declared.summary.EntryKind.TheVariants as kinds;
-ghost use Rattle.report_summary.specs.Tally.{entries_counted, install_told, with_version, versions_none, versions_at, CountsUpTo, IsUpTo, IsLogTally, InstallsVersion, Notes, AddsEntry, IsAirTally};
+ghost use Rattle.report_summary.specs.Tally.{entries_counted, install_told, with_version, versions_none, versions_at, CountsUpTo, IsUpTo};
+ghost use Rattle.report_summary.specs.Tally.{IsLogTally, InstallsVersion, Notes, AddsEntry, IsAirTally};
 ghost use Rattle.report_text.specs.Counts.{one_if};
 
 use mate_journal::{Entry, Stamped};
@@ -93,7 +94,8 @@ impl LogTally {
     /// Counts entries behind those that were counted.
     pub fn add_all(&mut self, entries: &[Stamped])
         requires { IsUpTo (2 ^ 63) self.old }
-        ensures tallies { (handlers : ℕ) (front : List StampedEntry) → IsLogTally handlers self.old front → IsLogTally handlers self.new (front ++ entries.now) }
+        ensures tallies { (handlers : ℕ) (front : List StampedEntry) → IsLogTally handlers self.old front
+            → IsLogTally handlers self.new (front ++ entries.now) }
         ensures up { (n : ℕ) → IsUpTo n self.old → IsUpTo (n + 2 ^ 57) self.new }
     {
         for stamped in entries {

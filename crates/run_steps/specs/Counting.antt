@@ -11,4 +11,5 @@ use Rattle.run_steps.specs.Running.{report_with}
 -- it is the summary of the node's report, where the tally counts all but what is at hand
 pub record Sums (v : NodeView) (t : LogTally) (events : ℕ) (whole : Bool) (s : Summary) : Type 0 where
   pub small : IsSmall s
-  pub of : (d : Description) → IsLogTally (length d.handlers.items) t (take v.gone.entries v.log.entries) → SumsReport d s (report_with v.log events whole)
+  pub of : (d : Description) → IsLogTally (length d.handlers.items) t (take v.gone.entries v.log.entries)
+      → SumsReport d s (report_with v.log events whole)

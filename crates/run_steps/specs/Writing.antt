@@ -10,4 +10,5 @@ use Rattle.run_writing.specs.declared.pass.Pass.{Pass}
 
 -- the node's log is that of the report of a run that was written so
 abbrev pub PassWrites : Description → NodeScript → List Program → Option (List ℕ) → Option (List ℕ) → ℕ → ℕ → Log → Pass → Type 0
-PassWrites d script ps out out' before now l pass = WritesReport d (IsReportOf d script ps) out out' before now pass.result (report_with l pass.events pass.whole)
+PassWrites d script ps out out' before now l pass = WritesReport d (IsReportOf d script ps) out out' before now pass.result
+    (report_with l pass.events pass.whole)

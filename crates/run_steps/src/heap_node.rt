@@ -99,7 +99,8 @@ impl HeapNode {
         requires timely { IsTimely at self.old.log }
         requires few { length self.old.log.entries < 4000000000 }
         requires room { 1 ≤ self.old.log.spare }
-        ensures tells { Tells self.old self.new at (Pacing (ShowsOnce (clock_of self.old.description) (machine_in self.old.description) (heard_of self.old))) }
+        ensures tells { Tells self.old self.new at
+            (Pacing (ShowsOnce (clock_of self.old.description) (machine_in self.old.description) (heard_of self.old))) }
         ensures ranges { IsInRange self.old.log self.old.gone → IsInRange self.new.log self.new.gone }
         ensures goes_on { GoesOn self.old.log self.new.log }
     {
@@ -143,7 +144,8 @@ impl HeapNode {
         ensures pace { (p : Pace) → HasPace self.old p → HasPace self.new p }
         ensures room { OnOk result (n ≤ self.new.log.spare) }
         ensures ranges { IsInRange self.old.log self.old.gone → IsInRange self.new.log self.new.gone }
-        ensures tallies { (handlers : ℕ) → IsLogTally handlers tally.old (take self.old.gone.entries self.old.log.entries) → IsLogTally handlers tally.new self.old.log.entries }
+        ensures tallies { (handlers : ℕ) → IsLogTally handlers tally.old (take self.old.gone.entries self.old.log.entries)
+            → IsLogTally handlers tally.new self.old.log.entries }
     {
         self.count_kept(tally);
         self.forget();
@@ -153,7 +155,8 @@ impl HeapNode {
     /// Counts what is at hand.
     pub(crate) fn count_kept(&self, tally: &mut LogTally)
         requires { IsUpTo (2 ^ 63) tally.old }
-        ensures tallies { (handlers : ℕ) → IsLogTally handlers tally.old (take self.now.gone.entries self.now.log.entries) → IsLogTally handlers tally.new self.now.log.entries }
+        ensures tallies { (handlers : ℕ) → IsLogTally handlers tally.old (take self.now.gone.entries self.now.log.entries)
+            → IsLogTally handlers tally.new self.now.log.entries }
         ensures up { (n : ℕ) → IsUpTo n tally.old → IsUpTo (n + 2 ^ 57) tally.new }
     {
         tally.add_all(self.node.kept().entries());

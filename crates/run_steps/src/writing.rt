@@ -52,7 +52,8 @@ fn write_new<S: Sink>(
     out: &mut S,
 ) -> Result<(), SinkFault>
     requires { node.now.gone.entries + from ≤ length node.now.log.entries }
-    ensures writes { Puts (S.written out.old) (S.faults out.old) (S.written out.new) (S.faults out.new) result (event_piece desc.now [] node.now.log (node.now.gone.entries + from) 0) }
+    ensures writes { Puts (S.written out.old) (S.faults out.old) (S.written out.new) (S.faults out.new) result
+        (event_piece desc.now [] node.now.log (node.now.gone.entries + from) 0) }
     ensures keeps { KeepsJournal node.now.description (machine_in node.now.description) node.now.log }
 {
     write_event(desc, &[], node.kept(), from, 0, out)
@@ -60,7 +61,8 @@ fn write_new<S: Sink>(
 
 /// Writes the last line of the report of a run on a node, behind its other lines.
 fn write_last<S: Sink>(node: &HeapNode, events: u64, whole: bool, out: &mut S) -> Pass
-    ensures { PutsLast (report_with node.now.log events whole) (S.written out.old) (S.faults out.old) (S.written out.new) (S.faults out.new) result }
+    ensures { PutsLast (report_with node.now.log events whole) (S.written out.old) (S.faults out.old) (S.written out.new)
+        (S.faults out.new) result }
 {
     let put = write_end(node.told() as u64, events, 1, whole, out);
     Pass {
@@ -82,7 +84,8 @@ fn write_run<S: Sink>(
 ) -> Pass
     requires programs { AreProgramsOf desc.now steps.now programs.now }
     requires fresh { IsNewNode desc.now node.old }
-    ensures gives { PassWrites desc.now steps.now programs.now (S.written out.old) (S.written out.new) (S.faults out.old) (S.faults out.new) node.new.log result }
+    ensures gives { PassWrites desc.now steps.now programs.now (S.written out.old) (S.written out.new) (S.faults out.old)
+        (S.faults out.new) node.new.log result }
     ensures later { S.faults out.old ≤ S.faults out.new }
     ensures gone { StaysAsToldTo written node.old.gone node.new.gone }
 {
@@ -140,7 +143,8 @@ pub fn run_steps_into<S: Sink>(
     out: &mut S,
 ) -> Result<Report, IntoFault>
     requires { AreProgramsOf desc.now steps.now programs.now }
-    ensures gives { RunsInto desc.now (IsReportOf desc.now steps.now programs.now) (S.written out.old) (S.written out.new) (S.faults out.old) (S.faults out.new) result }
+    ensures gives { RunsInto desc.now (IsReportOf desc.now steps.now programs.now) (S.written out.old) (S.written out.new)
+        (S.faults out.old) (S.faults out.new) result }
     ensures later { S.faults out.old ≤ S.faults out.new }
 {
     let Ok(mut node) = HeapNode::new(alloc, desc) else {
@@ -167,7 +171,8 @@ pub fn write_steps<S: Sink>(
     out: &mut S,
 ) -> Result<(), WriteFault>
     requires { AreProgramsOf desc.now steps.now programs.now }
-    ensures gives { WritesRun desc.now (IsReportOf desc.now steps.now programs.now) (S.written out.old) (S.written out.new) (S.faults out.old) (S.faults out.new) result }
+    ensures gives { WritesRun desc.now (IsReportOf desc.now steps.now programs.now) (S.written out.old) (S.written out.new)
+        (S.faults out.old) (S.faults out.new) result }
     ensures later { S.faults out.old ≤ S.faults out.new }
 {
     let Ok(mut node) = HeapNode::new(alloc, desc) else {

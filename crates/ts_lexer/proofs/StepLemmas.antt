@@ -16,7 +16,7 @@ use Rattle.ts_lexer.specs.declared.fault.TokenFault.TheVariants.{BadByte, BigLit
 use Rattle.ts_lexer.specs.declared.scanner.Scanner.{Scanner}
 use Rattle.ts_lexer.specs.Spans.{begins, Begins, Passes, value_of}
 use Rattle.ts_lexer.specs.Answers.{HasFault, CutsIn}
-use Rattle.ts_lexer.specs.Scanner.{due, Takes, Appends, Moves, Steps, Ends, Leads}
+use Rattle.ts_lexer.specs.Scanner.{due, Takes, Appends, Moves, Steps, EndsScan, LeadsOn}
 use Rattle.ts_lexer.proofs.CutLemmas.{Stops, in_line, cut_from-nil, with_front-nil, with_front-append, word_cut, long_word, literal_cut, big_literal_cut, literal_letter_cut, comment_cut, blank_cut}
 
 -- the longest front that passes a test
@@ -279,25 +279,25 @@ cut_in-all dialect.Procedures bytes = refl
 pub same_fault : (whole rest : Result (List Token) CutFault) → rest ≡ whole → (f : TokenFault) → HasFault rest f → HasFault whole f
 same_fault whole rest e f h = subst (λ r. HasFault r f) e h
 
-pub leads_same : (r : Result (List Token) CutFault) → Leads r r
+pub leads_same : (r : Result (List Token) CutFault) → LeadsOn r r
 leads_same r = record { front = []; is = sym (with_front-nil r) }
 
-pub leads_on : (a b c : Result (List Token) CutFault) → Leads a b → Leads b c → Leads a c
+pub leads_on : (a b c : Result (List Token) CutFault) → LeadsOn a b → LeadsOn b c → LeadsOn a c
 leads_on a b c p q = record { front = p.front ++ q.front; is = p.is ∙ ap (with_front p.front) q.is ∙ with_front-append p.front q.front c }
 
-pub leads_by : (a b c : Result (List Token) CutFault) → Leads a b → c ≡ b → Leads a c
+pub leads_by : (a b c : Result (List Token) CutFault) → LeadsOn a b → c ≡ b → LeadsOn a c
 leads_by a b c p e = record { front = p.front; is = p.is ∙ ap (with_front p.front) (sym e) }
 
-pub leads_fault : (whole rest : Result (List Token) CutFault) (f : TokenFault) → Leads whole rest → HasFault rest f → HasFault whole f
+pub leads_fault : (whole rest : Result (List Token) CutFault) (f : TokenFault) → LeadsOn whole rest → HasFault rest f → HasFault whole f
 leads_fault whole rest (BadByte place) p h = p.is ∙ ap (with_front p.front) h
 leads_fault whole rest (BigLiteral place) p h = p.is ∙ ap (with_front p.front) h
 leads_fault whole rest NoMemory p h = tt
 
-pub leads_end : (whole rest : Result (List Token) CutFault) (ts : List Token) → Leads whole rest → rest ≡ Ok ts → (all : List Token) × (whole ≡ Ok all)
+pub leads_end : (whole rest : Result (List Token) CutFault) (ts : List Token) → LeadsOn whole rest → rest ≡ Ok ts → (all : List Token) × (whole ≡ Ok all)
 leads_end whole rest ts p e = (p.front ++ ts, p.is ∙ ap (with_front p.front) e)
 
 -- what is due without the tokens that were read
-pub forgotten : (old new : Scanner) → new.tokens ≡ [] → new.rest.now ≡ old.rest.now → new.place ≡ old.place → new.dialect ≡ old.dialect → Leads (due old) (due new)
+pub forgotten : (old new : Scanner) → new.tokens ≡ [] → new.rest.now ≡ old.rest.now → new.place ≡ old.place → new.dialect ≡ old.dialect → LeadsOn (due old) (due new)
 forgotten old new none rest place dialect = record {
   front = old.tokens;
   is = ap (with_front old.tokens)
@@ -315,6 +315,6 @@ reads_front s all e = by (all_in s.dialect (cut_from s.place between s.rest.now)
   by (Err f) e = cc
 
 -- what a whole text answers, by what is due at first
-pub cuts_by : (d : Dialect) (bytes : List ℕ) (r : Result (List Token) CutFault) (result : Result (List Token) TokenFault) → r ≡ cut_in d bytes → Ends r result → CutsIn d bytes result
+pub cuts_by : (d : Dialect) (bytes : List ℕ) (r : Result (List Token) CutFault) (result : Result (List Token) TokenFault) → r ≡ cut_in d bytes → EndsScan r result → CutsIn d bytes result
 cuts_by d bytes r (Ok ts) e h = sym e ∙ h
 cuts_by d bytes r (Err f) e h = subst (λ r. HasFault r f) e h

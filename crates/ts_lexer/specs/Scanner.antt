@@ -40,9 +40,9 @@ Begins cut (Ok s) = due s ≡ cut
 Begins cut (Err f) = HasFault cut f
 
 -- all tokens, or the first fault
-abbrev pub Ends : Result (List Token) CutFault → Result (List Token) TokenFault → Type 0
-Ends cut (Ok tokens) = cut ≡ Ok tokens
-Ends cut (Err f) = HasFault cut f
+abbrev pub EndsScan : Result (List Token) CutFault → Result (List Token) TokenFault → Type 0
+EndsScan cut (Ok tokens) = cut ≡ Ok tokens
+EndsScan cut (Err f) = HasFault cut f
 
 -- there are tokens, whatever they are, or the first fault
 abbrev pub LooksThrough : Result (List Token) CutFault → Result (Unit {0}) TokenFault → Type 0
@@ -50,11 +50,11 @@ LooksThrough cut (Ok u) = (tokens : List Token) × (cut ≡ Ok tokens)
 LooksThrough cut (Err f) = HasFault cut f
 
 -- what is cut is this behind some tokens
-pub record Leads (whole rest : Result (List Token) CutFault) : Type 0 where
+pub record LeadsOn (whole rest : Result (List Token) CutFault) : Type 0 where
   pub front : List Token
   pub is : whole ≡ with_front front rest
 
 -- some tokens aren't kept any longer
 pub record Forgets (old new : Scanner) : Type 0 where
-  pub leads : Leads (due old) (due new)
+  pub leads : LeadsOn (due old) (due new)
   pub rest : new.rest.now ≡ old.rest.now

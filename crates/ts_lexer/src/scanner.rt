@@ -30,7 +30,7 @@ impl<'a> Scanner<'a> {
     ghost use Rattle.ts_syntax.specs.Cut.{is_blank, begins_name, is_digit, token, kind_in, cut_in};
     ghost use Rattle.ts_syntax.specs.declared.token.TokenKind.{TokenKind as Kind};
     ghost use Rattle.ts_lexer.specs.Spans.{Begins, begins_sign};
-    ghost use Rattle.ts_lexer.specs.Scanner.{due, Takes, Appends, Moves, Steps, Ends, LooksThrough, Forgets};
+    ghost use Rattle.ts_lexer.specs.Scanner.{due, Takes, Appends, Moves, Steps, EndsScan, LooksThrough, Forgets};
 
     /// The whole text, and no token yet.
     pub(crate) fn new(alloc: Global, dialect: Dialect, bytes: &'a [u8]) -> Scanner<'a>
@@ -61,7 +61,7 @@ impl<'a> Scanner<'a> {
 
     /// All tokens of the text, or its first fault.
     pub fn finish(self) -> Result<Tokens, TokenFault>
-        ensures { Ends (due self.entry) result }
+        ensures { EndsScan (due self.entry) result }
     {
         let mut scanner = self;
         while let Some(first) = scanner.rest.first() {

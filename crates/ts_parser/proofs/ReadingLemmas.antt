@@ -20,7 +20,7 @@ use Rattle.ts_lexer.specs.declared.fault.TokenFault.TheVariants as cutting
 use Rattle.ts_lexer.specs.declared.scanner.Scanner.{Scanner}
 use Rattle.ts_lexer.proofs.StepLemmas.{reads_front}
 use Rattle.ts_parser.specs.Cutting.{SourceCuts, source_fault_of}
-use Rattle.ts_parser.specs.Reading.{ReadsText, cuts, fails, ReadsIn, Reads, Stays, is_at}
+use Rattle.ts_parser.specs.Reading.{ReadsSource, cuts, fails, ReadsIn, Reads, Stays, is_at_end}
 use Rattle.ts_parser.specs.Verdict.{Answers, AnswersIn}
 use Rattle.ts_parser.specs.declared.fault.SourceFault.{SourceFault}
 use Rattle.ts_parser.specs.declared.fault.SourceFault.TheVariants as fault
@@ -60,7 +60,7 @@ deep_stays d ts place h more = record {
   stands = h.stands;
 }
 
-pub stays : (d : Dialect) (ts : List Token) (end : ℕ) (f : SourceFault) → AnswersIn d ts end (Err f) → is_at end f ≡ false → Stays d ts f
+pub stays : (d : Dialect) (ts : List Token) (end : ℕ) (f : SourceFault) → AnswersIn d ts end (Err f) → is_at_end end f ≡ false → Stays d ts f
 stays d ts end (fault.BadByte place) h apart = absurd h
 stays d ts end (fault.BigLiteral place) h apart = absurd h
 stays d ts end (fault.Unexpected place) h apart = unexpected_stays d ts end place apart h

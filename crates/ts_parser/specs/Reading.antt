@@ -12,17 +12,17 @@ use Rattle.ts_parser.specs.declared.fault.SourceFault.{SourceFault}
 use Rattle.ts_parser.specs.declared.fault.SourceFault.TheVariants as fault
 
 -- the answer is that of the tokens that the bytes are cut into, or their first fault
-pub data ReadsText {S : Type 0} (d : Dialect) (bytes : List ℕ) (Answer : List Token → Result S SourceFault
+pub data ReadsSource {S : Type 0} (d : Dialect) (bytes : List ℕ) (Answer : List Token → Result S SourceFault
     → Type 0) (result : Result S SourceFault) : Type 0 where
-  cuts : (tokens : List Token) → cut_in d bytes ≡ Ok tokens → Answer tokens result → ReadsText d bytes Answer result
-  fails : (f : SourceFault) → SourceCuts d bytes (Err f) → result ≡ Err f → ReadsText d bytes Answer result
+  cuts : (tokens : List Token) → cut_in d bytes ≡ Ok tokens → Answer tokens result → ReadsSource d bytes Answer result
+  fails : (f : SourceFault) → SourceCuts d bytes (Err f) → result ≡ Err f → ReadsSource d bytes Answer result
 
 abbrev pub ReadsIn : Dialect → List ℕ → Result ProcScript SourceFault → Type 0
-ReadsIn d bytes result = ReadsText d bytes (λ tokens. AnswersIn d tokens (length bytes)) result
+ReadsIn d bytes result = ReadsSource d bytes (λ tokens. AnswersIn d tokens (length bytes)) result
 
 -- the same in plain TinyScript
 abbrev pub Reads : List ℕ → Result Script SourceFault → Type 0
-Reads bytes result = ReadsText dialect.Plain bytes (λ tokens. Answers tokens (length bytes)) result
+Reads bytes result = ReadsSource dialect.Plain bytes (λ tokens. Answers tokens (length bytes)) result
 
 -- ---- on the way
 
@@ -31,6 +31,6 @@ abbrev pub Stays : Dialect → List Token → SourceFault → Type 0
 Stays d tokens f = (more : List Token) (len : ℕ) → AnswersIn d (tokens ++ more) len (Err f)
 
 -- the tokens end too early
-abbrev pub is_at : ℕ → SourceFault → Bool
-is_at end (fault.Unexpected place) = place == end
-is_at end f = false
+abbrev pub is_at_end : ℕ → SourceFault → Bool
+is_at_end end (fault.Unexpected place) = place == end
+is_at_end end f = false

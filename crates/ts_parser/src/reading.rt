@@ -4,7 +4,7 @@ ghost use Rattle.std.specs.Prelude.{◌≡◌, ◌≤◌, length, IfSome};
 ghost use Rattle.ts_syntax.specs.Cut.{cut_in};
 ghost use Rattle.ts_syntax.specs.declared.dialect.Dialect.TheVariants.{Procedures};
 ghost use Rattle.ts_lexer.specs.Scanner.{due};
-ghost use Rattle.ts_parser.specs.Reading.{Reads, ReadsIn, Stays, is_at};
+ghost use Rattle.ts_parser.specs.Reading.{Reads, ReadsIn, Stays, is_at_end};
 
 use crate::cutting::source_fault;
 use crate::fault::SourceFault;
@@ -66,15 +66,15 @@ fn first_fault(alloc: Global, dialect: Dialect, scanner: &Scanner) -> Option<Sou
     let Err(fault) = parse_in(alloc, dialect, scanner.tokens(), end) else {
         return None;
     };
-    if is_at(fault, end) {
+    if is_at_end(fault, end) {
         return None;
     }
     Some(fault)
 }
 
 /// Whether the tokens end too early.
-fn is_at(fault: SourceFault, end: u32) -> bool
-    ensures { result ≡ is_at end fault }
+fn is_at_end(fault: SourceFault, end: u32) -> bool
+    ensures { result ≡ is_at_end end fault }
 {
     match fault {
         SourceFault::Unexpected { place } => place == end,
