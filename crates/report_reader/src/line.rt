@@ -59,7 +59,7 @@ fn read_line(desc: &Description, bytes: &[u8]) -> Option<Line>
 }
 
 /// The line, with its image or its store in it.
-fn with_bulk(line: LightLine, bulk: Bulk) -> Line
+pub fn with_bulk(line: LightLine, bulk: Bulk) -> Line
     ensures { result ≡ bulky_line bulk line }
 {
     let LightLine { stamp, node, told } = line;

@@ -3,7 +3,7 @@
 use crate::fault::ViewFault;
 use crate::nodes::NODES_MAX;
 use mate_journal::Air;
-use report_reader::{Line, Told};
+use report_reader::{Bulk, LightLine, LightTold};
 use report_reading::last_line::LastLine;
 use report_reading::place::{Place, admits_next, place_after};
 
@@ -35,11 +35,11 @@ impl Order {
     }
 
     /// Takes the next line; it is bad where it doesn't fit after those before it.
-    pub fn take(&mut self, line: &Line) -> Result<(), ViewFault> {
-        if !admits_next(&self.place, line) {
+    pub fn take(&mut self, line: &LightLine, bulk: &Bulk) -> Result<(), ViewFault> {
+        if !admits_next(&self.place, line, bulk) {
             return Err(self.bad_line(1));
         }
-        let place = place_after(&self.place, line);
+        let place = place_after(&self.place, line, bulk);
         self.place = Some(place);
         self.count = self.count.saturating_add(1);
         self.nodes = self.nodes.max(nodes_in(line));
@@ -57,11 +57,12 @@ impl Order {
 }
 
 /// A number above each node number of a line.
-fn nodes_in(line: &Line) -> u64 {
+fn nodes_in(line: &LightLine) -> u64 {
     let named = match &line.told {
-        Told::OnAir(Air::Lost { number: _, to }) => *to,
-        Told::OnAir(Air::Got { number: _, from }) => *from,
-        Told::OnAir(_) | Told::Made(_) | Told::Installed { .. } | Told::Shown(_) => 0,
+        LightTold::OnAir(Air::Lost { number: _, to }) => *to,
+        LightTold::OnAir(Air::Got { number: _, from }) => *from,
+        LightTold::OnAir(_) | LightTold::Made(_) | LightTold::Installed { .. } | LightTold::Shown =>
+            0,
     };
     u64::from(line.node.max(named)) + 1
 }

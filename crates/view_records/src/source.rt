@@ -3,7 +3,7 @@
 use crate::fault::ViewFault;
 use crate::lines::{Lines, Next};
 use crate::order::Order;
-use report_reader::{Line, line_of};
+use report_reader::{Bulk, Line, light_line_of, with_bulk};
 use report_reading::last_line::{LastLine, last_line_of};
 use std::alloc::Global;
 use std::io::Read;
@@ -36,12 +36,13 @@ impl<R: Read> Source<R> {
         let Next::Line { length } = self.lines.peek()? else {
             return Err(self.order.bad_line(1));
         };
-        let told = line_of(desc, self.lines.line(length));
+        let mut bulk = Bulk::new();
+        let told = light_line_of(desc, self.lines.line(length), &mut bulk);
         match told {
             Some(line) => {
-                self.order.take(&line)?;
+                self.order.take(&line, &bulk)?;
                 self.lines.take(length);
-                Ok(Some(line))
+                Ok(Some(with_bulk(line, bulk)))
             }
             None => {
                 self.end(length)?;
