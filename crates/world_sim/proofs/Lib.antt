@@ -3,3 +3,4 @@ pub mod WritingLemmas
 pub mod EndingLemmas
 pub mod HandLemmas
 pub mod SameLemmas
+pub mod LastLemmas

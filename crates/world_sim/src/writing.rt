@@ -5,7 +5,7 @@ ghost use Rattle.mate_files.specs.Sink.{Puts};
 ghost use Rattle.mate_journal.specs.Log.{IsEmpty};
 ghost use Rattle.mate_journal.specs.NodeScript.{Whole, Full};
 ghost use Rattle.report_text.specs.Text.{event_piece};
-ghost use Rattle.run_writing.specs.Writing.{PutsLast, RunsInto, WritesRun};
+ghost use Rattle.run_writing.specs.Writing.{PutsLast, RunsInto, WritesRun, last_line};
 ghost use Rattle.run_writing.specs.declared.write_fault.WriteFault.TheVariants.{NoMemory as OutOfMemory};
 ghost use Rattle.world_rules.specs.Report.{IsWorldReport};
 ghost use Rattle.world_states.specs.Coming.{code_world};
@@ -335,22 +335,35 @@ fn write_stores<S: Sink>(desc: &Description, motes: &[Mote], out: &mut S) -> Res
     Ok(())
 }
 
-/// Writes the last line of the report of what stands, behind its other lines. (`NoMemory` comes also where 64 bits don't count its
-/// records.)
+/// Writes the last line of the report of what stands, behind its other lines, and so ends the run.
 #[inline(never)]
 fn write_last<S: Sink>(sim: &Simulation, events: u64, whole: bool, out: &mut S) -> Pass
     requires { length sim.now.motes.items ≤ 64 }
     ensures { PutsLast (told_report sim.now events whole) (S.written out.old) (S.faults out.old) (S.written out.new) (S.faults out.new)
         result }
 {
-    let put = match records_in(sim) {
-        Some(records) => write_end(records, events, sim.motes.len() as u8, whole, out),
-        None => Err(SinkFault::NoMemory),
-    };
+    let put = put_last(sim, events, whole, out);
     Pass {
         events,
         whole,
         result: ended(whole, put),
+    }
+}
+
+/// Writes that last line. (`NoMemory` comes also where 64 bits don't count the records; nothing is written then.)
+fn put_last<S: Sink>(
+    sim: &Simulation,
+    events: u64,
+    whole: bool,
+    out: &mut S,
+) -> Result<(), SinkFault>
+    requires { length sim.now.motes.items ≤ 64 }
+    ensures { Puts (S.written out.old) (S.faults out.old) (S.written out.new) (S.faults out.new) result
+        (last_line (told_report sim.now events whole)) }
+{
+    match records_in(sim) {
+        Some(records) => write_end(records, events, sim.motes.len() as u8, whole, out),
+        None => Err(SinkFault::NoMemory),
     }
 }
 
