@@ -5,7 +5,7 @@ ghost use Rattle.report_reading.specs.declared.fault.TextFault.TheVariants.{BadL
 
 use mate_journal::{Air, Report};
 use mate_num::Stamp;
-use report_reader::{Line, Told};
+use report_reader::{Bulk, LightLine, LightTold};
 use report_reading::parts::Parts;
 use report_reading::place::{Place, admits_next};
 use report_reading::{LastLine, TextFault, one_verdict_holds, read};
@@ -28,23 +28,25 @@ fn place_at(time: u32) -> Place
 pub fn the_air_does_not_stand_behind_an_entry() -> bool
     ensures { result ≡ false }
 {
-    let line = Line {
+    let bulk = Bulk::new();
+    let line = LightLine {
         stamp: Stamp { event: 0, time: 70 },
         node: 0,
-        told: Told::OnAir(Air::Keep),
+        told: LightTold::OnAir(Air::Keep),
     };
-    admits_next(&Some(place_at(70)), &line)
+    admits_next(&Some(place_at(70)), &line, &bulk)
 }
 
 pub fn times_do_not_fall() -> bool
     ensures { result ≡ false }
 {
-    let line = Line {
+    let bulk = Bulk::new();
+    let line = LightLine {
         stamp: Stamp { event: 1, time: 60 },
         node: 0,
-        told: Told::OnAir(Air::Keep),
+        told: LightTold::OnAir(Air::Keep),
     };
-    admits_next(&Some(place_at(70)), &line)
+    admits_next(&Some(place_at(70)), &line, &bulk)
 }
 
 /// A packet that is lost to node 5 is of a run with more than five nodes.
@@ -53,11 +55,13 @@ pub fn a_receiver_is_one_of_the_nodes(alloc: Global, desc: &Description) -> Resu
 {
     let _ = desc;
     let mut parts = Parts::new(alloc)?;
-    parts.take(Line {
+    let bulk = Bulk::new();
+    let line = LightLine {
         stamp: Stamp { event: 0, time: 0 },
         node: 0,
-        told: Told::OnAir(Air::Lost { number: 1, to: 5 }),
-    })?;
+        told: LightTold::OnAir(Air::Lost { number: 1, to: 5 }),
+    };
+    parts.take(line, &bulk)?;
     let last = LastLine {
         whole: true,
         records: 1,
