@@ -13,6 +13,7 @@ pub use air::{Air, Aired, Airs};
 pub use entry::{DropCause, Entry, Stamped, VoidCause};
 pub use node_log::NodeLog;
 pub use open_log::OpenLog;
+pub use packed_log::{ImageRef, Images, StoreRef, Stores};
 pub use past::Past;
 pub use program::{Program, Programs};
 pub use report::{IntoFault, NodeLogs, RECORDS_MAX, Report, RunFault};

@@ -6,14 +6,15 @@ ghost use Rattle.mate_journal.specs.declared.entry.Entry.TheVariants as told;
 
 use crate::entry::{Entry, Stamped};
 use mate_num::{HandlerId, Image, NoMemory, Stamp, Store};
+use packed_log::{Images, Stores};
 use std::alloc::Global;
 use std::marker::Model;
 
 /// What happened on one node, in order. After a `reserve` it is written without memory.
 pub struct NodeLog {
     entries: Vec<Stamped>,
-    images: Vec<Image>,
-    stores: Vec<Store>,
+    images: Images,
+    stores: Stores,
 }
 
 impl Drop for NodeLog {
@@ -32,7 +33,12 @@ impl Model for NodeLog {
 
     ghost Value = { Log };
 
-    ghost view = { λ l. record { entries = l.entries.items; images = l.images.items; stores = l.stores.items; spare = min (vec_capacity l.entries - vec_len l.entries) (min (vec_capacity l.images - vec_len l.images) (vec_capacity l.stores - vec_len l.stores)) } };
+    ghost view = { λ l. record {
+      entries = l.entries.items;
+      images = l.images.items;
+      stores = l.stores.items;
+      spare = min (vec_capacity l.entries - vec_len l.entries) (min l.images.spare l.stores.spare);
+    } };
 }
 
 impl NodeLog {
@@ -44,8 +50,8 @@ impl NodeLog {
     {
         NodeLog {
             entries: Vec::new(alloc),
-            images: Vec::new(alloc),
-            stores: Vec::new(alloc),
+            images: Images::new(alloc),
+            stores: Stores::new(alloc),
         }
     }
 
@@ -57,17 +63,17 @@ impl NodeLog {
     }
 
     /// The images that were installed.
-    pub fn images(&self) -> &[Image]
-        ensures { result.now ≡ self.now.images }
+    pub fn images(&self) -> &Images
+        ensures { result.now.items ≡ self.now.images }
     {
-        self.images.as_slice()
+        &self.images
     }
 
     /// The stores that were seen.
-    pub fn stores(&self) -> &[Store]
-        ensures { result.now ≡ self.now.stores }
+    pub fn stores(&self) -> &Stores
+        ensures { result.now.items ≡ self.now.stores }
     {
-        self.stores.as_slice()
+        &self.stores
     }
 
     /// How many more items each of the three lists takes without memory.
@@ -75,9 +81,7 @@ impl NodeLog {
         ensures { result ≡ self.now.spare }
     {
         let entries = self.entries.capacity() - self.entries.len();
-        let images = self.images.capacity() - self.images.len();
-        let stores = self.stores.capacity() - self.stores.len();
-        entries.min(images.min(stores))
+        entries.min(self.images.spare().min(self.stores.spare()))
     }
 
     /// Makes room for `n` more items in each list. `NoMemory` leaves the three lists as they were.
@@ -113,11 +117,8 @@ impl NodeLog {
         ensures stores { self.new.stores ≡ self.old.stores }
         ensures spare { self.old.spare ≤ self.new.spare + 1 }
     {
-        let Ok(copy) = Image::try_from(image.as_slice()) else {
-            unreachable!()
-        };
         let position = self.images.len() as u32;
-        self.images.push_reserved(copy);
+        self.images.push(image);
         position
     }
 
@@ -132,7 +133,7 @@ impl NodeLog {
         ensures spare { self.old.spare ≤ self.new.spare + 1 }
     {
         let position = self.stores.len() as u32;
-        self.stores.push_reserved(store.copy());
+        self.stores.push(store);
         position
     }
 
@@ -146,7 +147,7 @@ impl NodeLog {
         ensures spare { self.old.spare ≤ self.new.spare + 1 }
     {
         let number = self.stores.len() as u32;
-        self.stores.push_reserved(store.copy());
+        self.stores.push(store);
         self.entries.push_reserved(Stamped {
             stamp: at,
             entry: Entry::Seen { store: number },
@@ -162,11 +163,8 @@ impl NodeLog {
         ensures stores { self.new.stores ≡ self.old.stores }
         ensures spare { self.old.spare ≤ self.new.spare + 1 }
     {
-        let Ok(copy) = Image::try_from(image.as_slice()) else {
-            unreachable!()
-        };
         let number = self.images.len() as u32;
-        self.images.push_reserved(copy);
+        self.images.push(image);
         self.entries.push_reserved(Stamped {
             stamp: at,
             entry: Entry::Install {

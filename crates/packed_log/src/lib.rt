@@ -1,0 +1,10 @@
+//! Images and stores of a log, packed one behind another: each takes the memory of its own bytes, and not of the longest one.
+#![tactic(auto)]
+
+mod cuts;
+pub mod images;
+mod pieces;
+pub mod stores;
+
+pub use images::{ImageRef, Images};
+pub use stores::{StoreRef, Stores};
