@@ -153,7 +153,7 @@ module _ (k : Clock) (m : Machine) (version : ℕ) (image : ArrayVec ℕ) where
 
   pub one_run-well_formed : RunsToEnd k m p → IsWellFormed m (nothing_heard m) (one_run m p)
   one_run-well_formed h = record {
-    in_time = (in_order 0 1 (lit≤ tt), (in_order 1 1 (lit≤ tt), (in_order 1 2 (lit≤ tt), (in_order 2 2 (lit≤ tt), (in_order 2 3 (lit≤ tt), (in_order 3 4 (lit≤ tt), tt))))));
+    in_time = (in_order 1 1 (lit≤ tt), (in_order 1 2 (lit≤ tt), (in_order 2 2 (lit≤ tt), (in_order 2 3 (lit≤ tt), (in_order 3 4 (lit≤ tt), tt)))));
     follow = (tt, (tt, ((refl, refl, h.context, λ n live same. untrue false live refl), (refl, ((refl, h.closes), (tt, tt))))));
   }
 
@@ -232,7 +232,7 @@ module _ (k : Clock) (m : Machine) (version : ℕ) (image : ArrayVec ℕ) where
   no_call e n (suc (suc (suc (suc (suc (suc q)))))) f args tells = tells
 
   pub one_run-devices : (device_of : DeviceOf) → AsksDevicesInOrder device_of (one_run m p)
-  one_run-devices device_of front era back d is one_era = record { rising = λ j k q q' _ _ asks _. absurd (no_asks j q asks); one_open = λ j k q q' _ _ asks _. absurd (no_asks j q asks) } where
+  one_run-devices device_of front era back d is one_era = record { ended = λ j k q q' _ _ asks _. absurd (no_asks j q asks) } where
     no_asks : (n q : ℕ) → AsksAt device_of d era n q → ⊥
     no_asks n q asks = no_call (first_run m p).end n (length front + q) asks.fun asks.args
         (subst (λ (es : List Event). TellsAt es (length front + q) (Asked n asks.fun asks.args)) (sym is) (TellsAt-behind front (era ++ back) q (Asked n asks.fun asks.args) (TellsAt-before era back q (Asked n asks.fun asks.args) asks.tells)))

@@ -13,7 +13,7 @@ use Rattle.mate_journal.specs.Machine.{Machine, Meaning}
 use Rattle.mate_journal.specs.Journal.{Told, Event, Reading, journal_of, nothing_heard, heard_all, told_by, told_of}
 use Rattle.mate_journal.specs.Pace.{Pace, no_pace}
 use Rattle.mate_journal.specs.Turns.{Clock}
-use Rattle.mate_journal.specs.WellFormed.{NotBefore, start}
+use Rattle.mate_journal.specs.WellFormed.{NotBefore}
 use Rattle.mate_journal.specs.NodeScript as node
 use Rattle.mate_journal.specs.NodeScript.{RunEnd, Whole, Full, Cut, Makes, HaveMade, AreOfEvent, EndsRun, IsRunOf, ShowsOnce}
 use Rattle.mate_journal.specs.NodeReport.{IsNodeReport, is_whole}
@@ -23,7 +23,7 @@ use Rattle.mate_journal.specs.declared.program.Program.{Program}
 use Rattle.mate_journal.specs.declared.entry.Stamped.{Stamped}
 use Rattle.mate_journal.specs.declared.report.Report.{Report}
 use Rattle.mate_journal.specs.declared.report.TheConstants.{RECORDS_MAX}
-use Rattle.journal_laws.specs.Growth.{last_stamp}
+use Rattle.journal_laws.specs.Growth.{FollowsLast}
 use Rattle.journal_laws.proofs.Append.{journal_of-same, journal_of-empty}
 use Rattle.journal_laws.proofs.FewLemmas.{run-few}
 use Rattle.mate_journal.proofs.JournalLemmas.{told_by-at}
@@ -49,17 +49,17 @@ length-journal l = length-map l.entries (λ (e : Stamped). let x : Event = recor
 
 -- the next event of a script may follow an event of it
 next-timely : (n : ℕ) (l : Log) → IsTimely (at_event n) l → IsTimely (at_event (suc n)) l
-next-timely n l t = record {
-  after_last = record {
-    event = let h = t.after_last.event in omega (arith, h);
-    time = t.after_last.time;
-    same = λ e. let h = t.after_last.event in absurd (omega (arith, h, e));
-  };
-}
+next-timely n l t = record { after_last = FollowsLast-later (journal_of l) (at_event n) (at_event (suc n)) later t.after_last } where
+  later : (last : Stamp) → NotBefore last (at_event n) → NotBefore last (at_event (suc n))
+  later last h = record {
+    event = let e = h.event in omega (arith, e);
+    time = h.time;
+    same = λ e. let low = h.event in absurd (omega (arith, low, e));
+  }
 
 same-timely : (at : Stamp) (a b : Log) → IsSameLog a b → IsTimely at b → IsTimely at a
 same-timely at a b same t =
-    let P : List Event → Type 0 = λ es. NotBefore (last_stamp start es) at in
+    let P : List Event → Type 0 = λ es. FollowsLast es at in
     record { after_last = subst P (sym (journal_of-same b a same)) t.after_last }
 
 -- ---- the run
@@ -73,8 +73,8 @@ HasRun-new d ps v is empty has gone =
       has = has;
       made = (none, refl);
       timely =
-          let P : List Event → Type 0 = λ es. NotBefore (last_stamp start es) (at_event 0) in
-          record { after_last = subst P (sym none) (record { event = omega arith; time = omega arith; same = λ _. refl }) };
+          let P : List Event → Type 0 = λ es. FollowsLast es (at_event 0) in
+          record { after_last = subst P (sym none) tt };
       ranges = subst (λ (g : Gone). IsInRange v.log g) (sym gone) (none-in-range v.log empty);
       few = lit< tt;
     }

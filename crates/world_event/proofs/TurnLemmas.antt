@@ -4,11 +4,11 @@ use Rattle.mate_num.specs.declared.call.Stamp.{Stamp}
 use Rattle.mate_journal.specs.Machine.{Machine}
 use Rattle.mate_journal.specs.Journal.{Told, Event, Reading, nothing_heard, heard, heard_all, heard_told, journal_of, AtEachEntry}
 use Rattle.mate_journal.specs.Pace.{Pace}
-use Rattle.mate_journal.specs.WellFormed.{NotBefore, start, MayFollow, IsWellFormed}
+use Rattle.mate_journal.specs.WellFormed.{MayFollow, IsWellFormed}
 use Rattle.mate_journal.specs.Turns.{Settles}
 use Rattle.mate_journal.specs.declared.entry.Stamped.{Stamped}
 use Rattle.journal_laws.proofs.Append.{AtEachEntry-back, journal_of-same}
-use Rattle.journal_laws.specs.Growth.{last_stamp}
+use Rattle.journal_laws.specs.Growth.{FollowsLast}
 use Rattle.node_invariant.specs.Meaning.{machine_in, clock_of}
 use Rattle.node_invariant.specs.Keeps.{reading, event_at, Grows, IsTimely}
 use Rattle.node_invariant.proofs.PostLemmas.{in-machine}
@@ -25,7 +25,7 @@ use Rattle.world_event.proofs.ToldLemmas.{tells-heard, told-behind}
 
 -- the stamp may come next on the same node
 pub timely-behind : (old mid : NodeView) (at : Stamp) → IsSameNode old mid → IsTimely at old.log → IsTimely at mid.log
-timely-behind old mid at same t = let P : List Event → Type 0 = λ es. NotBefore (last_stamp start es) at in record { after_last = subst P (sym (journal_of-same old.log mid.log same.log)) t.after_last }
+timely-behind old mid at same t = let P : List Event → Type 0 = λ es. FollowsLast es at in record { after_last = subst P (sym (journal_of-same old.log mid.log same.log)) t.after_last }
 
 few-contexts : (d : Description) → HasFewContexts (machine_in d)
 few-contexts d h c is = let low = (in-machine d h c is).1 in let few = (bounds_of d).contexts_high in omega (arith, low, few)

@@ -14,8 +14,7 @@ use Rattle.mate_journal.specs.declared.program.Program.{Program}
 use Rattle.mate_journal.specs.declared.report.Report.{Report}
 use Rattle.node_invariant.specs.Meaning.{machine_in, clock_of}
 use Rattle.node_invariant.specs.Keeps.{event_at, IsTimely}
-use Rattle.mate_journal.specs.WellFormed.{NotBefore, start}
-use Rattle.journal_laws.specs.Growth.{last_stamp}
+use Rattle.journal_laws.specs.Growth.{FollowsLast}
 use Rattle.world_laws.specs.Times.{last_time}
 use Rattle.world_event.proofs.RoomLemmas.{next-timely}
 use Rattle.open_node.specs.View.{heard_of}
@@ -87,7 +86,7 @@ pub all-timely : (d : Description) (script : Script) (ps : List Program) (ms : L
 all-timely d script ps ms at motes come count each number ends k x below =
     let mote = some-at (IsMoteAfter (code_world d script ps) ms k) motes k x below (each k (omega (arith, below, count))) in
     let within = last-within (code_world d script ps) ms come in
-    record { after_last = subst (λ (es : List Entered). NotBefore (last_stamp start es) at) (sym mote.journal) (next-timely (code_world d script ps) k ms at come number (omega (arith, within, ends))) }
+    record { after_last = subst (λ (es : List Entered). FollowsLast es at) (sym mote.journal) (next-timely (code_world d script ps) k ms at come number (omega (arith, within, ends))) }
 
 logs-at : (w : World) (how : RunEnd) (ms : List Moment) (motes : List Mote) (k : ℕ) → IsSomeAnd (slice_get motes k) (λ (m : Mote). IsLogOf w how ms k m.node.log) → IsSomeAnd (slice_get (mote_logs motes) k) (IsLogOf w how ms k)
 logs-at w how ms motes k is = subst (λ (o : Option Log). IsSomeAnd o (IsLogOf w how ms k)) (sym (slice_get-map (λ (m : Mote). m.node.log) motes k)) (by (slice_get motes k) is) where
