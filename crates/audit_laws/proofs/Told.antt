@@ -13,7 +13,6 @@ use Rattle.mate_journal.specs.NodeScript.{Installs}
 use Rattle.mate_journal.specs.Pace.{Pace}
 use Rattle.mate_journal.specs.Serial.{IsSerial}
 use Rattle.mate_journal.specs.Stores.{ShowsStore, ShowsStores, IsShown}
-use Rattle.mate_journal.specs.Turns.{Clock}
 use Rattle.mate_journal.specs.WellFormed.{IsWellFormed}
 use Rattle.mate_journal.specs.declared.program.Program.{Program}
 use Rattle.world_images.proofs.Agree.{NoInstall, NoneInstall, installs-rest}
@@ -68,10 +67,10 @@ none-right ps m r [] none = tt
 none-right ps m r (t ∷ told) none = (none-rule ps r t none.0, none-right ps m (heard m r t) told none.1)
 
 -- one of the programs is installed
-pub install-right : (ps : List Program) (k : Clock) (m : Machine) (r : Reading) (q : Pace) (x : HeldProgram) (told : List Told) → IsOneOf ps x → Installs k m r q x told → InstallsRight ps m r told
-install-right ps k m r q x told one is =
+pub install-right : (ps : List Program) (m : Machine) (r : Reading) (q : Pace) (x : HeldProgram) (told : List Told) → IsOneOf ps x → Installs m r q x told → InstallsRight ps m r told
+install-right ps m r q x told one is =
     subst (λ (ts : List Told). InstallsRight ps m r ts) (sym is.made)
-    (tt, ((one, is.newer), none-right ps m (heard m r (Installed x)) is.rest (installs-rest k m r q x told is)))
+    (tt, ((one, is.newer), none-right ps m (heard m r (Installed x)) is.rest (installs-rest m r q x told is)))
 
 -- ---- each law
 

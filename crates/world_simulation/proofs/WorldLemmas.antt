@@ -12,7 +12,7 @@ use Rattle.mate_journal.specs.Journal.{Event as Entered}
 use Rattle.mate_journal.specs.NodeScript.{RunEnd, Whole, Full, ShowsOnce}
 use Rattle.mate_journal.specs.declared.program.Program.{Program}
 use Rattle.mate_journal.specs.declared.report.Report.{Report}
-use Rattle.node_invariant.specs.Meaning.{machine_in, clock_of}
+use Rattle.node_invariant.specs.Meaning.{machine_in}
 use Rattle.node_invariant.specs.Keeps.{event_at, IsTimely}
 use Rattle.journal_laws.specs.Growth.{FollowsLast}
 use Rattle.world_laws.specs.Times.{last_time}
@@ -48,13 +48,13 @@ pub whole-log : (d : Description) (script : Script) (ps : List Program) (ms : Li
     → IsJournalOf (code_world d script ps) Whole ms k (journal_of new.node.log)
 whole-log d script ps ms at k old new stamp is shows =
     let turns = shows.tells.paces ((state (code_world d script ps) ms).nodes k).pace is.is.pace in
-    let one : ShowsOnce (clock_of d) (machine_in d) (heard_of old.node) ((state (code_world d script ps) ms).nodes k).pace shows.tells.told =
-    subst (λ (e : Description). ShowsOnce (clock_of e) (machine_in e) (heard_of old.node) ((state (code_world d script ps) ms).nodes k).pace shows.tells.told) is.is.description turns.1.0 in
+    let one : ShowsOnce (machine_in d) (heard_of old.node) ((state (code_world d script ps) ms).nodes k).pace shows.tells.told =
+    subst (λ (e : Description). ShowsOnce (machine_in e) (heard_of old.node) ((state (code_world d script ps) ms).nodes k).pace shows.tells.told) is.is.description turns.1.0 in
     record {
       last = map (event_at at) shows.tells.told;
       ends = record {
         told = shows.tells.told;
-        shown = subst (λ (r : Reading). ShowsOnce (clock_of d) (machine_in d) r ((state (code_world d script ps) ms).nodes k).pace shows.tells.told) is.is.reading one;
+        shown = subst (λ (r : Reading). ShowsOnce (machine_in d) r ((state (code_world d script ps) ms).nodes k).pace shows.tells.told) is.is.reading one;
         stamped = ap (λ (a : Stamp). map (event_at a) shows.tells.told) stamp;
       };
       journal_is = shows.tells.grows.journal ∙ ap (λ (es : List Entered). es ++ map (event_at at) shows.tells.told) is.journal;
