@@ -8,6 +8,8 @@ pub mod open_log;
 pub mod past;
 pub mod program;
 pub mod report;
+pub mod shared_script;
+pub mod stored_image;
 
 pub use air::{Air, Aired, Airs};
 pub use entry::{DropCause, Entry, Stamped, VoidCause};
@@ -16,3 +18,5 @@ pub use open_log::OpenLog;
 pub use past::Past;
 pub use program::{Program, Programs};
 pub use report::{IntoFault, NodeLogs, RECORDS_MAX, Report, RunFault};
+pub use shared_script::SharedScript;
+pub use stored_image::StoredImage;
