@@ -9,10 +9,10 @@ use Rattle.mate_num.specs.declared.id.ContextId.{ContextId}
 use Rattle.mate_num.specs.declared.id.HandlerId.{HandlerId}
 use Rattle.mate_journal.specs.Machine.{Machine, HeldProgram, IsContextOf}
 use Rattle.mate_journal.specs.Journal.{Told, Posted, Dropped, Started, Asked, Answered, Ended, Installed, Reset, Seen, Void, Event, Queued, Ready, is_live, Invocation, Reading, nothing_heard, heard, AtEachEntry}
-use Rattle.mate_journal.specs.WellFormed.{IsIdle, IsWaiting, Closes, MayFollow, NotBefore, IsInTime}
+use Rattle.mate_journal.specs.WellFormed.{IsIdle, IsWaiting, Closes, MayFollow, NotBefore, IsInTime, StampsRise, IsWellFormed}
 use Rattle.journal_laws.proofs.Apart.{IsNumbered, numbered-step, nothing_heard-orderly}
 use Rattle.audit_finite.specs.Roll.{Seat, Roll, nobody, seat, is_queued, is_ready, is_waiting, rolled, IsRoll, is_at}
-use Rattle.audit_finite.specs.Following.{StampsRise, EntriesFollow, not_before, is_in_time, stamps_rise, is_context_of, closes, is_taken, may_follow, follow_one_another, entries_follow}
+use Rattle.audit_finite.specs.Following.{not_before, is_in_time, stamps_rise, is_context_of, closes, is_taken, may_follow, follow_one_another, entries_follow}
 use Rattle.audit_finite.proofs.Deciding.{always, leb-Decides, implies-Decides, chained}
 use Rattle.audit_finite.proofs.Members.{any-has, has-any}
 use Rattle.audit_finite.proofs.RollLemmas.{at-Decides, queued-LiveTest, ready-LiveTest, waiting-LiveTest, queued-Decides, ready-Decides, waiting-Decides, nobody-IsRoll, IsRoll-step}
@@ -110,7 +110,7 @@ follow-Decides m r x (e ∷ es) numbered right =
 pub nothing_heard-numbered : (m : Machine) → IsNumbered (nothing_heard m)
 nothing_heard-numbered m = record { numbered = (nothing_heard-orderly m).numbered }
 
-pub following-Decides : (m : Machine) (es : List Event) → Decides (entries_follow m es) (EntriesFollow m es)
+pub following-Decides : (m : Machine) (es : List Event) → Decides (entries_follow m es) (IsWellFormed m (nothing_heard m) es)
 following-Decides m es =
-    Decides-like (entries_follow m es) (λ h. let s : EntriesFollow m es = record { in_time = h.0; follow = h.1 } in s) (λ s. (s.in_time, s.follow))
+    Decides-like (entries_follow m es) (λ h. let s : IsWellFormed m (nothing_heard m) es = record { in_time = h.0; follow = h.1 } in s) (λ s. (s.in_time, s.follow))
     (Decides-and (stamps_rise es) (follow_one_another m nobody es) (stamps-Decides es) (follow-Decides m (nothing_heard m) nobody es (nothing_heard-numbered m) (nobody-IsRoll m)))

@@ -6,12 +6,11 @@ use Rattle.std.proofs.lemmas.Bool.Decides.{Decides-eqb, Decides-not, Decides-and
 use Rattle.mate_num.specs.Uses.{Conflicts}
 use Rattle.mate_journal.specs.Machine.{Machine}
 use Rattle.mate_journal.specs.Journal.{Told, Posted, Dropped, Started, Asked, Answered, Ended, Installed, Reset, Seen, Void, Event, Queued, is_live, is_started, Invocation, Reading, nothing_heard, heard, AtEachEntry}
-use Rattle.mate_journal.specs.WellFormed.{MayFollow}
+use Rattle.mate_journal.specs.WellFormed.{MayFollow, IsWellFormed}
 use Rattle.mate_journal.specs.Grants.{IsAhead, AreConflicting, IsHeldBack, AllHeldBack, MayStart, IsGranted, start_of, GrantsInOrder}
 use Rattle.journal_laws.proofs.Apart.{IsNumbered, numbered-step, queued_live}
 use Rattle.journal_laws.proofs.Moves.{started_live}
 use Rattle.audit_finite.specs.Roll.{Seat, Roll, nobody, seat, is_queued, rolled, IsRoll}
-use Rattle.audit_finite.specs.Following.{EntriesFollow}
 use Rattle.audit_finite.specs.Granting.{ConflictTest, TellsConflicts, is_ahead, holds_back, is_held_back, all_held_back, is_free_to_start, is_granted, grants_in_order}
 use Rattle.audit_finite.proofs.Deciding.{implies-Decides}
 use Rattle.audit_finite.proofs.Members.{any-has, has-any, all-has, has-all}
@@ -123,6 +122,6 @@ grants-Decides m conflict r x last (e ∷ es) tells numbered right follow =
     Decides-and (is_granted conflict x last e.told) (grants_in_order conflict (rolled x e.told) (start_of e.told) es) (granted-Decides m conflict r x last e.told tells right follow.0)
     (grants-Decides m conflict (heard m r e.told) (rolled x e.told) (start_of e.told) es tells (numbered-step m r e.told follow.0 numbered) (IsRoll-step m r x e.told follow.0 numbered right) follow.1)
 
-pub grants_told : (m : Machine) (conflict : ConflictTest) (es : List Event) → TellsConflicts m.meaning conflict → EntriesFollow m es
+pub grants_told : (m : Machine) (conflict : ConflictTest) (es : List Event) → TellsConflicts m.meaning conflict → IsWellFormed m (nothing_heard m) es
     → Decides (grants_in_order conflict nobody 0 es) (GrantsInOrder m (nothing_heard m) 0 es)
 grants_told m conflict es tells follows = grants-Decides m conflict (nothing_heard m) nobody 0 es tells (nothing_heard-numbered m) (nobody-IsRoll m) follows.follow

@@ -13,14 +13,13 @@ use Rattle.mate_num.specs.declared.id.HandlerId.{HandlerId}
 use Rattle.mate_num.specs.declared.store.Store.{Store}
 use Rattle.mate_journal.specs.Machine.{Machine}
 use Rattle.mate_journal.specs.Journal.{Told, Posted, Dropped, Started, Asked, Answered, Ended, Installed, Reset, Seen, Void, Event, Phase, Queued, Ready, Waiting, Over, is_started, Invocation, Reading, nothing_heard, in_phase, answers_of, whole_run, heard, AtEachEntry, AtEachPlace}
-use Rattle.mate_journal.specs.WellFormed.{MayFollow, IsWaiting}
+use Rattle.mate_journal.specs.WellFormed.{MayFollow, IsWaiting, IsWellFormed}
 use Rattle.mate_journal.specs.Serial.{EndsAsRun, RunsSoFar, IsSerial}
 use Rattle.mate_journal.specs.Grants.{AreConflicting}
 use Rattle.journal_laws.proofs.Changed.{changed-here, changed-other, untrue}
 use Rattle.journal_laws.proofs.Moves.{started_live}
 use Rattle.journal_laws.proofs.Apart.{IsNumbered, live_posted, numbered-step}
 use Rattle.audit_finite.specs.Roll.{calls_with}
-use Rattle.audit_finite.specs.Following.{EntriesFollow}
 use Rattle.audit_finite.specs.Granting.{ConflictTest, TellsConflicts}
 use Rattle.audit_finite.specs.Replay.{IsRunSoFar, AllRunSoFar, RunsAt, ReplaysAtEnds, GoesByParts}
 use Rattle.audit_finite.specs.Rerun.{run_on}
@@ -232,7 +231,7 @@ replays-along m r (e ∷ es) ends places = (
 
 -- ---- the law
 
-pub ends_enough : (m : Machine) (conflict : ConflictTest) (es : List Event) → GoesByParts m.meaning → TellsConflicts m.meaning conflict → EntriesFollow m es
+pub ends_enough : (m : Machine) (conflict : ConflictTest) (es : List Event) → GoesByParts m.meaning → TellsConflicts m.meaning conflict → IsWellFormed m (nothing_heard m) es
     → (IsSerial m (nothing_heard m) es → ReplaysAtEnds m (nothing_heard m) es) × (ReplaysAtEnds m (nothing_heard m) es → IsSerial m (nothing_heard m) es)
 ends_enough m conflict es parts tells follows = (
   λ s. replays-along m (nothing_heard m) es s.ends s.so_far,

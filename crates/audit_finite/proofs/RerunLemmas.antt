@@ -11,14 +11,13 @@ use Rattle.mate_num.specs.declared.id.FunId.{FunId}
 use Rattle.mate_num.specs.declared.store.Store.{Store}
 use Rattle.mate_journal.specs.Machine.{Machine}
 use Rattle.mate_journal.specs.Journal.{Told, Posted, Dropped, Started, Asked, Answered, Ended, Installed, Reset, Seen, Void, Event, Phase, Unposted, Queued, Ready, Waiting, Over, is_live, is_started, Invocation, Reading, nothing_heard, in_phase, whole_run, heard, AtEachEntry}
-use Rattle.mate_journal.specs.WellFormed.{MayFollow}
+use Rattle.mate_journal.specs.WellFormed.{MayFollow, IsWellFormed}
 use Rattle.mate_journal.specs.Serial.{IsSerial}
 use Rattle.mate_journal.specs.Grants.{AreConflicting}
 use Rattle.journal_laws.proofs.Apart.{IsNumbered, numbered-step, ready_live}
 use Rattle.journal_laws.proofs.Changed.{changed-other}
 use Rattle.journal_laws.proofs.Moves.{started_live}
 use Rattle.audit_finite.specs.Roll.{Seat, Roll, nobody, seat, rolled, IsRoll}
-use Rattle.audit_finite.specs.Following.{EntriesFollow}
 use Rattle.audit_finite.specs.Granting.{ConflictTest, TellsConflicts}
 use Rattle.audit_finite.specs.Replay.{IsRunSoFar, AllRunSoFar, OthersRun, RunsAt, ReplaysAtEnds, GoesByParts}
 use Rattle.audit_finite.specs.Same.{same_calls, same_end}
@@ -196,7 +195,7 @@ replays-Decides m conflict r x store (e ∷ es) tells numbered right is follow =
     (replays-Decides m conflict (heard m r e.told) (rolled x e.told) (serial_after m x r.serial e.told) es tells (numbered-step m r e.told follow.0 numbered) (IsRoll-step m r x e.told follow.0 numbered right)
     (serial-is m r x e.told right follow.0) follow.1))
 
-pub replay_told : (m : Machine) (conflict : ConflictTest) (es : List Event) → GoesByParts m.meaning → TellsConflicts m.meaning conflict → EntriesFollow m es
+pub replay_told : (m : Machine) (conflict : ConflictTest) (es : List Event) → GoesByParts m.meaning → TellsConflicts m.meaning conflict → IsWellFormed m (nothing_heard m) es
     → Decides (replays_right m conflict nobody m.zero_store es) (IsSerial m (nothing_heard m) es)
 replay_told m conflict es parts tells follows =
     let enough = ends_enough m conflict es parts tells follows in

@@ -14,11 +14,10 @@ use Rattle.mate_num.specs.declared.store.Store.{Store}
 use Rattle.mate_journal.specs.Machine.{Machine}
 use Rattle.mate_journal.specs.Journal.{Told, Posted, Dropped, Started, Asked, Answered, Ended, Installed, Reset, Seen, Void, Event, is_started, Invocation, Reading, nothing_heard, whole_run, heard, AtEachEntry}
 use Rattle.mate_journal.specs.Stores.{values_at, Writes}
-use Rattle.mate_journal.specs.WellFormed.{IsWaiting, MayFollow}
+use Rattle.mate_journal.specs.WellFormed.{IsWaiting, MayFollow, IsWellFormed}
 use Rattle.journal_laws.proofs.Apart.{IsNumbered, numbered-step}
 use Rattle.journal_laws.proofs.Moves.{started_live}
 use Rattle.audit_finite.specs.Roll.{Seat, Roll, nobody, seat, rolled, IsRoll, is_waiting}
-use Rattle.audit_finite.specs.Following.{EntriesFollow}
 use Rattle.audit_finite.specs.Same.{same_values}
 use Rattle.audit_finite.specs.Rerun.{run_on, serial_after}
 use Rattle.audit_finite.specs.Shown.{ShowsValues, ShowsValuesAt, HasLengthsOf, SeenLengths, KeepsLengths, writes_at, agrees_at, is_shown_at, all_below, is_store_shown, shows_right, stores_right}
@@ -168,6 +167,6 @@ stores-Decides m r x store (e ∷ es) keeps seen numbered right is long follow =
     (stores-Decides m (heard m r e.told) (rolled x e.told) (serial_after m x r.serial e.told) es keeps seen.1 (numbered-step m r e.told follow.0 numbered) (IsRoll-step m r x e.told follow.0 numbered right)
     (serial-is m r x e.told right follow.0) (serial-long m r e.told keeps long) follow.1))
 
-pub stores_told : (m : Machine) (es : List Event) → KeepsLengths m → SeenLengths m es → EntriesFollow m es → Decides (stores_right m nobody m.zero_store es) (AtEachEntry (ShowsValuesAt m) m (nothing_heard m) es)
+pub stores_told : (m : Machine) (es : List Event) → KeepsLengths m → SeenLengths m es → IsWellFormed m (nothing_heard m) es → Decides (stores_right m nobody m.zero_store es) (AtEachEntry (ShowsValuesAt m) m (nothing_heard m) es)
 stores_told m es keeps seen follows =
     stores-Decides m (nothing_heard m) nobody m.zero_store es keeps seen (nothing_heard-numbered m) (nobody-IsRoll m) refl (record { shared = refl; buffers = refl }) follows.follow

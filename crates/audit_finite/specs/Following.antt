@@ -1,5 +1,4 @@
--- How the entries of a journal follow one another, and that stamps don't fall: what a well-formed journal owes but for the
--- time of its first event.
+-- Whether a journal is well formed, as a test.
 use Rattle.std.specs.Prelude.{suc, ◌+◌, ◌==◌, nat_le, nat_lt, ◌&&◌, ◌||◌, not, Bool, true, false, List, [], ◌∷◌, is_some}
 use Rattle.std.specs.List.{list_any}
 use Rattle.mate_num.specs.declared.call.End.{End}
@@ -9,21 +8,7 @@ use Rattle.mate_num.specs.declared.id.HandlerId.{HandlerId}
 use Rattle.mate_num.specs.declared.id.ContextId.{ContextId}
 use Rattle.mate_journal.specs.Machine.{Machine}
 use Rattle.mate_journal.specs.Journal.{Told, Posted, Dropped, Started, Asked, Answered, Ended, Installed, Reset, Seen, Void, Event}
-use Rattle.mate_journal.specs.Journal.{nothing_heard, AtEachEntry}
-use Rattle.mate_journal.specs.WellFormed.{MayFollow, IsInTime}
 use Rattle.audit_finite.specs.Roll.{Roll, nobody, rolled, is_at, is_queued, is_ready, is_waiting}
-
--- stamps never fall along the journal, from its first event on
-abbrev pub StampsRise : List Event → Type 0
-StampsRise [] = Unit {0}
-StampsRise (e ∷ es) = IsInTime e.stamp es
-
--- each entry may follow on those before it, and stamps never fall
-pub record EntriesFollow (m : Machine) (es : List Event) : Type 0 where
-  pub in_time : StampsRise es
-  pub follow : AtEachEntry (MayFollow m) m (nothing_heard m) es
-
--- ---- the same as tests
 
 abbrev pub not_before : Stamp → Stamp → Bool
 not_before old new = nat_le old.event new.event && (nat_le old.time new.time && (not (old.event == new.event) || (old.time == new.time)))

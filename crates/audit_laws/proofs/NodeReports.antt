@@ -16,7 +16,7 @@ use Rattle.mate_journal.specs.NodeReport.{IsNodeReport}
 use Rattle.mate_journal.specs.NodeRun.{IsNodeRun}
 use Rattle.mate_journal.specs.NodeScript.{Step, Install, Post, StepIn, Run, Answer, Show, ResetNode, Occasion, Installs, IsNotNewer, Answers, IsNotWaiting, Makes, HaveMade, RunEnd, Whole, Full, Cut, EndsRun, IsRunOf}
 use Rattle.mate_journal.specs.Pace.{Pace, no_pace}
-use Rattle.mate_journal.specs.Turns.{Clock, Turn, IsTurn, entry_at, mark_of}
+use Rattle.mate_journal.specs.Turns.{Turn, IsTurn, entry_at, mark_of}
 use Rattle.mate_journal.specs.declared.program.Program.{Program}
 use Rattle.mate_journal.specs.declared.report.Report.{Report}
 use Rattle.journal_laws.proofs.Append.{AtEachEntry-append}
@@ -56,66 +56,66 @@ occasion-none : (m : Machine) (r : Reading) (h : HandlerId) (payload : ArrayVec 
 occasion-none m r h payload told is =
     occasions-none m payload (h ∷ []) r no_pace told (record { front = told; rest = []; made = sym (append-nil told); by_first = is; by_second = refl })
 
-turn-none : (k : Clock) (m : Machine) (r : Reading) (p : Pace) (instructions : ℕ) (t : Turn) → IsTurn k m r p instructions t → NoneInstall t.told
-turn-none k m r p instructions t turn = elim (cases_lt (p.counts t.invocation + instructions) (mark_of k m r t.invocation)) [
+turn-none : (m : Machine) (r : Reading) (p : Pace) (instructions : ℕ) (t : Turn) → IsTurn m r p instructions t → NoneInstall t.told
+turn-none m r p instructions t turn = elim (cases_lt (p.counts t.invocation + instructions) (mark_of m r t.invocation)) [
   | inl short ↦ by_made t.told [] (turn.short short) tt
   | inr reached ↦ (let a = turn.reached reached in by_made t.told _ a.told_is (mark-none t.invocation (whole_run m r t.invocation).end, starts-none a.starts a.are_starts))
 ]
 
 -- ---- what a step tells
 
-step-right : (ps : List Program) (k : Clock) (m : Machine) (r : Reading) (p : Pace) (step : Step) (told : List Told) (q : Pace) → IsInstallOf ps step → Makes k m r p step told q → InstallsRight ps m r told
-step-right ps k m r p (Install x) told q is made = by made.0 where
-  by : Installs k m r p x told ⊎ IsNotNewer r x told → InstallsRight ps m r told
-  by (inl i) = install-right ps k m r p x told is i
+step-right : (ps : List Program) (m : Machine) (r : Reading) (p : Pace) (step : Step) (told : List Told) (q : Pace) → IsInstallOf ps step → Makes m r p step told q → InstallsRight ps m r told
+step-right ps m r p (Install x) told q is made = by made.0 where
+  by : Installs m r p x told ⊎ IsNotNewer r x told → InstallsRight ps m r told
+  by (inl i) = install-right ps m r p x told is i
   by (inr n) = none-right ps m r told (by_made told _ n.made (tt, tt))
-step-right ps k m r p (Post h payload) told q is made = none-right ps m r told (occasion-none m r h payload told made.0)
-step-right ps k m r p (StepIn c n) told q is (inl t) = none-right ps m r told (turn-none k m r p n (record { invocation = t.invocation; told = told }) t.turn)
-step-right ps k m r p (StepIn c n) told q is (inr x) = none-right ps m r told (by_made told _ x.0.made (tt, tt))
-step-right ps k m r p Run told q is made = none-right ps m r told (settles-none k m r p told q made)
-step-right ps k m r p (Answer c value) told q is made = by made.0 where
+step-right ps m r p (Post h payload) told q is made = none-right ps m r told (occasion-none m r h payload told made.0)
+step-right ps m r p (StepIn c n) told q is (inl t) = none-right ps m r told (turn-none m r p n (record { invocation = t.invocation; told = told }) t.turn)
+step-right ps m r p (StepIn c n) told q is (inr x) = none-right ps m r told (by_made told _ x.0.made (tt, tt))
+step-right ps m r p Run told q is made = none-right ps m r told (settles-none m r p told q made)
+step-right ps m r p (Answer c value) told q is made = by made.0 where
   by : Answers r c value told ⊎ IsNotWaiting r c told → InstallsRight ps m r told
   by (inl a) = none-right ps m r told (by_made told _ a.made (tt, tt))
   by (inr n) = none-right ps m r told (by_made told _ n.made (tt, tt))
-step-right ps k m r p Show told q is made = none-right ps m r told (by_made told _ made.0.made (tt, tt))
-step-right ps k m r p ResetNode told q is made = none-right ps m r told (by_made told _ made.0.made (tt, (tt, tt)))
+step-right ps m r p Show told q is made = none-right ps m r told (by_made told _ made.0.made (tt, tt))
+step-right ps m r p ResetNode told q is made = none-right ps m r told (by_made told _ made.0.made (tt, (tt, tt)))
 
 -- ---- the run
 
-made-right : (ps : List Program) (k : Clock) (m : Machine) (records n : ℕ) (r : Reading) (p : Pace) (steps : List Step) (es : List Event) (q : Pace) → InstallPrograms ps steps → HaveMade k m records n r p steps es q
+made-right : (ps : List Program) (m : Machine) (records n : ℕ) (r : Reading) (p : Pace) (steps : List Step) (es : List Event) (q : Pace) → InstallPrograms ps steps → HaveMade m records n r p steps es q
     → AtEachEntry (InstallsProgram ps) m r es
-made-right ps k m records n r p [] es q install made = subst (λ (all : List Event). AtEachEntry (InstallsProgram ps) m r all) (sym made.0) tt
-made-right ps k m records n r p (step ∷ steps) es q install made =
+made-right ps m records n r p [] es q install made = subst (λ (all : List Event). AtEachEntry (InstallsProgram ps) m r all) (sym made.0) tt
+made-right ps m records n r p (step ∷ steps) es q install made =
     subst (λ (all : List Event). AtEachEntry (InstallsProgram ps) m r all) (sym made.4)
     (AtEachEntry-append (InstallsProgram ps) m r made.1 made.2
-    (at_events (InstallsProgram ps) m r made.1 (step-right ps k m r p step (told_by made.1) made.3 install.0 made.6))
-    (made-right ps k m (records + length made.1) (suc n) (heard_all m r made.1) made.3 steps made.2 q install.1 made.7))
+    (at_events (InstallsProgram ps) m r made.1 (step-right ps m r p step (told_by made.1) made.3 install.0 made.6))
+    (made-right ps m (records + length made.1) (suc n) (heard_all m r made.1) made.3 steps made.2 q install.1 made.7))
 
 front-install : (ps : List Program) (done left : List Step) → InstallPrograms ps (done ++ left) → InstallPrograms ps done
 front-install ps [] left h = tt
 front-install ps (step ∷ done) left h = (h.0, front-install ps done left h.1)
 
-last-right : (ps : List Program) (k : Clock) (m : Machine) (how : RunEnd) (records n : ℕ) (r : Reading) (p : Pace) (left : List Step) (es : List Event) → EndsRun k m how records n r p left es → AtEachEntry (InstallsProgram ps) m r es
-last-right ps k m Whole records n r p left es ends = at_events (InstallsProgram ps) m r es (none-right ps m r (told_by es) (by_made (told_by es) _ ends.1.made (tt, tt)))
-last-right ps k m Full records n r p left es ends = subst (λ (all : List Event). AtEachEntry (InstallsProgram ps) m r all) (sym ends.2) tt
-last-right ps k m Cut records n r p left es ends = subst (λ (all : List Event). AtEachEntry (InstallsProgram ps) m r all) (sym ends) tt
+last-right : (ps : List Program) (m : Machine) (how : RunEnd) (records n : ℕ) (r : Reading) (p : Pace) (left : List Step) (es : List Event) → EndsRun m how records n r p left es → AtEachEntry (InstallsProgram ps) m r es
+last-right ps m Whole records n r p left es ends = at_events (InstallsProgram ps) m r es (none-right ps m r (told_by es) (by_made (told_by es) _ ends.1.made (tt, tt)))
+last-right ps m Full records n r p left es ends = subst (λ (all : List Event). AtEachEntry (InstallsProgram ps) m r all) (sym ends.2) tt
+last-right ps m Cut records n r p left es ends = subst (λ (all : List Event). AtEachEntry (InstallsProgram ps) m r all) (sym ends) tt
 
-run-right : (ps : List Program) (k : Clock) (m : Machine) (how : RunEnd) (steps : List Step) (es : List Event) → InstallPrograms ps steps → IsRunOf k m how steps es → AtEachEntry (InstallsProgram ps) m (nothing_heard m) es
-run-right ps k m how steps es install run =
+run-right : (ps : List Program) (m : Machine) (how : RunEnd) (steps : List Step) (es : List Event) → InstallPrograms ps steps → IsRunOf m how steps es → AtEachEntry (InstallsProgram ps) m (nothing_heard m) es
+run-right ps m how steps es install run =
     subst (λ (all : List Event). AtEachEntry (InstallsProgram ps) m (nothing_heard m) all) (sym run.events_are)
     (AtEachEntry-append (InstallsProgram ps) m (nothing_heard m) run.front run.last
-    (made-right ps k m 0 1 (nothing_heard m) no_pace run.done run.front run.pace (front-install ps run.done run.left (subst (InstallPrograms ps) run.steps_are install)) run.made)
-    (last-right ps k m how (length run.front) (suc (length run.done)) (heard_all m (nothing_heard m) run.front) run.pace run.left run.last run.ends))
+    (made-right ps m 0 1 (nothing_heard m) no_pace run.done run.front run.pace (front-install ps run.done run.left (subst (InstallPrograms ps) run.steps_are install)) run.made)
+    (last-right ps m how (length run.front) (suc (length run.done)) (heard_all m (nothing_heard m) run.front) run.pace run.left run.last run.ends))
 
-node-keeps : (d : Description) (ps : List Program) (k : Clock) (how : RunEnd) (steps : List Step) (l : Log) → InstallPrograms ps steps → IsNodeRun k (machine_by d ps) how steps l → LogKeepsAll d ps l
-node-keeps d ps k how steps l install run =
-    keeps-all d ps l run.well_formed (run-right ps k (machine_by d ps) how steps (journal_of l) install run.events) run.serial run.stores run.grants run.devices
+node-keeps : (d : Description) (ps : List Program) (how : RunEnd) (steps : List Step) (l : Log) → InstallPrograms ps steps → IsNodeRun (machine_by d ps) how steps l → LogKeepsAll d ps l
+node-keeps d ps how steps l install run =
+    keeps-all d ps l run.well_formed (run-right ps (machine_by d ps) how steps (journal_of l) install run.events) run.serial run.stores run.grants run.devices
 
 one-node : (d : Description) (ps : List Program) (l : Log) (k : ℕ) → LogKeepsAll d ps l → k < length (l ∷ []) → IfSome (slice_get (l ∷ []) k) (LogKeepsAll d ps)
 one-node d ps l zero keeps low = keeps
 one-node d ps l (suc k) keeps low = absurd (omega (arith, low))
 
-pub node-serial : (d : Description) (ps : List Program) (k : Clock) (steps : List Step) (how : RunEnd) (r : Report) → InstallPrograms ps steps → IsNodeReport d k (meaning_by d ps) steps how r → IsVerdict d ps r Serial
-node-serial d ps k steps how r install is =
+pub node-serial : (d : Description) (ps : List Program) (steps : List Step) (how : RunEnd) (r : Report) → InstallPrograms ps steps → IsNodeReport d (meaning_by d ps) steps how r → IsVerdict d ps r Serial
+node-serial d ps steps how r install is =
     subst (λ (logs : List Log). (n : ℕ) → n < length logs → IfSome (slice_get logs n) (LogKeepsAll d ps)) (sym is.one_node)
-    (λ n low. one-node d ps is.log n (node-keeps d ps k how steps is.log install is.run) low)
+    (λ n low. one-node d ps is.log n (node-keeps d ps how steps is.log install is.run) low)

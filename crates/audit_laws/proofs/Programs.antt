@@ -11,7 +11,6 @@ use Rattle.mate_journal.specs.declared.program.Program.{Program}
 use Rattle.script_reader.specs.Steps.{NodeScript}
 use Rattle.script_reader.specs.declared.steps.Step.{Step}
 use Rattle.script_reader.specs.declared.steps.Step.TheVariants as step
-use Rattle.node_invariant.specs.Meaning.{clock_of}
 use Rattle.node_programs.specs.ScriptSteps.{held_or_none, program_at, step_of, steps_of, IsProgramOf, AreProgramsOf}
 use Rattle.node_programs.specs.Sources.{held_as, is_held_as, meaning_by}
 use Rattle.node_programs.specs.WorldPrograms.{IsProgramOfWhat, AreProgramsOfWorld}
@@ -81,7 +80,7 @@ same-program p q handler version image =
 pub event-installs : (d : Description) (script : Script) (ps : List Program) → AreProgramsOfWorld d script ps → (m : Moment) (before : List Moment) (p : HeldProgram)
     → HaveCome (source_world d script ps) (m ∷ before) → (effect_at (source_world d script ps) (state (source_world d script ps) before) m).deed ≡ Installing p → IsOneOf ps p
 event-installs d script ps right m before p come deed =
-    by (installs_injected (source_world d script ps) (plans_rightly d (meaning_by d ps) (clock_of d) script (program_at ps) (right-script d script ps right)).one_image m before p come deed) where
+    by (installs_injected (source_world d script ps) (plans_rightly d (meaning_by d ps) script (program_at ps) (right-script d script ps right)).one_image m before p come deed) where
       of_line : (q : HeldProgram) (i : ℕ) → SaysInject script (program_at ps) i q → IsOneOf ps q
       of_line q i says =
           let own = all-at (λ (e : Planned). IsProgramOfWhat ps e.what) script.events i says.planned right.each says.stands in
@@ -90,4 +89,4 @@ event-installs d script ps right m before p come deed =
       by : WasInjected (source_world d script ps) (m ∷ before) p.handler.0 p.version p.image.items → IsOneOf ps p
       by was =
           subst (IsOneOf ps) (same-program was.program p was.handler was.version_is was.image_is)
-          (of_line was.program was.place (says-inject d (meaning_by d ps) (clock_of d) script (program_at ps) was.place was.program was.injects))
+          (of_line was.program was.place (says-inject d (meaning_by d ps) script (program_at ps) was.place was.program was.injects))

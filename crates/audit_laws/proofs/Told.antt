@@ -13,11 +13,9 @@ use Rattle.mate_journal.specs.NodeScript.{Installs}
 use Rattle.mate_journal.specs.Pace.{Pace}
 use Rattle.mate_journal.specs.Serial.{IsSerial}
 use Rattle.mate_journal.specs.Stores.{ShowsStore, ShowsStores, IsShown}
-use Rattle.mate_journal.specs.Turns.{Clock}
-use Rattle.mate_journal.specs.WellFormed.{IsInTime, start, IsWellFormed}
+use Rattle.mate_journal.specs.WellFormed.{IsWellFormed}
 use Rattle.mate_journal.specs.declared.program.Program.{Program}
 use Rattle.world_images.proofs.Agree.{NoInstall, NoneInstall, installs-rest}
-use Rattle.audit_finite.specs.Following.{StampsRise}
 use Rattle.audit_finite.specs.Shown.{ShowsValues, ShowsValuesAt}
 use Rattle.audit_rules.specs.Laws.{IsOneOf, InstallsProgram, machine_by}
 use Rattle.audit_rules.specs.Verdicts.{LogKeepsAll}
@@ -69,10 +67,10 @@ none-right ps m r [] none = tt
 none-right ps m r (t ∷ told) none = (none-rule ps r t none.0, none-right ps m (heard m r t) told none.1)
 
 -- one of the programs is installed
-pub install-right : (ps : List Program) (k : Clock) (m : Machine) (r : Reading) (q : Pace) (x : HeldProgram) (told : List Told) → IsOneOf ps x → Installs k m r q x told → InstallsRight ps m r told
-install-right ps k m r q x told one is =
+pub install-right : (ps : List Program) (m : Machine) (r : Reading) (q : Pace) (x : HeldProgram) (told : List Told) → IsOneOf ps x → Installs m r q x told → InstallsRight ps m r told
+install-right ps m r q x told one is =
     subst (λ (ts : List Told). InstallsRight ps m r ts) (sym is.made)
-    (tt, ((one, is.newer), none-right ps m (heard m r (Installed x)) is.rest (installs-rest k m r q x told is)))
+    (tt, ((one, is.newer), none-right ps m (heard m r (Installed x)) is.rest (installs-rest m r q x told is)))
 
 -- ---- each law
 
@@ -81,10 +79,6 @@ pub weaker : (P Q : Reading → Told → Type 0) (m : Machine) (r : Reading) (es
 weaker P Q m r [] each h = tt
 weaker P Q m r (e ∷ es) each h = (each r e.told h.0, weaker P Q m (heard m r e.told) es each h.1)
 
-rising : (es : List Event) → IsInTime start es → StampsRise es
-rising [] h = tt
-rising (e ∷ es) h = h.1
-
 shown-values : (m : Machine) (r : Reading) (o : Option Store) → IfSome o (IsShown m r) → IfSome o (ShowsValues m r)
 shown-values m r None h = tt
 shown-values m r (Some s) h = record { unwritten = h.unwritten; waiting = h.waiting }
@@ -92,7 +86,7 @@ shown-values m r (Some s) h = record { unwritten = h.unwritten; waiting = h.wait
 pub keeps-all : (d : Description) (ps : List Program) (l : Log) → IsWellFormed (machine_by d ps) (nothing_heard (machine_by d ps)) (journal_of l) → AtEachEntry (InstallsProgram ps) (machine_by d ps) (nothing_heard (machine_by d ps)) (journal_of l)
     → IsSerial (machine_by d ps) (nothing_heard (machine_by d ps)) (journal_of l) → ShowsStores (machine_by d ps) (nothing_heard (machine_by d ps)) (journal_of l)
     → GrantsInOrder (machine_by d ps) (nothing_heard (machine_by d ps)) 0 (journal_of l) → AsksDevicesInOrder (machine_by d ps).device_of (journal_of l) → LogKeepsAll d ps l
-keeps-all d ps l formed images serial stores grants devices law.D7 = record { in_time = rising (journal_of l) formed.in_time; follow = formed.follow }
+keeps-all d ps l formed images serial stores grants devices law.D7 = formed
 keeps-all d ps l formed images serial stores grants devices law.Image = images
 keeps-all d ps l formed images serial stores grants devices law.D8 = serial
 keeps-all d ps l formed images serial stores grants devices law.D9 =

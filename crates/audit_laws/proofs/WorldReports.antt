@@ -8,7 +8,7 @@ use Rattle.mate_journal.specs.Log.{Log}
 use Rattle.mate_journal.specs.Machine.{Machine, HeldProgram}
 use Rattle.mate_journal.specs.NodeScript.{RunEnd, Whole, Full, Cut}
 use Rattle.mate_journal.specs.Pace.{Pace, paced_all}
-use Rattle.mate_journal.specs.Turns.{Clock, Settles}
+use Rattle.mate_journal.specs.Turns.{Settles}
 use Rattle.mate_journal.specs.declared.program.Program.{Program}
 use Rattle.mate_journal.specs.declared.report.Report.{Report}
 use Rattle.journal_laws.proofs.Append.{AtEachEntry-append}
@@ -30,20 +30,20 @@ use Rattle.audit_laws.proofs.Programs.{event-installs}
 
 -- ---- what an event tells
 
-deed-right : (ps : List Program) (k : Clock) (m : Machine) (r : Reading) (q : Pace) (d : Deed) (told : List Told) → ((p : HeldProgram) → d ≡ Installing p → IsOneOf ps p) → DeedMakes k m d r q told → InstallsRight ps m r told
-deed-right ps k m r q Nothing told one is = none-right ps m r told (by_made told [] is tt)
-deed-right ps k m r q (Installing p) told one is = install-right ps k m r q p told (one p refl) is
-deed-right ps k m r q (Posting hs payload) told one is = none-right ps m r told (occasions-none m payload hs r q told is)
-deed-right ps k m r q (Answering inv value) told one is = none-right ps m r told (by_made told _ is (tt, tt))
-deed-right ps k m r q Showing told one is = none-right ps m r told (by_made told _ is.made (tt, tt))
-deed-right ps k m r q Resetting told one is = none-right ps m r told (by_made told _ is.made (tt, (tt, tt)))
+deed-right : (ps : List Program) (m : Machine) (r : Reading) (q : Pace) (d : Deed) (told : List Told) → ((p : HeldProgram) → d ≡ Installing p → IsOneOf ps p) → DeedMakes m d r q told → InstallsRight ps m r told
+deed-right ps m r q Nothing told one is = none-right ps m r told (by_made told [] is tt)
+deed-right ps m r q (Installing p) told one is = install-right ps m r q p told (one p refl) is
+deed-right ps m r q (Posting hs payload) told one is = none-right ps m r told (occasions-none m payload hs r q told is)
+deed-right ps m r q (Answering inv value) told one is = none-right ps m r told (by_made told _ is (tt, tt))
+deed-right ps m r q Showing told one is = none-right ps m r told (by_made told _ is.made (tt, tt))
+deed-right ps m r q Resetting told one is = none-right ps m r told (by_made told _ is.made (tt, (tt, tt)))
 
-event-right : (ps : List Program) (k : Clock) (m : Machine) (r : Reading) (q : Pace) (d : Deed) (told : List Told) (after : Pace) → ((p : HeldProgram) → d ≡ Installing p → IsOneOf ps p)
-    → FirstThen m (DeedMakes k m d) (λ s p xs. Settles k m s p xs after) r q told → InstallsRight ps m r told
-event-right ps k m r q d told after one both =
+event-right : (ps : List Program) (m : Machine) (r : Reading) (q : Pace) (d : Deed) (told : List Told) (after : Pace) → ((p : HeldProgram) → d ≡ Installing p → IsOneOf ps p)
+    → FirstThen m (DeedMakes m d) (λ s p xs. Settles m s p xs after) r q told → InstallsRight ps m r told
+event-right ps m r q d told after one both =
     subst (λ (ts : List Told). InstallsRight ps m r ts) (sym both.made)
-    (told-append (InstallsProgram ps) m r both.front both.rest (deed-right ps k m r q d both.front one both.by_first)
-    (none-right ps m (heard_told m r both.front) both.rest (settles-none k m (heard_told m r both.front) (paced_all q both.front) both.rest after both.by_second)))
+    (told-append (InstallsProgram ps) m r both.front both.rest (deed-right ps m r q d both.front one both.by_first)
+    (none-right ps m (heard_told m r both.front) both.rest (settles-none m (heard_told m r both.front) (paced_all q both.front) both.rest after both.by_second)))
 
 -- ---- journals
 
@@ -60,7 +60,7 @@ run-right ps w k (m ∷ before) one come = elim (eqb_tells k (event_node w m.cau
   own : InstallsRight ps w.machine (node_at w (state w before) m).reading m.told
   own =
       let n = node_at w (state w before) m in
-      event-right ps w.clock w.machine n.reading n.pace (effect_at w (state w before) m).deed m.told m.pace (λ p deed. one m before p come deed) come.1.makes
+      event-right ps w.machine n.reading n.pace (effect_at w (state w before) m).deed m.told m.pace (λ p deed. one m before p come deed) come.1.makes
 
   here : AtEachEntry (InstallsProgram ps) w.machine (nothing_heard w.machine) (journal w (event_node w m.cause) before) → AtEachEntry (InstallsProgram ps) w.machine (nothing_heard w.machine) (journal w (event_node w m.cause) (m ∷ before))
   here earlier =

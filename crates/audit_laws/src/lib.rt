@@ -6,7 +6,6 @@ ghost use Rattle.vm_desc.specs.declared.description.Description.{Description};
 ghost use Rattle.mate_journal.specs.NodeReport.{IsNodeReport};
 ghost use Rattle.mate_journal.specs.NodeScript.{Step, RunEnd};
 ghost use Rattle.mate_journal.specs.Ranges.{HasReportRanges};
-ghost use Rattle.mate_journal.specs.Turns.{Clock};
 ghost use Rattle.mate_journal.specs.declared.program.Program.{Program};
 ghost use Rattle.mate_journal.specs.declared.report.Report.{Report};
 ghost use Rattle.node_programs.specs.ScriptSteps.{AreProgramsOf, steps_of};
@@ -30,8 +29,8 @@ ghost use Rattle.audit_laws.specs.Reading.{IsReadWith};
 /// What a node tells of the steps of a script is serial for the programs that the steps install, however its run ends: whole, at
 /// a full log, or cut from outside. The steps of a script install its programs.
 pub fn node_reports_are_serial()
-    ensures steps { (d : Description) (ps : List Program) (k : Clock) (steps : List Step) (how : RunEnd) (r : Report) →
-        InstallPrograms ps steps → IsNodeReport d k (meaning_by d ps) steps how r → IsVerdict d ps r Serial }
+    ensures steps { (d : Description) (ps : List Program) (steps : List Step) (how : RunEnd) (r : Report) →
+        InstallPrograms ps steps → IsNodeReport d (meaning_by d ps) steps how r → IsVerdict d ps r Serial }
     ensures installs { (d : Description) (script : NodeScript) (ps : List Program) → AreProgramsOf d script ps
         → InstallPrograms ps (steps_of script ps) }
 {}

@@ -2,31 +2,27 @@
 use Rattle.std.proofs.Common.{pos, List, [], ◌∷◌, ◌++◌, map, length, sym, ◌∙◌, subst}
 use Rattle.std.specs.Prelude.{All, IfSome, slice_index_or}
 use Rattle.std.proofs.lemmas.List.{length-replicate}
-use Rattle.mate_num.specs.declared.id.DeviceId.{DeviceId}
 use Rattle.mate_num.specs.declared.store.Store.{Store}
 use Rattle.mate_code.specs.Run.{begun_run, bound}
 use Rattle.mate_code.proofs.RunLemmas.{after-AreAsLong}
 use Rattle.vm_desc.specs.Shapes.{shape_of}
 use Rattle.vm_desc.specs.declared.description.Description.{Description}
 use Rattle.mate_journal.specs.Described.{machine_of}
-use Rattle.mate_journal.specs.Devices.{DeviceOf, WritesWhatItAsks, AsksInOrder, AsksDevicesInOrder}
+use Rattle.mate_journal.specs.Devices.{WritesWhatItAsks, AsksDevicesInOrder}
 use Rattle.mate_journal.specs.Grants.{GrantsInOrder}
-use Rattle.mate_journal.specs.Journal.{Event, nothing_heard, no_store, store_seen, told_of, journal_of, answers_of, heard_all, AtEachEntry, AtEachPlace}
+use Rattle.mate_journal.specs.Journal.{Event, nothing_heard, no_store, store_seen, told_of, journal_of, answers_of}
 use Rattle.mate_journal.specs.Log.{Log}
-use Rattle.mate_journal.specs.Machine.{Machine, Meaning}
-use Rattle.mate_journal.specs.Positions.{AreOfOneEra}
-use Rattle.mate_journal.specs.Serial.{RunsSoFar, IsSerial}
+use Rattle.mate_journal.specs.Machine.{Meaning}
+use Rattle.mate_journal.specs.Serial.{IsSerial}
 use Rattle.mate_journal.specs.Tidy.{IsTidyLog, IsStoreOf}
-use Rattle.mate_journal.specs.WellFormed.{MayFollow}
+use Rattle.mate_journal.specs.WellFormed.{IsWellFormed}
 use Rattle.mate_journal.specs.declared.entry.Entry.{Entry}
 use Rattle.mate_journal.specs.declared.entry.Entry.TheVariants as entry
 use Rattle.mate_journal.specs.declared.entry.Stamped.{Stamped}
 use Rattle.mate_journal.specs.declared.program.Program.{Program}
-use Rattle.journal_laws.specs.Growth.{GrantsBefore, last_start, event_of, IsNamedBelow, AreNamedBelow}
+use Rattle.journal_laws.specs.Growth.{event_of, IsNamedBelow, AreNamedBelow}
 use Rattle.journal_laws.proofs.TidyLemmas.{NamesInLog-numbered}
-use Rattle.journal_laws.proofs.Append.{AtEachEntry-front, AtEachEntry-back, AtEachPlace-back, GrantsBefore-front, GrantsBefore-back, GrantsInOrder-before}
-use Rattle.journal_laws.proofs.Apart.{nothing_heard-orderly, orderly-after}
-use Rattle.journal_laws.proofs.Devices.{AsksWritten, asks-written, part-in-order}
+use Rattle.journal_laws.proofs.Devices.{devices-in-turn}
 use Rattle.node_invariant.specs.Meaning.{code_of, meaning_of}
 use Rattle.node_invariant.proofs.AskLemmas.{writes-what_it_asks}
 use Rattle.node_programs.specs.Right.{AreRightPrograms}
@@ -34,7 +30,6 @@ use Rattle.node_programs.specs.Sources.{meaning_by}
 use Rattle.node_programs.proofs.MeaningLemmas.{meaning_by-right}
 use Rattle.audit_finite.specs.Granting.{TellsConflicts}
 use Rattle.audit_finite.specs.Replay.{GoesByParts}
-use Rattle.audit_finite.specs.Following.{EntriesFollow}
 use Rattle.audit_finite.specs.Shown.{HasLengthsOf, KeepsLengths, SeenLengths}
 use Rattle.audit_runs.proofs.ConflictLemmas.{code-TellsConflicts}
 use Rattle.audit_runs.proofs.PartLemmas.{code-GoesByParts}
@@ -64,30 +59,9 @@ lengths d ps right = by_code d ps (λ (meaning : Meaning). KeepsLengths (machine
 
 -- ---- the order of calls to devices
 
-of_parts : (m : Machine) (front era back : List Event) (device_of : DeviceOf) (d : DeviceId) → WritesWhatItAsks device_of m.meaning
-    → AtEachEntry (MayFollow m) m (nothing_heard m) (front ++ (era ++ back)) → AtEachPlace (RunsSoFar m) m (nothing_heard m) (front ++ (era ++ back))
-    → GrantsBefore m (nothing_heard m) 0 (front ++ (era ++ back)) → AreOfOneEra era → AsksInOrder device_of d era
-of_parts m front era back device_of d writes follow so_far granted one_era =
-    part-in-order m device_of (heard_all m (nothing_heard m) front) (last_start 0 front) era d
-    (orderly-after m (nothing_heard m) 0 front (AtEachEntry-front (MayFollow m) m (nothing_heard m) front (era ++ back) follow)
-    (GrantsBefore-front m (nothing_heard m) 0 front (era ++ back) granted) (nothing_heard-orderly m))
-    (AtEachEntry-front (MayFollow m) m (heard_all m (nothing_heard m) front) era back (AtEachEntry-back (MayFollow m) m (nothing_heard m) front (era ++ back) follow))
-    (GrantsBefore-front m (heard_all m (nothing_heard m) front) (last_start 0 front) era back (GrantsBefore-back m (nothing_heard m) 0 front (era ++ back) granted))
-    (AtEachEntry-front (AsksWritten m device_of) m (heard_all m (nothing_heard m) front) era back
-    (asks-written m device_of (heard_all m (nothing_heard m) front) (era ++ back) writes (AtEachPlace-back (RunsSoFar m) m (nothing_heard m) front (era ++ back) so_far)))
-    one_era
-
-in_order : (m : Machine) (es : List Event) → WritesWhatItAsks m.device_of m.meaning → EntriesFollow m es → IsSerial m (nothing_heard m) es → GrantsInOrder m (nothing_heard m) 0 es → AsksDevicesInOrder m.device_of es
-in_order m es writes follows serial granted front era back d is one_era =
-    of_parts m front era back m.device_of d writes
-    (subst (λ (all : List Event). AtEachEntry (MayFollow m) m (nothing_heard m) all) is follows.follow)
-    (subst (λ (all : List Event). AtEachPlace (RunsSoFar m) m (nothing_heard m) all) is serial.so_far)
-    (subst (λ (all : List Event). GrantsBefore m (nothing_heard m) 0 all) is (GrantsInOrder-before m (nothing_heard m) 0 es granted))
-    one_era
-
-pub devices : (d : Description) (ps : List Program) (es : List Event) → AreRightPrograms d ps → EntriesFollow (machine_by d ps) es → IsSerial (machine_by d ps) (nothing_heard (machine_by d ps)) es
+pub devices : (d : Description) (ps : List Program) (es : List Event) → AreRightPrograms d ps → IsWellFormed (machine_by d ps) (nothing_heard (machine_by d ps)) es → IsSerial (machine_by d ps) (nothing_heard (machine_by d ps)) es
     → GrantsInOrder (machine_by d ps) (nothing_heard (machine_by d ps)) 0 es → AsksDevicesInOrder (machine_by d ps).device_of es
-devices d ps es right = in_order (machine_by d ps) es (by_code d ps (WritesWhatItAsks (machine_by d ps).device_of) right (writes-what_it_asks d))
+devices d ps es right = devices-in-turn (machine_by d ps) es (machine_by d ps).device_of (by_code d ps (WritesWhatItAsks (machine_by d ps).device_of) right (writes-what_it_asks d))
 
 -- ---- stores that are seen
 

@@ -9,7 +9,7 @@ use Rattle.mate_journal.specs.Journal.{Told, Posted, Dropped, Started, Asked, An
 use Rattle.mate_journal.specs.Log.{Log}
 use Rattle.mate_journal.specs.Machine.{HeldProgram, Machine}
 use Rattle.mate_journal.specs.Tidy.{IsTidyLog}
-use Rattle.mate_journal.specs.WellFormed.{MayFollow}
+use Rattle.mate_journal.specs.WellFormed.{MayFollow, IsWellFormed}
 use Rattle.mate_journal.specs.declared.program.Program.{Program}
 use Rattle.journal_laws.proofs.Apart.{IsNumbered, numbered-step}
 use Rattle.node_programs.specs.Right.{AreRightPrograms}
@@ -17,7 +17,7 @@ use Rattle.node_programs.specs.Sources.{is_held_as}
 use Rattle.audit_finite.specs.Granting.{grants_in_order}
 use Rattle.audit_finite.specs.Rerun.{replays_right}
 use Rattle.audit_finite.specs.Roll.{Roll, nobody, rolled, IsRoll}
-use Rattle.audit_finite.specs.Following.{EntriesFollow, entries_follow}
+use Rattle.audit_finite.specs.Following.{entries_follow}
 use Rattle.audit_finite.specs.Shown.{stores_right}
 use Rattle.audit_finite.proofs.Deciding.{always}
 use Rattle.audit_finite.proofs.GrantLemmas.{grants_told}
@@ -90,7 +90,7 @@ Tells d ps l o = MatchOption o (LogKeepsAll d ps l) (LogFails d ps l)
 fails-at : (d : Description) (ps : List Program) (l : Log) (law : Law) → KeptBelow d ps l (rank_of law) → (LogKeeps d ps l law → ⊥) → LogFails d ps l law
 fails-at d ps l law kept fails = record { fails = fails; before = kept }
 
-follows-in : (d : Description) (ps : List Program) (l : Log) (n : ℕ) → KeptBelow d ps l (suc n) → EntriesFollow (machine_by d ps) (journal_of l)
+follows-in : (d : Description) (ps : List Program) (l : Log) (n : ℕ) → KeptBelow d ps l (suc n) → IsWellFormed (machine_by d ps) (nothing_heard (machine_by d ps)) (journal_of l)
 follows-in d ps l n kept = kept law.D7 (omega arith)
 
 -- ---- each test in its turn
@@ -133,7 +133,7 @@ module _ (d : Description) (ps : List Program) (l : Log) (right : AreRightProgra
       let tells = replay_told (machine_by d ps) (conflict_of d) (journal_of l) (parts d ps right) (conflicts d ps right) (follows-in d ps l 1 kept) in
       fails-at d ps l law.D8 kept (not_from_Decides (replays_right (machine_by d ps) (conflict_of d) nobody (machine_by d ps).zero_store (journal_of l)) tells is)
 
-  images_told : EntriesFollow (machine_by d ps) (journal_of l) → Decides (images_right ps nobody (journal_of l)) (LogKeeps d ps l law.Image)
+  images_told : IsWellFormed (machine_by d ps) (nothing_heard (machine_by d ps)) (journal_of l) → Decides (images_right ps nobody (journal_of l)) (LogKeeps d ps l law.Image)
   images_told follow =
       images-Decides ps (machine_by d ps) (nothing_heard (machine_by d ps)) nobody (journal_of l) (nothing_heard-numbered (machine_by d ps)) (nobody-IsRoll (machine_by d ps)) follow.follow
 

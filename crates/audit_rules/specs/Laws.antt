@@ -11,7 +11,7 @@ use Rattle.mate_journal.specs.Machine.{HeldProgram, Machine}
 use Rattle.mate_journal.specs.Serial.{IsSerial}
 use Rattle.mate_journal.specs.declared.program.Program.{Program}
 use Rattle.node_programs.specs.Sources.{is_held_as, meaning_by}
-use Rattle.audit_finite.specs.Following.{EntriesFollow}
+use Rattle.mate_journal.specs.WellFormed.{IsWellFormed}
 use Rattle.audit_finite.specs.Shown.{ShowsValuesAt}
 use Rattle.audit_verdict.specs.declared.law.Law.{Law}
 use Rattle.audit_verdict.specs.declared.law.Law.TheVariants as law
@@ -39,7 +39,7 @@ machine_by d ps = machine_of d (meaning_by d ps)
 
 -- the journal keeps the law
 abbrev pub KeepsLaw : Machine → List Program → List Event → Law → Type 0
-KeepsLaw m ps es law.D7 = EntriesFollow m es
+KeepsLaw m ps es law.D7 = IsWellFormed m (nothing_heard m) es
 KeepsLaw m ps es law.Image = AtEachEntry (InstallsProgram ps) m (nothing_heard m) es
 KeepsLaw m ps es law.D8 = IsSerial m (nothing_heard m) es
 KeepsLaw m ps es law.D9 = AtEachEntry (ShowsValuesAt m) m (nothing_heard m) es

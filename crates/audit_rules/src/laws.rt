@@ -12,7 +12,7 @@ ghost use Rattle.mate_journal.specs.declared.program.Program.{Program};
 ghost use Rattle.mate_journal.specs.declared.report.Report.{Report};
 ghost use Rattle.node_programs.specs.Right.{AreRightPrograms};
 ghost use Rattle.report_text.specs.Tidy.{IsTidy};
-ghost use Rattle.audit_finite.specs.Following.{EntriesFollow};
+ghost use Rattle.mate_journal.specs.WellFormed.{IsWellFormed};
 ghost use Rattle.audit_finite.specs.Granting.{TellsConflicts};
 ghost use Rattle.audit_finite.specs.Replay.{GoesByParts};
 ghost use Rattle.audit_finite.specs.Shown.{KeepsLengths, SeenLengths};
@@ -25,7 +25,7 @@ ghost use Rattle.audit_verdict.specs.declared.law.Verdict.TheVariants.{Serial};
 /// The order of calls to devices follows from the other laws: it is never the first to fail.
 pub fn devices_follow()
     ensures { (d : Description) (ps : List Program) (es : List Event) → AreRightPrograms d ps →
-        EntriesFollow (machine_by d ps) es → IsSerial (machine_by d ps) (nothing_heard (machine_by d ps)) es
+        IsWellFormed (machine_by d ps) (nothing_heard (machine_by d ps)) es → IsSerial (machine_by d ps) (nothing_heard (machine_by d ps)) es
         → GrantsInOrder (machine_by d ps) (nothing_heard (machine_by d ps)) 0 es →
         AsksDevicesInOrder (machine_by d ps).device_of es }
 {}

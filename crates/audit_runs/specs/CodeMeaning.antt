@@ -10,7 +10,7 @@ use Rattle.mate_num.specs.declared.shape.Shape.{Shape}
 use Rattle.mate_code.specs.CodeUses.{uses_of, use_of}
 use Rattle.mate_code.specs.declared.uses.Use.{Use}
 use Rattle.mate_code.specs.declared.uses.Use.TheVariants.{Nothing, Gets, Changes, Calls, Sends}
-use Rattle.mate_code.specs.Run.{Code, code_run}
+use Rattle.mate_code.specs.Run.{Code, code_run, next_mark, code_after}
 use Rattle.mate_journal.specs.Machine.{HeldProgram, Meaning}
 use Rattle.audit_finite.specs.Granting.{ConflictTest}
 
@@ -22,6 +22,8 @@ abbrev pub meaning_with : Shape → CodeOf → Meaning
 meaning_with shape code = record {
   run = λ p store payload answers turns. code_run shape (code p) store payload answers turns;
   uses = λ p. uses_of shape (code p);
+  mark = λ p store payload answers turns. next_mark shape (code p) store payload answers turns;
+  after = λ n p store payload answers turns. code_after n shape (code p) store payload answers turns;
 }
 
 -- the device that a function speaks to, as a resource, if there is one

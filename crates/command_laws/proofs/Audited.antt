@@ -33,7 +33,6 @@ use Rattle.mate_refusals.specs.declared.cause.Unread.TheVariants.{Failed, Large}
 use Rattle.mate_steps.specs.Parts.{IsUnread, file, machine}
 use Rattle.mate_steps.specs.Steps.{Then, goes_on, stops}
 use Rattle.mate_steps.proofs.OneAnswer.{machine_agrees}
-use Rattle.node_invariant.specs.Meaning.{clock_of}
 use Rattle.node_programs.specs.ScriptSteps.{steps_of}
 use Rattle.node_programs.specs.Sources.{meaning_by}
 use Rattle.report_reading.specs.Reads.{ReadsReport, IsBadLine}
@@ -246,8 +245,8 @@ node-found names fold vm name report o full bs answer (goes_on d machine_is (goe
     let t : IsRunText d (IsReportOf d s ps) (run_end full) bs = subst (λ (x : Output). IsTextOf full x bs) out is in
     let r : Report = t.report in
     let of : IsReportOf d s ps (run_end full) r = t.ended in
-    let serially : IsVerdict d ps r verdict.Serial = node-serial d ps (clock_of d) (steps_of s ps) (run_end full) r (script-installs d s ps of.right) of.report in
-    let tidy : IsTidy d r = node-tidy d (clock_of d) (meaning_by d ps) (steps_of s ps) (run_end full) r of.report in
+    let serially : IsVerdict d ps r verdict.Serial = node-serial d ps (steps_of s ps) (run_end full) r (script-installs d s ps of.right) of.report in
+    let tidy : IsTidy d r = node-tidy d (meaning_by d ps) (steps_of s ps) (run_end full) r of.report in
     audit-found names fold vm name report d ps (named-node names d fold name s ps script_is given) machine_is
     (λ qs same. report-found names d ps qs r report bs same serially tidy of.ranges t.text_is holds small) answer audits
 node-found names fold vm name report o full bs answer (goes_on d machine_is (goes_on s script_is (stops why step e))) is holds small audits = absurd (ok-err o why e)

@@ -17,7 +17,6 @@ use Rattle.mate_refusals.specs.declared.refusal.Refusal.{Refusal}
 use Rattle.mate_steps.specs.OneAnswer.{AnswersAgree, steady}
 use Rattle.mate_steps.specs.Steps.{◌▸◌}
 use Rattle.mate_steps.proofs.OneAnswer.{then_agrees, machine_agrees}
-use Rattle.node_invariant.specs.Meaning.{clock_of}
 use Rattle.node_programs.specs.ScriptSteps.{steps_of}
 use Rattle.node_programs.specs.Sources.{meaning_by}
 use Rattle.report_text.specs.Brief.{brief}
@@ -31,15 +30,15 @@ use Rattle.script_reader.specs.Steps.{NodeScript}
 use Rattle.vm_desc.specs.declared.description.Description.{Description}
 
 -- by the same programs, the report is one of the other list's steps
-by-same : (d : Description) (s : NodeScript) (ps qs : List Program) (how : RunEnd) (r : Report) → SamePrograms ps qs → IsReportOf d s qs how r → IsNodeReport d (clock_of d) (meaning_by d ps) (steps_of s ps) how r
+by-same : (d : Description) (s : NodeScript) (ps qs : List Program) (how : RunEnd) (r : Report) → SamePrograms ps qs → IsReportOf d s qs how r → IsNodeReport d (meaning_by d ps) (steps_of s ps) how r
 by-same d s ps qs how r same is =
-    subst (λ (steps : List Step). IsNodeReport d (clock_of d) (meaning_by d ps) steps how r) (sym (steps-same s ps qs same))
-    (subst (λ (m : Meaning). IsNodeReport d (clock_of d) m (steps_of s qs) how r) (sym (meaning-same d ps qs same)) is.report)
+    subst (λ (steps : List Step). IsNodeReport d (meaning_by d ps) steps how r) (sym (steps-same s ps qs same))
+    (subst (λ (m : Meaning). IsNodeReport d m (steps_of s qs) how r) (sym (meaning-same d ps qs same)) is.report)
 
 module _ (d : Description) (s : NodeScript) (ps qs : List Program) (same : SamePrograms ps qs) where
   brief_once : (how how' : RunEnd) (r r' : Report) → EndsByItself how → EndsByItself how' → IsReportOf d s ps how r → IsReportOf d s qs how' r' → brief d r ≡ brief d r'
   brief_once how how' r r' itself itself' is is' =
-      brief-once d (clock_of d) (meaning_by d ps) (steps_of s ps) how how' r r' itself itself' is.report (by-same d s ps qs how' r' same is')
+      brief-once d (meaning_by d ps) (steps_of s ps) how how' r r' itself itself' is.report (by-same d s ps qs how' r' same is')
 
   run_same : IsSameRun d d s s ps qs
   run_same = record { machine = refl; steps = steps-same s ps qs same; meaning = meaning-same d ps qs same }

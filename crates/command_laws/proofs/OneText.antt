@@ -11,7 +11,6 @@ use Rattle.mate_journal.specs.NodeReport.{IsNodeReport}
 use Rattle.mate_journal.specs.NodeScript.{Step, RunEnd}
 use Rattle.mate_journal.specs.declared.program.Program.{Program}
 use Rattle.mate_journal.specs.declared.report.Report.{Report}
-use Rattle.node_invariant.specs.Meaning.{clock_of}
 use Rattle.node_programs.specs.ScriptSteps.{steps_of}
 use Rattle.node_programs.specs.Sources.{meaning_by}
 use Rattle.report_text.specs.Text.{text}
@@ -31,18 +30,18 @@ itself false = tt
 itself true = tt
 
 -- a report of the same run on the same machine is one of the other
-moved-report : (d d' : Description) (m m' : Meaning) (steps steps' : List Step) (how : RunEnd) (r : Report) → d ≡ d' → m ≡ m' → steps ≡ steps' → IsNodeReport d' (clock_of d') m' steps' how r
-    → IsNodeReport d (clock_of d) m steps how r
+moved-report : (d d' : Description) (m m' : Meaning) (steps steps' : List Step) (how : RunEnd) (r : Report) → d ≡ d' → m ≡ m' → steps ≡ steps' → IsNodeReport d' m' steps' how r
+    → IsNodeReport d m steps how r
 moved-report d d' m m' steps steps' how r machine meaning same is =
-    subst (λ (x : Description). IsNodeReport x (clock_of x) m steps how r) (sym machine)
-    (subst (λ (x : Meaning). IsNodeReport d' (clock_of d') x steps how r) (sym meaning) (subst (λ (x : List Step). IsNodeReport d' (clock_of d') m' x how r) (sym same) is))
+    subst (λ (x : Description). IsNodeReport x m steps how r) (sym machine)
+    (subst (λ (x : Meaning). IsNodeReport d' x steps how r) (sym meaning) (subst (λ (x : List Step). IsNodeReport d' m' x how r) (sym same) is))
 
 run-once : (d d' : Description) (s s' : NodeScript) (ps ps' : List Program) → IsSameRun d d' s s' ps ps' → (full full' : Bool) (bs bs' : List ℕ) → IsRunText d (IsReportOf d s ps) (run_end full) bs
     → IsRunText d' (IsReportOf d' s' ps') (run_end full') bs' → bs ≡ bs'
 run-once d d' s s' ps ps' same full full' bs bs' is is' =
     let other = moved-report d d' (meaning_by d ps) (meaning_by d' ps') (steps_of s ps) (steps_of s' ps') (run_end full') is'.report same.machine same.meaning same.steps is'.ended.report in
     is.text_is
-    ∙ text-once d (clock_of d) (meaning_by d ps) (steps_of s ps) (run_end full) (run_end full') is.report is'.report (itself full) (itself full') is.ended.report other
+    ∙ text-once d (meaning_by d ps) (steps_of s ps) (run_end full) (run_end full') is.report is'.report (itself full) (itself full') is.ended.report other
     ∙ ap (λ (x : Description). text x is'.report) same.machine ∙ sym is'.text_is
 
 -- the world of a right script has one report

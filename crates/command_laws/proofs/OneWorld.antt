@@ -24,7 +24,6 @@ use Rattle.mate_steps.specs.Steps.{◌▸◌}
 use Rattle.mate_steps.proofs.AcceptanceLemmas.{one_tree}
 use Rattle.mate_steps.proofs.OneAnswer.{then_agrees, judged_agrees, machine_agrees, SameBytes, file_agrees}
 use Rattle.mate_steps.proofs.OneSource.{SameCompiled}
-use Rattle.node_invariant.specs.Meaning.{clock_of}
 use Rattle.node_programs.specs.ScriptSteps.{program_at}
 use Rattle.node_programs.specs.Sources.{meaning_by}
 use Rattle.report_text.specs.Brief.{brief}
@@ -52,8 +51,8 @@ use Rattle.world_states.specs.SourceWorld.{source_world}
 module _ (law : WorldsHaveOneReport) (d : Description) (w : World) (ps qs : List Program) (same : SamePrograms ps qs) where
   world-same : source_world d w ps ≡ source_world d w qs
   world-same =
-      ap (λ (m : Meaning). world_of d m (clock_of d) w (program_at ps)) (meaning-same d ps qs same)
-      ∙ ap (λ (programs : ℕ → HeldProgram). world_of d (meaning_by d qs) (clock_of d) w programs) (places-same ps qs same)
+      ap (λ (m : Meaning). world_of d m w (program_at ps)) (meaning-same d ps qs same)
+      ∙ ap (λ (programs : ℕ → HeldProgram). world_of d (meaning_by d qs) w programs) (places-same ps qs same)
 
   brief_once : (how how' : RunEnd) (r r' : Report) → EndsByItself how → EndsByItself how' → IsReportOfWorld d w ps how r → IsReportOfWorld d w qs how' r' → brief d r ≡ brief d r'
   brief_once how how' r r' itself itself' is is' =

@@ -7,7 +7,6 @@ use Rattle.std.proofs.lemmas.List.{map-append}
 use Rattle.mate_journal.specs.Machine.{Machine}
 use Rattle.mate_journal.specs.Journal.{Told, Event, Reading, nothing_heard, heard_all, heard_told, told_by}
 use Rattle.mate_journal.specs.Pace.{Pace, no_pace}
-use Rattle.mate_journal.specs.Turns.{Clock}
 use Rattle.mate_journal.specs.NodeScript.{Step, Makes, AreOfEvent, HaveMade, RunEnd, Whole, Full, Cut, EndsRun}
 use Rattle.journal_answers.proofs.Rules.{KeepsRules, start_after, keeps-back, BeginsOtherwise, heard_all-told}
 use Rattle.journal_answers.proofs.OneEach.{HasOneEach, one-along}
@@ -35,40 +34,40 @@ of-high : (n : ℕ) (es : List Event) → AreOfEvent n es → All (Below (suc n)
 of-high n es of =
     All-weaker (λ (e : Event). e.stamp ≡ record { event = n; time = 0 }) (Below (suc n)) (λ e at. let same : e.stamp.event ≡ n = ap (λ (s : Stamp). s.event) at in omega (arith, same)) es of
 
-made-low : (k : Clock) (m : Machine) (records n : ℕ) (r : Reading) (p : Pace) (steps : List Step) (es : List Event) (q : Pace) → HaveMade k m records n r p steps es q → All (From n) es
-made-low k m records n r p [] es q made = All-same (From n) es [] made.0 (All-nil (From n))
-made-low k m records n r p (step ∷ steps) es q (few, front, rest, then, is, of, makes, later) =
+made-low : (m : Machine) (records n : ℕ) (r : Reading) (p : Pace) (steps : List Step) (es : List Event) (q : Pace) → HaveMade m records n r p steps es q → All (From n) es
+made-low m records n r p [] es q made = All-same (From n) es [] made.0 (All-nil (From n))
+made-low m records n r p (step ∷ steps) es q (few, front, rest, then, is, of, makes, later) =
     All-same (From n) es (front ++ rest) is
     (All-append (From n) front rest (of-low n front of)
-    (All-weaker (From (suc n)) (From n) (λ e low. omega (arith, low)) rest (made-low k m (records + length front) (suc n) (heard_all m r front) then steps rest q later)))
+    (All-weaker (From (suc n)) (From n) (λ e low. omega (arith, low)) rest (made-low m (records + length front) (suc n) (heard_all m r front) then steps rest q later)))
 
-pub made-high : (k : Clock) (m : Machine) (records n : ℕ) (r : Reading) (p : Pace) (steps : List Step) (es : List Event) (q : Pace) → HaveMade k m records n r p steps es q → All (Below (n + length steps)) es
-made-high k m records n r p [] es q made = All-same (Below (n + 0)) es [] made.0 (All-nil (Below (n + 0)))
-made-high k m records n r p (step ∷ steps) es q (few, front, rest, then, is, of, makes, later) =
+pub made-high : (m : Machine) (records n : ℕ) (r : Reading) (p : Pace) (steps : List Step) (es : List Event) (q : Pace) → HaveMade m records n r p steps es q → All (Below (n + length steps)) es
+made-high m records n r p [] es q made = All-same (Below (n + 0)) es [] made.0 (All-nil (Below (n + 0)))
+made-high m records n r p (step ∷ steps) es q (few, front, rest, then, is, of, makes, later) =
     All-same (Below (n + length (step ∷ steps))) es (front ++ rest) is
     (All-append (Below (n + length (step ∷ steps))) front rest
     (All-weaker (Below (suc n)) (Below (n + length (step ∷ steps))) (λ e high. omega (arith, high)) front (of-high n front of))
     (All-weaker (Below (suc n + length steps)) (Below (n + length (step ∷ steps))) (λ e high. omega (arith, high)) rest
-    (made-high k m (records + length front) (suc n) (heard_all m r front) then steps rest q later)))
+    (made-high m (records + length front) (suc n) (heard_all m r front) then steps rest q later)))
 
-made-other : (k : Clock) (m : Machine) (records n : ℕ) (r : Reading) (p : Pace) (steps : List Step) (es : List Event) (q : Pace) (tail : List Told) → HaveMade k m records n r p steps es q → BeginsOtherwise tail → BeginsOtherwise (told_by es ++ tail)
-made-other k m records n r p [] es q tail made other = subst (λ (xs : List Event). BeginsOtherwise (told_by xs ++ tail)) (sym made.0) other
-made-other k m records n r p (step ∷ steps) es q tail (few, front, rest, then, is, of, makes, later) other =
+made-other : (m : Machine) (records n : ℕ) (r : Reading) (p : Pace) (steps : List Step) (es : List Event) (q : Pace) (tail : List Told) → HaveMade m records n r p steps es q → BeginsOtherwise tail → BeginsOtherwise (told_by es ++ tail)
+made-other m records n r p [] es q tail made other = subst (λ (xs : List Event). BeginsOtherwise (told_by xs ++ tail)) (sym made.0) other
+made-other m records n r p (step ∷ steps) es q tail (few, front, rest, then, is, of, makes, later) other =
     subst (λ (ts : List Told). BeginsOtherwise (ts ++ tail)) (sym (ap told_by is ∙ map-append (λ (e : Event). e.told) front rest))
     (subst BeginsOtherwise (sym (append_assoc (told_by front) (told_by rest) tail))
-    (step-other k m r p 0 step (told_by front) then (told_by rest ++ tail) makes
-    (made-other k m (records + length front) (suc n) (heard_all m r front) then steps rest q tail later other)))
+    (step-other m r p 0 step (told_by front) then (told_by rest ++ tail) makes
+    (made-other m (records + length front) (suc n) (heard_all m r front) then steps rest q tail later other)))
 
-pub fronts : (k : Clock) (m : Machine) (done more : List Step) (records n last : ℕ) (r : Reading) (p : Pace) (es : List Event) (q : Pace) (tail : List Told) (fs : List Event) (q' : Pace) (tail' : List Told)
+pub fronts : (m : Machine) (done more : List Step) (records n last : ℕ) (r : Reading) (p : Pace) (es : List Event) (q : Pace) (tail : List Told) (fs : List Event) (q' : Pace) (tail' : List Told)
     → HasOneEach r → KeepsRules m r last (told_by es ++ tail) → KeepsRules m r last (told_by fs ++ tail') → BeginsOtherwise tail → BeginsOtherwise tail'
-    → HaveMade k m records n r p done es q → HaveMade k m records n r p (done ++ more) fs q' → GoesOnFrom (n + length done) es fs
-fronts k m [] more records n last r p es q tail fs q' tail' each keeps keeps' other other' a b = record {
+    → HaveMade m records n r p done es q → HaveMade m records n r p (done ++ more) fs q' → GoesOnFrom (n + length done) es fs
+fronts m [] more records n last r p es q tail fs q' tail' each keeps keeps' other other' a b = record {
   rest = fs;
   is = ap (λ (xs : List Event). xs ++ fs) (sym a.0);
-  later = All-weaker (From n) (From (n + 0)) (λ e low. omega (arith, low)) fs (made-low k m records n r p more fs q' b);
+  later = All-weaker (From n) (From (n + 0)) (λ e low. omega (arith, low)) fs (made-low m records n r p more fs q' b);
 }
-fronts k m (step ∷ done) more records n last r p es q tail fs q' tail' each keeps keeps' other other' (few, front, rest, then, is, of, makes, later) (few', front', rest', then', is', of', makes', later') =
-    joined (fronts k m done more (records + length front') (suc n) (start_after last (told_by front')) reading then' rest q tail rest' q' tail'
+fronts m (step ∷ done) more records n last r p es q tail fs q' tail' each keeps keeps' other other' (few, front, rest, then, is, of, makes, later) (few', front', rest', then', is', of', makes', later') =
+    joined (fronts m done more (records + length front') (suc n) (start_after last (told_by front')) reading then' rest q tail rest' q' tail'
     (subst HasOneEach heard-b (one-along m r last (told_by front') (told_by rest' ++ tail') keeps-b each)) rest-a rest-b other other' on-a later') where
       split : (xs ys zs : List Event) (ts : List Told) → zs ≡ xs ++ ys → told_by zs ++ ts ≡ told_by xs ++ (told_by ys ++ ts)
       split xs ys zs ts e = ap (λ (l : List Told). l ++ ts) (ap told_by e ∙ map-append (λ (x : Event). x.told) xs ys) ∙ append_assoc (told_by xs) (told_by ys) ts
@@ -80,8 +79,8 @@ fronts k m (step ∷ done) more records n last r p es q tail fs q' tail' each ke
       keeps-b = subst (KeepsRules m r last) (split front' rest' fs tail' is') keeps'
 
       step-same : (told_by front ≡ told_by front') × (then ≡ then')
-      step-same = step-once k m r p last each step (told_by front) then (told_by rest ++ tail) (told_by front') then' (told_by rest' ++ tail') makes makes' keeps-a keeps-b
-          (made-other k m _ _ _ _ done rest q tail later other) (made-other k m _ _ _ _ (done ++ more) rest' q' tail' later' other')
+      step-same = step-once m r p last each step (told_by front) then (told_by rest ++ tail) (told_by front') then' (told_by rest' ++ tail') makes makes' keeps-a keeps-b
+          (made-other m _ _ _ _ done rest q tail later other) (made-other m _ _ _ _ (done ++ more) rest' q' tail' later' other')
 
       same : front ≡ front'
       same = events-once n front front' of of' step-same.0
@@ -99,9 +98,9 @@ fronts k m (step ∷ done) more records n last r p es q tail fs q' tail' each ke
       rest-b : KeepsRules m reading (start_after last (told_by front')) (told_by rest' ++ tail')
       rest-b = subst (λ (x : Reading). KeepsRules m x (start_after last (told_by front')) (told_by rest' ++ tail')) heard-b (keeps-back m r last (told_by front') (told_by rest' ++ tail') keeps-b)
 
-      on-a : HaveMade k m (records + length front') (suc n) reading then' done rest q
-      on-a = subst (λ (x : Pace). HaveMade k m (records + length front') (suc n) reading x done rest q) step-same.1
-          (subst (λ (xs : List Event). HaveMade k m (records + length xs) (suc n) (heard_all m r xs) then done rest q) same later)
+      on-a : HaveMade m (records + length front') (suc n) reading then' done rest q
+      on-a = subst (λ (x : Pace). HaveMade m (records + length front') (suc n) reading x done rest q) step-same.1
+          (subst (λ (xs : List Event). HaveMade m (records + length xs) (suc n) (heard_all m r xs) then done rest q) same later)
 
       joined : GoesOnFrom (suc n + length done) rest rest' → GoesOnFrom (n + length (step ∷ done)) es fs
       joined later = record {
@@ -111,7 +110,7 @@ fronts k m (step ∷ done) more records n last r p es q tail fs q' tail' each ke
       }
 
 -- what ends a run begins with no start
-pub end-other : (k : Clock) (m : Machine) (how : RunEnd) (records n : ℕ) (r : Reading) (p : Pace) (left : List Step) (es : List Event) → EndsRun k m how records n r p left es → BeginsOtherwise (told_by es)
-end-other k m Whole records n r p left es ends = subst BeginsOtherwise (sym ends.1.made) (λ start. start)
-end-other k m Full records n r p left es ends = subst (λ (xs : List Event). BeginsOtherwise (told_by xs)) (sym ends.2) tt
-end-other k m Cut records n r p left es ends = subst (λ (xs : List Event). BeginsOtherwise (told_by xs)) (sym ends) tt
+pub end-other : (m : Machine) (how : RunEnd) (records n : ℕ) (r : Reading) (p : Pace) (left : List Step) (es : List Event) → EndsRun m how records n r p left es → BeginsOtherwise (told_by es)
+end-other m Whole records n r p left es ends = subst BeginsOtherwise (sym ends.1.made) (λ start. start)
+end-other m Full records n r p left es ends = subst (λ (xs : List Event). BeginsOtherwise (told_by xs)) (sym ends.2) tt
+end-other m Cut records n r p left es ends = subst (λ (xs : List Event). BeginsOtherwise (told_by xs)) (sym ends) tt

@@ -19,7 +19,6 @@ use Rattle.mate_journal.specs.NodeReport.{IsNodeReport}
 use Rattle.mate_journal.specs.NodeRun.{IsNodeRun}
 use Rattle.mate_journal.specs.NodeScript.{Step, RunEnd, Whole, Full, Cut, HaveMade}
 use Rattle.mate_journal.specs.Pace.{no_pace}
-use Rattle.mate_journal.specs.Turns.{Clock}
 use Rattle.mate_journal.specs.declared.air.Aired.{Aired}
 use Rattle.mate_journal.specs.declared.entry.Stamped.{Stamped}
 use Rattle.mate_journal.specs.declared.report.Report.{Report}
@@ -33,14 +32,14 @@ use Rattle.world_text.proofs.Bounds.{entries-of, entries-new, all-named}
 parts : (m : Machine) (es front last : List Event) → es ≡ front ++ last → KeepsRules m (nothing_heard m) 0 (told_by es) → KeepsRules m (nothing_heard m) 0 (told_by front ++ told_by last)
 parts m es front last is keeps = subst (KeepsRules m (nothing_heard m) 0) (ap told_by is ∙ map-append (λ (e : Event). e.told) front last) keeps
 
-module _ (k : Clock) (m : Machine) (steps more : List Step) (how : RunEnd) (l l' : Log) (run : IsNodeRun k m Cut steps l) (run' : IsNodeRun k m how steps l') (is : run'.events.done ≡ run.events.done ++ more) where
+module _ (m : Machine) (steps more : List Step) (how : RunEnd) (l l' : Log) (run : IsNodeRun m Cut steps l) (run' : IsNodeRun m how steps l') (is : run'.events.done ≡ run.events.done ++ more) where
   pub found : GoesOnFrom (1 + length run.events.done) run.events.front run'.events.front
-  found = fronts k m run.events.done more 0 1 0 (nothing_heard m) no_pace run.events.front run.events.pace (told_by run.events.last) run'.events.front run'.events.pace (told_by run'.events.last) (nothing_heard-one m)
+  found = fronts m run.events.done more 0 1 0 (nothing_heard m) no_pace run.events.front run.events.pace (told_by run.events.last) run'.events.front run'.events.pace (told_by run'.events.last) (nothing_heard-one m)
       (parts m (journal_of l) run.events.front run.events.last run.events.events_are (keeps-events m (nothing_heard m) 0 (journal_of l) run.well_formed.follow run.stores.shown run.grants))
       (parts m (journal_of l') run'.events.front run'.events.last run'.events.events_are (keeps-events m (nothing_heard m) 0 (journal_of l') run'.well_formed.follow run'.stores.shown run'.grants))
-      (end-other k m Cut (length run.events.front) (suc (length run.events.done)) (heard_all m (nothing_heard m) run.events.front) run.events.pace run.events.left run.events.last run.events.ends)
-      (end-other k m how (length run'.events.front) (suc (length run'.events.done)) (heard_all m (nothing_heard m) run'.events.front) run'.events.pace run'.events.left run'.events.last run'.events.ends)
-      run.events.made (subst (λ (xs : List Step). HaveMade k m 0 1 (nothing_heard m) no_pace xs run'.events.front run'.events.pace) is run'.events.made)
+      (end-other m Cut (length run.events.front) (suc (length run.events.done)) (heard_all m (nothing_heard m) run.events.front) run.events.pace run.events.left run.events.last run.events.ends)
+      (end-other m how (length run'.events.front) (suc (length run'.events.done)) (heard_all m (nothing_heard m) run'.events.front) run'.events.pace run'.events.left run'.events.last run'.events.ends)
+      run.events.made (subst (λ (xs : List Step). HaveMade m 0 1 (nothing_heard m) no_pace xs run'.events.front run'.events.pace) is run'.events.made)
 
   pub cut : journal_of l ≡ run.events.front
   cut = run.events.events_are ∙ ap (λ (xs : List Event). run.events.front ++ xs) run.events.ends ∙ append-nil run.events.front
@@ -58,11 +57,11 @@ one-nodes : (event : ℕ) (l l' : Log) (ns ns' : List Log) → ns ≡ l ∷ [] �
 one-nodes event l l' ns ns' is is' on =
     subst (λ (xs : List Log). AllZip (LogGoesOn event) xs ns') (sym is) (subst (λ (xs : List Log). AllZip (LogGoesOn event) (l ∷ []) xs) (sym is') (on, tt))
 
-module _ (d : Description) (k : Clock) (meaning : Meaning) (steps : List Step) (r r' : Report) (stopped : IsNodeReport d k meaning steps Cut r) (whole : IsNodeReport d k meaning steps Whole r') where
-  abbrev run : IsNodeRun k (machine_of d meaning) Cut steps stopped.log
+module _ (d : Description) (meaning : Meaning) (steps : List Step) (r r' : Report) (stopped : IsNodeReport d meaning steps Cut r) (whole : IsNodeReport d meaning steps Whole r') where
+  abbrev run : IsNodeRun (machine_of d meaning) Cut steps stopped.log
   run = stopped.run
 
-  abbrev run' : IsNodeRun k (machine_of d meaning) Whole steps whole.log
+  abbrev run' : IsNodeRun (machine_of d meaning) Whole steps whole.log
   run' = whole.run
 
   abbrev N : ℕ
@@ -77,22 +76,22 @@ module _ (d : Description) (k : Clock) (meaning : Meaning) (steps : List Step) (
       All-weaker (λ (e : Event). suc (length run'.events.done) ≤ e.stamp.event) (λ (e : Event). N < e.stamp.event) (λ e low. omega (arith, low, count)) run'.events.last
       (of-low (suc (length run'.events.done)) run'.events.last run'.events.ends.2)
 
-  later : All (λ (e : Event). N < e.stamp.event) ((found k (machine_of d meaning) steps run.events.left Whole stopped.log whole.log run run' done_is).rest ++ run'.events.last)
+  later : All (λ (e : Event). N < e.stamp.event) ((found (machine_of d meaning) steps run.events.left Whole stopped.log whole.log run run' done_is).rest ++ run'.events.last)
   later =
-      let more = found k (machine_of d meaning) steps run.events.left Whole stopped.log whole.log run run' done_is in
+      let more = found (machine_of d meaning) steps run.events.left Whole stopped.log whole.log run run' done_is in
       All-append (λ (e : Event). N < e.stamp.event) more.rest run'.events.last
       (All-weaker (λ (e : Event). 1 + N ≤ e.stamp.event) (λ (e : Event). N < e.stamp.event) (λ e low. omega (arith, low)) more.rest more.later) last-later
 
   up-to : All (λ (e : Stamped). e.stamp.event ≤ N) stopped.log.entries
   up-to =
       entries-of (λ n. n ≤ N) stopped.log
-      (All-same (λ (e : Event). e.stamp.event ≤ N) (journal_of stopped.log) run.events.front (cut k (machine_of d meaning) steps run.events.left Whole stopped.log whole.log run run' done_is)
+      (All-same (λ (e : Event). e.stamp.event ≤ N) (journal_of stopped.log) run.events.front (cut (machine_of d meaning) steps run.events.left Whole stopped.log whole.log run run' done_is)
       (All-weaker (λ (e : Event). e.stamp.event < 1 + N) (λ (e : Event). e.stamp.event ≤ N) (λ e high. omega (arith, high)) run.events.front
-      (made-high k (machine_of d meaning) 0 1 (nothing_heard (machine_of d meaning)) no_pace run.events.done run.events.front run.events.pace run.events.made)))
+      (made-high (machine_of d meaning) 0 1 (nothing_heard (machine_of d meaning)) no_pace run.events.done run.events.front run.events.pace run.events.made)))
 
   log-on : LogGoesOn N stopped.log whole.log
   log-on =
-      let is = goes_on k (machine_of d meaning) steps run.events.left Whole stopped.log whole.log run run' done_is in
+      let is = goes_on (machine_of d meaning) steps run.events.left Whole stopped.log whole.log run run' done_is in
       record {
         goes_on = GoesOn-journal stopped.log whole.log _ stopped.tidy.numbered whole.tidy.numbered is;
         named = all-named stopped.log stopped.tidy.numbered;
@@ -117,12 +116,12 @@ module _ (d : Description) (k : Clock) (meaning : Meaning) (steps : List Step) (
 pub same-text : (xs ys : List ℕ) → xs ≡ ys → Begins xs ys
 same-text xs ys same = record { rest = []; is = sym same ∙ sym (append-nil xs) }
 
-pub script-front : (d : Description) (k : Clock) (meaning : Meaning) (steps : List Step) (out out' : Option (List ℕ)) (r r' : Report) → (left : IsWrittenPart d (IsNodeReport d k meaning steps) out out' r)
-    → IsNodeReport d k meaning steps Whole r' → Begins left.part.front (text d r')
-script-front d k meaning steps out out' r r' left whole = by left.how left.report left.part.front left.part.rest left.part.whole where
-  by : (how : RunEnd) → IsNodeReport d k meaning steps how r → (front rest : List ℕ) → front ++ rest ≡ written_text how d r → Begins front (text d r')
+pub script-front : (d : Description) (meaning : Meaning) (steps : List Step) (out out' : Option (List ℕ)) (r r' : Report) → (left : IsWrittenPart d (IsNodeReport d meaning steps) out out' r)
+    → IsNodeReport d meaning steps Whole r' → Begins left.part.front (text d r')
+script-front d meaning steps out out' r r' left whole = by left.how left.report left.part.front left.part.rest left.part.whole where
+  by : (how : RunEnd) → IsNodeReport d meaning steps how r → (front rest : List ℕ) → front ++ rest ≡ written_text how d r → Begins front (text d r')
   by Whole report front rest is =
-      begins-then front (text d r) (text d r') (record { rest = rest; is = sym is }) (same-text (text d r) (text d r') (text-once d k meaning steps Whole Whole r r' tt tt report whole))
+      begins-then front (text d r) (text d r') (record { rest = rest; is = sym is }) (same-text (text d r) (text d r') (text-once d meaning steps Whole Whole r r' tt tt report whole))
   by Full report front rest is =
-      begins-then front (text d r) (text d r') (record { rest = rest; is = sym is }) (same-text (text d r) (text d r') (text-once d k meaning steps Full Whole r r' tt tt report whole))
-  by Cut report front rest is = begins-then front (lines d r) (text d r') (record { rest = rest; is = sym is }) (cut-text d k meaning steps r r' report whole)
+      begins-then front (text d r) (text d r') (record { rest = rest; is = sym is }) (same-text (text d r) (text d r') (text-once d meaning steps Full Whole r r' tt tt report whole))
+  by Cut report front rest is = begins-then front (lines d r) (text d r') (record { rest = rest; is = sym is }) (cut-text d meaning steps r r' report whole)

@@ -8,7 +8,6 @@ ghost use Rattle.mate_journal.specs.Machine.{HeldProgram, Machine, Meaning};
 ghost use Rattle.mate_journal.specs.NodeReport.{IsNodeReport};
 ghost use Rattle.mate_journal.specs.NodeRun.{IsNodeRun};
 ghost use Rattle.mate_journal.specs.NodeScript.{RunEnd, Step, Whole, Cut};
-ghost use Rattle.mate_journal.specs.Turns.{Clock};
 ghost use Rattle.mate_journal.specs.declared.report.Report.{Report};
 ghost use Rattle.report_text.specs.Text.{text};
 ghost use Rattle.run_writing.specs.Writing.{IsWrittenPart};
@@ -20,22 +19,22 @@ ghost use Rattle.cut_laws.specs.Begins.{Begins};
 
 /// A run that was cut begins each run in which its steps, and maybe more, were done.
 pub fn fewer_steps_begin_more()
-    ensures { (k : Clock) (m : Machine) (steps more : List Step) (how : RunEnd) (l l' : Log) → (run : IsNodeRun k m Cut steps l)
-        → (run' : IsNodeRun k m how steps l')
+    ensures { (m : Machine) (steps more : List Step) (how : RunEnd) (l l' : Log) → (run : IsNodeRun m Cut steps l)
+        → (run' : IsNodeRun m how steps l')
         → run'.events.done ≡ run.events.done ++ more → Begins (journal_of l) (journal_of l') }
 {}
 
 /// What was written of a node script's run that was stopped begins the text of the whole run.
 pub fn stopped_scripts_begin_whole_ones()
-    ensures { (d : Description) (k : Clock) (meaning : Meaning) (steps : List Step) (out out' : Option (List ℕ)) (r r' : Report)
-        → (left : IsWrittenPart d (IsNodeReport d k meaning steps) out out' r)
-        → IsNodeReport d k meaning steps Whole r' → Begins left.part.front (text d r') }
+    ensures { (d : Description) (meaning : Meaning) (steps : List Step) (out out' : Option (List ℕ)) (r r' : Report)
+        → (left : IsWrittenPart d (IsNodeReport d meaning steps) out out' r)
+        → IsNodeReport d meaning steps Whole r' → Begins left.part.front (text d r') }
 {}
 
 /// And so of a world's run.
 pub fn stopped_worlds_begin_whole_ones()
-    ensures { (d : Description) (meaning : Meaning) (clock : Clock) (script : Script) (programs : ℕ
+    ensures { (d : Description) (meaning : Meaning) (script : Script) (programs : ℕ
         → HeldProgram) (out out' : Option (List ℕ)) (r r' : Report) → IsRightWorld d script
-        → (left : IsWrittenPart d (IsWorldReport (world_of d meaning clock script programs)) out out' r)
-        → IsWorldReport (world_of d meaning clock script programs) Whole r' → Begins left.part.front (text d r') }
+        → (left : IsWrittenPart d (IsWorldReport (world_of d meaning script programs)) out out' r)
+        → IsWorldReport (world_of d meaning script programs) Whole r' → Begins left.part.front (text d r') }
 {}

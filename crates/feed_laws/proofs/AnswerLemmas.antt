@@ -10,7 +10,7 @@ use Rattle.mate_journal.specs.Journal.{Reading, Told, Installed as ToldInstalled
 use Rattle.mate_journal.specs.Machine.{Machine, HeldProgram}
 use Rattle.mate_journal.specs.NodeScript.{Installs}
 use Rattle.mate_journal.specs.Pace.{Pace}
-use Rattle.node_invariant.specs.Meaning.{machine_in, clock_of}
+use Rattle.node_invariant.specs.Meaning.{machine_in}
 use Rattle.node_calls.specs.Installing.{Refuses, InstallsBytes, IsRightCapsule, capsule_handler, program_by}
 use Rattle.node_calls.specs.declared.installing.InstallFault.{InstallFault}
 use Rattle.node_calls.specs.declared.installing.InstallFault.TheVariants as fault
@@ -54,7 +54,7 @@ held-is r h = by (r.installed h) refl where
   by None e = cc
   by (Some p) e = cc
 
-install-after : (d : Description) (r : Reading) (q : Pace) (p : HeldProgram) (told : List Told) (h : ℕ) → Installs (clock_of d) (machine_in d) r q p told
+install-after : (d : Description) (r : Reading) (q : Pace) (p : HeldProgram) (told : List Told) (h : ℕ) → Installs (machine_in d) r q p told
     → held_in (heard_told (machine_in d) r told) h ≡ held_after (held_in r) (Installed p.handler p.version) h
 install-after d r q p told h is =
     held-is (heard_told m r told) i ∙ ap version_in found ∙ by (h == p.handler.0) where
@@ -66,7 +66,7 @@ install-after d r q p told h is =
 
       found : (heard_told m r told).installed i ≡ (if h == p.handler.0 then Some p else r.installed i)
       found = subst (λ (xs : List Told). (heard_told m r xs).installed i ≡ (if h == p.handler.0 then Some p else r.installed i)) (sym is.made)
-          (ap (λ (f : HandlerId → Option HeldProgram). f i) (same-all m (heard m (heard m r (Seen is.seen)) (ToldInstalled p)) is.rest (installs-rest (clock_of d) m r q p told is)))
+          (ap (λ (f : HandlerId → Option HeldProgram). f i) (same-all m (heard m (heard m r (Seen is.seen)) (ToldInstalled p)) is.rest (installs-rest m r q p told is)))
 
       by : (b : Bool) → version_in (if b then Some p else r.installed i) ≡ (if b then p.version else held_in r h)
       by true = refl

@@ -10,7 +10,6 @@ use Rattle.mate_journal.specs.Journal.{Reading, Told, Posted, Dropped, Started, 
 use Rattle.mate_journal.specs.Machine.{Machine, HeldProgram}
 use Rattle.mate_journal.specs.NodeScript.{Occasion, Installs}
 use Rattle.mate_journal.specs.Pace.{Pace}
-use Rattle.mate_journal.specs.Turns.{Clock}
 
 abbrev pub NoInstall : Told → Type 0
 NoInstall (Posted n h c payload) = Unit {0}
@@ -68,8 +67,8 @@ occasion-none m r h payload told (inl a) = by_made told _ a.made (tt, tt)
 occasion-none m r h payload told (inr (inl a)) = by_made told _ a.made (tt, tt)
 occasion-none m r h payload told (inr (inr a)) = by_made told _ a.made (tt, starts-none a.starts a.are_starts)
 
-pub installs-rest : (k : Clock) (m : Machine) (r : Reading) (q : Pace) (p : HeldProgram) (told : List Told) → (is : Installs k m r q p told) → NoneInstall is.rest
-installs-rest k m r q p told is = elim (cases_Bool (m.runs_once p.handler)) [
+pub installs-rest : (m : Machine) (r : Reading) (q : Pace) (p : HeldProgram) (told : List Told) → (is : Installs m r q p told) → NoneInstall is.rest
+installs-rest m r q p told is = elim (cases_Bool (m.runs_once p.handler)) [
   | inl once ↦ occasion-none m (heard m r (Installed p)) p.handler (record { items = [] }) is.rest (is.once once)
   | inr never ↦ by_made is.rest [] (is.else never) tt
 ]

@@ -17,7 +17,6 @@ use Rattle.vm_desc.proofs.DescriptionLemmas.{bounds_of}
 use Rattle.capsule_codec.specs.Fragments.{count_of}
 use Rattle.capsule_codec.specs.Image.{image_of}
 use Rattle.mate_journal.specs.Machine.{Meaning, HeldProgram}
-use Rattle.mate_journal.specs.Turns.{Clock}
 use Rattle.world_script.specs.declared.world.World.{World as Script}
 use Rattle.world_script.specs.declared.world.Link.{Link}
 use Rattle.world_script.specs.declared.world.Planned.{Planned}
@@ -98,8 +97,8 @@ pub record SaysInject (script : Script) (programs : ℕ → HeldProgram) (i : �
   pub what_is : planned.what ≡ what.Inject program handler version
   pub program_is : programs program ≡ p
 
-pub says-inject : (d : Description) (meaning : Meaning) (clock : Clock) (script : Script) (programs : ℕ → HeldProgram) (i : ℕ) (p : HeldProgram) → InjectsAt (world_of d meaning clock script programs) i p → SaysInject script programs i p
-says-inject d meaning clock script programs i p injects =
+pub says-inject : (d : Description) (meaning : Meaning) (script : Script) (programs : ℕ → HeldProgram) (i : ℕ) (p : HeldProgram) → InjectsAt (world_of d meaning script programs) i p → SaysInject script programs i p
+says-inject d meaning script programs i p injects =
     by (planned-at script programs i injects.0 injects.1) where
       wants : (x : Planned) (y : What) → slice_get script.events i ≡ Some x → x.what ≡ y → want_of programs y ≡ Inject p → SaysInject script programs i p
       wants x (what.Inject program handler version) stands is same = record { planned = x; stands = stands; program = program; handler = handler; version = version; what_is = is; program_is = (let e : programs program ≡ p = cc in e) }
@@ -113,9 +112,9 @@ says-inject d meaning clock script programs i p injects =
 
 -- ---- the plan
 
-rises : (d : Description) (meaning : Meaning) (clock : Clock) (script : Script) (programs : ℕ → HeldProgram) → IsRightScript d script programs → (i j : ℕ) (p q : HeldProgram)
+rises : (d : Description) (meaning : Meaning) (script : Script) (programs : ℕ → HeldProgram) → IsRightScript d script programs → (i j : ℕ) (p q : HeldProgram)
     → SaysInject script programs i p → SaysInject script programs j q → p.handler.0 ≡ q.handler.0 → i < j → p.version < q.version
-rises d meaning clock script programs right i j p q a b same less =
+rises d meaning script programs right i j p q a b same less =
     subst (λ (n : ℕ). n < q.version) version_a (subst (λ (n : ℕ). a.version < n) version_b (newer handlers)) where
       of_a : IsInjectedProgram a.handler a.version p
       of_a = subst (λ (x : HeldProgram). IsInjectedProgram a.handler a.version x) a.program_is (right.programs_are i a.program a.version a.handler a.planned a.stands a.what_is)
@@ -140,16 +139,16 @@ rises d meaning clock script programs right i j p q a b same less =
           (subst (λ (x : What). IfInjects x (λ handler version. IfInjects b.planned.what (λ other newer. handler ≡ other → version < newer))) a.what_is follow.rising)
 
 pub plans_rightly : RightScriptsPlanRightly
-plans_rightly d meaning clock script programs right = record {
+plans_rightly d meaning script programs right = record {
   one_image = λ i j p q a b same version. one i j p q a b same version (says i p a) (says j q b);
   timely = λ i j a b at_a at_b less. timely_lines a b less (planned-at script programs i a at_a) (planned-at script programs j b at_b);
-  rising = λ i j p q a b same less. rises d meaning clock script programs right i j p q (says i p a) (says j q b) same less;
+  rising = λ i j p q a b same less. rises d meaning script programs right i j p q (says i p a) (says j q b) same less;
 } where
   w : World
-  w = world_of d meaning clock script programs
+  w = world_of d meaning script programs
 
-  says : (i : ℕ) (p : HeldProgram) → InjectsAt (world_of d meaning clock script programs) i p → SaysInject script programs i p
-  says i p a = says-inject d meaning clock script programs i p a
+  says : (i : ℕ) (p : HeldProgram) → InjectsAt (world_of d meaning script programs) i p → SaysInject script programs i p
+  says i p a = says-inject d meaning script programs i p a
 
   timely_lines : {i j : ℕ} (a b : PlannedLine) → i < j → IsPlannedAt script programs i a → IsPlannedAt script programs j b → a.time ≤ b.time
   timely_lines {i} {j} a b less x y =
@@ -158,14 +157,14 @@ plans_rightly d meaning clock script programs right = record {
       let time_b : y.planned.time ≡ b.time = ap (λ (l : PlannedLine). l.time) y.line in
       omega (arith, order, time_a, time_b)
 
-  one : (i j : ℕ) (p q : HeldProgram) → InjectsAt (world_of d meaning clock script programs) i p → InjectsAt (world_of d meaning clock script programs) j q → p.handler.0 ≡ q.handler.0 → p.version ≡ q.version
+  one : (i j : ℕ) (p q : HeldProgram) → InjectsAt (world_of d meaning script programs) i p → InjectsAt (world_of d meaning script programs) j q → p.handler.0 ≡ q.handler.0 → p.version ≡ q.version
       → SaysInject script programs i p → SaysInject script programs j q → p.image.items ≡ q.image.items
   one i j p q a b same version x y = elim (cases_lt i j) [
-    | inl less ↦ (let newer : p.version < q.version = rises d meaning clock script programs right i j p q x y same less in absurd (omega (arith, newer, version)))
+    | inl less ↦ (let newer : p.version < q.version = rises d meaning script programs right i j p q x y same less in absurd (omega (arith, newer, version)))
     | inr high ↦ elim (cases_lt j i) [
-      | inl more ↦ (let newer : q.version < p.version = rises d meaning clock script programs right j i q p y x (sym same) more in absurd (omega (arith, newer, version)))
+      | inl more ↦ (let newer : q.version < p.version = rises d meaning script programs right j i q p y x (sym same) more in absurd (omega (arith, newer, version)))
       | inr low ↦ (let e : j ≡ i = omega (arith, high, low) in
-          ap (λ (r : HeldProgram). r.image.items) (sym (same-line (world_of d meaning clock script programs) i p q a (subst (λ (k : ℕ). InjectsAt (world_of d meaning clock script programs) k q) e b))))
+          ap (λ (r : HeldProgram). r.image.items) (sym (same-line (world_of d meaning script programs) i p q a (subst (λ (k : ℕ). InjectsAt (world_of d meaning script programs) k q) e b))))
     ]
   ]
 
@@ -207,8 +206,8 @@ few_fragments c is =
       by false long = piece_bounds (length (image_of c)) 48 (omega arith) (let most = is.code_high in omega (arith, most)) (omega arith)
 
 pub injected_are_versions : InjectedAreVersions
-injected_are_versions d meaning clock script programs i p right injects = by (says-inject d meaning clock script programs i p injects) where
-  by : SaysInject script programs i p → IsWorldVersion (world_of d meaning clock script programs) (version_of p)
+injected_are_versions d meaning script programs i p right injects = by (says-inject d meaning script programs i p injects) where
+  by : SaysInject script programs i p → IsWorldVersion (world_of d meaning script programs) (version_of p)
   by a = record {
     handler = subst (λ (h : HandlerId). h.0 < length d.handlers.items) (sym own.handler_is) install.handler_high;
     low = subst (λ (v : ℕ). 1 ≤ v) (sym own.version_is) install.version_low;
@@ -222,14 +221,14 @@ injected_are_versions d meaning clock script programs i p right injects = by (sa
     install = subst (λ (x : What). IsRightWhat d (length script.files) x) a.what_is (all-at (IsRightPlanned d script.nodes script.until (length script.files)) script.events i a.planned right.right.events a.stands).what
 
 pub scripts_installs_are_newer : ScriptsInstallsAreNewer
-scripts_installs_are_newer d meaning clock script programs right =
-    let plan = plans_rightly d meaning clock script programs right in
-    installs_are_newer (world_of d meaning clock script programs) plan.one_image plan.timely plan.rising (λ i p injects. (injected_are_versions d meaning clock script programs i p right injects).low)
+scripts_installs_are_newer d meaning script programs right =
+    let plan = plans_rightly d meaning script programs right in
+    installs_are_newer (world_of d meaning script programs) plan.one_image plan.timely plan.rising (λ i p injects. (injected_are_versions d meaning script programs i p right injects).low)
 
 -- ---- the links
 
 pub open_scripts : OpenScriptsAreOpen
-open_scripts d meaning clock script programs right is = record {
+open_scripts d meaning script programs right is = record {
   set = right_set d;
   loud = is.loud;
   lossless = λ j. none script.links j is.lossless;
@@ -244,41 +243,41 @@ open_scripts d meaning clock script programs right is = record {
 -- ---- the bound of a script
 
 -- the node of a line that injects is one of the world's
-injected-node : (d : Description) (meaning : Meaning) (clock : Clock) (script : Script) (programs : ℕ → HeldProgram) (i : ℕ) (p : HeldProgram) (c : Cause) → IsRightScript d script programs → c ≡ event.Planned i
-    → InjectsAt (world_of d meaning clock script programs) i p → event_node (world_of d meaning clock script programs) c < script.nodes
-injected-node d meaning clock script programs i p c right cause injects =
-    subst (λ (x : Cause). event_node (world_of d meaning clock script programs) x < script.nodes) (sym cause)
+injected-node : (d : Description) (meaning : Meaning) (script : Script) (programs : ℕ → HeldProgram) (i : ℕ) (p : HeldProgram) (c : Cause) → IsRightScript d script programs → c ≡ event.Planned i
+    → InjectsAt (world_of d meaning script programs) i p → event_node (world_of d meaning script programs) c < script.nodes
+injected-node d meaning script programs i p c right cause injects =
+    subst (λ (x : Cause). event_node (world_of d meaning script programs) x < script.nodes) (sym cause)
     (subst (λ (o : Option PlannedLine). option_map_or (λ (l : PlannedLine). l.node) o 0 < script.nodes) (sym injects.1) (by (planned-at script programs i injects.0 injects.1))) where
       by : IsPlannedAt script programs i injects.0 → injects.0.node < script.nodes
       by at = subst (λ (l : PlannedLine). l.node < script.nodes) at.line (all-at (IsRightPlanned d script.nodes script.until (length script.files)) script.events i at.planned right.right.events at.stands).node_high
 
 pub injected_is_installed : InjectedIsInstalled
-injected_is_installed d meaning clock script programs right is before later m i b hops p come cause injects away calm done =
-    by (hop_bound (world_of d meaning clock script programs) (open_scripts d meaning clock script programs right is) (plans_rightly d meaning clock script programs right) before later m i b hops p come cause injects
-    version (injected-node d meaning clock script programs i p m.cause right cause injects) away calm done) where
-      version : IsWorldVersion (world_of d meaning clock script programs) (version_of p)
-      version = injected_are_versions d meaning clock script programs i p right injects
+injected_is_installed d meaning script programs right is before later m i b hops p come cause injects away calm done =
+    by (hop_bound (world_of d meaning script programs) (open_scripts d meaning script programs right is) (plans_rightly d meaning script programs right) before later m i b hops p come cause injects
+    version (injected-node d meaning script programs i p m.cause right cause injects) away calm done) where
+      version : IsWorldVersion (world_of d meaning script programs) (version_of p)
+      version = injected_are_versions d meaning script programs i p right injects
 
-      by : HoldsBy (world_of d meaning clock script programs) p b (m.time + 3 * longest d.trickle * hops) (m ∷ before) later → InstalledBy (world_of d meaning clock script programs) p b (m.time + 3 * longest d.trickle * hops) (m ∷ before) later
+      by : HoldsBy (world_of d meaning script programs) p b (m.time + 3 * longest d.trickle * hops) (m ∷ before) later → InstalledBy (world_of d meaning script programs) p b (m.time + 3 * longest d.trickle * hops) (m ∷ before) later
       by held = record {
         newer = held.newer;
         older = held.older;
         split = held.split;
         in_time = held.in_time;
-        installed = subst (λ (v : ℕ). WasInstalled (world_of d meaning clock script programs) (held.older ++ (m ∷ before)) b p.handler.0 v) held.holds
-            (held_was_installed (world_of d meaning clock script programs) b p.handler.0 (held.older ++ (m ∷ before)) come_older (subst (λ (v : ℕ). 1 ≤ v) (sym held.holds) version.low));
+        installed = subst (λ (v : ℕ). WasInstalled (world_of d meaning script programs) (held.older ++ (m ∷ before)) b p.handler.0 v) held.holds
+            (held_was_installed (world_of d meaning script programs) b p.handler.0 (held.older ++ (m ∷ before)) come_older (subst (λ (v : ℕ). 1 ≤ v) (sym held.holds) version.low));
         ever = λ last mid is.
             let all : later ++ (m ∷ before) ≡ last ++ (mid ++ (held.older ++ (m ∷ before)))
             = ap (λ (ms : List Moment). ms ++ (m ∷ before)) (held.split ∙ ap (λ (ms : List Moment). ms ++ held.older) is)
             ∙ append_assoc (last ++ mid) held.older (m ∷ before) ∙ append_assoc last mid (held.older ++ (m ∷ before)) in
-            let come_mid : HaveCome (world_of d meaning clock script programs) (mid ++ (held.older ++ (m ∷ before)))
-            = earlier-come (world_of d meaning clock script programs) (mid ++ (held.older ++ (m ∷ before))) last (subst (λ (ms : List Moment). HaveCome (world_of d meaning clock script programs) ms) all come) in
-            let grows : held_version p.handler.0 ((state (world_of d meaning clock script programs) (held.older ++ (m ∷ before))).nodes b).exchange
-            ≤ held_version p.handler.0 ((state (world_of d meaning clock script programs) (mid ++ (held.older ++ (m ∷ before)))).nodes b).exchange
-            = held_never_falls (world_of d meaning clock script programs) b p.handler.0 (held.older ++ (m ∷ before)) mid come_mid in
-            let holds : held_version p.handler.0 ((state (world_of d meaning clock script programs) (held.older ++ (m ∷ before))).nodes b).exchange ≡ p.version = held.holds in
+            let come_mid : HaveCome (world_of d meaning script programs) (mid ++ (held.older ++ (m ∷ before)))
+            = earlier-come (world_of d meaning script programs) (mid ++ (held.older ++ (m ∷ before))) last (subst (λ (ms : List Moment). HaveCome (world_of d meaning script programs) ms) all come) in
+            let grows : held_version p.handler.0 ((state (world_of d meaning script programs) (held.older ++ (m ∷ before))).nodes b).exchange
+            ≤ held_version p.handler.0 ((state (world_of d meaning script programs) (mid ++ (held.older ++ (m ∷ before)))).nodes b).exchange
+            = held_never_falls (world_of d meaning script programs) b p.handler.0 (held.older ++ (m ∷ before)) mid come_mid in
+            let holds : held_version p.handler.0 ((state (world_of d meaning script programs) (held.older ++ (m ∷ before))).nodes b).exchange ≡ p.version = held.holds in
             omega (arith, grows, holds);
       } where
-        come_older : HaveCome (world_of d meaning clock script programs) (held.older ++ (m ∷ before))
-        come_older = earlier-come (world_of d meaning clock script programs) (held.older ++ (m ∷ before)) held.newer
-            (subst (λ (ms : List Moment). HaveCome (world_of d meaning clock script programs) ms) (ap (λ (ms : List Moment). ms ++ (m ∷ before)) held.split ∙ append_assoc held.newer held.older (m ∷ before)) come)
+        come_older : HaveCome (world_of d meaning script programs) (held.older ++ (m ∷ before))
+        come_older = earlier-come (world_of d meaning script programs) (held.older ++ (m ∷ before)) held.newer
+            (subst (λ (ms : List Moment). HaveCome (world_of d meaning script programs) ms) (ap (λ (ms : List Moment). ms ++ (m ∷ before)) held.split ∙ append_assoc held.newer held.older (m ∷ before)) come)

@@ -6,7 +6,6 @@ use Rattle.vm_desc.specs.Limits.{longest}
 use Rattle.capsule_codec.specs.Fragments.{count_of}
 use Rattle.capsule_codec.specs.Image.{CapsuleParts, IsCapsule, image_of}
 use Rattle.mate_journal.specs.Machine.{Meaning, HeldProgram}
-use Rattle.mate_journal.specs.Turns.{Clock}
 use Rattle.capsule_exchange.specs.Happenings.{held_version}
 use Rattle.world_script.specs.declared.world.World.{World as Script}
 use Rattle.world_script.specs.declared.world.Link.{Link}
@@ -49,12 +48,12 @@ pub record IsRightScript (d : Description) (script : Script) (programs : ℕ →
   pub programs_are : AreInjectedPrograms script programs
 
 abbrev pub OpenScriptsAreOpen : Type 0
-OpenScriptsAreOpen = (d : Description) (meaning : Meaning) (clock : Clock) (script : Script) (programs : ℕ → HeldProgram)
-    → IsRightScript d script programs → IsOpenScript script → IsOpenWorld (world_of d meaning clock script programs)
+OpenScriptsAreOpen = (d : Description) (meaning : Meaning) (script : Script) (programs : ℕ → HeldProgram)
+    → IsRightScript d script programs → IsOpenScript script → IsOpenWorld (world_of d meaning script programs)
 
 abbrev pub RightScriptsPlanRightly : Type 0
-RightScriptsPlanRightly = (d : Description) (meaning : Meaning) (clock : Clock) (script : Script) (programs : ℕ → HeldProgram)
-    → IsRightScript d script programs → IsRightPlan (world_of d meaning clock script programs)
+RightScriptsPlanRightly = (d : Description) (meaning : Meaning) (script : Script) (programs : ℕ → HeldProgram)
+    → IsRightScript d script programs → IsRightPlan (world_of d meaning script programs)
 
 -- the image of every capsule has 1 to 22 fragments
 abbrev pub CapsulesHaveFewFragments : Type 0
@@ -62,13 +61,13 @@ CapsulesHaveFewFragments = (c : CapsuleParts) → IsCapsule c → (1 ≤ count_o
 
 -- no install is refused
 abbrev pub ScriptsInstallsAreNewer : Type 0
-ScriptsInstallsAreNewer = (d : Description) (meaning : Meaning) (clock : Clock) (script : Script) (programs : ℕ → HeldProgram)
-    → IsRightScript d script programs → InstallsAreNewer (world_of d meaning clock script programs)
+ScriptsInstallsAreNewer = (d : Description) (meaning : Meaning) (script : Script) (programs : ℕ → HeldProgram)
+    → IsRightScript d script programs → InstallsAreNewer (world_of d meaning script programs)
 
 abbrev pub InjectedAreVersions : Type 0
-InjectedAreVersions = (d : Description) (meaning : Meaning) (clock : Clock) (script : Script) (programs : ℕ
+InjectedAreVersions = (d : Description) (meaning : Meaning) (script : Script) (programs : ℕ
     → HeldProgram) (i : ℕ) (p : HeldProgram) → IsRightScript d script programs
-    → InjectsAt (world_of d meaning clock script programs) i p → IsWorldVersion (world_of d meaning clock script programs) (version_of p)
+    → InjectsAt (world_of d meaning script programs) i p → IsWorldVersion (world_of d meaning script programs) (version_of p)
 
 -- some of the events `later` came by this time, one of all that came then has the node's Install entry of the program, and
 -- ever after the node holds this version or a newer one
@@ -85,10 +84,10 @@ pub record InstalledBy (w : World) (p : HeldProgram) (b by : ℕ) (before later 
 -- Where the run reached the time 3 * L * d later, and no newer one was injected and no node reset until then, b installed
 -- it by then, and holds it or a newer one ever after.
 abbrev pub InjectedIsInstalled : Type 0
-InjectedIsInstalled = (d : Description) (meaning : Meaning) (clock : Clock) (script : Script) (programs : ℕ → HeldProgram)
+InjectedIsInstalled = (d : Description) (meaning : Meaning) (script : Script) (programs : ℕ → HeldProgram)
     → IsRightScript d script programs → IsOpenScript script
     → (before later : List Moment) (m : Moment) (i b hops : ℕ) (p : HeldProgram)
-    → (let w = world_of d meaning clock script programs in
+    → (let w = world_of d meaning script programs in
     HaveCome w (later ++ (m ∷ before)) → m.cause ≡ event.Planned i → InjectsAt w i p → IsAway w.links (event_node w m.cause) b hops
     → IsUndisturbed w p (m.time + 3 * longest d.trickle * hops) (m ∷ before) later
     → IsDone (state w (later ++ (m ∷ before))) (m.time + 3 * longest d.trickle * hops)

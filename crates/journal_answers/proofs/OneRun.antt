@@ -7,7 +7,6 @@ use Rattle.mate_num.specs.declared.store.Store.{Store}
 use Rattle.mate_journal.specs.Machine.{Machine}
 use Rattle.mate_journal.specs.Journal.{Told, Seen, Event, Reading, nothing_heard, heard_all, heard_told, told_by}
 use Rattle.mate_journal.specs.Pace.{Pace, no_pace}
-use Rattle.mate_journal.specs.Turns.{Clock}
 use Rattle.mate_journal.specs.NodeScript.{Step, records_max, Makes, ShowsOnce, AreOfEvent, HaveMade, RunEnd, Whole, Full, Cut, EndsRun, IsRunOf}
 use Rattle.mate_journal.specs.NodeReport.{is_whole}
 use Rattle.journal_laws.proofs.Append.{heard_all-append}
@@ -27,7 +26,7 @@ pub record StopsHere (records : ℕ) (whole : Bool) (count : ℕ) (es : List Eve
   pub nothing : es ≡ []
 
 -- a step is made, and then `Then` holds of the rest
-pub record StepMade (k : Clock) (m : Machine) (records n : ℕ) (r : Reading) (p : Pace) (step : Step) (count : ℕ) (es : List Event) (Then : ℕ → Reading → Pace → ℕ → List Event → Type 0) : Type 0 where
+pub record StepMade (m : Machine) (records n : ℕ) (r : Reading) (p : Pace) (step : Step) (count : ℕ) (es : List Event) (Then : ℕ → Reading → Pace → ℕ → List Event → Type 0) : Type 0 where
   pub few : records < records_max
   pub front : List Event
   pub rest : List Event
@@ -36,24 +35,24 @@ pub record StepMade (k : Clock) (m : Machine) (records n : ℕ) (r : Reading) (p
   pub count_is : count ≡ suc others
   pub events : es ≡ front ++ rest
   pub of_event : AreOfEvent n front
-  pub makes : Makes k m r p step (told_by front) pace
+  pub makes : Makes m r p step (told_by front) pace
   pub goes_on : Then (records + length front) (heard_all m r front) pace others rest
 
 -- these steps are left, and make these events before the run ends by itself: whole or not, after so many steps
-abbrev pub RunsFrom : Clock → Machine → ℕ → Bool → List Step → ℕ → Reading → Pace → ℕ → List Event → Type 0
-RunsFrom k m n whole [] records r p count es = (whole ≡ true) × (count ≡ 0) × ShowsOnce k m r p (told_by es) × AreOfEvent n es
-RunsFrom k m n whole (step ∷ steps) records r p count es =
-    StopsHere records whole count es ⊎ StepMade k m records n r p step count es (RunsFrom k m (suc n) whole steps)
+abbrev pub RunsFrom : Machine → ℕ → Bool → List Step → ℕ → Reading → Pace → ℕ → List Event → Type 0
+RunsFrom m n whole [] records r p count es = (whole ≡ true) × (count ≡ 0) × ShowsOnce m r p (told_by es) × AreOfEvent n es
+RunsFrom m n whole (step ∷ steps) records r p count es =
+    StopsHere records whole count es ⊎ StepMade m records n r p step count es (RunsFrom m (suc n) whole steps)
 
 -- a run begins with no start
-runs-other : (k : Clock) (m : Machine) (n : ℕ) (whole : Bool) (steps : List Step) (records : ℕ) (r : Reading) (p : Pace) (count : ℕ) (es : List Event) → RunsFrom k m n whole steps records r p count es → BeginsOtherwise (told_by es)
-runs-other k m n whole [] records r p count es runs = subst BeginsOtherwise (sym runs.2.made) (λ start. start)
-runs-other k m n whole (step ∷ steps) records r p count es (inl stops) = subst (λ (xs : List Event). BeginsOtherwise (told_by xs)) (sym stops.nothing) tt
-runs-other k m n whole (step ∷ steps) records r p count es (inr made) =
+runs-other : (m : Machine) (n : ℕ) (whole : Bool) (steps : List Step) (records : ℕ) (r : Reading) (p : Pace) (count : ℕ) (es : List Event) → RunsFrom m n whole steps records r p count es → BeginsOtherwise (told_by es)
+runs-other m n whole [] records r p count es runs = subst BeginsOtherwise (sym runs.2.made) (λ start. start)
+runs-other m n whole (step ∷ steps) records r p count es (inl stops) = subst (λ (xs : List Event). BeginsOtherwise (told_by xs)) (sym stops.nothing) tt
+runs-other m n whole (step ∷ steps) records r p count es (inr made) =
     subst (λ (xs : List Event). BeginsOtherwise (told_by xs)) (sym made.events)
     (subst BeginsOtherwise (sym (map-append (λ (e : Event). e.told) made.front made.rest))
-    (step-other k m r p 0 step (told_by made.front) made.pace (told_by made.rest) made.makes
-    (runs-other k m (suc n) whole steps (records + length made.front) (heard_all m r made.front) made.pace made.others made.rest made.goes_on)))
+    (step-other m r p 0 step (told_by made.front) made.pace (told_by made.rest) made.makes
+    (runs-other m (suc n) whole steps (records + length made.front) (heard_all m r made.front) made.pace made.others made.rest made.goes_on)))
 
 -- events of one number that tell the same are the same
 pub events-once : (n : ℕ) (es fs : List Event) → AreOfEvent n es → AreOfEvent n fs → told_by es ≡ told_by fs → es ≡ fs
@@ -74,27 +73,27 @@ pub record SameRun (es : List Event) (whole : Bool) (count : ℕ) (fs : List Eve
   pub ends : whole ≡ whole'
   pub steps : count ≡ count'
 
-shows-once : (k : Clock) (m : Machine) (n last : ℕ) (r : Reading) (p : Pace) (es fs : List Event) → ShowsOnce k m r p (told_by es) → ShowsOnce k m r p (told_by fs) → AreOfEvent n es → AreOfEvent n fs
+shows-once : (m : Machine) (n last : ℕ) (r : Reading) (p : Pace) (es fs : List Event) → ShowsOnce m r p (told_by es) → ShowsOnce m r p (told_by fs) → AreOfEvent n es → AreOfEvent n fs
     → KeepsRules m r last (told_by es) → KeepsRules m r last (told_by fs) → es ≡ fs
-shows-once k m n last r p es fs a b of of' keeps keeps' =
+shows-once m n last r p es fs a b of of' keeps keeps' =
     let keeps-a : KeepsRules m r last (Seen a.seen ∷ []) = subst (KeepsRules m r last) a.made keeps in
     let keeps-b : KeepsRules m r last (Seen b.seen ∷ []) = subst (KeepsRules m r last) b.made keeps' in
-    events-once n es fs of of' (a.made ∙ ap (λ (s : Store). Seen s ∷ []) (seen-once k m r p a.seen b.seen keeps-a.1 keeps-b.1 a.shown b.shown) ∙ sym b.made)
+    events-once n es fs of of' (a.made ∙ ap (λ (s : Store). Seen s ∷ []) (seen-once m r p a.seen b.seen keeps-a.1 keeps-b.1 a.shown b.shown) ∙ sym b.made)
 
-pub runs-once : (k : Clock) (m : Machine) (n last : ℕ) (steps : List Step) (records : ℕ) (r : Reading) (p : Pace) (whole : Bool) (count : ℕ) (es : List Event) (whole' : Bool) (count' : ℕ) (fs : List Event)
-    → HasOneEach r → KeepsRules m r last (told_by es) → KeepsRules m r last (told_by fs) → RunsFrom k m n whole steps records r p count es → RunsFrom k m n whole' steps records r p count' fs
+pub runs-once : (m : Machine) (n last : ℕ) (steps : List Step) (records : ℕ) (r : Reading) (p : Pace) (whole : Bool) (count : ℕ) (es : List Event) (whole' : Bool) (count' : ℕ) (fs : List Event)
+    → HasOneEach r → KeepsRules m r last (told_by es) → KeepsRules m r last (told_by fs) → RunsFrom m n whole steps records r p count es → RunsFrom m n whole' steps records r p count' fs
     → SameRun es whole count fs whole' count'
-runs-once k m n last [] records r p whole count es whole' count' fs each keeps keeps' a b = record {
-  events = shows-once k m n last r p es fs a.2 b.2 a.3 b.3 keeps keeps';
+runs-once m n last [] records r p whole count es whole' count' fs each keeps keeps' a b = record {
+  events = shows-once m n last r p es fs a.2 b.2 a.3 b.3 keeps keeps';
   ends = a.0 ∙ sym b.0;
   steps = a.1 ∙ sym b.1;
 }
-runs-once k m n last (step ∷ steps) records r p whole count es whole' count' fs each keeps keeps' (inl a) (inl b) =
+runs-once m n last (step ∷ steps) records r p whole count es whole' count' fs each keeps keeps' (inl a) (inl b) =
     record { events = a.nothing ∙ sym b.nothing; ends = a.not_whole ∙ sym b.not_whole; steps = a.none ∙ sym b.none }
-runs-once k m n last (step ∷ steps) records r p whole count es whole' count' fs each keeps keeps' (inl a) (inr b) = let many = a.many in let few = b.few in absurd (omega (arith, many, few))
-runs-once k m n last (step ∷ steps) records r p whole count es whole' count' fs each keeps keeps' (inr a) (inl b) = let few = a.few in let many = b.many in absurd (omega (arith, many, few))
-runs-once k m n last (step ∷ steps) records r p whole count es whole' count' fs each keeps keeps' (inr a) (inr b) =
-    joined (runs-once k m (suc n) (start_after last (told_by b.front)) steps (records + length b.front) reading b.pace whole a.others a.rest whole' b.others b.rest
+runs-once m n last (step ∷ steps) records r p whole count es whole' count' fs each keeps keeps' (inl a) (inr b) = let many = a.many in let few = b.few in absurd (omega (arith, many, few))
+runs-once m n last (step ∷ steps) records r p whole count es whole' count' fs each keeps keeps' (inr a) (inl b) = let few = a.few in let many = b.many in absurd (omega (arith, many, few))
+runs-once m n last (step ∷ steps) records r p whole count es whole' count' fs each keeps keeps' (inr a) (inr b) =
+    joined (runs-once m (suc n) (start_after last (told_by b.front)) steps (records + length b.front) reading b.pace whole a.others a.rest whole' b.others b.rest
     (subst HasOneEach heard-b (one-along m r last (told_by b.front) (told_by b.rest) keeps-b each)) rest-a rest-b on-a b.goes_on) where
       keeps-a : KeepsRules m r last (told_by a.front ++ told_by a.rest)
       keeps-a = subst (KeepsRules m r last) (ap told_by a.events ∙ map-append (λ (e : Event). e.told) a.front a.rest) keeps
@@ -103,8 +102,8 @@ runs-once k m n last (step ∷ steps) records r p whole count es whole' count' f
       keeps-b = subst (KeepsRules m r last) (ap told_by b.events ∙ map-append (λ (e : Event). e.told) b.front b.rest) keeps'
 
       step-same : (told_by a.front ≡ told_by b.front) × (a.pace ≡ b.pace)
-      step-same = step-once k m r p last each step (told_by a.front) a.pace (told_by a.rest) (told_by b.front) b.pace (told_by b.rest) a.makes b.makes keeps-a keeps-b
-          (runs-other k m (suc n) whole steps _ _ _ _ a.rest a.goes_on) (runs-other k m (suc n) whole' steps _ _ _ _ b.rest b.goes_on)
+      step-same = step-once m r p last each step (told_by a.front) a.pace (told_by a.rest) (told_by b.front) b.pace (told_by b.rest) a.makes b.makes keeps-a keeps-b
+          (runs-other m (suc n) whole steps _ _ _ _ a.rest a.goes_on) (runs-other m (suc n) whole' steps _ _ _ _ b.rest b.goes_on)
 
       front : a.front ≡ b.front
       front = events-once n a.front b.front a.of_event b.of_event step-same.0
@@ -122,9 +121,9 @@ runs-once k m n last (step ∷ steps) records r p whole count es whole' count' f
       rest-b : KeepsRules m reading (start_after last (told_by b.front)) (told_by b.rest)
       rest-b = subst (λ (x : Reading). KeepsRules m x (start_after last (told_by b.front)) (told_by b.rest)) heard-b (keeps-back m r last (told_by b.front) (told_by b.rest) keeps-b)
 
-      on-a : RunsFrom k m (suc n) whole steps (records + length b.front) reading b.pace a.others a.rest
-      on-a = subst (λ (q : Pace). RunsFrom k m (suc n) whole steps (records + length b.front) reading q a.others a.rest) step-same.1
-          (subst (λ (xs : List Event). RunsFrom k m (suc n) whole steps (records + length xs) (heard_all m r xs) a.pace a.others a.rest) front a.goes_on)
+      on-a : RunsFrom m (suc n) whole steps (records + length b.front) reading b.pace a.others a.rest
+      on-a = subst (λ (q : Pace). RunsFrom m (suc n) whole steps (records + length b.front) reading q a.others a.rest) step-same.1
+          (subst (λ (xs : List Event). RunsFrom m (suc n) whole steps (records + length xs) (heard_all m r xs) a.pace a.others a.rest) front a.goes_on)
 
       joined : SameRun a.rest whole a.others b.rest whole' b.others → SameRun es whole count fs whole' count'
       joined later = record {
@@ -135,25 +134,25 @@ runs-once k m n last (step ∷ steps) records r p whole count es whole' count' f
 
 -- ---- a run of a script is one
 
-ends-from : (k : Clock) (m : Machine) (how : RunEnd) → EndsByItself how → (left : List Step) (records n : ℕ) (r : Reading) (p : Pace) (es : List Event) → EndsRun k m how records n r p left es
-    → RunsFrom k m n (is_whole how) left records r p 0 es
-ends-from k m Whole itself [] records n r p es ends = (refl, refl, ends.1, ends.2)
-ends-from k m Whole itself (step ∷ left) records n r p es ends = absurd (let h : step ∷ left ≡ [] = ends.0 in cc)
-ends-from k m Full itself [] records n r p es ends = absurd (ends.0 refl)
-ends-from k m Full itself (step ∷ left) records n r p es ends = inl (record { many = ends.1; not_whole = refl; none = refl; nothing = ends.2 })
-ends-from k m Cut itself left records n r p es ends = absurd itself
+ends-from : (m : Machine) (how : RunEnd) → EndsByItself how → (left : List Step) (records n : ℕ) (r : Reading) (p : Pace) (es : List Event) → EndsRun m how records n r p left es
+    → RunsFrom m n (is_whole how) left records r p 0 es
+ends-from m Whole itself [] records n r p es ends = (refl, refl, ends.1, ends.2)
+ends-from m Whole itself (step ∷ left) records n r p es ends = absurd (let h : step ∷ left ≡ [] = ends.0 in cc)
+ends-from m Full itself [] records n r p es ends = absurd (ends.0 refl)
+ends-from m Full itself (step ∷ left) records n r p es ends = inl (record { many = ends.1; not_whole = refl; none = refl; nothing = ends.2 })
+ends-from m Cut itself left records n r p es ends = absurd itself
 
-made-from : (k : Clock) (m : Machine) (how : RunEnd) → EndsByItself how → (done left : List Step) (records n : ℕ) (r : Reading) (p : Pace) (front : List Event) (q : Pace) (es : List Event)
-    → HaveMade k m records n r p done front q → EndsRun k m how (records + length front) (n + length done) (heard_all m r front) q left es
-    → RunsFrom k m n (is_whole how) (done ++ left) records r p (length done) (front ++ es)
-made-from k m how itself [] left records n r p front q es made ends =
-    subst (λ (xs : List Event). RunsFrom k m n (is_whole how) left records r p 0 (xs ++ es)) (sym made.0)
-    (ends-from k m how itself left records n r p es
-    (subst (λ (x : Pace). EndsRun k m how records n r x left es) made.1
-    (subst (λ (i : ℕ). EndsRun k m how records i r q left es) (omega arith)
-    (subst (λ (i : ℕ). EndsRun k m how i (n + 0) r q left es) (omega arith)
-    (subst (λ (xs : List Event). EndsRun k m how (records + length xs) (n + 0) (heard_all m r xs) q left es) made.0 ends)))))
-made-from k m how itself (step ∷ done) left records n r p front q es (few, now, rest, then, is, of, makes, later) ends = inr (record {
+made-from : (m : Machine) (how : RunEnd) → EndsByItself how → (done left : List Step) (records n : ℕ) (r : Reading) (p : Pace) (front : List Event) (q : Pace) (es : List Event)
+    → HaveMade m records n r p done front q → EndsRun m how (records + length front) (n + length done) (heard_all m r front) q left es
+    → RunsFrom m n (is_whole how) (done ++ left) records r p (length done) (front ++ es)
+made-from m how itself [] left records n r p front q es made ends =
+    subst (λ (xs : List Event). RunsFrom m n (is_whole how) left records r p 0 (xs ++ es)) (sym made.0)
+    (ends-from m how itself left records n r p es
+    (subst (λ (x : Pace). EndsRun m how records n r x left es) made.1
+    (subst (λ (i : ℕ). EndsRun m how records i r q left es) (omega arith)
+    (subst (λ (i : ℕ). EndsRun m how i (n + 0) r q left es) (omega arith)
+    (subst (λ (xs : List Event). EndsRun m how (records + length xs) (n + 0) (heard_all m r xs) q left es) made.0 ends)))))
+made-from m how itself (step ∷ done) left records n r p front q es (few, now, rest, then, is, of, makes, later) ends = inr (record {
   few = few;
   front = now;
   rest = rest ++ es;
@@ -163,18 +162,18 @@ made-from k m how itself (step ∷ done) left records n r p front q es (few, now
   events = ap (λ (xs : List Event). xs ++ es) is ∙ append_assoc now rest es;
   of_event = of;
   makes = makes;
-  goes_on = made-from k m how itself done left (records + length now) (suc n) (heard_all m r now) then rest q es later
-      (subst (λ (x : Reading). EndsRun k m how (records + length now + length rest) (suc n + length done) x q left es) (heard_all-append m r now rest)
-      (subst (λ (i : ℕ). EndsRun k m how i (suc n + length done) (heard_all m r (now ++ rest)) q left es) (let h = length-append now rest in omega (arith, h))
-      (subst (λ (i : ℕ). EndsRun k m how (records + length (now ++ rest)) i (heard_all m r (now ++ rest)) q left es) (omega arith)
-      (subst (λ (xs : List Event). EndsRun k m how (records + length xs) (n + suc (length done)) (heard_all m r xs) q left es) is ends))));
+  goes_on = made-from m how itself done left (records + length now) (suc n) (heard_all m r now) then rest q es later
+      (subst (λ (x : Reading). EndsRun m how (records + length now + length rest) (suc n + length done) x q left es) (heard_all-append m r now rest)
+      (subst (λ (i : ℕ). EndsRun m how i (suc n + length done) (heard_all m r (now ++ rest)) q left es) (let h = length-append now rest in omega (arith, h))
+      (subst (λ (i : ℕ). EndsRun m how (records + length (now ++ rest)) i (heard_all m r (now ++ rest)) q left es) (omega arith)
+      (subst (λ (xs : List Event). EndsRun m how (records + length xs) (n + suc (length done)) (heard_all m r xs) q left es) is ends))));
 })
 
-pub run-from : (k : Clock) (m : Machine) (how : RunEnd) → EndsByItself how → (steps : List Step) (es : List Event) (run : IsRunOf k m how steps es)
-    → RunsFrom k m 1 (is_whole how) steps 0 (nothing_heard m) no_pace (length run.done) es
-run-from k m how itself steps es run =
-    subst (λ (xs : List Event). RunsFrom k m 1 (is_whole how) steps 0 (nothing_heard m) no_pace (length run.done) xs) (sym run.events_are)
-    (subst (λ (xs : List Step). RunsFrom k m 1 (is_whole how) xs 0 (nothing_heard m) no_pace (length run.done) (run.front ++ run.last)) (sym run.steps_are)
-    (made-from k m how itself run.done run.left 0 1 (nothing_heard m) no_pace run.front run.pace run.last run.made
-    (subst (λ (i : ℕ). EndsRun k m how i (1 + length run.done) (heard_all m (nothing_heard m) run.front) run.pace run.left run.last) (omega arith)
-    (subst (λ (i : ℕ). EndsRun k m how (length run.front) i (heard_all m (nothing_heard m) run.front) run.pace run.left run.last) (omega arith) run.ends))))
+pub run-from : (m : Machine) (how : RunEnd) → EndsByItself how → (steps : List Step) (es : List Event) (run : IsRunOf m how steps es)
+    → RunsFrom m 1 (is_whole how) steps 0 (nothing_heard m) no_pace (length run.done) es
+run-from m how itself steps es run =
+    subst (λ (xs : List Event). RunsFrom m 1 (is_whole how) steps 0 (nothing_heard m) no_pace (length run.done) xs) (sym run.events_are)
+    (subst (λ (xs : List Step). RunsFrom m 1 (is_whole how) xs 0 (nothing_heard m) no_pace (length run.done) (run.front ++ run.last)) (sym run.steps_are)
+    (made-from m how itself run.done run.left 0 1 (nothing_heard m) no_pace run.front run.pace run.last run.made
+    (subst (λ (i : ℕ). EndsRun m how i (1 + length run.done) (heard_all m (nothing_heard m) run.front) run.pace run.left run.last) (omega arith)
+    (subst (λ (i : ℕ). EndsRun m how (length run.front) i (heard_all m (nothing_heard m) run.front) run.pace run.left run.last) (omega arith) run.ends))))

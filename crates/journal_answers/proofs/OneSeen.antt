@@ -9,10 +9,10 @@ use Rattle.mate_journal.specs.Machine.{Machine}
 use Rattle.mate_journal.specs.Journal.{Phase, Unposted, Queued, Ready, Waiting, Over, is_started, Reading}
 use Rattle.mate_journal.specs.Pace.{Pace}
 use Rattle.mate_journal.specs.Stores.{values_at, Writes, IsShown}
-use Rattle.mate_journal.specs.Turns.{Clock, ShowsReady}
+use Rattle.mate_journal.specs.Turns.{ShowsReady}
 use Rattle.journal_answers.proofs.Lists.{ints-same, ints-by_place, buffers-by_place}
 
-module _ (k : Clock) (m : Machine) (r : Reading) (p : Pace) (a b : Store) (shown : IsShown m r a) (shown' : IsShown m r b) (ready : ShowsReady k m r p a) (ready' : ShowsReady k m r p b) where
+module _ (m : Machine) (r : Reading) (p : Pace) (a b : Store) (shown : IsShown m r a) (shown' : IsShown m r b) (ready : ShowsReady m r p a) (ready' : ShowsReady m r p b) where
   -- what somebody writes is the same in both
   written-same : (at : Resource) (n : ℕ) → Writes m r n at → (phase : Phase) → (r.invocations n).phase ≡ phase → values_at a at ≡ values_at b at
   written-same at n writes Unposted is = let h : IsTrue false = subst (λ (x : Phase). IsTrue (is_started x)) is writes.started in cc

@@ -11,7 +11,7 @@ use Rattle.mate_journal.specs.Journal.{Told, Posted, Dropped, Answered, Installe
 use Rattle.mate_journal.specs.WellFormed.{IsIdle, IsBusy, IsWaiting}
 use Rattle.mate_journal.specs.Pace.{Pace, paced_all}
 use Rattle.mate_journal.specs.Stores.{IsShown}
-use Rattle.mate_journal.specs.Turns.{Clock, ShowsReady, Turn, IsTurn, after_step, Settles, told_in, pace_after}
+use Rattle.mate_journal.specs.Turns.{ShowsReady, Turn, IsTurn, after_step, Settles, told_in, pace_after}
 use Rattle.mate_journal.specs.NodeScript.{Step, Install, Post, StepIn, Run, Answer, Show, ResetNode, IsFirstIdle, DropsNoCode, DropsAllBusy, Posts, Occasion, Installs, IsNotNewer, IsReadyIn, TurnsIn, IsNotReady, Answers, IsNotWaiting, ShowsOnce, Resets, IsPacedBy, Makes}
 use Rattle.journal_answers.proofs.Rules.{KeepsRules, BeginsOtherwise}
 use Rattle.journal_answers.proofs.OneEach.{HasOneEach}
@@ -75,14 +75,14 @@ occasion-other m r h payload xs rest (inl a) other = subst (λ (ts : List Told).
 occasion-other m r h payload xs rest (inr (inl a)) other = subst (λ (ts : List Told). BeginsOtherwise (ts ++ rest)) (sym a.made) (λ start. start)
 occasion-other m r h payload xs rest (inr (inr a)) other = subst (λ (ts : List Told). BeginsOtherwise (ts ++ rest)) (sym a.made) (λ start. start)
 
-module _ (k : Clock) (m : Machine) (r : Reading) (p : Pace) (last : ℕ) where
+module _ (m : Machine) (r : Reading) (p : Pace) (last : ℕ) where
   -- ---- installs
 
   -- the store that is seen first is one
-  first-seen : (a b : Store) (xs ys : List Told) → KeepsRules m r last (Seen a ∷ xs) → KeepsRules m r last (Seen b ∷ ys) → ShowsReady k m r p a → ShowsReady k m r p b → a ≡ b
-  first-seen a b xs ys keeps keeps' shown shown' = seen-once k m r p a b keeps.1 keeps'.1 shown shown'
+  first-seen : (a b : Store) (xs ys : List Told) → KeepsRules m r last (Seen a ∷ xs) → KeepsRules m r last (Seen b ∷ ys) → ShowsReady m r p a → ShowsReady m r p b → a ≡ b
+  first-seen a b xs ys keeps keeps' shown shown' = seen-once m r p a b keeps.1 keeps'.1 shown shown'
 
-  pub installs-once : (x : HeldProgram) (xs rest ys rest' : List Told) → Installs k m r p x xs → Installs k m r p x ys → KeepsRules m r last (xs ++ rest) → KeepsRules m r last (ys ++ rest') → BeginsOtherwise rest → BeginsOtherwise rest' → xs ≡ ys
+  pub installs-once : (x : HeldProgram) (xs rest ys rest' : List Told) → Installs m r p x xs → Installs m r p x ys → KeepsRules m r last (xs ++ rest) → KeepsRules m r last (ys ++ rest') → BeginsOtherwise rest → BeginsOtherwise rest' → xs ≡ ys
   installs-once x xs rest ys rest' a b keeps keeps' other other' =
       a.made ∙ ap (λ (s : Store). Seen s ∷ Installed x ∷ a.rest) (first-seen a.seen b.seen (Installed x ∷ (a.rest ++ rest)) (Installed x ∷ (b.rest ++ rest')) keeps-a keeps-b a.shown b.shown)
       ∙ ap (λ (ts : List Told). Seen b.seen ∷ Installed x ∷ ts) (by (m.runs_once x.handler) refl) ∙ sym b.made where
@@ -96,7 +96,7 @@ module _ (k : Clock) (m : Machine) (r : Reading) (p : Pace) (last : ℕ) where
         by true is = occasion-once m (heard m r (Installed x)) 0 x.handler (record { items = [] }) a.rest rest b.rest rest' (a.once is) (b.once is) keeps-a.3.3 keeps-b.3.3 other other'
         by false is = a.else is ∙ sym (b.else is)
 
-  install-once : (x : HeldProgram) (xs rest ys rest' : List Told) → Installs k m r p x xs ⊎ IsNotNewer r x xs → Installs k m r p x ys ⊎ IsNotNewer r x ys → KeepsRules m r last (xs ++ rest) → KeepsRules m r last (ys ++ rest')
+  install-once : (x : HeldProgram) (xs rest ys rest' : List Told) → Installs m r p x xs ⊎ IsNotNewer r x xs → Installs m r p x ys ⊎ IsNotNewer r x ys → KeepsRules m r last (xs ++ rest) → KeepsRules m r last (ys ++ rest')
       → BeginsOtherwise rest → BeginsOtherwise rest' → xs ≡ ys
   install-once x xs rest ys rest' (inl a) (inl b) keeps keeps' other other' = installs-once x xs rest ys rest' a b keeps keeps' other other'
   install-once x xs rest ys rest' (inl a) (inr b) keeps keeps' other other' = let newer = a.newer in let older = b.older in absurd (omega (arith, newer, older))
@@ -109,18 +109,18 @@ module _ (k : Clock) (m : Machine) (r : Reading) (p : Pace) (last : ℕ) where
   ready-once each i j c ready ready' context context' =
       each.one i j (subst (λ (x : Phase). IsTrue (is_live x)) (sym ready) refl) (subst (λ (x : Phase). IsTrue (is_live x)) (sym ready') refl) (context ∙ sym context')
 
-  turns-in-once : HasOneEach r → (c : ContextId) (n : ℕ) (xs : List Told) (q : Pace) (rest ys : List Told) (q' : Pace) (rest' : List Told) → TurnsIn k m r p c n xs q → TurnsIn k m r p c n ys q' → KeepsRules m r last (xs ++ rest) → KeepsRules m r last (ys ++ rest')
+  turns-in-once : HasOneEach r → (c : ContextId) (n : ℕ) (xs : List Told) (q : Pace) (rest ys : List Told) (q' : Pace) (rest' : List Told) → TurnsIn m r p c n xs q → TurnsIn m r p c n ys q' → KeepsRules m r last (xs ++ rest) → KeepsRules m r last (ys ++ rest')
       → BeginsOtherwise rest → BeginsOtherwise rest' → (xs ≡ ys) × (q ≡ q')
   turns-in-once each c n xs q rest ys q' rest' a b keeps keeps' other other' =
-      (same, a.then ∙ ap (λ (i : ℕ). after_step k m r p n (record { invocation = i; told = xs })) who ∙ ap (λ (ts : List Told). after_step k m r p n (record { invocation = b.invocation; told = ts })) same ∙ sym b.then) where
+      (same, a.then ∙ ap (λ (i : ℕ). after_step m r p n (record { invocation = i; told = xs })) who ∙ ap (λ (ts : List Told). after_step m r p n (record { invocation = b.invocation; told = ts })) same ∙ sym b.then) where
         who : a.invocation ≡ b.invocation
         who = ready-once each a.invocation b.invocation c a.turn.ready b.turn.ready a.context b.context
 
-        turn-a : IsTurn k m r p n record { invocation = b.invocation; told = xs }
-        turn-a = subst (λ (i : ℕ). IsTurn k m r p n record { invocation = i; told = xs }) who a.turn
+        turn-a : IsTurn m r p n record { invocation = b.invocation; told = xs }
+        turn-a = subst (λ (i : ℕ). IsTurn m r p n record { invocation = i; told = xs }) who a.turn
 
         same : xs ≡ ys
-        same = turn-once k m r p n b.invocation last xs rest ys rest' turn-a b.turn keeps keeps' other other'
+        same = turn-once m r p n b.invocation last xs rest ys rest' turn-a b.turn keeps keeps' other other'
 
   answers-once : HasOneEach r → (c : ContextId) (value : ℤ) (xs ys : List Told) → Answers r c value xs ⊎ IsNotWaiting r c xs → Answers r c value ys ⊎ IsNotWaiting r c ys → xs ≡ ys
   answers-once each c value xs ys (inl a) (inl b) =
@@ -136,7 +136,7 @@ module _ (k : Clock) (m : Machine) (r : Reading) (p : Pace) (last : ℕ) where
   pace-once : (xs ys : List Told) (q q' : Pace) → xs ≡ ys → IsPacedBy p xs q → IsPacedBy p ys q' → (xs ≡ ys) × (q ≡ q')
   pace-once xs ys q q' same is is' = (same, is ∙ ap (paced_all p) same ∙ sym is')
 
-  pub step-once : HasOneEach r → (step : Step) (xs : List Told) (q : Pace) (rest ys : List Told) (q' : Pace) (rest' : List Told) → Makes k m r p step xs q → Makes k m r p step ys q' → KeepsRules m r last (xs ++ rest) → KeepsRules m r last (ys ++ rest')
+  pub step-once : HasOneEach r → (step : Step) (xs : List Told) (q : Pace) (rest ys : List Told) (q' : Pace) (rest' : List Told) → Makes m r p step xs q → Makes m r p step ys q' → KeepsRules m r last (xs ++ rest) → KeepsRules m r last (ys ++ rest')
       → BeginsOtherwise rest → BeginsOtherwise rest' → (xs ≡ ys) × (q ≡ q')
   step-once each (Install x) xs q rest ys q' rest' a b keeps keeps' other other' = pace-once xs ys q q' (install-once x xs rest ys rest' a.0 b.0 keeps keeps' other other') a.1 b.1
   step-once each (Post h payload) xs q rest ys q' rest' a b keeps keeps' other other' = pace-once xs ys q q' (occasion-once m r last h payload xs rest ys rest' a.0 b.0 keeps keeps' other other') a.1 b.1
@@ -145,9 +145,9 @@ module _ (k : Clock) (m : Machine) (r : Reading) (p : Pace) (last : ℕ) where
   step-once each (StepIn c n) xs q rest ys q' rest' (inr a) (inl b) keeps keeps' other other' = absurd (a.0.none (record { invocation = b.invocation; ready = b.turn.ready; context = b.context }))
   step-once each (StepIn c n) xs q rest ys q' rest' (inr a) (inr b) keeps keeps' other other' = pace-once xs ys q q' (a.0.made ∙ sym b.0.made) a.1 b.1
   step-once each Run xs q rest ys q' rest' a b keeps keeps' other other' =
-      let same = turns-once k m r p last a.turns rest b.turns rest' a.are_turns b.are_turns (sym (ap (λ (x : Pace). x.line) a.then) ∙ a.empty) (sym (ap (λ (x : Pace). x.line) b.then) ∙ b.empty)
+      let same = turns-once m r p last a.turns rest b.turns rest' a.are_turns b.are_turns (sym (ap (λ (x : Pace). x.line) a.then) ∙ a.empty) (sym (ap (λ (x : Pace). x.line) b.then) ∙ b.empty)
       (subst (λ (ts : List Told). KeepsRules m r last (ts ++ rest)) a.made keeps) (subst (λ (ts : List Told). KeepsRules m r last (ts ++ rest')) b.made keeps') other other' in
-      (a.made ∙ ap told_in same ∙ sym b.made, a.then ∙ ap (pace_after k m r p) same ∙ sym b.then)
+      (a.made ∙ ap told_in same ∙ sym b.made, a.then ∙ ap (pace_after m r p) same ∙ sym b.then)
   step-once each (Answer c value) xs q rest ys q' rest' a b keeps keeps' other other' = pace-once xs ys q q' (answers-once each c value xs ys a.0 b.0) a.1 b.1
   step-once each Show xs q rest ys q' rest' a b keeps keeps' other other' =
       pace-once xs ys q q' (a.0.made ∙ ap (λ (s : Store). Seen s ∷ []) (first-seen a.0.seen b.0.seen (rest) (rest') (subst (λ (ts : List Told). KeepsRules m r last (ts ++ rest)) a.0.made keeps)
@@ -157,13 +157,13 @@ module _ (k : Clock) (m : Machine) (r : Reading) (p : Pace) (last : ℕ) where
       (subst (λ (ts : List Told). KeepsRules m r last (ts ++ rest')) b.0.made keeps') a.0.shown b.0.shown) ∙ sym b.0.made) a.1 b.1
 
   -- what a step makes begins with no start
-  pub step-other : (step : Step) (xs : List Told) (q : Pace) (rest : List Told) → Makes k m r p step xs q → BeginsOtherwise rest → BeginsOtherwise (xs ++ rest)
+  pub step-other : (step : Step) (xs : List Told) (q : Pace) (rest : List Told) → Makes m r p step xs q → BeginsOtherwise rest → BeginsOtherwise (xs ++ rest)
   step-other (Install x) xs q rest (inl a, paced) other = subst (λ (ts : List Told). BeginsOtherwise (ts ++ rest)) (sym a.made) (λ start. start)
   step-other (Install x) xs q rest (inr a, paced) other = subst (λ (ts : List Told). BeginsOtherwise (ts ++ rest)) (sym a.made) (λ start. start)
   step-other (Post h payload) xs q rest a other = occasion-other m r h payload xs rest a.0 other
-  step-other (StepIn c n) xs q rest (inl a) other = turn-other k m r p n a.invocation xs rest a.turn other
+  step-other (StepIn c n) xs q rest (inl a) other = turn-other m r p n a.invocation xs rest a.turn other
   step-other (StepIn c n) xs q rest (inr a) other = subst (λ (ts : List Told). BeginsOtherwise (ts ++ rest)) (sym a.0.made) (λ start. start)
-  step-other Run xs q rest a other = subst (λ (ts : List Told). BeginsOtherwise (ts ++ rest)) (sym a.made) (turns-other k m r p a.turns rest a.are_turns other)
+  step-other Run xs q rest a other = subst (λ (ts : List Told). BeginsOtherwise (ts ++ rest)) (sym a.made) (turns-other m r p a.turns rest a.are_turns other)
   step-other (Answer c value) xs q rest (inl a, paced) other = subst (λ (ts : List Told). BeginsOtherwise (ts ++ rest)) (sym a.made) (λ start. start)
   step-other (Answer c value) xs q rest (inr a, paced) other = subst (λ (ts : List Told). BeginsOtherwise (ts ++ rest)) (sym a.made) (λ start. start)
   step-other Show xs q rest a other = subst (λ (ts : List Told). BeginsOtherwise (ts ++ rest)) (sym a.0.made) (λ start. start)

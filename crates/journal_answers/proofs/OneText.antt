@@ -8,7 +8,6 @@ use Rattle.mate_journal.specs.Machine.{Machine, Meaning}
 use Rattle.mate_journal.specs.Described.{machine_of}
 use Rattle.mate_journal.specs.Journal.{Event, journal_of, nothing_heard, told_of}
 use Rattle.mate_journal.specs.Pace.{no_pace}
-use Rattle.mate_journal.specs.Turns.{Clock}
 use Rattle.mate_journal.specs.NodeRun.{IsNodeRun}
 use Rattle.mate_journal.specs.NodeScript.{Step, RunEnd}
 use Rattle.mate_journal.specs.NodeReport.{is_whole, IsNodeReport}
@@ -25,13 +24,13 @@ use Rattle.journal_answers.proofs.OneRun.{SameRun, runs-once, run-from}
 
 -- ---- the journal
 
-pub journal-once : (k : Clock) (m : Machine) (steps : List Step) (how how' : RunEnd) (l l' : Log) → EndsByItself how → EndsByItself how' → (run : IsNodeRun k m how steps l) → (run' : IsNodeRun k m how' steps l')
+pub journal-once : (m : Machine) (steps : List Step) (how how' : RunEnd) (l l' : Log) → EndsByItself how → EndsByItself how' → (run : IsNodeRun m how steps l) → (run' : IsNodeRun m how' steps l')
     → SameRun (journal_of l) (is_whole how) (length run.events.done) (journal_of l') (is_whole how') (length run'.events.done)
-journal-once k m steps how how' l l' itself itself' run run' =
-    runs-once k m 1 0 steps 0 (nothing_heard m) no_pace (is_whole how) (length run.events.done) (journal_of l) (is_whole how') (length run'.events.done) (journal_of l') (nothing_heard-one m)
+journal-once m steps how how' l l' itself itself' run run' =
+    runs-once m 1 0 steps 0 (nothing_heard m) no_pace (is_whole how) (length run.events.done) (journal_of l) (is_whole how') (length run'.events.done) (journal_of l') (nothing_heard-one m)
     (keeps-events m (nothing_heard m) 0 (journal_of l) run.well_formed.follow run.stores.shown run.grants)
     (keeps-events m (nothing_heard m) 0 (journal_of l') run'.well_formed.follow run'.stores.shown run'.grants)
-    (run-from k m how itself steps (journal_of l) run.events) (run-from k m how' itself' steps (journal_of l') run'.events)
+    (run-from m how itself steps (journal_of l) run.events) (run-from m how' itself' steps (journal_of l') run'.events)
 
 -- ---- the log
 
@@ -80,9 +79,9 @@ module _ (F : Description → Report → List ℕ) (F-spare : (d : Description) 
       ap (λ (ls : List Log). F d (record { nodes = ls; air = r.air; events = r.events; whole = r.whole })) nodes
       ∙ ap (λ (as_ : _). F d (record { nodes = l ∷ []; air = as_; events = r.events; whole = r.whole })) air
 
-  pub told-once : (d : Description) (k : Clock) (meaning : Meaning) (steps : List Step) (how how' : RunEnd) (r r' : Report) → EndsByItself how → EndsByItself how' → IsNodeReport d k meaning steps how r → IsNodeReport d k meaning steps how' r'
+  pub told-once : (d : Description) (meaning : Meaning) (steps : List Step) (how how' : RunEnd) (r r' : Report) → EndsByItself how → EndsByItself how' → IsNodeReport d meaning steps how r → IsNodeReport d meaning steps how' r'
       → F d r ≡ F d r'
-  told-once d k meaning steps how how' r r' itself itself' is is' =
+  told-once d meaning steps how how' r r' itself itself' is is' =
       at-report d r is.log is.one_node is.no_air
       ∙ ap (λ (xs : List Stamped). F d (one_log xs is.log.images is.log.stores is.log.spare r.events r.whole)) (sym same.entries)
       ∙ ap (λ (xs : List (ArrayVec ℕ)). F d (one_log is'.log.entries xs is.log.stores is.log.spare r.events r.whole)) (sym same.images)
@@ -92,15 +91,15 @@ module _ (F : Description → Report → List ℕ) (F-spare : (d : Description) 
       ∙ ap (λ (b : Bool). F d (one_log is'.log.entries is'.log.images is'.log.stores is'.log.spare r'.events b)) (is.whole ∙ run.ends ∙ sym is'.whole)
       ∙ sym (at-report d r' is'.log is'.one_node is'.no_air) where
         run : SameRun (journal_of is.log) (is_whole how) (length is.run.events.done) (journal_of is'.log) (is_whole how') (length is'.run.events.done)
-        run = journal-once k (machine_of d meaning) steps how how' is.log is'.log itself itself' is.run is'.run
+        run = journal-once (machine_of d meaning) steps how how' is.log is'.log itself itself' is.run is'.run
 
         same : IsSameLog is'.log is.log
         same = log-once is.log is'.log is.tidy.numbered is'.tidy.numbered run.events
 
-pub text-once : (d : Description) (k : Clock) (meaning : Meaning) (steps : List Step) (how how' : RunEnd) (r r' : Report) → EndsByItself how → EndsByItself how' → IsNodeReport d k meaning steps how r → IsNodeReport d k meaning steps how' r'
+pub text-once : (d : Description) (meaning : Meaning) (steps : List Step) (how how' : RunEnd) (r r' : Report) → EndsByItself how → EndsByItself how' → IsNodeReport d meaning steps how r → IsNodeReport d meaning steps how' r'
     → text d r ≡ text d r'
 text-once = told-once text text-spare
 
-pub brief-once : (d : Description) (k : Clock) (meaning : Meaning) (steps : List Step) (how how' : RunEnd) (r r' : Report) → EndsByItself how → EndsByItself how' → IsNodeReport d k meaning steps how r → IsNodeReport d k meaning steps how' r'
+pub brief-once : (d : Description) (meaning : Meaning) (steps : List Step) (how how' : RunEnd) (r r' : Report) → EndsByItself how → EndsByItself how' → IsNodeReport d meaning steps how r → IsNodeReport d meaning steps how' r'
     → brief d r ≡ brief d r'
 brief-once = told-once brief brief-spare

@@ -7,7 +7,7 @@ use Rattle.mate_journal.specs.Machine.{Machine}
 use Rattle.mate_journal.specs.Journal.{Told, Reading, heard, heard_told, whole_run}
 use Rattle.mate_journal.specs.Grants.{IsStart, start_of}
 use Rattle.mate_journal.specs.Pace.{Pace}
-use Rattle.mate_journal.specs.Turns.{Clock, mark_of, Turn, entry_at, IsAtMark, IsTurn, after_turn, AreTurns, told_in, pace_after}
+use Rattle.mate_journal.specs.Turns.{mark_of, Turn, entry_at, IsAtMark, IsTurn, after_turn, AreTurns, told_in, pace_after}
 use Rattle.journal_answers.proofs.Rules.{KeepsRules, start_after, keeps-back, BeginsOtherwise}
 use Rattle.journal_answers.proofs.OneStart.{starts-once}
 
@@ -21,19 +21,19 @@ abbrev one_turn : ℕ → List Told → Turn
 one_turn n told = record { invocation = n; told = told }
 
 -- what a turn tells begins with no start
-pub turn-other : (k : Clock) (m : Machine) (r : Reading) (p : Pace) (instructions n : ℕ) (told rest : List Told) → IsTurn k m r p instructions (one_turn n told) → BeginsOtherwise rest → BeginsOtherwise (told ++ rest)
-turn-other k m r p instructions n told rest turn other =
-    elim (leb_tells (mark_of k m r n) (p.counts n + instructions)) [
+pub turn-other : (m : Machine) (r : Reading) (p : Pace) (instructions n : ℕ) (told rest : List Told) → IsTurn m r p instructions (one_turn n told) → BeginsOtherwise rest → BeginsOtherwise (told ++ rest)
+turn-other m r p instructions n told rest turn other =
+    elim (leb_tells (mark_of m r n) (p.counts n + instructions)) [
       | inl t ↦ let mark = turn.reached t.1 in
           subst (λ (ts : List Told). BeginsOtherwise (ts ++ rest)) (sym mark.told_is) (entry-other n (whole_run m r n).end (mark.starts ++ rest))
       | inr u ↦ subst (λ (ts : List Told). BeginsOtherwise (ts ++ rest)) (sym (turn.short u.1)) other
     ]
 
-pub turn-once : (k : Clock) (m : Machine) (r : Reading) (p : Pace) (instructions n last : ℕ) (told rest told' rest' : List Told)
-    → IsTurn k m r p instructions (one_turn n told) → IsTurn k m r p instructions (one_turn n told') → KeepsRules m r last (told ++ rest) → KeepsRules m r last (told' ++ rest')
+pub turn-once : (m : Machine) (r : Reading) (p : Pace) (instructions n last : ℕ) (told rest told' rest' : List Told)
+    → IsTurn m r p instructions (one_turn n told) → IsTurn m r p instructions (one_turn n told') → KeepsRules m r last (told ++ rest) → KeepsRules m r last (told' ++ rest')
     → BeginsOtherwise rest → BeginsOtherwise rest' → told ≡ told'
-turn-once k m r p instructions n last told rest told' rest' turn turn' keeps keeps' other other' =
-    elim (leb_tells (mark_of k m r n) (p.counts n + instructions)) [
+turn-once m r p instructions n last told rest told' rest' turn turn' keeps keeps' other other' =
+    elim (leb_tells (mark_of m r n) (p.counts n + instructions)) [
       | inl t ↦ at_mark (turn.reached t.1) (turn'.reached t.1)
       | inr u ↦ turn.short u.1 ∙ sym (turn'.short u.1)
     ] where
@@ -47,12 +47,12 @@ turn-once k m r p instructions n last told rest told' rest' turn turn' keeps kee
           a.told_is ∙ ap (λ (ts : List Told). entry ∷ ts) (starts-once m (heard m r entry) (start_of entry) a.starts rest b.starts rest' a.are_starts b.are_starts keeps-a.3 keeps-b.3 other other')
           ∙ sym b.told_is
 
-pub turns-other : (k : Clock) (m : Machine) (r : Reading) (p : Pace) (ts : List Turn) (rest : List Told) → AreTurns k m r p ts → BeginsOtherwise rest → BeginsOtherwise (told_in ts ++ rest)
-turns-other k m r p [] rest turns other = other
-turns-other k m r p (t ∷ ts) rest turns other =
+pub turns-other : (m : Machine) (r : Reading) (p : Pace) (ts : List Turn) (rest : List Told) → AreTurns m r p ts → BeginsOtherwise rest → BeginsOtherwise (told_in ts ++ rest)
+turns-other m r p [] rest turns other = other
+turns-other m r p (t ∷ ts) rest turns other =
     subst BeginsOtherwise (sym (append_assoc t.told (told_in ts) rest))
-    (turn-other k m r p k.quantum t.invocation t.told (told_in ts ++ rest) turns.1
-    (turns-other k m (heard_told m r t.told) (after_turn k m r p t) ts rest turns.2 other))
+    (turn-other m r p m.quantum t.invocation t.told (told_in ts ++ rest) turns.1
+    (turns-other m (heard_told m r t.told) (after_turn m r p t) ts rest turns.2 other))
 
 -- the first of the line is one
 first-once : (line : List ℕ) (a b : ℕ) (as_ bs : List ℕ) → line ≡ a ∷ as_ → line ≡ b ∷ bs → a ≡ b
@@ -61,16 +61,16 @@ first-once line a b as_ bs is is' = let h : a ∷ as_ ≡ b ∷ bs = sym is ∙ 
 none-first : (line : List ℕ) (a : ℕ) (as_ : List ℕ) → line ≡ [] → line ≡ a ∷ as_ → ⊥
 none-first line a as_ is is' = let h : [] ≡ a ∷ as_ = sym is ∙ is' in cc
 
-pub turns-once : (k : Clock) (m : Machine) (r : Reading) (p : Pace) (last : ℕ) (xs : List Turn) (rest : List Told) (ys : List Turn) (rest' : List Told) → AreTurns k m r p xs → AreTurns k m r p ys
-    → (pace_after k m r p xs).line ≡ [] → (pace_after k m r p ys).line ≡ [] → KeepsRules m r last (told_in xs ++ rest) → KeepsRules m r last (told_in ys ++ rest') → BeginsOtherwise rest → BeginsOtherwise rest' → xs ≡ ys
-turns-once k m r p last [] rest [] rest' turns turns' empty empty' keeps keeps' other other' = refl
-turns-once k m r p last [] rest (y ∷ ys) rest' turns turns' empty empty' keeps keeps' other other' = absurd (none-first p.line y.invocation turns'.0.0 empty turns'.0.1)
-turns-once k m r p last (x ∷ xs) rest [] rest' turns turns' empty empty' keeps keeps' other other' = absurd (none-first p.line x.invocation turns.0.0 empty' turns.0.1)
-turns-once k m r p last (x ∷ xs) rest (y ∷ ys) rest' turns turns' empty empty' keeps keeps' other other' =
+pub turns-once : (m : Machine) (r : Reading) (p : Pace) (last : ℕ) (xs : List Turn) (rest : List Told) (ys : List Turn) (rest' : List Told) → AreTurns m r p xs → AreTurns m r p ys
+    → (pace_after m r p xs).line ≡ [] → (pace_after m r p ys).line ≡ [] → KeepsRules m r last (told_in xs ++ rest) → KeepsRules m r last (told_in ys ++ rest') → BeginsOtherwise rest → BeginsOtherwise rest' → xs ≡ ys
+turns-once m r p last [] rest [] rest' turns turns' empty empty' keeps keeps' other other' = refl
+turns-once m r p last [] rest (y ∷ ys) rest' turns turns' empty empty' keeps keeps' other other' = absurd (none-first p.line y.invocation turns'.0.0 empty turns'.0.1)
+turns-once m r p last (x ∷ xs) rest [] rest' turns turns' empty empty' keeps keeps' other other' = absurd (none-first p.line x.invocation turns.0.0 empty' turns.0.1)
+turns-once m r p last (x ∷ xs) rest (y ∷ ys) rest' turns turns' empty empty' keeps keeps' other other' =
     ap (λ (t : Turn). t ∷ xs) same ∙ ap (λ (ts : List Turn). y ∷ ts)
-    (turns-once k m (heard_told m r y.told) (after_turn k m r p y) (start_after last y.told) xs rest ys rest'
-    (subst (λ (t : Turn). AreTurns k m (heard_told m r t.told) (after_turn k m r p t) xs) same turns.2) turns'.2
-    (subst (λ (t : Turn). (pace_after k m (heard_told m r t.told) (after_turn k m r p t) xs).line ≡ []) same empty) empty'
+    (turns-once m (heard_told m r y.told) (after_turn m r p y) (start_after last y.told) xs rest ys rest'
+    (subst (λ (t : Turn). AreTurns m (heard_told m r t.told) (after_turn m r p t) xs) same turns.2) turns'.2
+    (subst (λ (t : Turn). (pace_after m (heard_told m r t.told) (after_turn m r p t) xs).line ≡ []) same empty) empty'
     (subst (λ (t : Turn). KeepsRules m (heard_told m r t.told) (start_after last t.told) (told_in xs ++ rest)) same (keeps-back m r last x.told (told_in xs ++ rest) keeps-x))
     (keeps-back m r last y.told (told_in ys ++ rest') keeps-y) other other') where
       keeps-x : KeepsRules m r last (x.told ++ (told_in xs ++ rest))
@@ -82,12 +82,12 @@ turns-once k m r p last (x ∷ xs) rest (y ∷ ys) rest' turns turns' empty empt
       who : x.invocation ≡ y.invocation
       who = first-once p.line x.invocation y.invocation turns.0.0 turns'.0.0 turns.0.1 turns'.0.1
 
-      turn-x : IsTurn k m r p k.quantum (one_turn y.invocation x.told)
-      turn-x = subst (λ (n : ℕ). IsTurn k m r p k.quantum (one_turn n x.told)) who turns.1
+      turn-x : IsTurn m r p m.quantum (one_turn y.invocation x.told)
+      turn-x = subst (λ (n : ℕ). IsTurn m r p m.quantum (one_turn n x.told)) who turns.1
 
       what : x.told ≡ y.told
-      what = turn-once k m r p k.quantum y.invocation last x.told (told_in xs ++ rest) y.told (told_in ys ++ rest') turn-x turns'.1 keeps-x keeps-y
-          (turns-other k m (heard_told m r x.told) (after_turn k m r p x) xs rest turns.2 other) (turns-other k m (heard_told m r y.told) (after_turn k m r p y) ys rest' turns'.2 other')
+      what = turn-once m r p m.quantum y.invocation last x.told (told_in xs ++ rest) y.told (told_in ys ++ rest') turn-x turns'.1 keeps-x keeps-y
+          (turns-other m (heard_told m r x.told) (after_turn m r p x) xs rest turns.2 other) (turns-other m (heard_told m r y.told) (after_turn m r p y) ys rest' turns'.2 other')
 
       same : x ≡ y
       same = ap (λ (n : ℕ). one_turn n x.told) who ∙ ap (λ (ts : List Told). one_turn y.invocation ts) what

@@ -8,22 +8,21 @@ ghost use Rattle.mate_journal.specs.Machine.{Machine, Meaning};
 ghost use Rattle.mate_journal.specs.NodeReport.{IsNodeReport, is_whole};
 ghost use Rattle.mate_journal.specs.NodeRun.{IsNodeRun};
 ghost use Rattle.mate_journal.specs.NodeScript.{RunEnd, Step};
-ghost use Rattle.mate_journal.specs.Turns.{Clock};
 ghost use Rattle.mate_journal.specs.declared.report.Report.{Report};
 ghost use Rattle.report_text.specs.Brief.{brief};
 ghost use Rattle.report_text.specs.Text.{text};
 ghost use Rattle.journal_answers.specs.Ending.{EndsByItself};
 
-/// What a machine, its clock and a script determine of a run that ends by itself: its journal, and whether it is whole.
+/// What a machine and a script determine of a run that ends by itself: its journal, and whether it is whole.
 pub fn script_has_one_journal()
-    ensures { (k : Clock) (m : Machine) (steps : List Step) (how how' : RunEnd) (l l' : Log) → EndsByItself how → EndsByItself how'
-        → IsNodeRun k m how steps l → IsNodeRun k m how' steps l' → (journal_of l ≡ journal_of l') × (is_whole how ≡ is_whole how') }
+    ensures { (m : Machine) (steps : List Step) (how how' : RunEnd) (l l' : Log) → EndsByItself how → EndsByItself how'
+        → IsNodeRun m how steps l → IsNodeRun m how' steps l' → (journal_of l ≡ journal_of l') × (is_whole how ≡ is_whole how') }
 {}
 
 /// And so of its report: the text, and the summary.
 pub fn script_has_one_text()
-    ensures { (d : Description) (k : Clock) (meaning : Meaning) (steps : List Step) (how how' : RunEnd) (r r' : Report) → EndsByItself how
+    ensures { (d : Description) (meaning : Meaning) (steps : List Step) (how how' : RunEnd) (r r' : Report) → EndsByItself how
         → EndsByItself how'
-        → IsNodeReport d k meaning steps how r → IsNodeReport d k meaning steps how' r'
+        → IsNodeReport d meaning steps how r → IsNodeReport d meaning steps how' r'
         → (text d r ≡ text d r') × (brief d r ≡ brief d r') }
 {}

@@ -11,12 +11,12 @@ use Rattle.mate_num.specs.declared.store.Store.{Store}
 use Rattle.mate_journal.specs.Log.{Log, IsSameLog, IsEmpty}
 use Rattle.mate_journal.specs.Machine.{Machine}
 use Rattle.mate_journal.specs.Journal.{Told, Posted, Dropped, Started, Asked, Answered, Ended, Installed, Reset, Seen, Void, Event, told_of, journal_of, Reading, heard, heard_all, AtEachEntry, AtEachPlace}
-use Rattle.mate_journal.specs.WellFormed.{MayFollow, NotBefore, IsInTime, start, IsWellFormed}
+use Rattle.mate_journal.specs.WellFormed.{MayFollow, NotBefore, IsInTime, StampsRise, IsWellFormed}
 use Rattle.mate_journal.specs.Serial.{EndsAsRun, RunsSoFar, IsSerial}
 use Rattle.mate_journal.specs.Stores.{ShowsStore, SeenBeforeEras, ShowsStores, is_seen, IsSeenBefore}
 use Rattle.mate_journal.specs.Grants.{AllHeldBack, IsGranted, start_of, GrantsInOrder}
 pub use Rattle.mate_journal.proofs.JournalLemmas.{heard_all-append}
-use Rattle.journal_laws.specs.Growth.{event_of, IsNamedBelow, AreNamedBelow, NamesInLog, IsPushed, AddsImage, AddsStore, last_stamp, last_start, last_is_seen, BeforeEachEntry, GrantsBefore}
+use Rattle.journal_laws.specs.Growth.{event_of, IsNamedBelow, AreNamedBelow, NamesInLog, IsPushed, AddsImage, AddsStore, last_stamp, FollowsLast, last_start, last_is_seen, BeforeEachEntry, GrantsBefore}
 use Rattle.mate_journal.specs.declared.entry.Entry.{Entry}
 use Rattle.mate_journal.specs.declared.entry.Entry.TheVariants as entry
 use Rattle.mate_journal.specs.declared.entry.Stamped.{Stamped}
@@ -87,6 +87,33 @@ last_stamp-append before (e ∷ es) fs = last_stamp-append e.stamp es fs
 
 pub last_stamp-push : (before : Stamp) (es : List Event) (e : Event) → last_stamp before (es ++ e ∷ []) ≡ e.stamp
 last_stamp-push before es e = last_stamp-append before es (e ∷ [])
+
+-- before any stamp there is event 0 at time 0
+abbrev pub start : Stamp
+start = record { event = 0; time = 0 }
+
+pub NotBefore-same : (at : Stamp) → NotBefore at at
+NotBefore-same at = record { event = omega arith; time = omega arith; same = λ _. refl }
+
+pub StampsRise-push : (es : List Event) (e : Event) → StampsRise es → FollowsLast es e.stamp → StampsRise (es ++ e ∷ [])
+StampsRise-push [] e rise last = tt
+StampsRise-push (x ∷ es) e rise last = IsInTime-push x.stamp es e rise last
+
+-- the last one's own stamp may come again
+pub FollowsLast-push : (es : List Event) (e : Event) → FollowsLast (es ++ e ∷ []) e.stamp
+FollowsLast-push [] e = NotBefore-same e.stamp
+FollowsLast-push (x ∷ es) e =
+    let P : Stamp → Type 0 = λ last. NotBefore last e.stamp in
+    subst P (sym (last_stamp-push x.stamp es e)) (NotBefore-same e.stamp)
+
+pub FollowsLast-from : (es : List Event) (at : Stamp) → NotBefore (last_stamp start es) at → FollowsLast es at
+FollowsLast-from [] at last = tt
+FollowsLast-from (e ∷ es) at last = last
+
+-- one that may come after whatever another may come after
+pub FollowsLast-later : (es : List Event) (a b : Stamp) → ((last : Stamp) → NotBefore last a → NotBefore last b) → FollowsLast es a → FollowsLast es b
+FollowsLast-later [] a b later last = tt
+FollowsLast-later (e ∷ es) a b later last = later (last_stamp e.stamp es) last
 
 -- ---- stores seen before eras
 
@@ -176,17 +203,10 @@ last_start-push last es e = last_start-append last es (e ∷ [])
 -- ---- whole journals
 
 pub IsWellFormed-push : (m : Machine) (r : Reading) (es : List Event) (e : Event)
-    → IsWellFormed m r es → NotBefore (last_stamp start es) e.stamp → MayFollow m (heard_all m r es) e.told → IsWellFormed m r (es ++ e ∷ [])
+    → IsWellFormed m r es → FollowsLast es e.stamp → MayFollow m (heard_all m r es) e.told → IsWellFormed m r (es ++ e ∷ [])
 IsWellFormed-push m r es e right time follows = record {
-  in_time = IsInTime-push start es e right.in_time time;
+  in_time = StampsRise-push es e right.in_time time;
   follow = AtEachEntry-push (MayFollow m) m r es e right.follow follows;
-}
-
-pub IsWellFormed-append : (m : Machine) (r : Reading) (es fs : List Event)
-    → IsWellFormed m r es → IsInTime (last_stamp start es) fs → AtEachEntry (MayFollow m) m (heard_all m r es) fs → IsWellFormed m r (es ++ fs)
-IsWellFormed-append m r es fs right time follows = record {
-  in_time = IsInTime-append start es fs right.in_time time;
-  follow = AtEachEntry-append (MayFollow m) m r es fs right.follow follows;
 }
 
 pub IsSerial-push : (m : Machine) (r : Reading) (es : List Event) (e : Event)

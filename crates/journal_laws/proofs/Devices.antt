@@ -1,5 +1,6 @@
--- Calls to a device: between the calls of two invocations to one device, the first one ends.
-use Rattle.std.proofs.Common.{◌≡◌, ◌≢◌, ◌<◌, ◌≤◌, ℕ, zero, suc, Bool, true, false, IsTrue, refl, sym, ◌∙◌, ap, subst, arith, ◌⊎◌, inl, inr, List, [], ◌∷◌, Some}
+-- Calls to a device: between the calls of two invocations to one device, the first one ends. So in each era they are in the order in
+-- which the invocations are read.
+use Rattle.std.proofs.Common.{◌≡◌, ◌≢◌, ◌<◌, ◌≤◌, ℕ, zero, suc, Bool, true, false, IsTrue, refl, sym, ◌∙◌, ap, subst, arith, ◌⊎◌, inl, inr, List, [], ◌∷◌, ◌++◌, Some}
 use Rattle.std.specs.Prelude.{ℤ, ◌||◌}
 use Rattle.std.proofs.lemmas.Bool.Decides.{eqb_tells}
 use Rattle.std.proofs.lemmas.Bool.{cases_order}
@@ -10,18 +11,20 @@ use Rattle.mate_num.specs.declared.id.FunId.{FunId}
 use Rattle.mate_num.specs.declared.resource.Resource.{Resource}
 use Rattle.mate_num.specs.declared.resource.Resource.TheVariants.{Device}
 use Rattle.mate_journal.specs.Machine.{Machine, HeldProgram}
-use Rattle.mate_journal.specs.Journal.{Told, Posted, Dropped, Started, Asked, Answered, Ended, Installed, Reset, Seen, Void, Event, Phase, Ready, Waiting, is_live, is_started, Invocation, Reading, heard, AtEachEntry, AtEachPlace}
-use Rattle.mate_journal.specs.WellFormed.{MayFollow}
-use Rattle.mate_journal.specs.Serial.{RunsSoFar}
+use Rattle.mate_journal.specs.Journal.{Told, Posted, Dropped, Started, Asked, Answered, Ended, Installed, Reset, Seen, Void, Event, Phase, Ready, Waiting, is_live, is_started, Invocation, Reading, nothing_heard, heard, heard_all, AtEachEntry, AtEachPlace}
+use Rattle.mate_journal.specs.WellFormed.{MayFollow, IsWellFormed}
+use Rattle.mate_journal.specs.Serial.{RunsSoFar, IsSerial}
 use Rattle.mate_journal.specs.Stores.{Writes}
-use Rattle.mate_journal.specs.Grants.{AreConflicting, start_of}
-use Rattle.journal_laws.specs.Growth.{GrantsBefore}
+use Rattle.mate_journal.specs.Grants.{AreConflicting, start_of, GrantsInOrder}
+use Rattle.journal_laws.specs.Growth.{GrantsBefore, last_start}
 use Rattle.mate_journal.specs.Positions.{TellsAt, EndsAt, StaysInEra, AreOfOneEra}
 use Rattle.journal_laws.specs.Apart.{IsOrderly}
-use Rattle.mate_journal.specs.Devices.{DeviceOf, WritesWhatItAsks, AsksAt, IsReadBefore, NeverEnds, AsksInOrder}
+use Rattle.mate_journal.specs.Devices.{DeviceOf, WritesWhatItAsks, AsksAt, EndsBefore, CallsInTurn, AsksDevicesInOrder}
+use Rattle.journal_laws.specs.ReadingOrder.{IsReadBefore, NeverEnds, AsksInOrder, ReadsDevicesInOrder}
 use Rattle.journal_laws.proofs.Changed.{untrue}
+use Rattle.journal_laws.proofs.Append.{AtEachEntry-front, AtEachEntry-back, AtEachPlace-back, GrantsBefore-front, GrantsBefore-back, GrantsInOrder-before}
 use Rattle.journal_laws.proofs.Moves.{Moves, started-Moves, asked-Moves, answered-Moves, ended-Moves, posted-Joins, started_live}
-use Rattle.journal_laws.proofs.Apart.{IsNumbered, live_posted, ready_live, ready_started, orderly-step, orderly-apart}
+use Rattle.journal_laws.proofs.Apart.{IsNumbered, live_posted, ready_live, ready_started, orderly-step, orderly-apart, nothing_heard-orderly, orderly-after}
 use Rattle.journal_laws.proofs.Order.{later-step}
 
 -- ---- a started invocation that writes a resource goes on, or ends
@@ -231,11 +234,18 @@ module _ (m : Machine) (device_of : DeviceOf) where
       tells-once es p (Asked j first.fun first.args) (Asked k second.fun second.args) first.tells (subst (λ (i : ℕ). TellsAt es i (Asked k second.fun second.args)) (sym is) second.tells) in
       cc
 
+  pub record IsOrderedPart (r : Reading) (last : ℕ) (es : List Event) (d : DeviceId) : Type 0 where
+    pub in_turn : CallsInTurn device_of d es
+    pub as_read : AsksInOrder device_of d es
+
   pub part-in-order : (r : Reading) (last : ℕ) (es : List Event) (d : DeviceId) → IsOrderly m r → AtEachEntry (MayFollow m) m r es → GrantsBefore m r last es
-      → AtEachEntry (AsksWritten m device_of) m r es → AreOfOneEra es → AsksInOrder device_of d es
-  part-in-order r last es d orderly follow granted written one_era = record { rising = rising; one_open = one_open } where
+      → AtEachEntry (AsksWritten m device_of) m r es → AreOfOneEra es → IsOrderedPart r last es d
+  part-in-order r last es d orderly follow granted written one_era = record { in_turn = record { ended = ended }; as_read = record { rising = rising; one_open = one_open } } where
     right : IsRightPart m device_of r last es
     right = record { orderly = orderly; follow = follow; granted = granted; written = written; one_era = one_era }
+
+    ended : (j k p q : ℕ) → j ≢ k → p < q → AsksAt device_of d es j p → AsksAt device_of d es k q → EndsBefore es j q
+    ended j k p q other below first second = let found = ends-between r last es d j k p q right other below first second in record { place = found.place; ends = found.ends; before = found.before }
 
     rising : (j k p q : ℕ) → j ≢ k → IsReadBefore es j k → AsksAt device_of d es j p → AsksAt device_of d es k q → p < q
     rising j k p q other before first second = by (cases_order p q) where
@@ -254,3 +264,38 @@ module _ (m : Machine) (device_of : DeviceOf) where
       not_two other (inl is) = other (asks-once es d j k p q first second is)
       not_two other (inr (inl below)) = let found = ends-between r last es d j k p q right other below first second in open_j found.place found.ends
       not_two other (inr (inr above)) = let found = ends-between r last es d k j q p right (λ e. other (sym e)) above second first in open_k found.place found.ends
+
+-- ---- of a journal in three parts
+
+era-in-order : (m : Machine) (front era back : List Event) (device_of : DeviceOf) (d : DeviceId) → WritesWhatItAsks device_of m.meaning
+    → AtEachEntry (MayFollow m) m (nothing_heard m) (front ++ (era ++ back)) → AtEachPlace (RunsSoFar m) m (nothing_heard m) (front ++ (era ++ back))
+    → GrantsBefore m (nothing_heard m) 0 (front ++ (era ++ back)) → AreOfOneEra era
+    → IsOrderedPart m device_of (heard_all m (nothing_heard m) front) (last_start 0 front) era d
+era-in-order m front era back device_of d writes follow so_far granted one_era =
+    part-in-order m device_of (heard_all m (nothing_heard m) front) (last_start 0 front) era d
+    (orderly-after m (nothing_heard m) 0 front (AtEachEntry-front (MayFollow m) m (nothing_heard m) front (era ++ back) follow)
+    (GrantsBefore-front m (nothing_heard m) 0 front (era ++ back) granted) (nothing_heard-orderly m))
+    (AtEachEntry-front (MayFollow m) m (heard_all m (nothing_heard m) front) era back (AtEachEntry-back (MayFollow m) m (nothing_heard m) front (era ++ back) follow))
+    (GrantsBefore-front m (heard_all m (nothing_heard m) front) (last_start 0 front) era back (GrantsBefore-back m (nothing_heard m) 0 front (era ++ back) granted))
+    (AtEachEntry-front (AsksWritten m device_of) m (heard_all m (nothing_heard m) front) era back
+    (asks-written m device_of (heard_all m (nothing_heard m) front) (era ++ back) writes (AtEachPlace-back (RunsSoFar m) m (nothing_heard m) front (era ++ back) so_far)))
+    one_era
+
+-- each era of a journal that is right
+each-era : (m : Machine) (es front era back : List Event) (device_of : DeviceOf) (d : DeviceId) → WritesWhatItAsks device_of m.meaning → IsWellFormed m (nothing_heard m) es
+    → IsSerial m (nothing_heard m) es → GrantsInOrder m (nothing_heard m) 0 es → es ≡ front ++ (era ++ back) → AreOfOneEra era
+    → IsOrderedPart m device_of (heard_all m (nothing_heard m) front) (last_start 0 front) era d
+each-era m es front era back device_of d writes right serial granted is one_era =
+    era-in-order m front era back device_of d writes
+    (subst (λ (all : List Event). AtEachEntry (MayFollow m) m (nothing_heard m) all) is right.follow)
+    (subst (λ (all : List Event). AtEachPlace (RunsSoFar m) m (nothing_heard m) all) is serial.so_far)
+    (subst (λ (all : List Event). GrantsBefore m (nothing_heard m) 0 all) is (GrantsInOrder-before m (nothing_heard m) 0 es granted))
+    one_era
+
+pub devices-in-turn : (m : Machine) (es : List Event) (device_of : DeviceOf) → WritesWhatItAsks device_of m.meaning → IsWellFormed m (nothing_heard m) es → IsSerial m (nothing_heard m) es
+    → GrantsInOrder m (nothing_heard m) 0 es → AsksDevicesInOrder device_of es
+devices-in-turn m es device_of writes right serial granted front era back d is one_era = (each-era m es front era back device_of d writes right serial granted is one_era).in_turn
+
+pub devices-as-read : (m : Machine) (es : List Event) (device_of : DeviceOf) → WritesWhatItAsks device_of m.meaning → IsWellFormed m (nothing_heard m) es → IsSerial m (nothing_heard m) es
+    → GrantsInOrder m (nothing_heard m) 0 es → ReadsDevicesInOrder device_of es
+devices-as-read m es device_of writes right serial granted front era back d is one_era = (each-era m es front era back device_of d writes right serial granted is one_era).as_read

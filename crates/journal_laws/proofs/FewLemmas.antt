@@ -14,7 +14,7 @@ use Rattle.mate_journal.specs.Journal.{Told, Posted, Dropped, Started, Asked, An
 use Rattle.mate_journal.specs.WellFormed.{MayFollow}
 use Rattle.mate_journal.specs.Grants.{IsStart}
 use Rattle.mate_journal.specs.Pace.{Pace, no_pace}
-use Rattle.mate_journal.specs.Turns.{Clock, entry_at, Turn, IsTurn, mark_of, after_turn, AreTurns, told_in}
+use Rattle.mate_journal.specs.Turns.{entry_at, Turn, IsTurn, mark_of, after_turn, AreTurns, told_in}
 use Rattle.mate_journal.specs.NodeScript.{Step, Install, Post, StepIn, Run, Answer, Show, ResetNode, Occasion, Installs, IsNotNewer, Answers, IsNotWaiting, Makes, HaveMade}
 use Rattle.mate_journal.specs.declared.report.TheConstants.{RECORDS_MAX}
 use Rattle.mate_journal.proofs.JournalLemmas.{told_by-append}
@@ -168,17 +168,17 @@ entry-inside n end.Halt = refl
 entry-inside n (end.Fault kind) = refl
 entry-inside n (end.Wants f args) = refl
 
-turn-inside : (k : Clock) (m : Machine) (r : Reading) (p : Pace) (instructions : ℕ) (t : Turn) → IsTurn k m r p instructions t → outside t.told ≡ 0
-turn-inside k m r p instructions t turn = elim (cases_lt (p.counts t.invocation + instructions) (mark_of k m r t.invocation)) [
+turn-inside : (m : Machine) (r : Reading) (p : Pace) (instructions : ℕ) (t : Turn) → IsTurn m r p instructions t → outside t.told ≡ 0
+turn-inside m r p instructions t turn = elim (cases_lt (p.counts t.invocation + instructions) (mark_of m r t.invocation)) [
   | inl short ↦ ap outside (turn.short short)
   | inr reached ↦ (let a = turn.reached reached in let starts = starts-inside a.starts a.are_starts in ap outside a.told_is ∙ (let one = entry-inside t.invocation (whole_run m r t.invocation).end in omega (arith, one, starts)))
 ]
 
-turns-inside : (k : Clock) (m : Machine) (r : Reading) (p : Pace) (ts : List Turn) → AreTurns k m r p ts → outside (told_in ts) ≡ 0
-turns-inside k m r p [] turns = refl
-turns-inside k m r p (t ∷ ts) turns =
-    let one = turn-inside k m r p k.quantum t turns.1 in
-    let rest = turns-inside k m (heard_told m r t.told) (after_turn k m r p t) ts turns.2 in
+turns-inside : (m : Machine) (r : Reading) (p : Pace) (ts : List Turn) → AreTurns m r p ts → outside (told_in ts) ≡ 0
+turns-inside m r p [] turns = refl
+turns-inside m r p (t ∷ ts) turns =
+    let one = turn-inside m r p m.quantum t turns.1 in
+    let rest = turns-inside m (heard_told m r t.told) (after_turn m r p t) ts turns.2 in
     let sum = outside-append t.told (told_in ts) in omega (arith, one, rest, sum)
 
 occasion-one : (m : Machine) (r : Reading) (h : HandlerId) (payload : ArrayVec ℤ) (told : List Told) → Occasion m r h payload told → outside told ≤ 1
@@ -191,46 +191,46 @@ install-few : (m : Machine) (r : Reading) (x : HeldProgram) (rest : List Told) (
 install-few m r x rest true is once else_ = occasion-one m (heard m r (Installed x)) x.handler (record { items = [] }) rest (once is)
 install-few m r x rest false is once else_ = let e = ap outside (else_ is) in omega (arith, e)
 
-makes-few : (k : Clock) (m : Machine) (r : Reading) (p : Pace) (step : Step) (told : List Told) (q : Pace) → Makes k m r p step told q → outside told ≤ 3
-makes-few k m r p (Install x) told q made = by made.0 where
-  by : Installs k m r p x told ⊎ IsNotNewer r x told → outside told ≤ 3
+makes-few : (m : Machine) (r : Reading) (p : Pace) (step : Step) (told : List Told) (q : Pace) → Makes m r p step told q → outside told ≤ 3
+makes-few m r p (Install x) told q made = by made.0 where
+  by : Installs m r p x told ⊎ IsNotNewer r x told → outside told ≤ 3
   by (inl i) = let rest = install-few m r x i.rest (m.runs_once x.handler) refl i.once i.else in let e = ap outside i.made in omega (arith, e, rest)
   by (inr n) = let e = ap outside n.made in omega (arith, e)
-makes-few k m r p (Post h payload) told q made = let one = occasion-one m r h payload told made.0 in omega (arith, one)
-makes-few k m r p (StepIn c n) told q (inl t) = let e = turn-inside k m r p n (record { invocation = t.invocation; told = told }) t.turn in omega (arith, e)
-makes-few k m r p (StepIn c n) told q (inr x) = let e = ap outside x.0.made in omega (arith, e)
-makes-few k m r p Run told q made = let e = turns-inside k m r p made.turns made.are_turns in let is = ap outside made.made in omega (arith, e, is)
-makes-few k m r p (Answer c value) told q made = by made.0 where
+makes-few m r p (Post h payload) told q made = let one = occasion-one m r h payload told made.0 in omega (arith, one)
+makes-few m r p (StepIn c n) told q (inl t) = let e = turn-inside m r p n (record { invocation = t.invocation; told = told }) t.turn in omega (arith, e)
+makes-few m r p (StepIn c n) told q (inr x) = let e = ap outside x.0.made in omega (arith, e)
+makes-few m r p Run told q made = let e = turns-inside m r p made.turns made.are_turns in let is = ap outside made.made in omega (arith, e, is)
+makes-few m r p (Answer c value) told q made = by made.0 where
   by : Answers r c value told ⊎ IsNotWaiting r c told → outside told ≤ 3
   by (inl a) = let e = ap outside a.made in omega (arith, e)
   by (inr n) = let e = ap outside n.made in omega (arith, e)
-makes-few k m r p Show told q made = let e = ap outside made.0.made in omega (arith, e)
-makes-few k m r p ResetNode told q made = let e = ap outside made.0.made in omega (arith, e)
+makes-few m r p Show told q made = let e = ap outside made.0.made in omega (arith, e)
+makes-few m r p ResetNode told q made = let e = ap outside made.0.made in omega (arith, e)
 
 -- ---- the run
 
 -- the last event that was begun brings three at most
-made-few : (k : Clock) (m : Machine) (records n : ℕ) (r : Reading) (p : Pace) (steps : List Step) (es : List Event) (q : Pace) → HaveMade k m records n r p steps es q
+made-few : (m : Machine) (records n : ℕ) (r : Reading) (p : Pace) (steps : List Step) (es : List Event) (q : Pace) → HaveMade m records n r p steps es q
     → (outside (told_by es) ≡ 0) ⊎ (records + outside (told_by es) < RECORDS_MAX + 3)
-made-few k m records n r p [] es q made = inl (ap (λ (xs : List Event). outside (told_by xs)) made.0)
-made-few k m records n r p (step ∷ steps) es q made =
-    by (made-few k m (records + length made.1) (suc n) (heard_all m r made.1) made.3 steps made.2 q made.7) where
+made-few m records n r p [] es q made = inl (ap (λ (xs : List Event). outside (told_by xs)) made.0)
+made-few m records n r p (step ∷ steps) es q made =
+    by (made-few m (records + length made.1) (suc n) (heard_all m r made.1) made.3 steps made.2 q made.7) where
       sum : outside (told_by es) ≡ outside (told_by made.1) + outside (told_by made.2)
       sum = ap (λ (xs : List Event). outside (told_by xs)) made.4 ∙ ap outside (told_by-append made.1 made.2) ∙ outside-append (told_by made.1) (told_by made.2)
 
       here : outside (told_by made.1) ≤ 3
-      here = makes-few k m r p step (told_by made.1) made.3 made.6
+      here = makes-few m r p step (told_by made.1) made.3 made.6
 
       by : (outside (told_by made.2) ≡ 0) ⊎ (records + length made.1 + outside (told_by made.2) < RECORDS_MAX + 3) → (outside (told_by es) ≡ 0) ⊎ (records + outside (told_by es) < RECORDS_MAX + 3)
       by (inl none) = let room = made.0 in let few = here in let all = sum in inr (omega (arith, none, room, few, all))
       by (inr few) = let long = outside-all made.1 in let all = sum in inr (omega (arith, few, long, all))
 
 -- a run's log is far from a position's end
-pub run-few : (k : Clock) (m : Machine) (steps : List Step) (es : List Event) (q : Pace) → HaveMade k m 0 1 (nothing_heard m) no_pace steps es q → AtEachEntry (MayFollow m) m (nothing_heard m) es
+pub run-few : (m : Machine) (steps : List Step) (es : List Event) (q : Pace) → HaveMade m 0 1 (nothing_heard m) no_pace steps es q → AtEachEntry (MayFollow m) m (nothing_heard m) es
     → length es ≤ 3 * (RECORDS_MAX + 3)
-run-few k m steps es q made follow =
+run-few m steps es q made follow =
     let all = owing-all m (nothing_heard m) es follow (record { numbered = (nothing_heard-orderly m).numbered }) in
-    by (made-few k m 0 1 (nothing_heard m) no_pace steps es q made) all where
+    by (made-few m 0 1 (nothing_heard m) no_pace steps es q made) all where
       by : (outside (told_by es) ≡ 0) ⊎ (0 + outside (told_by es) < RECORDS_MAX + 3) → length es ≤ 3 * outside (told_by es) + owing (nothing_heard m) → length es ≤ 3 * (RECORDS_MAX + 3)
       by (inl none) all = omega (arith, none, all)
       by (inr few) all = omega (arith, few, all)

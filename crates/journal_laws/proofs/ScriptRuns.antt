@@ -6,7 +6,6 @@ use Rattle.mate_num.specs.declared.call.Stamp.{Stamp}
 use Rattle.mate_journal.specs.Machine.{Machine}
 use Rattle.mate_journal.specs.Journal.{Told, Event, Reading, heard, heard_all, heard_told, told_by}
 use Rattle.mate_journal.specs.Pace.{Pace}
-use Rattle.mate_journal.specs.Turns.{Clock}
 use Rattle.mate_journal.specs.declared.report.TheConstants.{RECORDS_MAX}
 use Rattle.mate_journal.specs.NodeScript.{Step, AreOfEvent, Makes, HaveMade}
 use Rattle.journal_laws.proofs.Append.{heard_all-append}
@@ -21,10 +20,10 @@ heard_all-told m r [] = refl
 heard_all-told m r (e ∷ es) = heard_all-told m (heard m r e.told) es
 
 -- one more step
-pub HaveMade-push : (k : Clock) (m : Machine) (records n : ℕ) (r : Reading) (p : Pace) (steps : List Step) (es : List Event) (q : Pace) (step : Step) (front : List Event) (then : Pace)
-    → HaveMade k m records n r p steps es q → records + length es < RECORDS_MAX → AreOfEvent (n + length steps) front
-    → Makes k m (heard_all m r es) q step (told_by front) then → HaveMade k m records n r p (steps ++ step ∷ []) (es ++ front) then
-HaveMade-push k m records n r p [] es q step front then made room stamps makes =
+pub HaveMade-push : (m : Machine) (records n : ℕ) (r : Reading) (p : Pace) (steps : List Step) (es : List Event) (q : Pace) (step : Step) (front : List Event) (then : Pace)
+    → HaveMade m records n r p steps es q → records + length es < RECORDS_MAX → AreOfEvent (n + length steps) front
+    → Makes m (heard_all m r es) q step (told_by front) then → HaveMade m records n r p (steps ++ step ∷ []) (es ++ front) then
+HaveMade-push m records n r p [] es q step front then made room stamps makes =
     let none : length es ≡ 0 = ap length made.0 in
     let same : n + length {A = Step} [] ≡ n = omega arith in (
       omega arith,
@@ -33,11 +32,11 @@ HaveMade-push k m records n r p [] es q step front then made room stamps makes =
       then,
       ap (λ (all : List Event). all ++ front) made.0 ∙ sym (append-nil front),
       subst (λ (j : ℕ). AreOfEvent j front) same stamps,
-      subst (λ (s : Reading). Makes k m s p step (told_by front) then) (ap (λ (all : List Event). heard_all m r all) made.0)
-          (subst (λ (o : Pace). Makes k m (heard_all m r es) o step (told_by front) then) made.1 makes),
+      subst (λ (s : Reading). Makes m s p step (told_by front) then) (ap (λ (all : List Event). heard_all m r all) made.0)
+          (subst (λ (o : Pace). Makes m (heard_all m r es) o step (told_by front) then) made.1 makes),
       (refl, refl),
     )
-HaveMade-push k m records n r p (first ∷ steps) es q step front then made room stamps makes =
+HaveMade-push m records n r p (first ∷ steps) es q step front then made room stamps makes =
     let long : length es ≡ length made.1 + length made.2 = ap length made.4 ∙ length-append made.1 made.2 in
     let next : n + length (first ∷ steps) ≡ suc n + length steps = omega arith in (
       made.0,
@@ -47,10 +46,10 @@ HaveMade-push k m records n r p (first ∷ steps) es q step front then made room
       ap (λ (all : List Event). all ++ front) made.4 ∙ append_assoc made.1 made.2 front,
       made.5,
       made.6,
-      HaveMade-push k m (records + length made.1) (suc n) (heard_all m r made.1) made.3 steps made.2 q step front then made.7
+      HaveMade-push m (records + length made.1) (suc n) (heard_all m r made.1) made.3 steps made.2 q step front then made.7
           (omega arith)
           (subst (λ (j : ℕ). AreOfEvent j front) next stamps)
-          (subst (λ (s : Reading). Makes k m s q step (told_by front) then) (heard-parts m r es made.1 made.2 made.4) makes),
+          (subst (λ (s : Reading). Makes m s q step (told_by front) then) (heard-parts m r es made.1 made.2 made.4) makes),
     )
 
 -- they are all of its event, at time 0

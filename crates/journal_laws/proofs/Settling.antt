@@ -10,7 +10,7 @@ use Rattle.mate_journal.specs.Journal.{Told, Started, Asked, Ended, Reading, hea
 use Rattle.mate_journal.specs.WellFormed.{IsWaiting}
 use Rattle.mate_journal.specs.Grants.{IsStart}
 use Rattle.mate_journal.specs.Pace.{Pace}
-use Rattle.mate_journal.specs.Turns.{Clock, entry_at, Turn, IsTurn, mark_of, after_turn, AreTurns, told_in, Settles}
+use Rattle.mate_journal.specs.Turns.{entry_at, Turn, IsTurn, mark_of, after_turn, AreTurns, told_in, Settles}
 use Rattle.journal_laws.proofs.Moves.{asked-Moves}
 use Rattle.journal_laws.specs.Waiting.{WaitSmall, asked_of, IsAwaitedBy, AreAwaited, AreFollowing, ends_wait, NoneEndsWait}
 use Rattle.journal_laws.proofs.Staying.{Leaves, AllLeave, waits-same, stays-told}
@@ -45,20 +45,20 @@ mark-of_turn n end.Halt = tt
 mark-of_turn n (end.Fault kind) = tt
 mark-of_turn n (end.Wants f args) = tt
 
-turn-of_turns : (k : Clock) (m : Machine) (r : Reading) (p : Pace) (instructions : ℕ) (t : Turn) → IsTurn k m r p instructions t → AreOfTurns t.told
-turn-of_turns k m r p instructions t turn = elim (cases_lt (p.counts t.invocation + instructions) (mark_of k m r t.invocation)) [
+turn-of_turns : (m : Machine) (r : Reading) (p : Pace) (instructions : ℕ) (t : Turn) → IsTurn m r p instructions t → AreOfTurns t.told
+turn-of_turns m r p instructions t turn = elim (cases_lt (p.counts t.invocation + instructions) (mark_of m r t.invocation)) [
   | inl short ↦ subst (λ (ts : List Told). AreOfTurns ts) (sym (turn.short short)) tt
   | inr reached ↦ (let a = turn.reached reached in
       subst (λ (ts : List Told). AreOfTurns ts) (sym a.told_is) (mark-of_turn t.invocation (whole_run m r t.invocation).end, starts-of_turns a.starts a.are_starts))
 ]
 
-turns-of_turns : (k : Clock) (m : Machine) (r : Reading) (p : Pace) (ts : List Turn) → AreTurns k m r p ts → AreOfTurns (told_in ts)
-turns-of_turns k m r p [] turns = tt
-turns-of_turns k m r p (t ∷ ts) turns =
-    of_turns-append t.told (told_in ts) (turn-of_turns k m r p k.quantum t turns.1) (turns-of_turns k m (heard_told m r t.told) (after_turn k m r p t) ts turns.2)
+turns-of_turns : (m : Machine) (r : Reading) (p : Pace) (ts : List Turn) → AreTurns m r p ts → AreOfTurns (told_in ts)
+turns-of_turns m r p [] turns = tt
+turns-of_turns m r p (t ∷ ts) turns =
+    of_turns-append t.told (told_in ts) (turn-of_turns m r p m.quantum t turns.1) (turns-of_turns m (heard_told m r t.told) (after_turn m r p t) ts turns.2)
 
-pub settles-of_turns : (k : Clock) (m : Machine) (r : Reading) (p : Pace) (told : List Told) (q : Pace) → Settles k m r p told q → AreOfTurns told
-settles-of_turns k m r p told q settles = subst (λ (ts : List Told). AreOfTurns ts) (sym settles.made) (turns-of_turns k m r p settles.turns settles.are_turns)
+pub settles-of_turns : (m : Machine) (r : Reading) (p : Pace) (told : List Told) (q : Pace) → Settles m r p told q → AreOfTurns told
+settles-of_turns m r p told q settles = subst (λ (ts : List Told). AreOfTurns ts) (sym settles.made) (turns-of_turns m r p settles.turns settles.are_turns)
 
 -- ---- who waits stays
 

@@ -8,7 +8,7 @@ use Rattle.mate_num.specs.declared.id.HandlerId.{HandlerId}
 use Rattle.mate_num.specs.declared.store.Store.{Store}
 use Rattle.vm_desc.specs.declared.description.Description.{Description}
 use Rattle.mate_journal.specs.Log.{Log, IsEmpty}
-use Rattle.mate_journal.specs.WellFormed.{IsInTime, start}
+use Rattle.mate_journal.specs.WellFormed.{IsInTime, StampsRise}
 use Rattle.mate_journal.specs.Journal.{journal_of}
 use Rattle.mate_journal.specs.Tidy.{image_named, store_named, names_in, below, IsEntryInRange, IsStoreOf, EventsRise, entry_event, NumbersInOrder}
 use Rattle.mate_journal.specs.declared.entry.Entry.{Entry}
@@ -142,5 +142,8 @@ ordered-from l [] last in_time = tt
 ordered-from l (e ∷ es) last in_time = (in_time.0.event, ordered-from l es e.stamp in_time.1)
 
 -- a journal in time is in order of its events
-pub ordered-in_time : (l : Log) → IsInTime start (journal_of l) → EventsRise entry_event 0 l.entries
-ordered-in_time l in_time = ordered-from l l.entries start in_time
+pub ordered-in_time : (l : Log) → StampsRise (journal_of l) → EventsRise entry_event 0 l.entries
+ordered-in_time l = by l.entries where
+  by : (es : List Stamped) → StampsRise (map (event_of l) es) → EventsRise entry_event 0 es
+  by [] rise = tt
+  by (e ∷ es) rise = (omega arith, ordered-from l es e.stamp rise)

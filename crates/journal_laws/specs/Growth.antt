@@ -6,6 +6,7 @@ use Rattle.mate_num.specs.declared.store.Store.{Store}
 use Rattle.mate_journal.specs.Log.{Log}
 use Rattle.mate_journal.specs.Machine.{Machine}
 use Rattle.mate_journal.specs.Journal.{Event, told_of, Reading, heard, AtEachEntry}
+use Rattle.mate_journal.specs.WellFormed.{NotBefore}
 use Rattle.mate_journal.specs.Grants.{IsGranted, start_of}
 use Rattle.mate_journal.specs.Stores.{is_seen}
 use Rattle.mate_journal.specs.declared.entry.Entry.{Entry}
@@ -52,10 +53,15 @@ pub record AddsStore (l : Log) (store : Store) (after : Log) : Type 0 where
 
 -- ---- what was told last
 
--- the stamp of the last event, `before` where there is none
+-- the stamp of the last event, `before` if there is none
 abbrev pub last_stamp : Stamp → List Event → Stamp
 last_stamp before [] = before
 last_stamp before (e ∷ es) = last_stamp e.stamp es
+
+-- the stamp may come after the journal's last event: any may, if it has none
+abbrev pub FollowsLast : List Event → Stamp → Type 0
+FollowsLast [] at = Unit {0}
+FollowsLast (e ∷ es) at = NotBefore (last_stamp e.stamp es) at
 
 -- the number of the invocation that the last event starts, 0 where it starts none, `before` where there is no event
 abbrev pub last_start : ℕ → List Event → ℕ

@@ -2,3 +2,4 @@ pub mod Growth
 pub mod Apart
 pub mod Progress
 pub mod Waiting
+pub mod ReadingOrder

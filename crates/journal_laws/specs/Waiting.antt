@@ -7,7 +7,7 @@ use Rattle.mate_num.specs.declared.id.HandlerId.{HandlerId}
 use Rattle.mate_journal.specs.Machine.{Machine, IsContextOf}
 use Rattle.mate_journal.specs.Journal.{Told, Asked, Answered, Event, Reading, nothing_heard, heard, heard_told, heard_all, begins_era}
 use Rattle.mate_journal.specs.Pace.{Pace}
-use Rattle.mate_journal.specs.Turns.{Clock, Settles}
+use Rattle.mate_journal.specs.Turns.{Settles}
 use Rattle.mate_journal.specs.WellFormed.{IsWaiting, MayFollow, IsWellFormed}
 
 -- of two invocations that wait, each has a context of its own
@@ -74,17 +74,17 @@ WaitingGoesOn m = (es : List Event) (told : List Told) (n : ℕ) → IsWellForme
 
 -- an invocation that waits goes on waiting, in its context, while turns settle
 abbrev pub SettlingLeavesWaiting : Machine → Type 0
-SettlingLeavesWaiting m = (k : Clock) (r : Reading) (p : Pace) (told : List Told) (q : Pace) (n : ℕ) → Settles k m r p told q
+SettlingLeavesWaiting m = (r : Reading) (p : Pace) (told : List Told) (q : Pace) (n : ℕ) → Settles m r p told q
     → AreFollowing m r told → IsWaiting r n
     → IsWaiting (heard_told m r told) n × (((heard_told m r told).invocations n).context ≡ (r.invocations n).context)
 
 -- what calls while turns settle waits at their end
 abbrev pub SettlingAwaits : Machine → Type 0
-SettlingAwaits m = (k : Clock) (r : Reading) (p : Pace) (told : List Told) (q : Pace) → Settles k m r p told q → AreFollowing m r told
+SettlingAwaits m = (r : Reading) (p : Pace) (told : List Told) (q : Pace) → Settles m r p told q → AreFollowing m r told
     → WaitSmall (heard_told m r told) → AreAwaited (heard_told m r told) told
 
 -- behind a well-formed journal, of a machine with few contexts, turns tell at most two entries for each context while they settle
 abbrev pub SettlingTellsFew : Machine → Type 0
 SettlingTellsFew m = HasFewContexts m → (es : List Event) → IsWellFormed m (nothing_heard m) es →
     let r = heard_all m (nothing_heard m) es in
-    (k : Clock) (p : Pace) (told : List Told) (q : Pace) → Settles k m r p told q → AreFollowing m r told → length told ≤ 32
+    (p : Pace) (told : List Told) (q : Pace) → Settles m r p told q → AreFollowing m r told → length told ≤ 32

@@ -10,6 +10,7 @@ ghost use Rattle.mate_journal.specs.Grants.{GrantsInOrder};
 ghost use Rattle.journal_laws.specs.Apart.{AreApart, EndAsPosted};
 ghost use Rattle.mate_journal.specs.Devices.{DeviceOf, WritesWhatItAsks, AsksDevicesInOrder};
 ghost use Rattle.journal_laws.specs.Progress.{IsNeverStuck};
+ghost use Rattle.journal_laws.specs.ReadingOrder.{ReadsDevicesInOrder};
 
 /// At each place two started live invocations don't conflict.
 pub fn runs_no_conflicting_ones_side_by_side()
@@ -23,13 +24,22 @@ pub fn ends_as_posted()
         IsWellFormed m (nothing_heard m) es → GrantsInOrder m (nothing_heard m) 0 es → EndAsPosted m (nothing_heard m) es }
 {}
 
-/// In each era, and in each part of one, the calls to a device have rising positions where the invocations are read in
-/// the order of their ends, and after them those that never end.
+/// In each era, and in each part of one, of two invocations that call a device, the one that calls first ends before the other
+/// calls.
 pub fn asks_devices_in_order()
     ensures { (m : Machine) (es : List Event) (device_of : DeviceOf) →
         WritesWhatItAsks device_of m.meaning → IsWellFormed m (nothing_heard m) es → IsSerial m (nothing_heard m) es
         → GrantsInOrder m (nothing_heard m) 0 es →
         AsksDevicesInOrder device_of es }
+{}
+
+/// In each era, and in each part of one, the calls to a device have rising positions if the invocations are read in the order of
+/// their ends, and after them those that never end.
+pub fn reads_devices_in_order()
+    ensures { (m : Machine) (es : List Event) (device_of : DeviceOf) →
+        WritesWhatItAsks device_of m.meaning → IsWellFormed m (nothing_heard m) es → IsSerial m (nothing_heard m) es
+        → GrantsInOrder m (nothing_heard m) 0 es →
+        ReadsDevicesInOrder device_of es }
 {}
 
 /// Wherever no start follows, some invocation is ready, or one waits for the outside, or none is live.

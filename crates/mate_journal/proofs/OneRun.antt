@@ -20,7 +20,7 @@ use Rattle.mate_journal.specs.Grants.{GrantsInOrder, AllHeldBack, MayStart, IsSt
 use Rattle.mate_journal.specs.Positions.{TellsAt}
 use Rattle.mate_journal.specs.Devices.{DeviceOf, AsksAt, AsksDevicesInOrder}
 use Rattle.mate_journal.specs.Pace.{Pace, no_pace, paced, gives_way}
-use Rattle.mate_journal.specs.Turns.{Clock, ShowsReady, entry_at, Turn, IsTurn, after_step, Settles}
+use Rattle.mate_journal.specs.Turns.{ShowsReady, entry_at, Turn, IsTurn, after_step, Settles}
 use Rattle.mate_journal.specs.NodeScript.{Step, Install, Post, Run, Whole, IsRunOf, HaveMade, AreOfEvent, Installs, Posts}
 
 abbrev empty : ArrayVec ℤ
@@ -53,14 +53,14 @@ one_run m p =
 abbrev pub one_script : HeldProgram → List Step
 one_script p = Install p ∷ Post main empty ∷ Run ∷ []
 
--- what is asked of the clock, the machine and the program
-pub record RunsToEnd (k : Clock) (m : Machine) (p : HeldProgram) : Type 0 where
+-- what is asked of the machine and the program
+pub record RunsToEnd (m : Machine) (p : HeldProgram) : Type 0 where
   pub context : IsContextOf m main first
   pub not_once : m.runs_once main ≡ false
   pub version : 0 < p.version
   pub closes : Closes (first_run m p).end
   pub calls : (first_run m p).calls ≡ []
-  pub quick : k.mark p m.zero_store empty [] m.turns ≤ k.quantum
+  pub quick : m.meaning.mark p m.zero_store empty [] m.turns ≤ m.quantum
   pub variables : length (first_run m p).store.shared.items ≡ length m.zero_store.shared.items
   pub buffers : length (first_run m p).store.buffers.items ≡ length m.zero_store.buffers.items
 
@@ -95,7 +95,7 @@ TellsAt-behind (e ∷ front) es q t tells =
     let next : length (e ∷ front) + q ≡ suc (length front + q) = omega arith in
     subst (λ (i : ℕ). TellsAt (e ∷ (front ++ es)) i t) (sym next) (TellsAt-behind front es q t tells)
 
-module _ (k : Clock) (m : Machine) (version : ℕ) (image : ArrayVec ℕ) where
+module _ (m : Machine) (version : ℕ) (image : ArrayVec ℕ) where
   abbrev p : HeldProgram
   p = for_main version image
 
@@ -151,13 +151,13 @@ module _ (k : Clock) (m : Machine) (version : ℕ) (image : ArrayVec ℕ) where
   none_queued : (r : Reading) → ((k : ℕ) → (r.invocations k).phase ≡ Queued → ⊥) → AllHeldBack m r
   none_queued r q = λ n e. absurd (q n e)
 
-  pub one_run-well_formed : RunsToEnd k m p → IsWellFormed m (nothing_heard m) (one_run m p)
+  pub one_run-well_formed : RunsToEnd m p → IsWellFormed m (nothing_heard m) (one_run m p)
   one_run-well_formed h = record {
-    in_time = (in_order 0 1 (lit≤ tt), (in_order 1 1 (lit≤ tt), (in_order 1 2 (lit≤ tt), (in_order 2 2 (lit≤ tt), (in_order 2 3 (lit≤ tt), (in_order 3 4 (lit≤ tt), tt))))));
+    in_time = (in_order 1 1 (lit≤ tt), (in_order 1 2 (lit≤ tt), (in_order 2 2 (lit≤ tt), (in_order 2 3 (lit≤ tt), (in_order 3 4 (lit≤ tt), tt)))));
     follow = (tt, (tt, ((refl, refl, h.context, λ n live same. untrue false live refl), (refl, ((refl, h.closes), (tt, tt))))));
   }
 
-  pub one_run-serial : RunsToEnd k m p → IsSerial m (nothing_heard m) (one_run m p)
+  pub one_run-serial : RunsToEnd m p → IsSerial m (nothing_heard m) (one_run m p)
   one_run-serial h = record {
     ends = (tt, (tt, (tt, (tt, ((refl, h.calls), (tt, tt))))));
     so_far = (
@@ -183,7 +183,7 @@ module _ (k : Clock) (m : Machine) (version : ℕ) (image : ArrayVec ℕ) where
     over : RunsSoFar m ended
     over = quiet ended (each_ended IsQuiet refl (λ k _. refl))
 
-  pub one_run-stores : RunsToEnd k m p → ShowsStores m (nothing_heard m) (one_run m p)
+  pub one_run-stores : RunsToEnd m p → ShowsStores m (nothing_heard m) (one_run m p)
   one_run-stores h = record {
     shown = (at_start, (tt, (tt, (tt, (tt, (at_end, tt))))));
     before_eras = (tt, (refl, (tt, (tt, (tt, (tt, tt))))));
@@ -199,7 +199,7 @@ module _ (k : Clock) (m : Machine) (version : ℕ) (image : ArrayVec ℕ) where
       waiting = λ r n w waits. absurd (untrue (is_started (ended.invocations n).phase) w.started (each_ended IsQuiet refl (λ k _. refl) n));
     }
 
-  pub one_run-grants : RunsToEnd k m p → GrantsInOrder m (nothing_heard m) 0 (one_run m p)
+  pub one_run-grants : RunsToEnd m p → GrantsInOrder m (nothing_heard m) 0 (one_run m p)
   one_run-grants h = (
     none_queued (nothing_heard m) (λ k e. cc),
     (
@@ -232,18 +232,18 @@ module _ (k : Clock) (m : Machine) (version : ℕ) (image : ArrayVec ℕ) where
   no_call e n (suc (suc (suc (suc (suc (suc q)))))) f args tells = tells
 
   pub one_run-devices : (device_of : DeviceOf) → AsksDevicesInOrder device_of (one_run m p)
-  one_run-devices device_of front era back d is one_era = record { rising = λ j k q q' _ _ asks _. absurd (no_asks j q asks); one_open = λ j k q q' _ _ asks _. absurd (no_asks j q asks) } where
+  one_run-devices device_of front era back d is one_era = record { ended = λ j k q q' _ _ asks _. absurd (no_asks j q asks) } where
     no_asks : (n q : ℕ) → AsksAt device_of d era n q → ⊥
     no_asks n q asks = no_call (first_run m p).end n (length front + q) asks.fun asks.args
         (subst (λ (es : List Event). TellsAt es (length front + q) (Asked n asks.fun asks.args)) (sym is) (TellsAt-behind front (era ++ back) q (Asked n asks.fun asks.args) (TellsAt-before era back q (Asked n asks.fun asks.args) asks.tells)))
 
-  pub one_run-events : RunsToEnd k m p → IsRunOf k m Whole (one_script p) (one_run m p)
+  pub one_run-events : RunsToEnd m p → IsRunOf m Whole (one_script p) (one_run m p)
   one_run-events h = record {
     done = one_script p;
     left = [];
     front = at 1 (Seen m.zero_store) ∷ at 1 (Installed p) ∷ posting;
     last = at 4 (Seen (first_run m p).store) ∷ [];
-    pace = after_step k m started (gives_way pace_started 1) k.quantum turn;
+    pace = after_step m started (gives_way pace_started 1) m.quantum turn;
     steps_are = refl;
     events_are = refl;
     made = from_install;
@@ -261,7 +261,7 @@ module _ (k : Clock) (m : Machine) (version : ℕ) (image : ArrayVec ℕ) where
     alone : (n : ℕ) (a : Told) → AreOfEvent n (at n a ∷ [])
     alone n a = All-from_recursion (λ (e : Event). e.stamp ≡ record { event = n; time = 0 }) (at n a ∷ []) (refl, tt)
 
-    none_ready : (r : Reading) → ((n : ℕ) → is_started (r.invocations n).phase ≡ false) → {pace : Pace} {seen : Store} → ShowsReady k m r pace seen
+    none_ready : (r : Reading) → ((n : ℕ) → is_started (r.invocations n).phase ≡ false) → {pace : Pace} {seen : Store} → ShowsReady m r pace seen
     none_ready r quiet = record { ready = λ at n w ready. absurd (untrue (is_started (r.invocations n).phase) w.started (quiet n)) }
 
     pace_started : Pace
@@ -270,7 +270,7 @@ module _ (k : Clock) (m : Machine) (version : ℕ) (image : ArrayVec ℕ) where
     turn : Turn
     turn = record { invocation = 1; told = Ended 1 (first_run m p).end ∷ [] }
 
-    installs : Installs k m (nothing_heard m) no_pace p (told_by (at 1 (Seen m.zero_store) ∷ at 1 (Installed p) ∷ []))
+    installs : Installs m (nothing_heard m) no_pace p (told_by (at 1 (Seen m.zero_store) ∷ at 1 (Installed p) ∷ []))
     installs = record {
       seen = m.zero_store;
       rest = [];
@@ -296,14 +296,14 @@ module _ (k : Clock) (m : Machine) (version : ℕ) (image : ArrayVec ℕ) where
     closing (end.Fault kind) closes = refl
     closing (end.Wants f args) closes = absurd closes
 
-    is_turn : IsTurn k m started (gives_way pace_started 1) k.quantum turn
+    is_turn : IsTurn m started (gives_way pace_started 1) m.quantum turn
     is_turn = record {
       ready = refl;
       short = λ few. absurd (omega (arith, few, h.quick));
       reached = λ _. record { starts = []; are_starts = All-from_recursion IsStart [] tt; told_is = ap (λ (t : Told). t ∷ []) (closing (first_run m p).end h.closes) };
     }
 
-    settles : Settles k m started pace_started (told_by running) (after_step k m started (gives_way pace_started 1) k.quantum turn)
+    settles : Settles m started pace_started (told_by running) (after_step m started (gives_way pace_started 1) m.quantum turn)
     settles = record {
       turns = turn ∷ [];
       are_turns = (([], refl), is_turn, tt);
@@ -313,10 +313,10 @@ module _ (k : Clock) (m : Machine) (version : ℕ) (image : ArrayVec ℕ) where
       settled = each_ended (λ k i. i.phase ≡ Ready → ⊥) (λ e. cc) (λ k _ e. cc);
     }
 
-    from_run : HaveMade k m 4 3 started pace_started (Run ∷ []) running (after_step k m started (gives_way pace_started 1) k.quantum turn)
-    from_run = (lit< tt, running, [], after_step k m started (gives_way pace_started 1) k.quantum turn, refl, alone 3 (Ended 1 (first_run m p).end), settles, (refl, refl))
+    from_run : HaveMade m 4 3 started pace_started (Run ∷ []) running (after_step m started (gives_way pace_started 1) m.quantum turn)
+    from_run = (lit< tt, running, [], after_step m started (gives_way pace_started 1) m.quantum turn, refl, alone 3 (Ended 1 (first_run m p).end), settles, (refl, refl))
 
-    from_post : HaveMade k m 2 2 installed no_pace (Post main empty ∷ Run ∷ []) posting (after_step k m started (gives_way pace_started 1) k.quantum turn)
+    from_post : HaveMade m 2 2 installed no_pace (Post main empty ∷ Run ∷ []) posting (after_step m started (gives_way pace_started 1) m.quantum turn)
     from_post = (
       lit< tt,
       at 2 (Posted 1 main first empty) ∷ at 2 (Started 1) ∷ [],
@@ -328,7 +328,7 @@ module _ (k : Clock) (m : Machine) (version : ℕ) (image : ArrayVec ℕ) where
       from_run,
     )
 
-    from_install : HaveMade k m 0 1 (nothing_heard m) no_pace (one_script p) (at 1 (Seen m.zero_store) ∷ at 1 (Installed p) ∷ posting) (after_step k m started (gives_way pace_started 1) k.quantum turn)
+    from_install : HaveMade m 0 1 (nothing_heard m) no_pace (one_script p) (at 1 (Seen m.zero_store) ∷ at 1 (Installed p) ∷ posting) (after_step m started (gives_way pace_started 1) m.quantum turn)
     from_install = (
       lit< tt,
       at 1 (Seen m.zero_store) ∷ at 1 (Installed p) ∷ [],

@@ -36,6 +36,7 @@ abbrev pub machine_of : Description → Meaning → Machine
 machine_of d meaning = record {
   zero_store = zero_store (length d.shared.items) (length d.buffers.items);
   turns = d.turns;
+  quantum = d.quantum;
   first_context = λ h. first_context d.handlers.items h.0;
   contexts = λ h. contexts_of (slice_get d.handlers.items h.0);
   runs_once = λ h. runs_once (slice_get d.handlers.items h.0);

@@ -154,11 +154,13 @@ in_phase phase i = record i { phase = phase }
 abbrev pub answers_of : Invocation → List ℤ
 answers_of i = map (λ (call : Call). call.result) i.calls
 
--- the whole run of an invocation on the serial store, with the answers that it got
+-- what an invocation's program gives on the serial store, with the answers that it got
+abbrev pub on_serial : {A : Type 0} → (HeldProgram → Store → ArrayVec ℤ → List ℤ → ℕ → A) → Machine → Reading → ℕ → A
+on_serial f m r n = let i = r.invocations n in f i.program r.serial i.payload (answers_of i) m.turns
+
+-- the whole run of an invocation
 abbrev pub whole_run : Machine → Reading → ℕ → Outcome
-whole_run m r n =
-    let i = r.invocations n in
-    m.meaning.run i.program r.serial i.payload (answers_of i) m.turns
+whole_run m = on_serial m.meaning.run m
 
 -- the calls of an invocation, with the one that it waits in and its answer
 abbrev answered : Phase → ℤ → List Call → List Call

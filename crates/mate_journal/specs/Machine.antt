@@ -15,18 +15,22 @@ pub record HeldProgram : Type 0 where
   pub version : ℕ
   pub image : ArrayVec ℕ
 
--- what programs mean: the run of one on a store, a payload, the answers to its calls and a number of turns,
--- and the resources that it may read and write
+-- What programs mean: the run of one on a store, a payload, the answers to its calls and a number of turns, and the resources
+-- that it may read and write. By instructions: how many its installed code executes in such a run until it next waits or
+-- is over (its mark), and its store after so many.
 pub record Meaning : Type 0 where
   pub run : HeldProgram → Store → ArrayVec ℤ → List ℤ → ℕ → Outcome
   pub uses : HeldProgram → Uses
+  pub mark : HeldProgram → Store → ArrayVec ℤ → List ℤ → ℕ → ℕ
+  pub after : ℕ → HeldProgram → Store → ArrayVec ℤ → List ℤ → ℕ → Store
 
--- a machine: its store at the beginning of an era, the turns of an invocation, the first context of each handler
--- and how many it has, the handlers that run once at each of their installs, the device that each function speaks to, if
--- any, and what programs mean
+-- a machine: its store at the beginning of an era, the turns of an invocation's loops, the instructions of each turn that
+-- it has in a run, the first context of each handler and how many it has, the handlers that run once at each of their
+-- installs, the device that each function speaks to, if any, and what programs mean
 pub record Machine : Type 0 where
   pub zero_store : Store
   pub turns : ℕ
+  pub quantum : ℕ
   pub first_context : HandlerId → ℕ
   pub contexts : HandlerId → ℕ
   pub runs_once : HandlerId → Bool

@@ -8,16 +8,15 @@ use Rattle.mate_journal.specs.Serial.{IsSerial}
 use Rattle.mate_journal.specs.Stores.{ShowsStores}
 use Rattle.mate_journal.specs.Grants.{GrantsInOrder}
 use Rattle.mate_journal.specs.Devices.{AsksDevicesInOrder}
-use Rattle.mate_journal.specs.Turns.{Clock}
 use Rattle.mate_journal.specs.NodeScript.{Step, RunEnd, IsRunOf}
 
 -- The journal of the log is well formed; its invocations, run whole and one at a time in the order of their ends, give
 -- what it tells; it shows stores as they are; an invocation waits to start only for conflicting ones; in each
--- era the calls to a device are in order; and its events are those of the steps, in turns by the clock.
-pub record IsNodeRun (k : Clock) (m : Machine) (how : RunEnd) (steps : List Step) (l : Log) : Type 0 where
+-- era the calls to a device are in order; and its events are those of the steps, in turns.
+pub record IsNodeRun (m : Machine) (how : RunEnd) (steps : List Step) (l : Log) : Type 0 where
   pub well_formed : IsWellFormed m (nothing_heard m) (journal_of l)
   pub serial : IsSerial m (nothing_heard m) (journal_of l)
   pub stores : ShowsStores m (nothing_heard m) (journal_of l)
   pub grants : GrantsInOrder m (nothing_heard m) 0 (journal_of l)
   pub devices : AsksDevicesInOrder m.device_of (journal_of l)
-  pub events : IsRunOf k m how steps (journal_of l)
+  pub events : IsRunOf m how steps (journal_of l)

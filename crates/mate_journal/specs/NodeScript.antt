@@ -12,7 +12,7 @@ use Rattle.mate_journal.specs.Journal.{Told, Posted, Dropped, Answered, Installe
 use Rattle.mate_journal.specs.WellFormed.{IsIdle, IsBusy, IsWaiting}
 use Rattle.mate_journal.specs.Grants.{IsStart}
 use Rattle.mate_journal.specs.Pace.{Pace, no_pace, paced_all}
-use Rattle.mate_journal.specs.Turns.{Clock, ShowsReady, IsTurn, after_step, Settles}
+use Rattle.mate_journal.specs.Turns.{ShowsReady, IsTurn, after_step, Settles}
 
 -- a step of a node script
 pub data Step : Type 0 where
@@ -59,10 +59,10 @@ abbrev pub Occasion : Machine → Reading → HandlerId → ArrayVec ℤ → Lis
 Occasion m r h payload entries = DropsNoCode r h entries ⊎ DropsAllBusy m r h entries ⊎ Posts m r h payload entries
 
 -- a newer capsule is installed; a handler that runs once is then posted with an empty payload
-pub record Installs (k : Clock) (m : Machine) (r : Reading) (p : Pace) (x : HeldProgram) (entries : List Told) : Type 0 where
+pub record Installs (m : Machine) (r : Reading) (p : Pace) (x : HeldProgram) (entries : List Told) : Type 0 where
   pub seen : Store
   pub rest : List Told
-  pub shown : ShowsReady k m r p seen
+  pub shown : ShowsReady m r p seen
   pub newer : held r x.handler < x.version
   pub made : entries ≡ Seen seen ∷ Installed x ∷ rest
   pub once : IsTrue (m.runs_once x.handler) → Occasion m (heard m r (Installed x)) x.handler (record { items = [] }) rest
@@ -80,11 +80,11 @@ pub record IsReadyIn (r : Reading) (c : ContextId) : Type 0 where
   pub context : (r.invocations invocation).context ≡ c
 
 -- the ready invocation in the context has one turn of so many instructions
-pub record TurnsIn (k : Clock) (m : Machine) (r : Reading) (p : Pace) (c : ContextId) (instructions : ℕ) (entries : List Told) (q : Pace) : Type 0 where
+pub record TurnsIn (m : Machine) (r : Reading) (p : Pace) (c : ContextId) (instructions : ℕ) (entries : List Told) (q : Pace) : Type 0 where
   pub invocation : ℕ
   pub context : (r.invocations invocation).context ≡ c
-  pub turn : IsTurn k m r p instructions record { invocation = invocation; told = entries }
-  pub then : q ≡ after_step k m r p instructions record { invocation = invocation; told = entries }
+  pub turn : IsTurn m r p instructions record { invocation = invocation; told = entries }
+  pub then : q ≡ after_step m r p instructions record { invocation = invocation; told = entries }
 
 pub record IsNotReady (r : Reading) (c : ContextId) (entries : List Told) : Type 0 where
   pub none : IsReadyIn r c → ⊥
@@ -102,14 +102,14 @@ pub record IsNotWaiting (r : Reading) (c : ContextId) (entries : List Told) : Ty
   pub made : entries ≡ Void void.NotWaiting ∷ []
 
 -- the store is seen, and nothing else
-pub record ShowsOnce (k : Clock) (m : Machine) (r : Reading) (p : Pace) (entries : List Told) : Type 0 where
+pub record ShowsOnce (m : Machine) (r : Reading) (p : Pace) (entries : List Told) : Type 0 where
   pub seen : Store
-  pub shown : ShowsReady k m r p seen
+  pub shown : ShowsReady m r p seen
   pub made : entries ≡ Seen seen ∷ []
 
-pub record Resets (k : Clock) (m : Machine) (r : Reading) (p : Pace) (entries : List Told) : Type 0 where
+pub record Resets (m : Machine) (r : Reading) (p : Pace) (entries : List Told) : Type 0 where
   pub seen : Store
-  pub shown : ShowsReady k m r p seen
+  pub shown : ShowsReady m r p seen
   pub made : entries ≡ Seen seen ∷ Reset ∷ []
 
 -- the entries change the pace one by one: no instruction is executed
@@ -117,14 +117,14 @@ abbrev pub IsPacedBy : Pace → List Told → Pace → Type 0
 IsPacedBy p told q = q ≡ paced_all p told
 
 -- what a step tells, at what was heard before it and the pace before it, and the pace after it
-abbrev pub Makes : Clock → Machine → Reading → Pace → Step → List Told → Pace → Type 0
-Makes k m r p (Install x) told q = (Installs k m r p x told ⊎ IsNotNewer r x told) × IsPacedBy p told q
-Makes k m r p (Post h payload) told q = Occasion m r h payload told × IsPacedBy p told q
-Makes k m r p (StepIn c n) told q = TurnsIn k m r p c n told q ⊎ (IsNotReady r c told × IsPacedBy p told q)
-Makes k m r p Run told q = Settles k m r p told q
-Makes k m r p (Answer c value) told q = (Answers r c value told ⊎ IsNotWaiting r c told) × IsPacedBy p told q
-Makes k m r p Show told q = ShowsOnce k m r p told × IsPacedBy p told q
-Makes k m r p ResetNode told q = Resets k m r p told × IsPacedBy p told q
+abbrev pub Makes : Machine → Reading → Pace → Step → List Told → Pace → Type 0
+Makes m r p (Install x) told q = (Installs m r p x told ⊎ IsNotNewer r x told) × IsPacedBy p told q
+Makes m r p (Post h payload) told q = Occasion m r h payload told × IsPacedBy p told q
+Makes m r p (StepIn c n) told q = TurnsIn m r p c n told q ⊎ (IsNotReady r c told × IsPacedBy p told q)
+Makes m r p Run told q = Settles m r p told q
+Makes m r p (Answer c value) told q = (Answers r c value told ⊎ IsNotWaiting r c told) × IsPacedBy p told q
+Makes m r p Show told q = ShowsOnce m r p told × IsPacedBy p told q
+Makes m r p ResetNode told q = Resets m r p told × IsPacedBy p told q
 
 -- all of one event, at time 0
 abbrev pub AreOfEvent : ℕ → List Event → Type 0
@@ -132,17 +132,17 @@ AreOfEvent n es = All (λ (e : Event). e.stamp ≡ record { event = n; time = 0 
 
 -- These steps made these events, one event each, and the pace after them is q. `records` stood before the first of them,
 -- which is event n. An event is begun only where fewer than 1,000,000 records stand before it.
-abbrev pub HaveMade : Clock → Machine → ℕ → ℕ → Reading → Pace → List Step → List Event → Pace → Type 0
-HaveMade k m records n r p [] es q = (es ≡ []) × (q ≡ p)
-HaveMade k m records n r p (step ∷ steps) es q =
+abbrev pub HaveMade : Machine → ℕ → ℕ → Reading → Pace → List Step → List Event → Pace → Type 0
+HaveMade m records n r p [] es q = (es ≡ []) × (q ≡ p)
+HaveMade m records n r p (step ∷ steps) es q =
     (records < records_max)
     × (front : List Event)
     × (rest : List Event)
     × (then : Pace)
     × (es ≡ front ++ rest)
     × AreOfEvent n front
-    × Makes k m r p step (told_by front) then
-    × HaveMade k m (records + length front) (suc n) (heard_all m r front) then steps rest q
+    × Makes m r p step (told_by front) then
+    × HaveMade m (records + length front) (suc n) (heard_all m r front) then steps rest q
 
 -- how a run ends: it is whole, its log is full, or it was cut from outside after a step
 pub data RunEnd : Type 0 where
@@ -152,13 +152,13 @@ pub data RunEnd : Type 0 where
 
 -- the last events, where these steps are left before event n: a whole run has none left, and ends with the store seen
 -- under the next number; a full one stops before a step, where 1,000,000 records stand or more
-abbrev pub EndsRun : Clock → Machine → RunEnd → ℕ → ℕ → Reading → Pace → List Step → List Event → Type 0
-EndsRun k m Whole records n r p left es = (left ≡ []) × ShowsOnce k m r p (told_by es) × AreOfEvent n es
-EndsRun k m Full records n r p left es = (left ≢ []) × (records_max ≤ records) × (es ≡ [])
-EndsRun k m Cut records n r p left es = es ≡ []
+abbrev pub EndsRun : Machine → RunEnd → ℕ → ℕ → Reading → Pace → List Step → List Event → Type 0
+EndsRun m Whole records n r p left es = (left ≡ []) × ShowsOnce m r p (told_by es) × AreOfEvent n es
+EndsRun m Full records n r p left es = (left ≢ []) × (records_max ≤ records) × (es ≡ [])
+EndsRun m Cut records n r p left es = es ≡ []
 
 -- the k-th step is event k, at time 0: the steps that were done made the events in front, and the run ends so
-pub record IsRunOf (k : Clock) (m : Machine) (how : RunEnd) (steps : List Step) (es : List Event) : Type 0 where
+pub record IsRunOf (m : Machine) (how : RunEnd) (steps : List Step) (es : List Event) : Type 0 where
   pub done : List Step
   pub left : List Step
   pub front : List Event
@@ -166,5 +166,5 @@ pub record IsRunOf (k : Clock) (m : Machine) (how : RunEnd) (steps : List Step) 
   pub pace : Pace
   pub steps_are : steps ≡ done ++ left
   pub events_are : es ≡ front ++ last
-  pub made : HaveMade k m 0 1 (nothing_heard m) no_pace done front pace
-  pub ends : EndsRun k m how (length front) (suc (length done)) (heard_all m (nothing_heard m) front) pace left last
+  pub made : HaveMade m 0 1 (nothing_heard m) no_pace done front pace
+  pub ends : EndsRun m how (length front) (suc (length done)) (heard_all m (nothing_heard m) front) pace left last

@@ -52,15 +52,16 @@ pub record NotBefore (old new : Stamp) : Type 0 where
   pub time : old.time ≤ new.time
   pub same : old.event ≡ new.event → old.time ≡ new.time
 
--- stamps never fall along the journal
+-- stamps never fall along events that follow one of this stamp
 abbrev pub IsInTime : Stamp → List Event → Type 0
 IsInTime last [] = Unit {0}
 IsInTime last (e ∷ es) = NotBefore last e.stamp × IsInTime e.stamp es
 
--- the beginning of time
-abbrev pub start : Stamp
-start = record { event = 0; time = 0 }
+-- stamps never fall along the journal, whatever its first one is
+abbrev pub StampsRise : List Event → Type 0
+StampsRise [] = Unit {0}
+StampsRise (e ∷ es) = IsInTime e.stamp es
 
 pub record IsWellFormed (m : Machine) (r : Reading) (es : List Event) : Type 0 where
-  pub in_time : IsInTime start es
+  pub in_time : StampsRise es
   pub follow : AtEachEntry (MayFollow m) m r es

@@ -8,6 +8,8 @@ pub mod open_log;
 pub mod past;
 pub mod program;
 pub mod report;
+pub mod shared_script;
+pub mod stored_image;
 
 pub use air::{Air, Aired, Airs};
 pub use entry::{DropCause, Entry, Stamped, VoidCause};
@@ -17,3 +19,5 @@ pub use packed_log::{ImageRef, Images, StoreRef, Stores};
 pub use past::Past;
 pub use program::{Program, Programs};
 pub use report::{IntoFault, NodeLogs, RECORDS_MAX, Report, RunFault};
+pub use shared_script::SharedScript;
+pub use stored_image::StoredImage;

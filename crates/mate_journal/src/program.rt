@@ -1,16 +1,17 @@
 //! The programs of a run.
 
-use mate_num::{HandlerId, Image, Items};
-use ts_syntax::Checked;
+use crate::shared_script::SharedScript;
+use crate::stored_image::StoredImage;
+use mate_num::{HandlerId, Items};
 
 /// A program: the image of a capsule for the handler, with its source where the program was compiled, and without
-/// one where the image was loaded.
+/// one where the image was loaded. Programs of one file share their source.
 pub struct Program {
     pub handler: HandlerId,
     /// 1 to 4294967295.
     pub version: u32,
-    pub source: Option<Checked>,
-    pub image: Image,
+    pub source: Option<SharedScript>,
+    pub image: StoredImage,
 }
 
 /// What is to be dropped of it is dropped in one function, and so by one call wherever a program ends.

@@ -35,7 +35,6 @@ use Rattle.node_invariant.specs.Pace.{IsPace}
 use Rattle.node_invariant.specs.Starting.{KeepsOrder, Rests}
 use Rattle.node_invariant.proofs.TotalLemmas.{over_all-becomes}
 use Rattle.node_invariant.proofs.OrderLemmas.{live-above, grows-by, heard-by}
-use Rattle.node_invariant.specs.Meaning.{clock_of}
 use Rattle.node_calls.specs.Pacing.{most, HasGoneOn, HasMoved, TakesTurn}
 use Rattle.node_calls.proofs.RunningLemmas.{one, one-ready, one-below, one-within, one-few, HasGoneOn-ready}
 use Rattle.node_calls.proofs.TurnLemmas.{pace-leaves, pace-stays, now-inv, now-count, mark-is, end-is}
@@ -131,29 +130,29 @@ module _ (d : Description) (old mid : Parts) (c : ContextId) (b : ℕ) (rests : 
     posts = g.posts;
   } where
     mark : ℕ
-    mark = mark_of (clock_of d) (machine_in d) (reading d old.log.all) s.inv
+    mark = mark_of (machine_in d) (reading d old.log.all) s.inv
 
-    below : s.count + b < mark_of (clock_of d) (machine_in d) (reading d old.log.all) s.inv
+    below : s.count + b < mark_of (machine_in d) (reading d old.log.all) s.inv
     below =
         let h = one-below d mid c g.order.keeps ready-mid in
-        let P : Log → Type 0 = λ l. t.count < mark_of (clock_of d) (machine_in d) (reading d l) t.inv in
-        let Q : ℕ → Type 0 = λ k. t.count < mark_of (clock_of d) (machine_in d) (reading d old.log.all) k in
+        let P : Log → Type 0 = λ l. t.count < mark_of (machine_in d) (reading d l) t.inv in
+        let Q : ℕ → Type 0 = λ k. t.count < mark_of (machine_in d) (reading d old.log.all) k in
         let count = mid-count in
         let lower = subst Q mid-inv (subst P all-same h) in
         omega arith
 
-    turn : (p : Pace) → IsPace (reading d old.log.all) old.contexts p → IsTurn (clock_of d) (machine_in d) (reading d old.log.all) p b record { invocation = s.inv; told = [] }
+    turn : (p : Pace) → IsPace (reading d old.log.all) old.contexts p → IsTurn (machine_in d) (reading d old.log.all) p b record { invocation = s.inv; told = [] }
     turn p pace = record {
       ready = one-ready d old c keeps is_ready;
       short = λ _. refl;
       reached = λ above. absurd (let count = count-old p pace in let lower = below in omega arith);
     }
 
-    pace-now : (p : Pace) → IsPace (reading d old.log.all) old.contexts p → IsPace (reading d mid.log.all) mid.contexts (after_step (clock_of d) (machine_in d) (reading d old.log.all) p b record { invocation = s.inv; told = [] })
+    pace-now : (p : Pace) → IsPace (reading d old.log.all) old.contexts p → IsPace (reading d mid.log.all) mid.contexts (after_step (machine_in d) (reading d old.log.all) p b record { invocation = s.inv; told = [] })
     pace-now p pace =
         let count = count-old p pace in
         let lower = below in
-        let is : s.count + b ≡ min (p.counts s.inv + b) (mark_of (clock_of d) (machine_in d) (reading d old.log.all) s.inv) = omega arith in
+        let is : s.count + b ≡ min (p.counts s.inv + b) (mark_of (machine_in d) (reading d old.log.all) s.inv) = omega arith in
         let P : ℕ → Type 0 = λ k. IsPace (reading d mid.log.all) mid.contexts record { line = p.line; counts = changed p.counts s.inv k } in
         subst P is
         (pace-stays (reading d old.log.all) (reading d mid.log.all) old.contexts mid.contexts c later s.inv (s.count + b) alone-old number-old above-old g.becomes
@@ -187,11 +186,11 @@ module _ (d : Description) (old mid : Parts) (c : ContextId) (b : ℕ) (rests : 
     heard-old : reading d log.all ≡ heard (machine_in d) (reading d old.log.all) told
     heard-old = let P : Log → Type 0 = λ l. reading d log.all ≡ heard (machine_in d) (reading d l) told in subst P all-same heard-mid
 
-    mark-old : mark_of (clock_of d) (machine_in d) (reading d old.log.all) s.inv ≡ s.count + b + 1
+    mark-old : mark_of (machine_in d) (reading d old.log.all) s.inv ≡ s.count + b + 1
     mark-old =
         let m = mark-is d mid contexts heap c how g.order.keeps ready-mid ex e status counts in
-        let P : Log → Type 0 = λ l. mark_of (clock_of d) (machine_in d) (reading d l) t.inv ≡ t.count + 1 in
-        let Q : ℕ → Type 0 = λ j. mark_of (clock_of d) (machine_in d) (reading d old.log.all) j ≡ t.count + 1 in
+        let P : Log → Type 0 = λ l. mark_of (machine_in d) (reading d l) t.inv ≡ t.count + 1 in
+        let Q : ℕ → Type 0 = λ j. mark_of (machine_in d) (reading d old.log.all) j ≡ t.count + 1 in
         subst Q mid-inv (subst P all-same m) ∙ ap (λ (n : ℕ). n + 1) mid-count
 
     entry-is : told ≡ entry_at s.inv (whole_run (machine_in d) (reading d old.log.all) s.inv).end
@@ -205,20 +204,20 @@ module _ (d : Description) (old mid : Parts) (c : ContextId) (b : ℕ) (rests : 
     kept-old j other =
         ap (λ (r : Reading). r.invocations j) heard-mid ∙ kept j (λ same. other (same ∙ mid-inv)) ∙ ap (λ (l : Log). (reading d l).invocations j) all-same
 
-    pace-new : (p : Pace) → IsPace (reading d old.log.all) old.contexts p → (mark_of (clock_of d) (machine_in d) (reading d old.log.all) s.inv ≤ p.counts s.inv + k)
-        × (p.counts s.inv + ran ≡ mark_of (clock_of d) (machine_in d) (reading d old.log.all) s.inv)
-        × IsPace (reading d log.all) after (paced_all (record p { counts = changed p.counts s.inv (min (p.counts s.inv + k) (mark_of (clock_of d) (machine_in d) (reading d old.log.all) s.inv)) }) (told ∷ []))
+    pace-new : (p : Pace) → IsPace (reading d old.log.all) old.contexts p → (mark_of (machine_in d) (reading d old.log.all) s.inv ≤ p.counts s.inv + k)
+        × (p.counts s.inv + ran ≡ mark_of (machine_in d) (reading d old.log.all) s.inv)
+        × IsPace (reading d log.all) after (paced_all (record p { counts = changed p.counts s.inv (min (p.counts s.inv + k) (mark_of (machine_in d) (reading d old.log.all) s.inv)) }) (told ∷ []))
     pace-new p pace =
         let count = count-old p pace in
         let mark = mark-old in
-        let is : s.count + b + 1 ≡ min (p.counts s.inv + k) (mark_of (clock_of d) (machine_in d) (reading d old.log.all) s.inv) = omega arith in
+        let is : s.count + b + 1 ≡ min (p.counts s.inv + k) (mark_of (machine_in d) (reading d old.log.all) s.inv) = omega arith in
         let P : ℕ → Type 0 = λ n. IsPace (reading d log.all) after record { line = others p.line s.inv; counts = changed p.counts s.inv n } in
         let Q : Pace → Type 0 = λ x. IsPace (reading d log.all) after x in
-        let R : ℕ → Type 0 = λ n. paced (record p { counts = changed p.counts s.inv (min (p.counts s.inv + k) (mark_of (clock_of d) (machine_in d) (reading d old.log.all) s.inv)) }) told ≡
-        record { line = others p.line n; counts = changed p.counts s.inv (min (p.counts s.inv + k) (mark_of (clock_of d) (machine_in d) (reading d old.log.all) s.inv)) } in (
+        let R : ℕ → Type 0 = λ n. paced (record p { counts = changed p.counts s.inv (min (p.counts s.inv + k) (mark_of (machine_in d) (reading d old.log.all) s.inv)) }) told ≡
+        record { line = others p.line n; counts = changed p.counts s.inv (min (p.counts s.inv + k) (mark_of (machine_in d) (reading d old.log.all) s.inv)) } in (
           omega arith,
           omega arith,
-          subst Q (sym (subst R mid-inv (paced-is (record p { counts = changed p.counts s.inv (min (p.counts s.inv + k) (mark_of (clock_of d) (machine_in d) (reading d old.log.all) s.inv)) }))))
+          subst Q (sym (subst R mid-inv (paced-is (record p { counts = changed p.counts s.inv (min (p.counts s.inv + k) (mark_of (machine_in d) (reading d old.log.all) s.inv)) }))))
               (subst P is
               (pace-leaves (reading d old.log.all) (reading d log.all) old.contexts after c a s.inv (s.count + b + 1) alone-old number-old above-old becomes-old kept-old
               (λ u f. (let same = here u f in

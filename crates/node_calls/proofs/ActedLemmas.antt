@@ -43,7 +43,6 @@ use Rattle.mate_journal.specs.Turns.{mark_of, entry_at}
 use Rattle.node_invariant.specs.Starting.{KeepsOrder, IsStarting, Rests, StartsAll}
 use Rattle.node_invariant.proofs.WaiterLemmas.{all-held-moves}
 use Rattle.node_invariant.proofs.OrderLemmas.{IsQueue-becomes, KeepsOrder-push, heard-by, last-by, IsStarting-first}
-use Rattle.node_invariant.specs.Meaning.{clock_of}
 use Rattle.node_calls.specs.Pacing.{most, HasGoneOn, HasStopped, HasMoved, TakesTurn}
 use Rattle.node_calls.proofs.RunningLemmas.{one, one-within}
 use Rattle.node_calls.proofs.ActLemmas.{ready-mid, number-mid, held-mid, HasMoved-from}
@@ -53,13 +52,13 @@ stood : (d : Description) (s : Parts) (c : ContextId) (keeps : Keeps d s) (is_re
 stood d s c keeps is_ready = stood_ready (machine_in d) (held_at s.handlers.programs) (reading d s.log.all) s.contexts c keeps.fits is_ready
 
 -- its mark is within the bound
-mark-within : (d : Description) (s : Parts) (c : ContextId) (keeps : Keeps d s) (is_ready : (at s.contexts c).ready ≡ true) → mark_of (clock_of d) (machine_in d) (reading d s.log.all) (invocation_in s.contexts c) ≤ most d
+mark-within : (d : Description) (s : Parts) (c : ContextId) (keeps : Keeps d s) (is_ready : (at s.contexts c).ready ≡ true) → mark_of (machine_in d) (reading d s.log.all) (invocation_in s.contexts c) ≤ most d
 mark-within d s c keeps is_ready =
-    let P : ℕ → Type 0 = λ j. mark_of (clock_of d) (machine_in d) (reading d s.log.all) j ≤ most d in
+    let P : ℕ → Type 0 = λ j. mark_of (machine_in d) (reading d s.log.all) j ≤ most d in
     subst P (sym (ap number_at (one d s c keeps is_ready).is)) (one-within d s c keeps is_ready)
 
 -- a turn that told its entry, with no start after it
-pub TakesTurn-told : (d : Description) (old next : Parts) (at_ : Stamp) (c : ContextId) (k ran : ℕ) (told : Told) → HasMoved d old next at_ c k ran told → AllHeldBack (machine_in d) (reading d next.log.all) → mark_of (clock_of d) (machine_in d) (reading d old.log.all) (invocation_in old.contexts c) ≤ most d → TakesTurn d old next at_ c k ran
+pub TakesTurn-told : (d : Description) (old next : Parts) (at_ : Stamp) (c : ContextId) (k ran : ℕ) (told : Told) → HasMoved d old next at_ c k ran told → AllHeldBack (machine_in d) (reading d next.log.all) → mark_of (machine_in d) (reading d old.log.all) (invocation_in old.contexts c) ≤ most d → TakesTurn d old next at_ c k ran
 TakesTurn-told d old next at_ c k ran told m held within = record {
   invocation = m.invocation;
   number = m.number;
@@ -75,7 +74,7 @@ TakesTurn-told d old next at_ c k ran told m held within = record {
     (let above = h.0 in let ran_is = h.1 in omega arith),
     h.2,
   ));
-  within = (let P : ℕ → Type 0 = λ j. mark_of (clock_of d) (machine_in d) (reading d old.log.all) j ≤ most d in subst P m.number within);
+  within = (let P : ℕ → Type 0 = λ j. mark_of (machine_in d) (reading d old.log.all) j ≤ most d in subst P m.number within);
   owed = (let e = m.owed in let one : length (told ∷ []) ≡ 1 = refl in omega arith);
   falls_by = m.falls_by;
   handlers = m.handlers;
@@ -83,7 +82,7 @@ TakesTurn-told d old next at_ c k ran told m held within = record {
 }
 
 -- and with all the starts that can follow
-pub TakesTurn-starts : (d : Description) (old mid next : Parts) (at_ : Stamp) (c : ContextId) (k ran : ℕ) (told : Told) → HasMoved d old mid at_ c k ran told → StartsAll d mid next at_ → mark_of (clock_of d) (machine_in d) (reading d old.log.all) (invocation_in old.contexts c) ≤ most d → TakesTurn d old next at_ c k ran
+pub TakesTurn-starts : (d : Description) (old mid next : Parts) (at_ : Stamp) (c : ContextId) (k ran : ℕ) (told : Told) → HasMoved d old mid at_ c k ran told → StartsAll d mid next at_ → mark_of (machine_in d) (reading d old.log.all) (invocation_in old.contexts c) ≤ most d → TakesTurn d old next at_ c k ran
 TakesTurn-starts d old mid next at_ c k ran told m s within = record {
   invocation = m.invocation;
   number = m.number;
@@ -99,7 +98,7 @@ TakesTurn-starts d old mid next at_ c k ran told m s within = record {
     (let above = h.0 in let ran_is = h.1 in omega arith),
     s.some.pace _ h.2,
   ));
-  within = (let P : ℕ → Type 0 = λ j. mark_of (clock_of d) (machine_in d) (reading d old.log.all) j ≤ most d in subst P m.number within);
+  within = (let P : ℕ → Type 0 = λ j. mark_of (machine_in d) (reading d old.log.all) j ≤ most d in subst P m.number within);
   owed = (let e = m.owed in let f = s.some.owed in let more : length (told ∷ s.some.told) ≡ suc (length s.some.told) = refl in omega arith);
   falls_by = (let e = m.falls_by in let f = s.some.falls_by (most d) in omega arith);
   handlers = s.some.handlers ∙ m.handlers;

@@ -22,7 +22,7 @@ use Rattle.exec_unit.specs.Step.{HasLengths}
 use Rattle.node_contexts.specs.At.{At, AreIdle}
 use Rattle.node_contexts.specs.Programs.{HeldPrograms, held_at}
 use Rattle.node_invariant.specs.declared.parts.Parts.{Parts}
-use Rattle.node_invariant.specs.Meaning.{machine_in, clock_of}
+use Rattle.node_invariant.specs.Meaning.{machine_in}
 use Rattle.node_invariant.specs.Fits.{AreInstalled}
 use Rattle.node_invariant.specs.Keeps.{reading, Keeps, IsTimely, Grows, event_at}
 use Rattle.node_invariant.specs.Continues.{IsPrepared, AddsTidily, Continues}
@@ -157,13 +157,13 @@ RestsAgain-reset d old new stamp rests timely seen idles zero posts handlers pus
 
 -- the store is told, all is cleared, and the reset is told
 pub RestsAgain-resets : (d : Description) (old mid next : Parts) (log : OpenView) (at_ : Stamp) → TellsStore d old mid at_ → IsCleared d mid next → IsPushed next.log.all record { stamp = at_; entry = entry.Reset } log.all → next.log.all.spare ≤ log.all.spare + 1
-    → RestsAgain d old (record next { log = log }) at_ (AtPace d old (Resets (clock_of d) (machine_in d) (reading d old.log.all)))
+    → RestsAgain d old (record next { log = log }) at_ (AtPace d old (Resets (machine_in d) (reading d old.log.all)))
 RestsAgain-resets d old mid next log at_ told cleared pushed room =
     let log_is : next.log.all ≡ mid.log.all = ap (λ (s : Parts). s.log.all) cleared.same in
     let P : Log → Type 0 = λ l. IsPushed l record { stamp = at_; entry = entry.Reset } log.all in
     let Q : Log → Type 0 = λ l. l.spare ≤ log.all.spare + 1 in
     let last = seen-last old.log.all mid.log.all at_ told.again.adds.told old.heap told.again.adds.grows told.again.adds.made in
-    RestsAgain-then d old mid (record next { log = log }) at_ (λ ts. ts ≡ Seen old.heap ∷ []) (λ ts. ts ≡ Reset ∷ []) (AtPace d old (Resets (clock_of d) (machine_in d) (reading d old.log.all))) told.again
+    RestsAgain-then d old mid (record next { log = log }) at_ (λ ts. ts ≡ Seen old.heap ∷ []) (λ ts. ts ≡ Reset ∷ []) (AtPace d old (Resets (machine_in d) (reading d old.log.all))) told.again
     (RestsAgain-reset d mid (record next { log = log }) at_ told.again.rests told.again.adds.grows.timely last cleared.idle cleared.zero (ap (λ (s : Parts). s.posts) cleared.same) (ap (λ (s : Parts). s.handlers) cleared.same)
     (subst P log_is pushed) (subst Q log_is room))
     (λ xs ys e f p has. record { seen = old.heap; shown = told.shown p has; made = ap (λ (l : List Told). l ++ ys) e ∙ ap (λ (l : List Told). Seen old.heap ∷ l) f })

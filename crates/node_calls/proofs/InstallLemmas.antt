@@ -42,7 +42,7 @@ use Rattle.node_contexts.specs.declared.handlers.Held.{Held}
 use Rattle.node_contexts.specs.At.{AreIdle}
 use Rattle.node_contexts.specs.Programs.{HeldPrograms, held_at, version_in}
 use Rattle.node_invariant.specs.declared.parts.Parts.{Parts}
-use Rattle.node_invariant.specs.Meaning.{machine_in, clock_of, code_in, code_of}
+use Rattle.node_invariant.specs.Meaning.{machine_in, code_in, code_of}
 use Rattle.node_invariant.specs.Fits.{program_of, IsHeld, AreInstalled}
 use Rattle.node_invariant.specs.Keeps.{reading, Keeps, IsTimely, event_at, Grows}
 use Rattle.node_invariant.specs.Continues.{IsPrepared, AddsTidily}
@@ -268,7 +268,7 @@ module _ (d : Description) (old mid next : Parts) (at_ : Stamp) (bytes : List �
   installs : (rest told : List Told) → told ≡ Seen old.heap ∷ Installed p ∷ rest → (IsTrue (m.runs_once i.handler) → Occasion m (heard m r (Installed p)) i.handler (record { items = [] }) rest) → ((m.runs_once i.handler ≡ false) → rest ≡ [])
       → AtPace d old (InstallsBytes d r bytes) told
   installs rest told made once else_ pace has =
-      let P : HeldProgram → Type 0 = λ x. Installs (clock_of d) m r pace x told in
+      let P : HeldProgram → Type 0 = λ x. Installs m r pace x told in
       record {
         capsule = can.capsule;
         right = can.right;

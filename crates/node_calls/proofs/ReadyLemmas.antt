@@ -11,7 +11,7 @@ use Rattle.mate_journal.specs.Stores.{values_at, Writes}
 use Rattle.mate_journal.specs.Turns.{store_so_far, ShowsReady}
 use Rattle.node_contexts.specs.declared.seat.Seat.{Seat}
 use Rattle.node_invariant.specs.declared.parts.Parts.{Parts}
-use Rattle.node_invariant.specs.Meaning.{machine_in, clock_of}
+use Rattle.node_invariant.specs.Meaning.{machine_in}
 use Rattle.node_invariant.specs.Agrees.{uses_for, own_run, IsOwnRun, RunsOwn}
 use Rattle.node_invariant.specs.Keeps.{reading, Keeps, IsTimely}
 use Rattle.node_invariant.proofs.AgreeLemmas.{or-right}
@@ -22,10 +22,10 @@ use Rattle.node_calls.specs.Calls.{TellsStore}
 use Rattle.node_calls.proofs.SeenLemmas.{IsShownIn, RestsAgain-seen}
 use Rattle.mate_journal.specs.OpenLog.{OpenView}
 
-pub ShowsReady-keeps : (d : Description) (s : Parts) (p : Pace) → Keeps d s → IsPace (reading d s.log.all) s.contexts p → ShowsReady (clock_of d) (machine_in d) (reading d s.log.all) p s.heap
+pub ShowsReady-keeps : (d : Description) (s : Parts) (p : Pace) → Keeps d s → IsPace (reading d s.log.all) s.contexts p → ShowsReady (machine_in d) (reading d s.log.all) p s.heap
 ShowsReady-keeps d s p keeps pace = record { ready = shows } where
   shows : (q : Resource) (n : ℕ) → Writes (machine_in d) (reading d s.log.all) n q → ((reading d s.log.all).invocations n).phase ≡ Ready
-      → values_at s.heap q ≡ values_at (store_so_far (clock_of d) (machine_in d) (reading d s.log.all) p n) q
+      → values_at s.heap q ≡ values_at (store_so_far (machine_in d) (reading d s.log.all) p n) q
   shows q n writes is_ready =
       let i : Invocation = (reading d s.log.all).invocations n in
       let serial : Store = (reading d s.log.all).serial in

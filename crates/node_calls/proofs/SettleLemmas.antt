@@ -30,13 +30,12 @@ use Rattle.node_invariant.specs.Queue.{number_at, invocation_in, NumbersRise}
 use Rattle.node_invariant.specs.Totals.{if_waits, if_ready, may_start, owed, left, starts_left, owes, falls}
 use Rattle.mate_journal.specs.Journal.{heard_told}
 use Rattle.mate_journal.specs.Pace.{Pace, others, gives_way}
-use Rattle.mate_journal.specs.Turns.{Clock, Turn, IsTurn, after_step, after_turn, AreTurns, told_in, pace_after}
+use Rattle.mate_journal.specs.Turns.{Turn, IsTurn, after_step, after_turn, AreTurns, told_in, pace_after}
 use Rattle.node_invariant.specs.Pace.{IsPace}
 use Rattle.node_invariant.specs.Starting.{Rests}
 use Rattle.node_invariant.proofs.QueueLemmas.{NumbersRise-same}
 use Rattle.node_invariant.proofs.TotalLemmas.{over_all-same, over_all-less}
 use Rattle.node_invariant.proofs.OrderLemmas.{live-above}
-use Rattle.node_invariant.specs.Meaning.{clock_of}
 use Rattle.node_calls.specs.Pacing.{most, TakesTurn, AreWithin, AreQuanta, AreTogether, Chains, SettlesSome, SettlesAll}
 use Rattle.node_calls.proofs.RunningLemmas.{one, one-ready}
 use Rattle.node_calls.proofs.TurnLemmas.{line-without}
@@ -48,23 +47,23 @@ pub heard_told-append : (m : Machine) (r : Reading) (xs ys : List Told) → hear
 heard_told-append m r [] ys = refl
 heard_told-append m r (x ∷ xs) ys = heard_told-append m (heard m r x) xs ys
 
-AreTurns-append : (k : Clock) (m : Machine) (r : Reading) (p : Pace) (ts us : List Turn) → AreTurns k m r p ts → AreTurns k m (heard_told m r (told_in ts)) (pace_after k m r p ts) us → AreTurns k m r p (ts ++ us)
-AreTurns-append k m r p [] us are further = further
-AreTurns-append k m r p (t ∷ ts) us are further =
-    let P : Reading → Type 0 = λ q. AreTurns k m q (pace_after k m (heard_told m r t.told) (after_turn k m r p t) ts) us in
-    (are.0, are.1, AreTurns-append k m (heard_told m r t.told) (after_turn k m r p t) ts us are.2 (subst P (heard_told-append m r t.told (told_in ts)) further))
+AreTurns-append : (m : Machine) (r : Reading) (p : Pace) (ts us : List Turn) → AreTurns m r p ts → AreTurns m (heard_told m r (told_in ts)) (pace_after m r p ts) us → AreTurns m r p (ts ++ us)
+AreTurns-append m r p [] us are further = further
+AreTurns-append m r p (t ∷ ts) us are further =
+    let P : Reading → Type 0 = λ q. AreTurns m q (pace_after m (heard_told m r t.told) (after_turn m r p t) ts) us in
+    (are.0, are.1, AreTurns-append m (heard_told m r t.told) (after_turn m r p t) ts us are.2 (subst P (heard_told-append m r t.told (told_in ts)) further))
 
-AreWithin-append : (k : Clock) (m : Machine) (bound : ℕ) (r : Reading) (p : Pace) (ts us : List Turn) → AreWithin k m bound r p ts → AreWithin k m bound (heard_told m r (told_in ts)) (pace_after k m r p ts) us → AreWithin k m bound r p (ts ++ us)
-AreWithin-append k m bound r p [] us are further = further
-AreWithin-append k m bound r p (t ∷ ts) us are further =
-    let P : Reading → Type 0 = λ q. AreWithin k m bound q (pace_after k m (heard_told m r t.told) (after_turn k m r p t) ts) us in
-    (are.0, AreWithin-append k m bound (heard_told m r t.told) (after_turn k m r p t) ts us are.1 (subst P (heard_told-append m r t.told (told_in ts)) further))
+AreWithin-append : (m : Machine) (bound : ℕ) (r : Reading) (p : Pace) (ts us : List Turn) → AreWithin m bound r p ts → AreWithin m bound (heard_told m r (told_in ts)) (pace_after m r p ts) us → AreWithin m bound r p (ts ++ us)
+AreWithin-append m bound r p [] us are further = further
+AreWithin-append m bound r p (t ∷ ts) us are further =
+    let P : Reading → Type 0 = λ q. AreWithin m bound q (pace_after m (heard_told m r t.told) (after_turn m r p t) ts) us in
+    (are.0, AreWithin-append m bound (heard_told m r t.told) (after_turn m r p t) ts us are.1 (subst P (heard_told-append m r t.told (told_in ts)) further))
 
-pace_after-append : (k : Clock) (m : Machine) (r : Reading) (p : Pace) (ts us : List Turn) → pace_after k m r p (ts ++ us) ≡ pace_after k m (heard_told m r (told_in ts)) (pace_after k m r p ts) us
-pace_after-append k m r p [] us = refl
-pace_after-append k m r p (t ∷ ts) us =
-    pace_after-append k m (heard_told m r t.told) (after_turn k m r p t) ts us
-    ∙ ap (λ (q : Reading). pace_after k m q (pace_after k m (heard_told m r t.told) (after_turn k m r p t) ts) us) (sym (heard_told-append m r t.told (told_in ts)))
+pace_after-append : (m : Machine) (r : Reading) (p : Pace) (ts us : List Turn) → pace_after m r p (ts ++ us) ≡ pace_after m (heard_told m r (told_in ts)) (pace_after m r p ts) us
+pace_after-append m r p [] us = refl
+pace_after-append m r p (t ∷ ts) us =
+    pace_after-append m (heard_told m r t.told) (after_turn m r p t) ts us
+    ∙ ap (λ (q : Reading). pace_after m q (pace_after m (heard_told m r t.told) (after_turn m r p t) ts) us) (sym (heard_told-append m r t.told (told_in ts)))
 
 told_in-append : (ts us : List Turn) → told_in (ts ++ us) ≡ told_in ts ++ told_in us
 told_in-append [] us = refl
@@ -218,42 +217,41 @@ SettlesSome-then d old mid next contexts at_ c first f way n ran quanta g = reco
   number-is = ap number_at (one d mid c f.rests.order.keeps (first-ready mid.contexts c first)).is ∙ whose
 
   -- its quanta, from the pace before
-  together : (q : Pace) → IsPace (reading d mid.log.all) mid.contexts q → IsTurn (clock_of d) (machine_in d) (reading d mid.log.all) q n record { invocation = g.invocation; told = g.told } → AreTogether (clock_of d) (machine_in d) (most d) (reading d mid.log.all) q (after_step (clock_of d) (machine_in d) (reading d mid.log.all) (gives_way q g.invocation) n record { invocation = g.invocation; told = g.told }) g.told
+  together : (q : Pace) → IsPace (reading d mid.log.all) mid.contexts q → IsTurn (machine_in d) (reading d mid.log.all) q n record { invocation = g.invocation; told = g.told } → AreTogether (machine_in d) (most d) (reading d mid.log.all) q (after_step (machine_in d) (reading d mid.log.all) (gives_way q g.invocation) n record { invocation = g.invocation; told = g.told }) g.told
   together q pace turn = (let ring = first-is mid.contexts.ring c first in by ring.0 ring.1 quanta.lone) where
     line : (rest : List ContextId) → mid.contexts.ring ≡ c ∷ rest → q.line ≡ g.invocation ∷ map (invocation_in mid.contexts) rest
     line rest e = pace.line ∙ ap (map (invocation_in mid.contexts)) e ∙ ap (λ (j : ℕ). j ∷ map (invocation_in mid.contexts) rest) number-is
 
     by : (rest : List ContextId) → mid.contexts.ring ≡ c ∷ rest → (quanta.more ≡ 0) ⊎ (length mid.contexts.ring ≡ 1)
-        → AreTogether (clock_of d) (machine_in d) (most d) (reading d mid.log.all) q (after_step (clock_of d) (machine_in d) (reading d mid.log.all) (gives_way q g.invocation) n record { invocation = g.invocation; told = g.told }) g.told
+        → AreTogether (machine_in d) (most d) (reading d mid.log.all) q (after_step (machine_in d) (reading d mid.log.all) (gives_way q g.invocation) n record { invocation = g.invocation; told = g.told }) g.told
     by rest e (inl none) =
-        let P : ℕ → Type 0 = λ j. IsTurn (clock_of d) (machine_in d) (reading d mid.log.all) q j record { invocation = g.invocation; told = g.told } → AreTogether (clock_of d) (machine_in d) (most d) (reading d mid.log.all) q (after_step (clock_of d) (machine_in d) (reading d mid.log.all) (gives_way q g.invocation) j record { invocation = g.invocation; told = g.told }) g.told in
+        let P : ℕ → Type 0 = λ j. IsTurn (machine_in d) (reading d mid.log.all) q j record { invocation = g.invocation; told = g.told } → AreTogether (machine_in d) (most d) (reading d mid.log.all) q (after_step (machine_in d) (reading d mid.log.all) (gives_way q g.invocation) j record { invocation = g.invocation; told = g.told }) g.told in
         let are = quanta.are in
         let no_more : d.quantum * quanta.more ≡ 0 = ap (λ (j : ℕ). d.quantum * j) none ∙ mul-zero d.quantum in
         let same : d.quantum ≡ n = omega arith in
-        subst P same (AreTogether-one (clock_of d) (machine_in d) (most d) (reading d mid.log.all) record { invocation = g.invocation; told = g.told } g.within q (map (invocation_in mid.contexts) rest) (line rest e)) turn
-    by [] e (inr lone) = AreTogether-lone (clock_of d) (machine_in d) (most d) (reading d mid.log.all) record { invocation = g.invocation; told = g.told } g.within quanta.more n quanta.are q (line [] e) turn
+        subst P same (AreTogether-one (machine_in d) (most d) (reading d mid.log.all) record { invocation = g.invocation; told = g.told } g.within q (map (invocation_in mid.contexts) rest) (line rest e)) turn
+    by [] e (inr lone) = AreTogether-lone (machine_in d) (most d) (reading d mid.log.all) record { invocation = g.invocation; told = g.told } g.within quanta.more n quanta.are q (line [] e) turn
     by (a ∷ rest) e (inr lone) = absurd (let two = ap length e in let more : length (c ∷ a ∷ rest) ≡ suc (suc (length rest)) = refl in omega arith)
 
   chained : (p : Pace) → Chains d old mid f.told p → Chains d old next (f.told ++ g.told) p
   chained p h =
-      let k = clock_of d in
       let m = machine_in d in
       let r = reading d old.log.all in
-      let q = pace_after k m r p h.turns in
+      let q = pace_after m r p h.turns in
       let N : ℕ → Type 0 = λ j. IsPace (reading d mid.log.all) contexts (gives_way q j) in
       let way_pace : IsPace (reading d mid.log.all) contexts (gives_way q g.invocation) = subst N whose (pace-way d mid contexts c way f.rests (first-ready mid.contexts c first) q h.pace) in
       let x = g.turn (gives_way q g.invocation) way_pace in
       let y = together q h.pace record { ready = x.0.ready; short = x.0.short; reached = x.0.reached } in
       let heard_is : reading d mid.log.all ≡ heard_told m r (told_in h.turns) = f.heard_is ∙ ap (heard_told m r) h.made in
-      let P : Reading → Type 0 = λ s. AreTurns k m s q y.turns in
-      let W : Reading → Type 0 = λ s. AreWithin k m (most d) s q y.turns in
+      let P : Reading → Type 0 = λ s. AreTurns m s q y.turns in
+      let W : Reading → Type 0 = λ s. AreWithin m (most d) s q y.turns in
       let R : Pace → Type 0 = λ s. IsPace (reading d next.log.all) next.contexts s in
       record {
         turns = h.turns ++ y.turns;
-        are_turns = AreTurns-append k m r p h.turns y.turns h.are_turns (subst P heard_is y.are_turns);
+        are_turns = AreTurns-append m r p h.turns y.turns h.are_turns (subst P heard_is y.are_turns);
         made = ap (λ (l : List Told). l ++ g.told) h.made ∙ ap (λ (l : List Told). told_in h.turns ++ l) y.made ∙ sym (told_in-append h.turns y.turns);
-        within = AreWithin-append k m (most d) r p h.turns y.turns h.within (subst W heard_is y.within);
-        pace = subst R (sym (pace_after-append k m r p h.turns y.turns ∙ ap (λ (s : Reading). pace_after k m s q y.turns) (sym heard_is) ∙ y.then)) x.2;
+        within = AreWithin-append m (most d) r p h.turns y.turns h.within (subst W heard_is y.within);
+        pace = subst R (sym (pace_after-append m r p h.turns y.turns ∙ ap (λ (s : Reading). pace_after m s q y.turns) (sym heard_is) ∙ y.then)) x.2;
       }
 
 pub SettlesAll-from : (d : Description) (old next : Parts) (at_ : Stamp) → SettlesSome d old next at_ → None ≡ slice_get next.contexts.ring 0 → SettlesAll d old next at_
@@ -262,7 +260,7 @@ SettlesAll-from d old next at_ f first = record {
   rests = f.rests;
   grows = f.grows;
   settles = λ p pace. (let h = f.chain p pace in (
-    pace_after (clock_of d) (machine_in d) (reading d old.log.all) p h.turns,
+    pace_after (machine_in d) (reading d old.log.all) p h.turns,
     record {
       settles = record {
         turns = h.turns;

@@ -11,7 +11,7 @@ use Rattle.node_invariant.specs.declared.parts.Parts.{Parts}
 use Rattle.node_invariant.specs.Keeps.{reading, TellsMore}
 use Rattle.mate_journal.specs.Pace.{Pace, paced_all}
 use Rattle.mate_journal.specs.Turns.{ShowsReady}
-use Rattle.node_invariant.specs.Meaning.{machine_in, clock_of}
+use Rattle.node_invariant.specs.Meaning.{machine_in}
 use Rattle.node_invariant.specs.Pace.{IsPace}
 use Rattle.node_invariant.specs.Starting.{Rests}
 
@@ -34,7 +34,7 @@ NobodyWaits r c = (n : ℕ) → IsWaiting r n → (r.invocations n).context ≡ 
 pub record TellsStore (d : Description) (old new : Parts) (at : Stamp) : Type 0 where
   pub again : RestsAgain d old new at (λ told. told ≡ Seen old.heap ∷ [])
   pub shown : (p : Pace) → IsPace (reading d old.log.all) old.contexts p
-      → ShowsReady (clock_of d) (machine_in d) (reading d old.log.all) p old.heap
+      → ShowsReady (machine_in d) (reading d old.log.all) p old.heap
   pub same : new ≡ record old { log = new.log }
 
 -- all contexts are idle, and the store is as at first

@@ -16,7 +16,7 @@ use Rattle.mate_journal.specs.Machine.{HeldProgram}
 use Rattle.mate_journal.specs.Journal.{Told, Reading, held}
 use Rattle.mate_journal.specs.NodeScript.{Installs}
 use Rattle.mate_journal.specs.Pace.{Pace}
-use Rattle.node_invariant.specs.Meaning.{machine_in, clock_of}
+use Rattle.node_invariant.specs.Meaning.{machine_in}
 use Rattle.node_invariant.specs.declared.parts.Parts.{Parts}
 use Rattle.node_invariant.specs.Keeps.{reading}
 use Rattle.node_invariant.specs.Fits.{IsHeld, program_of}
@@ -69,7 +69,7 @@ pub record IsReadAs (d : Description) (bytes : List ℕ) (c : DecodedCapsule) : 
 pub record InstallsBytes (d : Description) (r : Reading) (bytes : List ℕ) (p : Pace) (told : List Told) : Type 0 where
   pub capsule : CapsuleParts
   pub right : IsRightCapsule d bytes capsule
-  pub installs : Installs (clock_of d) (machine_in d) r p (program_by capsule bytes) told
+  pub installs : Installs (machine_in d) r p (program_by capsule bytes) told
 
 -- this can be installed: it is the program of the right capsule that the bytes are, with its locks
 pub record IsInstallable (d : Description) (bytes : List ℕ) (i : Installable) : Type 0 where

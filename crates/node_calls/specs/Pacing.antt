@@ -14,7 +14,7 @@ use Rattle.node_contexts.specs.At.{at, Becomes}
 use Rattle.node_contexts.specs.Programs.{held_at}
 use Rattle.node_contexts.specs.Executing.{IsSameSeat, Executes}
 use Rattle.node_invariant.specs.declared.parts.Parts.{Parts}
-use Rattle.node_invariant.specs.Meaning.{machine_in, clock_of}
+use Rattle.node_invariant.specs.Meaning.{machine_in}
 use Rattle.node_invariant.specs.Keeps.{reading, Grows}
 use Rattle.node_invariant.specs.Queue.{invocation_in}
 use Rattle.node_invariant.specs.Totals.{starts_left, owes, falls}
@@ -22,7 +22,7 @@ use Rattle.node_invariant.specs.Pace.{IsPace}
 use Rattle.node_invariant.specs.Starting.{KeepsOrder, Rests}
 use Rattle.mate_journal.specs.Journal.{heard_told}
 use Rattle.mate_journal.specs.Pace.{Pace, paced_all}
-use Rattle.mate_journal.specs.Turns.{Clock, Turn, IsTurn, mark_of, entry_at, after_step, after_turn, AreTurns, told_in, pace_after, Settles}
+use Rattle.mate_journal.specs.Turns.{Turn, IsTurn, mark_of, entry_at, after_step, after_turn, AreTurns, told_in, pace_after, Settles}
 
 -- no invocation executes more instructions
 abbrev pub most : Description → ℕ
@@ -73,12 +73,12 @@ pub record HasMoved (d : Description) (old new : Parts) (at_ : Stamp) (c : Conte
   pub heard_is : reading d new.log.all ≡ heard (machine_in d) (reading d old.log.all) told
   pub told_is : told ≡ entry_at invocation (whole_run (machine_in d) (reading d old.log.all) invocation).end
   pub pace : (p : Pace) → IsPace (reading d old.log.all) old.contexts p
-      → (mark_of (clock_of d) (machine_in d) (reading d old.log.all) invocation ≤ p.counts invocation + n)
-      × (p.counts invocation + ran ≡ mark_of (clock_of d) (machine_in d) (reading d old.log.all) invocation)
+      → (mark_of (machine_in d) (reading d old.log.all) invocation ≤ p.counts invocation + n)
+      × (p.counts invocation + ran ≡ mark_of (machine_in d) (reading d old.log.all) invocation)
       × IsPace (reading d new.log.all) new.contexts
       (paced_all (record p {
         counts = changed p.counts invocation
-            (min (p.counts invocation + n) (mark_of (clock_of d) (machine_in d) (reading d old.log.all) invocation));
+            (min (p.counts invocation + n) (mark_of (machine_in d) (reading d old.log.all) invocation));
       }) (told ∷ []))
   pub owed : owes new.contexts + 1 ≡ owes old.contexts
   pub left_is : starts_left new.contexts ≡ starts_left old.contexts
@@ -95,11 +95,11 @@ pub record TakesTurn (d : Description) (old new : Parts) (at_ : Stamp) (c : Cont
   pub rests : Rests d new
   pub grows : Grows old.log.all new.log.all at_ told
   pub turn : (p : Pace) → IsPace (reading d old.log.all) old.contexts p
-      → IsTurn (clock_of d) (machine_in d) (reading d old.log.all) p n record { invocation = invocation; told = told }
-      × (p.counts invocation + ran ≡ min (p.counts invocation + n) (mark_of (clock_of d) (machine_in d) (reading d old.log.all) invocation))
-      × IsPace (reading d new.log.all) new.contexts (after_step (clock_of d) (machine_in d) (reading d old.log.all) p n
+      → IsTurn (machine_in d) (reading d old.log.all) p n record { invocation = invocation; told = told }
+      × (p.counts invocation + ran ≡ min (p.counts invocation + n) (mark_of (machine_in d) (reading d old.log.all) invocation))
+      × IsPace (reading d new.log.all) new.contexts (after_step (machine_in d) (reading d old.log.all) p n
       record { invocation = invocation; told = told })
-  pub within : mark_of (clock_of d) (machine_in d) (reading d old.log.all) invocation ≤ most d
+  pub within : mark_of (machine_in d) (reading d old.log.all) invocation ≤ most d
   pub owed : owes new.contexts + length told ≤ owes old.contexts
   pub falls_by : falls (most d) new.contexts < falls (most d) old.contexts
   pub handlers : new.handlers ≡ old.handlers
@@ -112,31 +112,31 @@ pub record AreQuanta (quantum ready n : ℕ) : Type 0 where
   pub lone : (more ≡ 0) ⊎ (ready ≡ 1)
 
 -- in each of these turns the invocation's next mark is within the bound; so no invocation executes more instructions since its start
-abbrev pub AreWithin : Clock → Machine → ℕ → Reading → Pace → List Turn → Type 0
-AreWithin k m bound r p [] = Unit {0}
-AreWithin k m bound r p (t ∷ ts) = (mark_of k m r t.invocation ≤ bound)
-    × AreWithin k m bound (heard_told m r t.told) (after_turn k m r p t) ts
+abbrev pub AreWithin : Machine → ℕ → Reading → Pace → List Turn → Type 0
+AreWithin m bound r p [] = Unit {0}
+AreWithin m bound r p (t ∷ ts) = (mark_of m r t.invocation ≤ bound)
+    × AreWithin m bound (heard_told m r t.told) (after_turn m r p t) ts
 
 -- turns from this pace to that one, one after another
-pub record AreTogether (k : Clock) (m : Machine) (bound : ℕ) (r : Reading) (p q : Pace) (told : List Told) : Type 0 where
+pub record AreTogether (m : Machine) (bound : ℕ) (r : Reading) (p q : Pace) (told : List Told) : Type 0 where
   pub turns : List Turn
-  pub are_turns : AreTurns k m r p turns
+  pub are_turns : AreTurns m r p turns
   pub made : told ≡ told_in turns
-  pub within : AreWithin k m bound r p turns
-  pub then : pace_after k m r p turns ≡ q
+  pub within : AreWithin m bound r p turns
+  pub then : pace_after m r p turns ≡ q
 
 -- turns from this pace on, one after another
 pub record Chains (d : Description) (old new : Parts) (told : List Told) (p : Pace) : Type 0 where
   pub turns : List Turn
-  pub are_turns : AreTurns (clock_of d) (machine_in d) (reading d old.log.all) p turns
+  pub are_turns : AreTurns (machine_in d) (reading d old.log.all) p turns
   pub made : told ≡ told_in turns
-  pub within : AreWithin (clock_of d) (machine_in d) (most d) (reading d old.log.all) p turns
-  pub pace : IsPace (reading d new.log.all) new.contexts (pace_after (clock_of d) (machine_in d) (reading d old.log.all) p turns)
+  pub within : AreWithin (machine_in d) (most d) (reading d old.log.all) p turns
+  pub pace : IsPace (reading d new.log.all) new.contexts (pace_after (machine_in d) (reading d old.log.all) p turns)
 
 -- turns follow one another until nobody is ready, and none has its mark beyond the bound
-pub record SettlesWithin (k : Clock) (m : Machine) (bound : ℕ) (r : Reading) (p : Pace) (told : List Told) (q : Pace) : Type 0 where
-  pub settles : Settles k m r p told q
-  pub within : AreWithin k m bound r p settles.turns
+pub record SettlesWithin (m : Machine) (bound : ℕ) (r : Reading) (p : Pace) (told : List Told) (q : Pace) : Type 0 where
+  pub settles : Settles m r p told q
+  pub within : AreWithin m bound r p settles.turns
 
 -- the parts of a node after it
 pub record SettlesAll (d : Description) (old new : Parts) (at_ : Stamp) : Type 0 where
@@ -144,7 +144,7 @@ pub record SettlesAll (d : Description) (old new : Parts) (at_ : Stamp) : Type 0
   pub rests : Rests d new
   pub grows : Grows old.log.all new.log.all at_ told
   pub settles : (p : Pace) → IsPace (reading d old.log.all) old.contexts p
-      → (q : Pace) × SettlesWithin (clock_of d) (machine_in d) (most d) (reading d old.log.all) p told q
+      → (q : Pace) × SettlesWithin (machine_in d) (most d) (reading d old.log.all) p told q
       × IsPace (reading d new.log.all) new.contexts q
   pub handlers : new.handlers ≡ old.handlers
   pub posts : new.posts ≡ old.posts

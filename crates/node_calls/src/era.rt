@@ -2,7 +2,7 @@
 
 ghost use Rattle.std.specs.Prelude.{◌≡◌, ◌<◌, ◌≤◌, length};
 ghost use Rattle.mate_journal.specs.NodeScript.{Resets};
-ghost use Rattle.node_invariant.specs.Meaning.{machine_in, clock_of};
+ghost use Rattle.node_invariant.specs.Meaning.{machine_in};
 ghost use Rattle.node_invariant.specs.Keeps.{reading, IsTimely};
 ghost use Rattle.node_invariant.specs.Starting.{Rests};
 ghost use Rattle.node_calls.specs.Calls.{RestsAgain, AtPace, IsCleared};
@@ -32,7 +32,7 @@ pub fn reset_in(description: &Description, parts: &mut Parts, at: Stamp)
     requires room { 2 ≤ parts.old.log.all.spare }
     requires few { length parts.old.log.all.entries < 4100000000 }
     ensures again { RestsAgain description.now parts.old parts.new at
-        (AtPace description.now parts.old (Resets (clock_of description.now) (machine_in description.now)
+        (AtPace description.now parts.old (Resets (machine_in description.now)
         (reading description.now parts.old.log.all))) }
     ensures gone { parts.new.log.gone ≡ parts.old.log.gone }
 {

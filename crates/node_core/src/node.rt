@@ -6,7 +6,7 @@ ghost use Rattle.mate_journal.specs.Log.{IsEmpty};
 ghost use Rattle.mate_journal.specs.Journal.{Void, held as held_version};
 ghost use Rattle.mate_journal.specs.Pace.{Pace, no_pace};
 ghost use Rattle.mate_journal.specs.NodeScript.{IsReadyIn, Answers, ShowsOnce, Resets};
-ghost use Rattle.node_invariant.specs.Meaning.{machine_in, clock_of};
+ghost use Rattle.node_invariant.specs.Meaning.{machine_in};
 ghost use Rattle.node_invariant.specs.Keeps.{IsTimely};
 ghost use Rattle.node_calls.specs.Pacing.{SettlesWithin};
 ghost use Rattle.node_calls.specs.Calls.{NobodyWaits};
@@ -80,7 +80,7 @@ impl Node {
         requires timely { IsTimely at self.old.log }
         requires room { 16 ≤ self.old.log.spare }
         ensures { MatchResult result
-            (λ ran. Tells self.old self.new at (HasStepped (clock_of self.old.description) (machine_in self.old.description)
+            (λ ran. Tells self.old self.new at (HasStepped (machine_in self.old.description)
             (heard_of self.old) ctx n ran))
             (λ _. (IsReadyIn (heard_of self.old) ctx → ⊥) × (self.new ≡ self.old)) }
     {
@@ -92,7 +92,7 @@ impl Node {
     pub fn settle(&mut self, at: Stamp)
         requires timely { IsTimely at self.old.log }
         requires room { 32 ≤ self.old.log.spare }
-        ensures { Tells self.old self.new at (SettlesWithin (clock_of self.old.description) (machine_in self.old.description)
+        ensures { Tells self.old self.new at (SettlesWithin (machine_in self.old.description)
             ((self.old.description.turns + 1) * CODE_MAX) (heard_of self.old)) }
     {
         self.node.settle(at);
@@ -192,7 +192,7 @@ impl Node {
         requires few { length self.old.log.entries < 4000000000 }
         requires room { 2 ≤ self.old.log.spare }
         ensures { Tells self.old self.new at
-            (Pacing (Resets (clock_of self.old.description) (machine_in self.old.description) (heard_of self.old))) }
+            (Pacing (Resets (machine_in self.old.description) (heard_of self.old))) }
     {
         self.node.reset(at);
     }
@@ -203,7 +203,7 @@ impl Node {
         requires few { length self.old.log.entries < 4000000000 }
         requires room { 1 ≤ self.old.log.spare }
         ensures { Tells self.old self.new at
-            (Pacing (ShowsOnce (clock_of self.old.description) (machine_in self.old.description) (heard_of self.old))) }
+            (Pacing (ShowsOnce (machine_in self.old.description) (heard_of self.old))) }
     {
         self.node.seen(at);
     }

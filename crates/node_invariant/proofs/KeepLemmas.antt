@@ -12,11 +12,11 @@ use Rattle.mate_journal.specs.Machine.{Machine}
 use Rattle.mate_journal.specs.Journal.{Told, told_of, Event, journal_of, Reading, heard, heard_all, nothing_heard}
 use Rattle.journal_laws.proofs.TidyLemmas.{NumbersInOrder-push, in_range-push, ordered-in_time}
 use Rattle.mate_journal.specs.Tidy.{image_named, store_named, IsEntryInRange, IsStoreOf}
-use Rattle.journal_laws.specs.Growth.{event_of, IsPushed, last_stamp, last_is_seen}
-use Rattle.mate_journal.specs.WellFormed.{MayFollow, NotBefore, IsWellFormed, start}
+use Rattle.journal_laws.specs.Growth.{event_of, IsPushed, FollowsLast, last_is_seen}
+use Rattle.mate_journal.specs.WellFormed.{MayFollow, IsWellFormed}
 use Rattle.mate_journal.specs.Serial.{EndsAsRun, RunsSoFar, IsSerial}
 use Rattle.mate_journal.specs.Stores.{ShowsStore, IsSeenBefore, ShowsStores}
-use Rattle.journal_laws.proofs.Append.{heard_all-push, journal_of-push, last_stamp-push, IsWellFormed-push, IsSerial-push, ShowsStores-push}
+use Rattle.journal_laws.proofs.Append.{heard_all-push, journal_of-push, FollowsLast-push, IsWellFormed-push, IsSerial-push, ShowsStores-push}
 use Rattle.node_contexts.specs.Programs.{held_at}
 use Rattle.node_invariant.proofs.SerialLemmas.{stands}
 use Rattle.vm_desc.specs.declared.description.Description.{Description}
@@ -25,9 +25,6 @@ use Rattle.node_invariant.specs.Meaning.{machine_in}
 use Rattle.node_invariant.specs.Keeps.{reading, Keeps, IsTimely, event_at, Grows}
 use Rattle.node_invariant.specs.Continues.{IsPrepared, AddsTidily, AgreesAfter, Continues}
 use Rattle.mate_journal.specs.OpenLog.{OpenView}
-
-pub NotBefore-same : (at : Stamp) → NotBefore at at
-NotBefore-same at = record { event = omega arith; time = omega arith; same = λ _. refl }
 
 -- ---- growing logs
 
@@ -80,9 +77,8 @@ module _ (d : Description) (old new : Parts) (before : Log) (at : Stamp) (e : En
 
   timely-new : IsTimely at new.log.all
   timely-new =
-      let P : List Event → Type 0 = λ es. NotBefore (last_stamp start es) at in
-      let Q : Stamp → Type 0 = λ last. NotBefore last at in
-      record { after_last = subst P (sym journal-new) (subst Q (sym (last_stamp-push start (journal_of old.log.all) (event_at at told))) (NotBefore-same at)) }
+      let P : List Event → Type 0 = λ es. FollowsLast es at in
+      record { after_last = subst P (sym journal-new) (FollowsLast-push (journal_of old.log.all) (event_at at told)) }
 
   after-new : AgreesAfter d (reading d new.log.all) new
   after-new = let P : Reading → Type 0 = λ r. AgreesAfter d r new in subst P (sym reading-new) next.after

@@ -6,8 +6,8 @@ use Rattle.mate_num.specs.declared.call.Stamp.{Stamp}
 use Rattle.mate_journal.specs.Log.{Log}
 use Rattle.mate_journal.specs.Journal.{Told, Event, journal_of, Reading, nothing_heard, heard_all}
 use Rattle.mate_journal.specs.Tidy.{IsTidyLog, HasFullImages}
-use Rattle.journal_laws.specs.Growth.{last_stamp}
-use Rattle.mate_journal.specs.WellFormed.{IsWellFormed, NotBefore, start}
+use Rattle.journal_laws.specs.Growth.{FollowsLast}
+use Rattle.mate_journal.specs.WellFormed.{IsWellFormed}
 use Rattle.mate_journal.specs.Serial.{IsSerial}
 use Rattle.mate_journal.specs.Stores.{ShowsStores}
 use Rattle.exec_unit.specs.Step.{HasLengths}
@@ -39,7 +39,7 @@ pub record Keeps (d : Description) (s : Parts) : Type 0 where
 
 -- an entry of this stamp may come next
 pub record IsTimely (at : Stamp) (l : Log) : Type 0 where
-  pub after_last : NotBefore (last_stamp start (journal_of l)) at
+  pub after_last : FollowsLast (journal_of l) at
 
 -- an event of this stamp
 abbrev pub event_at : Stamp → Told → Event

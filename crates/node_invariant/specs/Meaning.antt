@@ -9,7 +9,6 @@ use Rattle.mate_code.specs.Run.{Code, code_run, next_mark, code_after}
 use Rattle.mate_code.specs.Table.{table_of}
 use Rattle.mate_journal.specs.Described.{machine_of}
 use Rattle.mate_journal.specs.Machine.{Machine, Meaning}
-use Rattle.mate_journal.specs.Turns.{Clock}
 use Rattle.vm_desc.specs.declared.description.Description.{Description}
 use Rattle.vm_desc.specs.Shapes.{shape_of}
 
@@ -21,21 +20,15 @@ code_in (Err fault) = []
 unfoldable pub code_of : Shape → ArrayVec ℕ → Code
 code_of shape image = code_in (decoded (table_of shape) (drop 16 image.items))
 
--- a program's run is that of its code, and it uses what its code uses
+-- a program's run is that of its code, in which it comes as far as its code does, and it uses what its code uses
 abbrev pub meaning_of : Shape → Meaning
 meaning_of shape = record {
   run = λ p store payload answers turns. code_run shape (code_of shape p.image) store payload answers turns;
   uses = λ p. uses_of shape (code_of shape p.image);
+  mark = λ p store payload answers turns. next_mark shape (code_of shape p.image) store payload answers turns;
+  after = λ n p store payload answers turns. code_after n shape (code_of shape p.image) store payload answers turns;
 }
 
 -- the machine of a node
 abbrev pub machine_in : Description → Machine
 machine_in d = machine_of d (meaning_of (shape_of d))
-
--- the runs of a node's programs by instructions
-abbrev pub clock_of : Description → Clock
-clock_of d = record {
-  quantum = d.quantum;
-  mark = λ p store payload answers turns. next_mark (shape_of d) (code_of (shape_of d) p.image) store payload answers turns;
-  after = λ n p store payload answers turns. code_after n (shape_of d) (code_of (shape_of d) p.image) store payload answers turns;
-}

@@ -54,7 +54,7 @@ uses-same d ps right h = by (source_in ps h) refl where
   by (Some s) is = sym (source-right d ps h s right is).uses
 
 pub meaning_by-right : (d : Description) (ps : List Program) → AreRightPrograms d ps → meaning_by d ps ≡ meaning_of (shape_of d)
-meaning_by-right d ps right = λ i. record {
+meaning_by-right d ps right = λ i. record (meaning_of (shape_of d)) {
   run = λ h store payload answers turns. run-same d ps right h store payload answers turns i;
   uses = λ h. uses-same d ps right h i;
 }

@@ -3,7 +3,6 @@
 ghost use Rattle.std.specs.Prelude.{◌≡◌, List};
 ghost use Rattle.vm_desc.specs.Shapes.{shape_of};
 ghost use Rattle.vm_desc.specs.declared.description.Description.{Description};
-ghost use Rattle.mate_journal.specs.Turns.{Clock};
 ghost use Rattle.mate_journal.specs.NodeScript.{Step, RunEnd};
 ghost use Rattle.mate_journal.specs.NodeReport.{IsNodeReport};
 ghost use Rattle.mate_journal.specs.declared.program.Program.{Program};
@@ -19,6 +18,6 @@ pub fn sources_mean_what_their_code_does()
 
 /// So a report that holds by the code of the installed images holds by the sources of the programs, whose code ran.
 pub fn reports_hold_by_the_sources()
-    ensures { (d : Description) (ps : List Program) (k : Clock) (steps : List Step) (how : RunEnd) (r : Report) →
-        AreRightPrograms d ps → IsNodeReport d k (meaning_of (shape_of d)) steps how r → IsNodeReport d k (meaning_by d ps) steps how r }
+    ensures { (d : Description) (ps : List Program) (steps : List Step) (how : RunEnd) (r : Report) →
+        AreRightPrograms d ps → IsNodeReport d (meaning_of (shape_of d)) steps how r → IsNodeReport d (meaning_by d ps) steps how r }
 {}

@@ -10,7 +10,7 @@ use Rattle.mate_journal.specs.Journal.{Told, Reading}
 use Rattle.mate_journal.specs.Pace.{Pace, paced_all}
 use Rattle.mate_journal.specs.NodeScript.{ShowsOnce, Occasion}
 use Rattle.node_invariant.specs.declared.parts.Parts.{Parts}
-use Rattle.node_invariant.specs.Meaning.{machine_in, clock_of}
+use Rattle.node_invariant.specs.Meaning.{machine_in}
 use Rattle.node_invariant.specs.Keeps.{reading}
 use Rattle.node_invariant.specs.Starting.{Rests}
 use Rattle.node_calls.specs.Calls.{RestsAgain, AtPace, TellsStore}
@@ -34,7 +34,7 @@ module _ (d : Description) (old new : Parts) (at_ : Stamp) (rests : Rests d old)
       Tells-from d old new at_ (Pacing (λ _. Rule)) again.adds.told rests.order.keeps again.rests.order.keeps again.adds.grows gone
       (λ p pace. (paced_all p again.adds.told, (again.adds.made, refl), again.pace p pace))
 
-  pub Tells-store : TellsStore d old new at_ → Tells (seen_as d old) (seen_as d new) at_ (Pacing (ShowsOnce (clock_of d) (machine_in d) (reading d old.log.all)))
+  pub Tells-store : TellsStore d old new at_ → Tells (seen_as d old) (seen_as d new) at_ (Pacing (ShowsOnce (machine_in d) (reading d old.log.all)))
   Tells-store t =
       Tells-from d old new at_ _ t.again.adds.told rests.order.keeps t.again.rests.order.keeps t.again.adds.grows gone
       (λ p pace. (paced_all p t.again.adds.told, (record { seen = old.heap; shown = t.shown p pace; made = t.again.adds.made }, refl), t.again.pace p pace))

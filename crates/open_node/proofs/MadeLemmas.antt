@@ -10,7 +10,7 @@ use Rattle.mate_journal.specs.Pace.{no_pace}
 use Rattle.node_contexts.specs.declared.contexts.Contexts.{Contexts}
 use Rattle.node_contexts.specs.At.{At, at, AreIdle}
 use Rattle.node_invariant.specs.declared.parts.Parts.{Parts}
-use Rattle.node_invariant.specs.Meaning.{machine_in, clock_of}
+use Rattle.node_invariant.specs.Meaning.{machine_in}
 use Rattle.node_invariant.specs.Keeps.{reading}
 use Rattle.node_invariant.specs.Queue.{number_at, invocation_in}
 use Rattle.node_invariant.specs.Pace.{IsPace}
@@ -28,7 +28,7 @@ IsPace-idle r s idles = record {
 }
 
 pub Tells-turn : (d : Description) (old new : Parts) (at_ : Stamp) (c : ContextId) (n ran : ℕ) → Rests d old → (at old.contexts c).ready ≡ true → new.log.gone ≡ old.log.gone → TakesTurn d old new at_ c n ran
-    → Tells (seen_as d old) (seen_as d new) at_ (HasStepped (clock_of d) (machine_in d) (reading d old.log.all) c n ran)
+    → Tells (seen_as d old) (seen_as d new) at_ (HasStepped (machine_in d) (reading d old.log.all) c n ran)
 Tells-turn d old new at_ c n ran rests is_ready gone t =
     let keeps = rests.order.keeps in
     let s = (one d old c keeps is_ready).seat in
@@ -45,5 +45,5 @@ Tells-turn d old new at_ c n ran rests is_ready gone t =
     )))
 
 pub Tells-settled : (d : Description) (old new : Parts) (at_ : Stamp) → Rests d old → new.log.gone ≡ old.log.gone → SettlesAll d old new at_
-    → Tells (seen_as d old) (seen_as d new) at_ (SettlesWithin (clock_of d) (machine_in d) ((d.turns + 1) * CODE_MAX) (reading d old.log.all))
+    → Tells (seen_as d old) (seen_as d new) at_ (SettlesWithin (machine_in d) ((d.turns + 1) * CODE_MAX) (reading d old.log.all))
 Tells-settled d old new at_ rests gone s = Tells-from d old new at_ _ s.told rests.order.keeps s.rests.order.keeps s.grows gone s.settles

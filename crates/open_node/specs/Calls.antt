@@ -11,7 +11,7 @@ use Rattle.mate_journal.specs.declared.entry.Stamped.{Stamped}
 use Rattle.mate_journal.specs.WellFormed.{IsWaiting}
 use Rattle.mate_journal.specs.NodeScript.{IsReadyIn, TurnsIn}
 use Rattle.mate_journal.specs.Pace.{Pace, paced_all}
-use Rattle.mate_journal.specs.Turns.{Clock, mark_of}
+use Rattle.mate_journal.specs.Turns.{mark_of}
 use Rattle.journal_laws.specs.Progress.{IsNoneLive}
 use Rattle.open_node.specs.declared.standing.Asked.{Asked}
 use Rattle.open_node.specs.declared.standing.Standing.{Standing}
@@ -23,11 +23,11 @@ Pacing Rule p told q = Rule p told × (q ≡ paced_all p told)
 
 -- One turn of n instructions. So many are executed: those up to the next mark, which is within what one invocation executes at
 -- most from its start to its end.
-pub record HasStepped (k : Clock) (m : Machine) (r : Reading) (c : ContextId) (n ran : ℕ) (p : Pace) (told : List Told) (q : Pace) : Type
+pub record HasStepped (m : Machine) (r : Reading) (c : ContextId) (n ran : ℕ) (p : Pace) (told : List Told) (q : Pace) : Type
     0 where
-  pub turn : TurnsIn k m r p c n told q
-  pub ran_is : p.counts turn.invocation + ran ≡ min (p.counts turn.invocation + n) (mark_of k m r turn.invocation)
-  pub within : mark_of k m r turn.invocation ≤ (m.turns + 1) * CODE_MAX
+  pub turn : TurnsIn m r p c n told q
+  pub ran_is : p.counts turn.invocation + ran ≡ min (p.counts turn.invocation + n) (mark_of m r turn.invocation)
+  pub within : mark_of m r turn.invocation ≤ (m.turns + 1) * CODE_MAX
 
 -- an invocation in the context waits for an answer
 pub record IsWaitingIn (r : Reading) (c : ContextId) : Type 0 where

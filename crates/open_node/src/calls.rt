@@ -4,7 +4,7 @@ ghost use Rattle.std.specs.Prelude.{◌≡◌, ◌<◌, ◌≤◌, ◌∷◌, []
 ghost use Rattle.mate_num.specs.declared.bounds.TheConstants.{CONTEXTS_MAX};
 ghost use Rattle.mate_journal.specs.Journal.{Void};
 ghost use Rattle.mate_journal.specs.NodeScript.{Answers, ShowsOnce, Resets};
-ghost use Rattle.node_invariant.specs.Meaning.{machine_in, clock_of};
+ghost use Rattle.node_invariant.specs.Meaning.{machine_in};
 ghost use Rattle.node_invariant.specs.Keeps.{IsTimely};
 ghost use Rattle.node_calls.specs.Calls.{NobodyWaits};
 ghost use Rattle.node_calls.specs.Posting.{PostGives};
@@ -70,7 +70,7 @@ impl OpenNode {
         requires few { length self.old.log.entries < 4000000000 }
         requires room { 2 ≤ self.old.log.spare }
         ensures { Tells self.old self.new at
-            (Pacing (Resets (clock_of self.old.description) (machine_in self.old.description) (heard_of self.old))) }
+            (Pacing (Resets (machine_in self.old.description) (heard_of self.old))) }
     {
         reset_in(&self.description, &mut self.parts, at);
     }
@@ -81,7 +81,7 @@ impl OpenNode {
         requires few { length self.old.log.entries < 4000000000 }
         requires room { 1 ≤ self.old.log.spare }
         ensures { Tells self.old self.new at
-            (Pacing (ShowsOnce (clock_of self.old.description) (machine_in self.old.description) (heard_of self.old))) }
+            (Pacing (ShowsOnce (machine_in self.old.description) (heard_of self.old))) }
     {
         seen_in(&self.description, &mut self.parts, at);
     }

@@ -7,7 +7,7 @@ ghost use Rattle.mate_journal.specs.Journal.{held as held_version};
 ghost use Rattle.mate_journal.specs.Pace.{Pace, no_pace};
 ghost use Rattle.mate_journal.specs.NodeScript.{IsReadyIn};
 ghost use Rattle.journal_laws.specs.Progress.{IsSomeReady};
-ghost use Rattle.node_invariant.specs.Meaning.{machine_in, clock_of};
+ghost use Rattle.node_invariant.specs.Meaning.{machine_in};
 ghost use Rattle.node_invariant.specs.Keeps.{IsTimely};
 ghost use Rattle.node_invariant.specs.Starting.{Rests};
 ghost use Rattle.node_calls.specs.Pacing.{SettlesWithin};
@@ -118,7 +118,7 @@ impl OpenNode {
         requires timely { IsTimely at self.old.log }
         requires room { 16 ≤ self.old.log.spare }
         ensures { MatchResult result
-            (λ ran. Tells self.old self.new at (HasStepped (clock_of self.old.description) (machine_in self.old.description)
+            (λ ran. Tells self.old self.new at (HasStepped (machine_in self.old.description)
             (heard_of self.old) ctx n ran))
             (λ _. (IsReadyIn (heard_of self.old) ctx → ⊥) × (self.new ≡ self.old)) }
     {
@@ -133,7 +133,7 @@ impl OpenNode {
     pub fn settle(&mut self, at: Stamp)
         requires timely { IsTimely at self.old.log }
         requires room { 32 ≤ self.old.log.spare }
-        ensures { Tells self.old self.new at (SettlesWithin (clock_of self.old.description) (machine_in self.old.description)
+        ensures { Tells self.old self.new at (SettlesWithin (machine_in self.old.description)
             ((self.old.description.turns + 1) * CODE_MAX) (heard_of self.old)) }
     {
         settle(&self.description, &mut self.parts, at);

@@ -9,7 +9,6 @@ use Rattle.mate_journal.specs.Machine.{Machine, Meaning}
 use Rattle.mate_journal.specs.Described.{machine_of}
 use Rattle.mate_journal.specs.Journal.{Event, Reading, journal_of, told_of, nothing_heard, heard_all}
 use Rattle.mate_journal.specs.Pace.{Pace, no_pace}
-use Rattle.mate_journal.specs.Turns.{Clock}
 use Rattle.mate_journal.specs.NodeScript.{Step, RunEnd, Whole, Full, Cut, AreOfEvent, HaveMade, EndsRun, IsRunOf}
 use Rattle.mate_journal.specs.NodeReport.{IsNodeReport}
 use Rattle.mate_journal.specs.Tidy.{store_named, EventsRise, IsTidyLog, HasFullImages}
@@ -35,21 +34,21 @@ none-zero es none = All-same (λ (e : Event). e.stamp.time ≡ 0) es [] none (Al
 parts-zero : (es front rest : List Event) → es ≡ front ++ rest → AreAtZero front → AreAtZero rest → AreAtZero es
 parts-zero es front rest is a b = All-same (λ (e : Event). e.stamp.time ≡ 0) es (front ++ rest) is (All-append (λ (e : Event). e.stamp.time ≡ 0) front rest a b)
 
-made-zero : (k : Clock) (m : Machine) (records n : ℕ) (r : Reading) (p : Pace) (steps : List Step) (es : List Event) (q : Pace) → HaveMade k m records n r p steps es q → AreAtZero es
-made-zero k m records n r p [] es q made = none-zero es made.0
-made-zero k m records n r p (step ∷ steps) es q made =
+made-zero : (m : Machine) (records n : ℕ) (r : Reading) (p : Pace) (steps : List Step) (es : List Event) (q : Pace) → HaveMade m records n r p steps es q → AreAtZero es
+made-zero m records n r p [] es q made = none-zero es made.0
+made-zero m records n r p (step ∷ steps) es q made =
     parts-zero es made.1 made.2 made.4 (of_event-zero n made.1 made.5)
-    (made-zero k m (records + length made.1) (suc n) (heard_all m r made.1) made.3 steps made.2 q made.7)
+    (made-zero m (records + length made.1) (suc n) (heard_all m r made.1) made.3 steps made.2 q made.7)
 
-ends-zero : (k : Clock) (m : Machine) (how : RunEnd) (records n : ℕ) (r : Reading) (p : Pace) (left : List Step) (es : List Event) → EndsRun k m how records n r p left es → AreAtZero es
-ends-zero k m Whole records n r p left es ends = of_event-zero n es ends.2
-ends-zero k m Full records n r p left es ends = none-zero es ends.2
-ends-zero k m Cut records n r p left es ends = none-zero es ends
+ends-zero : (m : Machine) (how : RunEnd) (records n : ℕ) (r : Reading) (p : Pace) (left : List Step) (es : List Event) → EndsRun m how records n r p left es → AreAtZero es
+ends-zero m Whole records n r p left es ends = of_event-zero n es ends.2
+ends-zero m Full records n r p left es ends = none-zero es ends.2
+ends-zero m Cut records n r p left es ends = none-zero es ends
 
-run-zero : (k : Clock) (m : Machine) (how : RunEnd) (steps : List Step) (es : List Event) → IsRunOf k m how steps es → AreAtZero es
-run-zero k m how steps es run =
-    parts-zero es run.front run.last run.events_are (made-zero k m 0 1 (nothing_heard m) no_pace run.done run.front run.pace run.made)
-    (ends-zero k m how (length run.front) (suc (length run.done)) (heard_all m (nothing_heard m) run.front) run.pace run.left run.last run.ends)
+run-zero : (m : Machine) (how : RunEnd) (steps : List Step) (es : List Event) → IsRunOf m how steps es → AreAtZero es
+run-zero m how steps es run =
+    parts-zero es run.front run.last run.events_are (made-zero m 0 1 (nothing_heard m) no_pace run.done run.front run.pace run.made)
+    (ends-zero m how (length run.front) (suc (length run.done)) (heard_all m (nothing_heard m) run.front) run.pace run.left run.last run.ends)
 
 -- ---- one node
 
@@ -75,12 +74,12 @@ plain-marks (e ∷ es) all =
 entries-zero : (l : Log) → AreAtZero (journal_of l) → All (λ (e : Stamped). e.stamp.time ≡ 0) l.entries
 entries-zero l all = All-of_map (λ (e : Event). e.stamp.time ≡ 0) (λ (e : Stamped). record { stamp = e.stamp; told = told_of l e.entry }) l.entries all
 
-pub node-tidy : (d : Description) (k : Clock) (meaning : Meaning) (steps : List Step) (how : RunEnd) (r : Report) → IsNodeReport d k meaning steps how r → IsTidy d r
-node-tidy d k meaning steps how r n =
+pub node-tidy : (d : Description) (meaning : Meaning) (steps : List Step) (how : RunEnd) (r : Report) → IsNodeReport d meaning steps how r → IsTidy d r
+node-tidy d meaning steps how r n =
     let count : length r.nodes ≡ 1 = ap (λ (ls : List Log). length ls) n.one_node in
     let same : marks r ≡ map mark_of_entry n.log.entries = one-marks r n.log n.one_node n.no_air in
     let plain : All IsPlain (marks r) =
-    subst (All IsPlain) (sym same) (plain-marks n.log.entries (entries-zero n.log (run-zero k (machine_of d meaning) how steps (journal_of n.log) n.run.events))) in
+    subst (All IsPlain) (sym same) (plain-marks n.log.entries (entries-zero n.log (run-zero (machine_of d meaning) how steps (journal_of n.log) n.run.events))) in
     record {
       nodes_low = omega (arith, count);
       nodes_high = omega (arith, count);

@@ -3,7 +3,6 @@
 ghost use Rattle.std.specs.Prelude.{List};
 ghost use Rattle.vm_desc.specs.declared.description.Description.{Description};
 ghost use Rattle.mate_journal.specs.Machine.{Meaning};
-ghost use Rattle.mate_journal.specs.Turns.{Clock};
 ghost use Rattle.mate_journal.specs.NodeScript.{Step, RunEnd};
 ghost use Rattle.mate_journal.specs.NodeReport.{IsNodeReport};
 ghost use Rattle.mate_journal.specs.declared.report.Report.{Report};
@@ -11,6 +10,6 @@ ghost use Rattle.report_text.specs.Tidy.{IsTidy};
 
 /// The report of a node script is tidy.
 pub fn node_report_is_tidy()
-    ensures { (d : Description) (k : Clock) (meaning : Meaning) (steps : List Step) (how : RunEnd) (r : Report) →
-        IsNodeReport d k meaning steps how r → IsTidy d r }
+    ensures { (d : Description) (meaning : Meaning) (steps : List Step) (how : RunEnd) (r : Report) →
+        IsNodeReport d meaning steps how r → IsTidy d r }
 {}

@@ -19,7 +19,7 @@ use Rattle.mate_journal.specs.Machine.{HeldProgram}
 use Rattle.mate_journal.specs.Journal.{Told, Void, Reading}
 use Rattle.mate_journal.specs.Pace.{Pace, paced_all}
 use Rattle.mate_journal.specs.NodeScript.{Install, Makes, Installs, IsNotNewer}
-use Rattle.node_invariant.specs.Meaning.{machine_in, clock_of}
+use Rattle.node_invariant.specs.Meaning.{machine_in}
 use Rattle.node_calls.specs.Installing.{IsRightCapsule, IsUnverified, program_by, InstallsBytes, IsNoNewer, Refuses}
 use Rattle.node_calls.specs.declared.installing.InstallFault.{InstallFault}
 use Rattle.node_calls.specs.declared.installing.InstallFault.TheVariants.{Capsule as BadCapsule, Code as BadCode}
@@ -109,13 +109,13 @@ module _ (d : Description) (p : Program) (right : IsRightProgram d p) where
       ∙ ap (λ (n : ℕ). let h : HeldProgram = record { handler = p.handler; version = n; image = p.image } in h) right.version
 
   pub Makes-installed : (r : Reading) (pace : Pace) (told : List Told) (q : Pace) → Pacing (InstallsBytes d r p.image.items) pace told q
-      → Makes (clock_of d) (machine_in d) r pace (Install (held_as p)) told q
+      → Makes (machine_in d) r pace (Install (held_as p)) told q
   Makes-installed r pace told q x =
-      let P : HeldProgram → Type 0 = λ h. Installs (clock_of d) (machine_in d) r pace h told in
+      let P : HeldProgram → Type 0 = λ h. Installs (machine_in d) r pace h told in
       (inl (subst P (is-program x.0.capsule x.0.right) x.0.installs), x.1)
 
   pub Makes-not_newer : (r : Reading) (pace : Pace) (version : ℕ) → IsNoNewer d r p.image.items version
-      → Makes (clock_of d) (machine_in d) r pace (Install (held_as p)) (Void (void.NotNewer version) ∷ []) (paced_all pace (Void (void.NotNewer version) ∷ []))
+      → Makes (machine_in d) r pace (Install (held_as p)) (Void (void.NotNewer version) ∷ []) (paced_all pace (Void (void.NotNewer version) ∷ []))
   Makes-not_newer r pace version n =
       let is : program_by n.capsule p.image.items ≡ held_as p = is-program n.capsule n.right in
       let P : HeldProgram → Type 0 = λ h. IsNotNewer r h (Void (void.NotNewer version) ∷ []) in

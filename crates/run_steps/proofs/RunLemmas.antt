@@ -12,8 +12,7 @@ use Rattle.mate_journal.specs.Log.{Log, IsEmpty, IsSameLog}
 use Rattle.mate_journal.specs.Machine.{Machine, Meaning}
 use Rattle.mate_journal.specs.Journal.{Told, Event, Reading, journal_of, nothing_heard, heard_all, told_by, told_of}
 use Rattle.mate_journal.specs.Pace.{Pace, no_pace}
-use Rattle.mate_journal.specs.Turns.{Clock}
-use Rattle.mate_journal.specs.WellFormed.{NotBefore, start}
+use Rattle.mate_journal.specs.WellFormed.{NotBefore}
 use Rattle.mate_journal.specs.NodeScript as node
 use Rattle.mate_journal.specs.NodeScript.{RunEnd, Whole, Full, Cut, Makes, HaveMade, AreOfEvent, EndsRun, IsRunOf, ShowsOnce}
 use Rattle.mate_journal.specs.NodeReport.{IsNodeReport, is_whole}
@@ -23,14 +22,14 @@ use Rattle.mate_journal.specs.declared.program.Program.{Program}
 use Rattle.mate_journal.specs.declared.entry.Stamped.{Stamped}
 use Rattle.mate_journal.specs.declared.report.Report.{Report}
 use Rattle.mate_journal.specs.declared.report.TheConstants.{RECORDS_MAX}
-use Rattle.journal_laws.specs.Growth.{last_stamp}
+use Rattle.journal_laws.specs.Growth.{FollowsLast}
 use Rattle.journal_laws.proofs.Append.{journal_of-same, journal_of-empty}
 use Rattle.journal_laws.proofs.FewLemmas.{run-few}
 use Rattle.mate_journal.proofs.JournalLemmas.{told_by-at}
 use Rattle.journal_laws.proofs.ScriptRuns.{HaveMade-push, AreOfEvent-at}
 use Rattle.vm_desc.specs.Shapes.{shape_of}
 use Rattle.vm_desc.specs.Whole.{context_count}
-use Rattle.node_invariant.specs.Meaning.{machine_in, clock_of, meaning_of}
+use Rattle.node_invariant.specs.Meaning.{machine_in, meaning_of}
 use Rattle.node_invariant.specs.Keeps.{reading, event_at, IsTimely}
 use Rattle.open_node.specs.View.{NodeView, heard_of, HasPace, Tells}
 use Rattle.open_node.specs.Calls.{Pacing}
@@ -49,17 +48,17 @@ length-journal l = length-map l.entries (λ (e : Stamped). let x : Event = recor
 
 -- the next event of a script may follow an event of it
 next-timely : (n : ℕ) (l : Log) → IsTimely (at_event n) l → IsTimely (at_event (suc n)) l
-next-timely n l t = record {
-  after_last = record {
-    event = let h = t.after_last.event in omega (arith, h);
-    time = t.after_last.time;
-    same = λ e. let h = t.after_last.event in absurd (omega (arith, h, e));
-  };
-}
+next-timely n l t = record { after_last = FollowsLast-later (journal_of l) (at_event n) (at_event (suc n)) later t.after_last } where
+  later : (last : Stamp) → NotBefore last (at_event n) → NotBefore last (at_event (suc n))
+  later last h = record {
+    event = let e = h.event in omega (arith, e);
+    time = h.time;
+    same = λ e. let low = h.event in absurd (omega (arith, low, e));
+  }
 
 same-timely : (at : Stamp) (a b : Log) → IsSameLog a b → IsTimely at b → IsTimely at a
 same-timely at a b same t =
-    let P : List Event → Type 0 = λ es. NotBefore (last_stamp start es) at in
+    let P : List Event → Type 0 = λ es. FollowsLast es at in
     record { after_last = subst P (sym (journal_of-same b a same)) t.after_last }
 
 -- ---- the run
@@ -73,8 +72,8 @@ HasRun-new d ps v is empty has gone =
       has = has;
       made = (none, refl);
       timely =
-          let P : List Event → Type 0 = λ es. NotBefore (last_stamp start es) (at_event 0) in
-          record { after_last = subst P (sym none) (record { event = omega arith; time = omega arith; same = λ _. refl }) };
+          let P : List Event → Type 0 = λ es. FollowsLast es (at_event 0) in
+          record { after_last = subst P (sym none) tt };
       ranges = subst (λ (g : Gone). IsInRange v.log g) (sym gone) (none-in-range v.log empty);
       few = lit< tt;
     }
@@ -89,7 +88,7 @@ HasRun-same d ps done old new described same paces ranges h =
       pace = h.pace;
       has = paces h.pace h.has;
       made =
-          subst (λ (es : List Event). HaveMade (clock_of d) (machine_in d) 0 1 (nothing_heard (machine_in d)) no_pace (map (step_of ps) done) es h.pace) (sym journals) h.made;
+          subst (λ (es : List Event). HaveMade (machine_in d) 0 1 (nothing_heard (machine_in d)) no_pace (map (step_of ps) done) es h.pace) (sym journals) h.made;
       timely = same-timely (at_event (length done)) new.log old.log same h.timely;
       ranges = ranges h.ranges;
       few = h.few;
@@ -114,12 +113,12 @@ one-more d ps done step old new h few t ranges stamp =
     let count : length (map (step_of ps) done) ≡ length done = length-map done (step_of ps) in
     let entries : length (journal_of old.log) ≡ length old.log.entries = length-journal old.log in
     let event : suc (length done) ≡ 1 + length (map (step_of ps) done) = omega (arith, count) in
-    let by_description : Makes (clock_of d) (machine_in d) (heard_of old) h.pace (step_of ps step) t.told made.0 =
-    subst (λ (x : Description). Makes (clock_of x) (machine_in x) (heard_of old) h.pace (step_of ps step) t.told made.0) h.description made.1 in
-    let makes : Makes (clock_of d) (machine_in d) (heard_all (machine_in d) (nothing_heard (machine_in d)) (journal_of old.log)) h.pace (step_of ps step) (told_by front) made.0 =
-    subst (λ (ts : List Told). Makes (clock_of d) (machine_in d) (heard_all (machine_in d) (nothing_heard (machine_in d)) (journal_of old.log)) h.pace (step_of ps step) ts made.0) (sym (told_by-at at t.told))
-    (subst (λ (r : Reading). Makes (clock_of d) (machine_in d) r h.pace (step_of ps step) t.told made.0) (heard-is d old h.description) by_description) in
-    let P : List node.Step → List Event → Type 0 = λ steps es. HaveMade (clock_of d) (machine_in d) 0 1 (nothing_heard (machine_in d)) no_pace steps es made.0 in
+    let by_description : Makes (machine_in d) (heard_of old) h.pace (step_of ps step) t.told made.0 =
+    subst (λ (x : Description). Makes (machine_in x) (heard_of old) h.pace (step_of ps step) t.told made.0) h.description made.1 in
+    let makes : Makes (machine_in d) (heard_all (machine_in d) (nothing_heard (machine_in d)) (journal_of old.log)) h.pace (step_of ps step) (told_by front) made.0 =
+    subst (λ (ts : List Told). Makes (machine_in d) (heard_all (machine_in d) (nothing_heard (machine_in d)) (journal_of old.log)) h.pace (step_of ps step) ts made.0) (sym (told_by-at at t.told))
+    (subst (λ (r : Reading). Makes (machine_in d) r h.pace (step_of ps step) t.told made.0) (heard-is d old h.description) by_description) in
+    let P : List node.Step → List Event → Type 0 = λ steps es. HaveMade (machine_in d) 0 1 (nothing_heard (machine_in d)) no_pace steps es made.0 in
     record {
       description = t.description ∙ h.description;
       pace = made.0;
@@ -127,7 +126,7 @@ one-more d ps done step old new h few t ranges stamp =
       made =
           subst (P (map (step_of ps) (done ++ step ∷ []))) (sym t.grows.journal)
           (subst (λ (steps : List node.Step). P steps (journal_of old.log ++ front)) (sym (map-append (step_of ps) done (step ∷ [])))
-          (HaveMade-push (clock_of d) (machine_in d) 0 1 (nothing_heard (machine_in d)) no_pace (map (step_of ps) done) (journal_of old.log) h.pace (step_of ps step) front made.0 h.made
+          (HaveMade-push (machine_in d) 0 1 (nothing_heard (machine_in d)) no_pace (map (step_of ps) done) (journal_of old.log) h.pace (step_of ps step) front made.0 h.made
           (omega (arith, few, entries))
           (subst (λ (n : ℕ). AreOfEvent n front) event (AreOfEvent-at (suc (length done)) t.told)) makes));
       timely = subst (λ (n : ℕ). IsTimely (at_event n) new.log) (sym long) t.grows.timely;
@@ -191,15 +190,15 @@ pub few-entries : (d : Description) (ps : List Program) (done : List Step) (v : 
     → length v.log.entries < 4000000000
 few-entries d ps done v h keeps =
     let k : KeepsJournal d (machine_in d) v.log = subst (λ (x : Description). KeepsJournal x (machine_in x) v.log) h.description keeps in
-    let few = run-few (clock_of d) (machine_in d) (map (step_of ps) done) (journal_of v.log) h.pace h.made k.well_formed.follow in
+    let few = run-few (machine_in d) (map (step_of ps) done) (journal_of v.log) h.pace h.made k.well_formed.follow in
     let entries = length-journal v.log in
     omega (arith, few, entries)
 
 -- ---- the report
 
 -- the report of a log that keeps what a node's log keeps
-pub report-by : (d : Description) (steps : List node.Step) (how : RunEnd) (l : Log) (events : ℕ) → KeepsJournal d (machine_in d) l → (run : IsRunOf (clock_of d) (machine_in d) how steps (journal_of l)) → events ≡ length run.done
-    → (r : Report) → r ≡ record { nodes = l ∷ []; air = []; events = events; whole = is_whole how } → IsNodeReport d (clock_of d) (meaning_of (shape_of d)) steps how r
+pub report-by : (d : Description) (steps : List node.Step) (how : RunEnd) (l : Log) (events : ℕ) → KeepsJournal d (machine_in d) l → (run : IsRunOf (machine_in d) how steps (journal_of l)) → events ≡ length run.done
+    → (r : Report) → r ≡ record { nodes = l ∷ []; air = []; events = events; whole = is_whole how } → IsNodeReport d (meaning_of (shape_of d)) steps how r
 report-by d steps how l events keeps run count r is = record {
   log = l;
   one_node = ap (λ (x : Report). x.nodes) is;
@@ -215,17 +214,16 @@ report-by d steps how l events keeps run count r is = record {
 
 -- all steps were made, and the store is shown
 whole-run : (d : Description) (ps : List Program) (steps : List Step) (old new : NodeView) (h : HasRun d ps steps old)
-    → Tells old new (at_event (suc (length steps))) (Pacing (ShowsOnce (clock_of old.description) (machine_in old.description) (heard_of old)))
-    → (run : IsRunOf (clock_of d) (machine_in d) Whole (map (step_of ps) steps) (journal_of new.log)) × (length steps ≡ length run.done)
+    → Tells old new (at_event (suc (length steps))) (Pacing (ShowsOnce (machine_in old.description) (heard_of old)))
+    → (run : IsRunOf (machine_in d) Whole (map (step_of ps) steps) (journal_of new.log)) × (length steps ≡ length run.done)
 whole-run d ps steps old new h t =
-    let k : Clock = clock_of d in
     let m : Machine = machine_in d in
     let shown = t.paces h.pace h.has in
     let at : Stamp = at_event (suc (length steps)) in
     let last : List Event = map (event_at at) t.told in
     let count : length (map (step_of ps) steps) ≡ length steps = length-map steps (step_of ps) in
-    let by_description : ShowsOnce k m (heard_of old) h.pace t.told = subst (λ (x : Description). ShowsOnce (clock_of x) (machine_in x) (heard_of old) h.pace t.told) h.description shown.1.0 in
-    let by_heard : ShowsOnce k m (heard_all m (nothing_heard m) (journal_of old.log)) h.pace t.told = subst (λ (r : Reading). ShowsOnce k m r h.pace t.told) (heard-is d old h.description) by_description in (
+    let by_description : ShowsOnce m (heard_of old) h.pace t.told = subst (λ (x : Description). ShowsOnce (machine_in x) (heard_of old) h.pace t.told) h.description shown.1.0 in
+    let by_heard : ShowsOnce m (heard_all m (nothing_heard m) (journal_of old.log)) h.pace t.told = subst (λ (r : Reading). ShowsOnce m r h.pace t.told) (heard-is d old h.description) by_description in (
       record {
         done = map (step_of ps) steps;
         left = [];
@@ -237,7 +235,7 @@ whole-run d ps steps old new h t =
         made = h.made;
         ends = (
           refl,
-          subst (λ (ts : List Told). ShowsOnce k m (heard_all m (nothing_heard m) (journal_of old.log)) h.pace ts) (sym (told_by-at at t.told)) by_heard,
+          subst (λ (ts : List Told). ShowsOnce m (heard_all m (nothing_heard m) (journal_of old.log)) h.pace ts) (sym (told_by-at at t.told)) by_heard,
           subst (λ (n : ℕ). AreOfEvent n last) (ap suc (sym count)) (AreOfEvent-at (suc (length steps)) t.told),
         );
       },
@@ -246,7 +244,7 @@ whole-run d ps steps old new h t =
 
 -- the log is full, and a step is left
 pub run-full : (d : Description) (ps : List Program) (steps : List Step) (i event : ℕ) (v : NodeView) (h : HasRun d ps (take i steps) v) → i < length steps → event ≡ i → RECORDS_MAX ≤ length v.log.entries
-    → (run : IsRunOf (clock_of d) (machine_in d) Full (map (step_of ps) steps) (journal_of v.log)) × (event ≡ length run.done)
+    → (run : IsRunOf (machine_in d) Full (map (step_of ps) steps) (journal_of v.log)) × (event ≡ length run.done)
 run-full d ps steps i event v h within same full =
     let f = step_of ps in
     let m : Machine = machine_in d in
@@ -270,19 +268,19 @@ run-full d ps steps i event v h within same full =
     )
 
 pub run-whole : (d : Description) (ps : List Program) (list : List Step) (i event : ℕ) (old new : NodeView) → HasRun d ps (take i list) old → i ≤ length list → length list ≤ i → event ≡ i
-    → Tells old new (at_event (event + 1)) (Pacing (ShowsOnce (clock_of old.description) (machine_in old.description) (heard_of old)))
-    → (run : IsRunOf (clock_of d) (machine_in d) Whole (map (step_of ps) list) (journal_of new.log)) × (event ≡ length run.done)
+    → Tells old new (at_event (event + 1)) (Pacing (ShowsOnce (machine_in old.description) (heard_of old)))
+    → (run : IsRunOf (machine_in d) Whole (map (step_of ps) list) (journal_of new.log)) × (event ≡ length run.done)
 run-whole d ps list i event old new h within all same t =
     let whole : take i list ≡ list = take_all i list all in
     let number : event + 1 ≡ suc (length list) = omega (arith, same, within, all) in
     let run = whole-run d ps list old new (subst (λ (done : List Step). HasRun d ps done old) whole h)
-    (subst (λ (n : ℕ). Tells old new (at_event n) (Pacing (ShowsOnce (clock_of old.description) (machine_in old.description) (heard_of old)))) number t) in
+    (subst (λ (n : ℕ). Tells old new (at_event n) (Pacing (ShowsOnce (machine_in old.description) (heard_of old)))) number t) in
     let count = run.1 in
     (run.0, omega (arith, same, within, all, count))
 
 -- the run is cut after a step
 pub run-cut : (d : Description) (ps : List Program) (steps : List Step) (i event : ℕ) (v : NodeView) (h : HasRun d ps (take i steps) v) → i ≤ length steps → event ≡ i
-    → (run : IsRunOf (clock_of d) (machine_in d) Cut (map (step_of ps) steps) (journal_of v.log)) × (event ≡ length run.done)
+    → (run : IsRunOf (machine_in d) Cut (map (step_of ps) steps) (journal_of v.log)) × (event ≡ length run.done)
 run-cut d ps steps i event v h within same =
     let f = step_of ps in
     let count : length (map f (take i steps)) ≡ length (take i steps) = length-map (take i steps) f in
@@ -305,14 +303,14 @@ run-cut d ps steps i event v h within same =
 
 -- the log of a node that ran so is that of the script's report
 pub reported : (d : Description) (script : NodeScript) (ps : List Program) (how : RunEnd) (list : List Step) (v : NodeView) (events : ℕ) → list ≡ script.steps → AreProgramsOf d script ps → v.description ≡ d
-    → KeepsJournal v.description (machine_in v.description) v.log → (run : IsRunOf (clock_of d) (machine_in d) how (map (step_of ps) list) (journal_of v.log)) × (events ≡ length run.done)
+    → KeepsJournal v.description (machine_in v.description) v.log → (run : IsRunOf (machine_in d) how (map (step_of ps) list) (journal_of v.log)) × (events ≡ length run.done)
     → HasLogRanges v.log → events < 2 ^ 64 → (r : Report) → r ≡ record { nodes = v.log ∷ []; air = []; events = events; whole = is_whole how } → IsReportOf d script ps how r
 reported d script ps how list v events steps right description keeps run ranges few r is =
     let k : KeepsJournal d (machine_in d) v.log = subst (λ (x : Description). KeepsJournal x (machine_in x) v.log) description keeps in
-    let by_code : IsNodeReport d (clock_of d) (meaning_of (shape_of d)) (map (step_of ps) list) how r = report-by d (map (step_of ps) list) how v.log events k run.0 run.1 r is in
-    let by_sources : IsNodeReport d (clock_of d) (meaning_by d ps) (steps_of script ps) how r =
-    subst (λ (meaning : Meaning). IsNodeReport d (clock_of d) meaning (steps_of script ps) how r) (sym (meaning_by-right d ps right.programs))
-    (subst (λ (ss : List Step). IsNodeReport d (clock_of d) (meaning_of (shape_of d)) (map (step_of ps) ss) how r) steps by_code) in
+    let by_code : IsNodeReport d (meaning_of (shape_of d)) (map (step_of ps) list) how r = report-by d (map (step_of ps) list) how v.log events k run.0 run.1 r is in
+    let by_sources : IsNodeReport d (meaning_by d ps) (steps_of script ps) how r =
+    subst (λ (meaning : Meaning). IsNodeReport d meaning (steps_of script ps) how r) (sym (meaning_by-right d ps right.programs))
+    (subst (λ (ss : List Step). IsNodeReport d (meaning_of (shape_of d)) (map (step_of ps) ss) how r) steps by_code) in
     record {
       right = right;
       report = by_sources;

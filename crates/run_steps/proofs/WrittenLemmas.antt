@@ -15,14 +15,14 @@ use Rattle.script_reader.specs.declared.steps.Step.{Step}
 use Rattle.open_node.specs.View.{NodeView, Tells}
 use Rattle.run_steps.proofs.RunLemmas.{timely-at}
 use Rattle.mate_journal.specs.Journal.{Told, Event, journal_of, told_of}
-use Rattle.mate_journal.specs.WellFormed.{IsInTime, start}
+use Rattle.mate_journal.specs.WellFormed.{IsInTime, StampsRise}
 use Rattle.mate_journal.specs.Tidy.{below}
 use Rattle.mate_journal.specs.declared.air.Aired.{Aired}
 use Rattle.mate_journal.specs.declared.entry.Entry.{Entry}
 use Rattle.mate_journal.specs.declared.entry.Entry.TheVariants as entry
 use Rattle.mate_journal.specs.declared.entry.Stamped.{Stamped}
 use Rattle.mate_journal.specs.declared.report.Report.{Report}
-use Rattle.journal_laws.specs.Growth.{event_of, last_stamp, AreNamedBelow, IsNamedBelow}
+use Rattle.journal_laws.specs.Growth.{event_of, last_stamp, FollowsLast, AreNamedBelow, IsNamedBelow}
 use Rattle.journal_laws.proofs.TidyLemmas.{NamesInLog-numbered}
 use Rattle.journal_laws.proofs.GoesOnLemmas.{GoesOn-journal}
 use Rattle.report_text.specs.Pieces.{IsNamed, AddsPiece}
@@ -62,12 +62,19 @@ in_time-upto last (e ∷ es) n in_time le =
     let low = in_time-low e.stamp es in_time.1 in
     All-cons (λ (e : Event). e.stamp.event ≤ n) e es (omega (arith, low, le)) (in_time-upto e.stamp es n in_time.1 le)
 
+stamps-upto : (es : List Event) (at : Stamp) → StampsRise es → FollowsLast es at → All (λ (e : Event). e.stamp.event ≤ at.event) es
+stamps-upto [] at rise last = All-nil (λ (e : Event). e.stamp.event ≤ at.event)
+stamps-upto (e ∷ es) at rise last =
+    let low = in_time-low e.stamp es rise in
+    let high = last.event in
+    All-cons (λ (e : Event). e.stamp.event ≤ at.event) e es (omega (arith, low, high)) (in_time-upto e.stamp es at.event rise last.event)
+
 module _ (d : Description) where
   -- the events of a node's log, up to a stamp that may follow
   pub log-upto : (l : Log) (n : ℕ) → KeepsJournal d (machine_in d) l → IsTimely (at_event n) l → All (λ (e : Stamped). e.stamp.event ≤ n) l.entries
   log-upto l n keeps timely =
       All-of_map (λ (e : Event). e.stamp.event ≤ n) (λ (s : Stamped). let x : Event = record { stamp = s.stamp; told = told_of l s.entry } in x) l.entries
-      (in_time-upto start (journal_of l) n keeps.well_formed.in_time timely.after_last.event)
+      (stamps-upto (journal_of l) (at_event n) keeps.well_formed.in_time timely.after_last)
 
   named-entry : (l : Log) (e : Entry) → IsNamedBelow (length l.images) (length l.stores) e → IsNamed l e
   named-entry l (entry.Install h version image) named = named

@@ -16,7 +16,7 @@ use Rattle.mate_journal.specs.declared.report.Report.{Report}
 use Rattle.mate_journal.specs.declared.report.RunFault.{RunFault}
 use Rattle.mate_journal.specs.declared.report.RunFault.TheVariants.{LogFull, NoMemory}
 use Rattle.mate_journal.specs.declared.report.TheConstants.{RECORDS_MAX}
-use Rattle.node_invariant.specs.Meaning.{machine_in, clock_of}
+use Rattle.node_invariant.specs.Meaning.{machine_in}
 use Rattle.node_invariant.specs.Keeps.{IsTimely}
 use Rattle.open_node.specs.View.{NodeView, heard_of, HasPace}
 use Rattle.report_ranges.specs.Growth.{IsInRange}
@@ -29,7 +29,7 @@ use Rattle.node_programs.specs.ScriptSteps.{AreProgramsOf, step_of, steps_of}
 -- code. Its numbers are in the ranges of their types, so that its text is read back.
 pub record IsReportOf (d : Description) (script : NodeScript) (ps : List Program) (how : RunEnd) (r : Report) : Type 0 where
   pub right : AreProgramsOf d script ps
-  pub report : IsNodeReport d (clock_of d) (meaning_by d ps) (steps_of script ps) how r
+  pub report : IsNodeReport d (meaning_by d ps) (steps_of script ps) how r
   pub ranges : HasReportRanges r
 
 -- a whole report, or one whose log is full before a step
@@ -52,7 +52,7 @@ pub record IsReadyFor (v : NodeView) (at : Stamp) : Type 0 where
 
 -- what a step makes on a node
 abbrev pub MakesOn : NodeView → node.Step → Pace → List Told → Pace → Type 0
-MakesOn v step p told q = Makes (clock_of v.description) (machine_in v.description) (heard_of v) p step told q
+MakesOn v step p told q = Makes (machine_in v.description) (heard_of v) p step told q
 
 -- the stamp of an event of a script
 abbrev pub at_event : ℕ → Stamp
@@ -63,7 +63,7 @@ pub record HasRun (d : Description) (ps : List Program) (done : List Step) (v : 
   pub description : v.description ≡ d
   pub pace : Pace
   pub has : HasPace v pace
-  pub made : HaveMade (clock_of d) (machine_in d) 0 1 (nothing_heard (machine_in d)) no_pace (map (step_of ps) done) (journal_of v.log) pace
+  pub made : HaveMade (machine_in d) 0 1 (nothing_heard (machine_in d)) no_pace (map (step_of ps) done) (journal_of v.log) pace
   pub timely : IsTimely (at_event (length done)) v.log
   pub ranges : IsInRange v.log v.gone
   pub few : length done < 2 ^ 64

@@ -5,7 +5,7 @@ ghost use Rattle.vm_desc.specs.Whole.{context_count};
 ghost use Rattle.mate_journal.specs.Log.{GoesOn};
 ghost use Rattle.mate_journal.specs.NodeScript.{ShowsOnce};
 ghost use Rattle.mate_journal.specs.Pace.{Pace};
-ghost use Rattle.node_invariant.specs.Meaning.{machine_in, clock_of};
+ghost use Rattle.node_invariant.specs.Meaning.{machine_in};
 ghost use Rattle.mate_journal.specs.Ranges.{HasStampRange};
 ghost use Rattle.node_invariant.specs.Keeps.{IsTimely};
 ghost use Rattle.script_reader.specs.Steps.{IsRightStep};
@@ -100,7 +100,7 @@ impl HeapNode {
         requires few { length self.old.log.entries < 4000000000 }
         requires room { 1 ≤ self.old.log.spare }
         ensures tells { Tells self.old self.new at
-            (Pacing (ShowsOnce (clock_of self.old.description) (machine_in self.old.description) (heard_of self.old))) }
+            (Pacing (ShowsOnce (machine_in self.old.description) (heard_of self.old))) }
         ensures ranges { IsInRange self.old.log self.old.gone → IsInRange self.new.log self.new.gone }
         ensures goes_on { GoesOn self.old.log self.new.log }
     {

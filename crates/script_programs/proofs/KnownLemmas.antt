@@ -1,45 +1,41 @@
 -- What known sources gave.
 use Rattle.std.proofs.Common.{◌≡◌, ◌≤◌, ◌<◌, ◌++◌, ◌∷◌, [], ℕ, Bool, true, false, List, length, get_or, Option, Some, None, Result, Ok, Err, refl, inr, sym, ◌∙◌, subst}
-use Rattle.std.specs.Prelude.{All, IsErrAnd, IsSomeAnd, slice_get, if◌then◌else◌}
+use Rattle.std.specs.Prelude.{All, IfOk, IsErrAnd, IsSomeAnd, slice_get, if◌then◌else◌}
 use Rattle.std.proofs.lemmas.List.Elements.{All-nil, All-cons, All-append}
 use Rattle.std.specs.Str.{bytes_eq}
 use Rattle.std.proofs.lemmas.Option.{slice_get_read, slice_get_within}
 use Rattle.std.proofs.lemmas.Slice.Eq.{bytes_eq-Decides}
-use Rattle.arrayvec.specs.ArrayVec.{ArrayVec}
-use Rattle.mate_num.specs.declared.shape.Shape.{Shape}
 use Rattle.mate_refusals.specs.declared.cause.Cause.TheVariants as cause
 use Rattle.mate_refusals.specs.declared.refusal.Refusal.{Refusal}
 use Rattle.mate_refusals.specs.declared.refusal.Refusal.TheVariants.{NoMemory}
 use Rattle.mate_steps.specs.Parts.{IsUnreadAnswer}
-use Rattle.mate_steps.specs.SourceCode.{IsCodeOf, IsCompiledOf}
 use Rattle.mate_steps.specs.Sources.{compiled_bytes}
-use Rattle.mate_steps.specs.Steps.{goes_on, stops}
+use Rattle.mate_steps.specs.Steps.{goes_on, stops, obtained}
 use Rattle.mate_steps.specs.declared.code.CompiledScript.{CompiledScript}
 use Rattle.mate_steps.proofs.Laws.{judged-read}
-use Rattle.script_programs.specs.Known.{IsKnown, AreKnown, IsKnownAt, IsSameScript}
+use Rattle.script_programs.specs.Known.{IsKnown, AreKnown, IsKnownAt}
 use Rattle.script_programs.specs.declared.known.KnownSource.{KnownSource}
 use Rattle.script_programs.specs.declared.known.KnownSources.{KnownSources}
-use Rattle.ts_syntax.specs.Statement.{Block}
 use Rattle.vm_desc.specs.declared.description.Description.{Description}
 
--- what bytes give they give under any name, and so does a copy of it
-same-compiled : (shape : Shape) (fold : Bool) (tree : Block) (c copy : CompiledScript) → IsCompiledOf shape fold tree c → IsSameScript c copy → IsCompiledOf shape fold tree copy
-same-compiled shape fold tree c copy is same = record {
-  shape_is = same.shape ∙ is.shape_is;
-  tree_is = same.tree ∙ is.tree_is;
-  code_is = subst (λ (code : ArrayVec ℕ). IsCodeOf shape fold tree code) (sym same.code) is.code_is;
-}
-
-pub gives-same : (d : Description) (fold : Bool) (name other bytes : List ℕ) (c copy : CompiledScript) → compiled_bytes d fold name bytes (Ok c) → IsSameScript c copy → compiled_bytes d fold other bytes (Ok copy)
-gives-same d fold name other bytes c copy (goes_on tree is_tree is) same = goes_on tree is_tree (same-compiled _ fold tree c copy is same)
-gives-same d fold name other bytes c copy (stops r refused is) same = cc
-
-filled-same : (c copy : CompiledScript) → IsSameScript c copy → 1 ≤ length c.code.items → 1 ≤ length copy.code.items
-filled-same c copy same filled = subst (λ (code : ArrayVec ℕ). 1 ≤ length code.items) (sym same.code) filled
+-- what bytes give they give under any name
+gives-named : (d : Description) (fold : Bool) (name other bytes : List ℕ) (c : CompiledScript) → compiled_bytes d fold name bytes (Ok c) → compiled_bytes d fold other bytes (Ok c)
+gives-named d fold name other bytes c (goes_on tree is_tree is) = goes_on tree is_tree is
+gives-named d fold name other bytes c (stops r refused is) = cc
 
 -- memory may be wanting
 pub bytes-want : (d : Description) (fold : Bool) (name bytes : List ℕ) → compiled_bytes d fold name bytes (Err NoMemory)
 bytes-want d fold name bytes = stops NoMemory (inr refl) refl
+
+-- what is obtained is what bytes give, where that is what it is
+pub gives-obtained : (d : Description) (fold : Bool) (name bytes : List ℕ) (c : CompiledScript) (answer : Result CompiledScript Refusal) → compiled_bytes d fold name bytes (Ok c) → obtained (λ x. x ≡ c) answer
+    → compiled_bytes d fold name bytes answer
+gives-obtained d fold name bytes c (Ok x) gives is = subst (λ (y : CompiledScript). compiled_bytes d fold name bytes (Ok y)) (sym is) gives
+gives-obtained d fold name bytes c (Err r) gives is = subst (λ (y : Refusal). compiled_bytes d fold name bytes (Err y)) (sym is) (bytes-want d fold name bytes)
+
+pub filled-obtained : (c : CompiledScript) (answer : Result CompiledScript Refusal) → 1 ≤ length c.code.items → obtained (λ x. x ≡ c) answer → IfOk answer (λ x. 1 ≤ length x.code.items)
+filled-obtained c (Ok x) filled is = subst (λ (y : CompiledScript). 1 ≤ length y.code.items) (sym is) filled
+filled-obtained c (Err r) filled is = tt
 
 -- the answer of a `?`
 pub err-as : {A : Type 0} (P : Result A Refusal → Type 0) (r : Refusal) (answer : Result A Refusal) → P (Err r) → IsErrAnd answer (λ y. y ≡ r) → P answer
@@ -66,25 +62,25 @@ pub record Gives (d : Description) (fold : Bool) (name bytes : List ℕ) (c : Co
   pub gives : compiled_bytes d fold name bytes (Ok c)
   pub filled : 1 ≤ length c.code.items
 
-pub known-gives : (d : Description) (fold : Bool) (k : KnownSources) (name bytes : List ℕ) (place : ℕ) (s : KnownSource) (copy : CompiledScript) → AreKnown d fold k → IsKnownAt k bytes place
-    → s ≡ get_or k.sources.items place s → IsSameScript s.compiled copy → Gives d fold name bytes copy
-known-gives d fold k name bytes place s copy known at is same =
+pub known-gives : (d : Description) (fold : Bool) (k : KnownSources) (name bytes : List ℕ) (place : ℕ) (s : KnownSource) → AreKnown d fold k → IsKnownAt k bytes place
+    → s ≡ get_or k.sources.items place s → Gives d fold name bytes s.compiled
+known-gives d fold k name bytes place s known at is =
     let low = IsKnownAt-below k bytes place at in
     let there : slice_get k.sources.items place ≡ Some s = slice_get_read k.sources.items (length k.sources.items) place s refl low is in
     let its : s.bytes.items ≡ bytes = (bytes_eq-Decides s.bytes.items bytes).0 (subst (λ (o : Option KnownSource). IsSomeAnd o (λ x. bytes_eq x.bytes.items bytes ≡ true)) there at) in
     let one : IsKnown d fold s = subst (IsKnown d fold) (sym is) (known place s low) in
     record {
-      gives = subst (λ (bs : List ℕ). compiled_bytes d fold name bs (Ok copy)) its (gives-same d fold name name s.bytes.items s.compiled copy (one.gives name) same);
-      filled = filled-same s.compiled copy same one.filled;
+      gives = subst (λ (bs : List ℕ). compiled_bytes d fold name bs (Ok s.compiled)) its (one.gives name);
+      filled = one.filled;
     }
 
 -- one more is known, unless memory was wanting
 pub AreKnown-pushed : (d : Description) (fold : Bool) (name : List ℕ) (k new : List KnownSource) (s : KnownSource) (c : CompiledScript) (b : Bool) → All (IsKnown d fold) k
-    → compiled_bytes d fold name s.bytes.items (Ok c) → 1 ≤ length c.code.items → IsSameScript c s.compiled → new ≡ (if b then k ++ s ∷ [] else k) → All (IsKnown d fold) new
+    → compiled_bytes d fold name s.bytes.items (Ok c) → 1 ≤ length c.code.items → s.compiled ≡ c → new ≡ (if b then k ++ s ∷ [] else k) → All (IsKnown d fold) new
 AreKnown-pushed d fold name k new s c false known gives filled same is = subst (All (IsKnown d fold)) (sym is) known
 AreKnown-pushed d fold name k new s c true known gives filled same is =
     let one : IsKnown d fold s = record {
-      gives = λ other. gives-same d fold name other s.bytes.items c s.compiled gives same;
-      filled = filled-same c s.compiled same filled;
+      gives = λ other. gives-named d fold name other s.bytes.items s.compiled (subst (λ (x : CompiledScript). compiled_bytes d fold name s.bytes.items (Ok x)) (sym same) gives);
+      filled = subst (λ (x : CompiledScript). 1 ≤ length x.code.items) (sym same) filled;
     } in
     subst (All (IsKnown d fold)) (sym is) (All-append (IsKnown d fold) k (s ∷ []) known (All-cons (IsKnown d fold) s [] one (All-nil (IsKnown d fold))))

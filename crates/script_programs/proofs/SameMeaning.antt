@@ -91,7 +91,7 @@ uses-same shape (Some a) None same h = absurd same
 uses-same shape (Some a) (Some b) same h = ap (λ (tree : Block). uses_of shape tree) same
 
 pub meaning-same : (d : Description) (ps qs : List Program) → SamePrograms ps qs → meaning_by d ps ≡ meaning_by d qs
-meaning-same d ps qs same = λ i. record {
+meaning-same d ps qs same = λ i. record (meaning_by d ps) {
   run = λ h store payload answers turns. run-same (shape_of d) (source_in ps h) (source_in qs h) (source-same ps qs same h) h store payload answers turns i;
   uses = λ h. uses-same (shape_of d) (source_in ps h) (source_in qs h) (source-same ps qs same h) h i;
 }

@@ -2,10 +2,8 @@
 use Rattle.std.specs.Prelude.{◌≡◌, ℕ, ◌≤◌, Bool, true, List, length, All, Ok, slice_get, IsSomeAnd}
 use Rattle.std.specs.Str.{bytes_eq}
 use Rattle.mate_steps.specs.Sources.{compiled_bytes}
-use Rattle.mate_steps.specs.declared.code.CompiledScript.{CompiledScript}
 use Rattle.script_programs.specs.declared.known.KnownSource.{KnownSource}
 use Rattle.script_programs.specs.declared.known.KnownSources.{KnownSources}
-use Rattle.ts_syntax.specs.Checked.{shape_of, tree_of}
 use Rattle.vm_desc.specs.declared.description.Description.{Description}
 
 -- what a known source gave is what its bytes give, under any name
@@ -19,9 +17,3 @@ AreKnown d fold k = All (IsKnown d fold) k.sources.items
 -- a known source has these bytes
 abbrev pub IsKnownAt : KnownSources → List ℕ → ℕ → Type 0
 IsKnownAt k bytes place = IsSomeAnd (slice_get k.sources.items place) (λ s. bytes_eq s.bytes.items bytes ≡ true)
-
--- the same tree, for the same machine, and the same code
-pub record IsSameScript (c copy : CompiledScript) : Type 0 where
-  pub shape : shape_of copy.script ≡ shape_of c.script
-  pub tree : tree_of copy.script ≡ tree_of c.script
-  pub code : copy.code ≡ c.code

@@ -1,18 +1,17 @@
 //! Sources that were compiled, by their bytes: a script may name one file very often.
 
-ghost use Rattle.std.specs.Prelude.{◌≡◌, ◌≤◌, [], length, IfOk, IfSome};
+ghost use Rattle.std.specs.Prelude.{◌≡◌, ◌≤◌, [], length, IfOk, IfSome, Ok};
 ghost use Rattle.std.specs.Str.{bytes_eq};
 ghost use Rattle.mate_files.specs.declared.files.TheConstants.{FILE_MAX};
 ghost use Rattle.mate_steps.specs.Parts.{ReadsFiles};
 ghost use Rattle.mate_steps.specs.Sources.{compiled_bytes, source};
-ghost use Rattle.script_programs.specs.Known.{AreKnown, IsKnownAt, IsSameScript};
+ghost use Rattle.script_programs.specs.Known.{AreKnown, IsKnownAt};
 
+use crate::shared_source::SharedSource;
 use mate_files::Files;
-use mate_num::{Code, NoMemory};
 use mate_refusals::Refusal;
-use mate_steps::{CompiledScript, compiled_bytes, read_file};
+use mate_steps::{compiled_bytes, read_file};
 use std::alloc::Global;
-use ts_copy::copy_of;
 use vm_desc::Description;
 
 /// How many sources are known at most. Where one more comes, the others are forgotten.
@@ -22,7 +21,7 @@ const KNOWN_MAX: usize = 16;
 #[derive(Drop)]
 pub struct KnownSource {
     bytes: Vec<u8>,
-    compiled: CompiledScript,
+    compiled: SharedSource,
 }
 
 /// Sources that were compiled for one machine, all folded before or none.
@@ -40,7 +39,7 @@ pub(crate) fn source_of<F: Files>(
     fold: bool,
     known: &mut KnownSources,
     name: &str,
-) -> Result<CompiledScript, Refusal>
+) -> Result<SharedSource, Refusal>
     requires known { AreKnown desc.now fold known.old }
     ensures does { source (record { told = F.contents files.old; steady = F.steady files.old }) desc.now fold name.now result }
     ensures reads { ReadsFiles (F.contents files.old) (F.steady files.old) (F.faults files.old) (F.contents files.new)
@@ -50,27 +49,6 @@ pub(crate) fn source_of<F: Files>(
 {
     let bytes = read_file(alloc, files, name)?;
     known.compiled(alloc, desc, fold, name, bytes)
-}
-
-/// A copy of a compiled script. `NoMemory` comes only where memory for its tree is refused.
-fn copy_of_compiled(alloc: Global, compiled: &CompiledScript) -> Result<CompiledScript, NoMemory>
-    ensures { IfOk result (IsSameScript compiled.now) }
-{
-    let script = copy_of(alloc, &compiled.script)?;
-    Ok(CompiledScript {
-        script,
-        code: copy_of_code(&compiled.code),
-    })
-}
-
-/// A copy of code. It takes no memory.
-fn copy_of_code(code: &Code) -> Code
-    ensures { result ≡ code.now }
-{
-    let Ok(copy) = Code::try_from(code.as_slice()) else {
-        unreachable!()
-    };
-    copy
 }
 
 /// Whether the source has these bytes.
@@ -98,7 +76,7 @@ impl KnownSources {
         fold: bool,
         name: &str,
         bytes: Vec<u8>,
-    ) -> Result<CompiledScript, Refusal>
+    ) -> Result<SharedSource, Refusal>
         requires short { length bytes.items ≤ FILE_MAX }
         requires known { AreKnown desc.now fold self.old }
         ensures does { compiled_bytes desc.now fold name.now bytes.items result }
@@ -107,14 +85,12 @@ impl KnownSources {
     {
         let _fold = fold;
         match self.place_of(bytes.as_slice()) {
-            Some(place) => match copy_of_compiled(alloc, &self.sources[place].compiled) {
-                Ok(compiled) => Ok(compiled),
-                Err(_) => Err(Refusal::NoMemory),
-            },
+            Some(place) => self.sources[place].compiled.share(),
             None => {
                 let compiled = compiled_bytes(alloc, desc, fold, name, bytes.as_slice())?;
-                self.remember(alloc, desc, fold, name, bytes, &compiled);
-                Ok(compiled)
+                let shared = SharedSource::new(alloc, compiled)?;
+                self.remember(desc, fold, name, bytes, &shared);
+                Ok(shared)
             }
         }
     }
@@ -135,12 +111,11 @@ impl KnownSources {
     #[inline(never)]
     fn remember(
         &mut self,
-        alloc: Global,
         desc: &Description,
         fold: bool,
         name: &str,
         bytes: Vec<u8>,
-        compiled: &CompiledScript,
+        compiled: &SharedSource,
     )
         requires known { AreKnown desc.now fold self.old }
         requires gives { compiled_bytes desc.now fold name.now bytes.items (Ok compiled.now) }
@@ -153,7 +128,7 @@ impl KnownSources {
         if self.sources.len() >= KNOWN_MAX {
             self.sources.clear();
         }
-        if let Ok(compiled) = copy_of_compiled(alloc, compiled) {
+        if let Ok(compiled) = compiled.share() {
             let _ = self.sources.push(KnownSource { bytes, compiled });
         }
     }

@@ -10,8 +10,8 @@ ghost use Rattle.script_programs.specs.Numbers.{NamesInOrder};
 ghost use Rattle.script_programs.specs.Programs.{installed, loaded, names_file, step_program, script_programs};
 ghost use Rattle.script_reader.specs.Steps.{IsRightStep, IsRightSteps};
 
+use crate::image::stored_image;
 use crate::known::{KnownSources, source_of};
-use capsule_codec::{Capsule, encode};
 use mate_files::Files;
 use mate_journal::{Program, Programs};
 use mate_num::{HandlerId, Text};
@@ -147,18 +147,7 @@ fn installed<F: Files>(
     ensures known { AreKnown desc.now fold known.new }
 {
     let source = source_of(alloc, files, desc, fold, known, name)?;
-    let capsule = Capsule {
-        vm_id: desc.vm_id,
-        handler,
-        version,
-        code: source.code,
-    };
-    Ok(Program {
-        handler,
-        version,
-        source: Some(source.script),
-        image: encode(&capsule),
-    })
+    source.program(alloc, desc, handler, version)
 }
 
 /// The program of the capsule in a file.
@@ -176,10 +165,11 @@ fn loaded<F: Files>(
 {
     let held = capsule_of(alloc, files, desc, name)?;
     let capsule = &held.capsule;
+    let image = stored_image(alloc, capsule)?;
     Ok(Program {
         handler: capsule.handler,
         version: capsule.version,
         source: None,
-        image: encode(capsule),
+        image,
     })
 }

@@ -9,7 +9,6 @@ use Rattle.mate_journal.specs.Machine.{Machine}
 use Rattle.mate_journal.specs.Journal.{Told, Posted, Dropped, Started, Asked, Answered, Ended, Installed, Reset, Seen, Void, Reading}
 use Rattle.mate_journal.specs.Grants.{IsStart}
 use Rattle.mate_journal.specs.Pace.{Pace}
-use Rattle.mate_journal.specs.Turns.{Clock}
 use Rattle.mate_journal.specs.NodeScript.{Occasion}
 use Rattle.world_rules.specs.Effect.{Deed, Nothing, Installing, Posting, Answering, Showing, Resetting}
 use Rattle.world_rules.specs.Run.{DeedMakes, Occasions}
@@ -46,9 +45,9 @@ occasions-quiet m payload [] r p told x = subst CallNothing (sym x) tt
 occasions-quiet m payload (h ∷ hs) r p told x =
     subst CallNothing (sym x.made) (quiet-both x.front x.rest (occasion-quiet m r h payload x.front x.by_first) (occasions-quiet m payload hs _ _ x.rest x.by_second))
 
-pub deed-quiet : (k : Clock) (m : Machine) (d : Deed) (r : Reading) (p : Pace) (told : List Told) → DeedMakes k m d r p told → CallNothing told
-deed-quiet k m Nothing r p told x = subst CallNothing (sym x) tt
-deed-quiet k m (Installing program) r p told x = subst CallNothing (sym x.made) (
+pub deed-quiet : (m : Machine) (d : Deed) (r : Reading) (p : Pace) (told : List Told) → DeedMakes m d r p told → CallNothing told
+deed-quiet m Nothing r p told x = subst CallNothing (sym x) tt
+deed-quiet m (Installing program) r p told x = subst CallNothing (sym x.made) (
   refl,
   (
     refl,
@@ -58,7 +57,7 @@ deed-quiet k m (Installing program) r p told x = subst CallNothing (sym x.made) 
     ],
   ),
 )
-deed-quiet k m (Posting hs payload) r p told x = occasions-quiet m payload hs r p told x
-deed-quiet k m (Answering inv value) r p told x = subst CallNothing (sym x) (refl, tt)
-deed-quiet k m Showing r p told x = subst CallNothing (sym x.made) (refl, tt)
-deed-quiet k m Resetting r p told x = subst CallNothing (sym x.made) (refl, (refl, tt))
+deed-quiet m (Posting hs payload) r p told x = occasions-quiet m payload hs r p told x
+deed-quiet m (Answering inv value) r p told x = subst CallNothing (sym x) (refl, tt)
+deed-quiet m Showing r p told x = subst CallNothing (sym x.made) (refl, tt)
+deed-quiet m Resetting r p told x = subst CallNothing (sym x.made) (refl, (refl, tt))

@@ -6,9 +6,9 @@ use Rattle.std.proofs.lemmas.List.{length-map}
 use Rattle.std.proofs.lemmas.List.FromFn.{length-map-range_with_len}
 use Rattle.mate_num.specs.declared.call.Stamp.{Stamp}
 use Rattle.mate_journal.specs.Journal.{nothing_heard, journal_of, told_of}
-use Rattle.mate_journal.specs.WellFormed.{NotBefore, start, IsWellFormed}
+use Rattle.mate_journal.specs.WellFormed.{IsWellFormed}
 use Rattle.mate_journal.specs.declared.entry.Stamped.{Stamped}
-use Rattle.journal_laws.specs.Growth.{last_stamp}
+use Rattle.journal_laws.specs.Growth.{FollowsLast}
 use Rattle.mate_journal.specs.Journal.{Event as Entered}
 use Rattle.mate_journal.specs.declared.air.Aired.{Aired}
 use Rattle.mate_journal.specs.declared.program.Program.{Program}
@@ -115,7 +115,7 @@ module _ (d : Description) (script : Script) (ps : List Program) (ms : List Mome
   pub tellable : IsTellable x.node at
   tellable =
       let few = entries-few in
-      let P : List Entered → Type 0 = λ es. NotBefore (last_stamp start es) at in
+      let P : List Entered → Type 0 = λ es. FollowsLast es at in
       record { timely = record { after_last = subst P (sym may.mote.journal) (next-timely (code_world d script ps) number ms at may.come may.stamp needs.ahead) }; few = omega (arith, few) }
 
   pub begun-before : x.timer.running.begin ≤ at.time

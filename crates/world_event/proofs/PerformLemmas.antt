@@ -7,7 +7,7 @@ use Rattle.mate_journal.specs.Pace.{Pace, paced_all}
 use Rattle.mate_journal.specs.Turns.{Settles}
 use Rattle.mate_journal.specs.declared.air.Aired.{Aired}
 use Rattle.mate_journal.specs.declared.program.Program.{Program}
-use Rattle.node_invariant.specs.Meaning.{machine_in, clock_of}
+use Rattle.node_invariant.specs.Meaning.{machine_in}
 use Rattle.node_invariant.specs.Keeps.{event_at}
 use Rattle.open_node.specs.View.{NodeView, heard_of, HasPace, Tells}
 use Rattle.world_script.specs.declared.world.World.{World as Script}
@@ -44,12 +44,12 @@ module _ (d : Description) (script : Script) (ps : List Program) (ms : List Mome
     (may : MayPerform (code_world d script ps) ms c number event at old x0)
     (mote : IsMoteAfter (code_world d script ps) ms (event_node (code_world d script ps) c) x0)
     (handled : Handled (code_world d script ps) (event_node (code_world d script ps) c) ((state (code_world d script ps) ms).nodes (event_node (code_world d script ps) c)) c at x0 x1 r)
-    (settled : Tells x1.node v at (Settles (clock_of x1.node.description) (machine_in x1.node.description) (heard_of x1.node)))
+    (settled : Tells x1.node v at (Settles (machine_in x1.node.description) (heard_of x1.node)))
     (apart : WaitApart (heard_of v)) (awaited : AreAwaited (heard_of v) (told_from (length x1.node.log.entries) v.log))
-    (p q : Pace) (made : DeedMakes (clock_of d) (machine_in d) (node_effect (code_world d script ps) ((state (code_world d script ps) ms).nodes (event_node (code_world d script ps) c)) c).deed
+    (p q : Pace) (made : DeedMakes (machine_in d) (node_effect (code_world d script ps) ((state (code_world d script ps) ms).nodes (event_node (code_world d script ps) c)) c).deed
     ((state (code_world d script ps) ms).nodes (event_node (code_world d script ps) c)).reading ((state (code_world d script ps) ms).nodes (event_node (code_world d script ps) c)).pace handled.tells.told)
     (paced : p ≡ paced_all ((state (code_world d script ps) ms).nodes (event_node (code_world d script ps) c)).pace handled.tells.told)
-    (turned : Settles (clock_of x1.node.description) (machine_in x1.node.description) (heard_of x1.node) p settled.told q) (has : HasPace v q) where
+    (turned : Settles (machine_in x1.node.description) (heard_of x1.node) p settled.told q) (has : HasPace v q) where
   abbrev w : World
   w = code_world d script ps
 
@@ -80,10 +80,10 @@ module _ (d : Description) (script : Script) (ps : List Program) (ms : List Mome
       ∙ ap (λ (e : Description). heard_told (machine_in e) (heard_of x0.node) (handled.tells.told ++ settled.told)) mote.is.description
       ∙ ap (λ (h : Reading). heard_told (machine_in d) h (handled.tells.told ++ settled.told)) mote.is.reading
 
-  turns : Settles (clock_of d) (machine_in d) (heard_told (machine_in d) n.reading handled.tells.told) p settled.told q
+  turns : Settles (machine_in d) (heard_told (machine_in d) n.reading handled.tells.told) p settled.told q
   turns =
-      subst (λ (h : Reading). Settles (clock_of d) (machine_in d) h p settled.told q) heard-before
-      (subst (λ (e : Description). Settles (clock_of e) (machine_in e) (heard_of x1.node) p settled.told q) description_is turned)
+      subst (λ (h : Reading). Settles (machine_in d) h p settled.told q) heard-before
+      (subst (λ (e : Description). Settles (machine_in e) (heard_of x1.node) p settled.told q) description_is turned)
 
   comes : MayCome w s m
   comes = record {
@@ -95,14 +95,14 @@ module _ (d : Description) (script : Script) (ps : List Program) (ms : List Mome
       rest = settled.told;
       made = refl;
       by_first = made;
-      by_second = subst (λ (u : Pace). Settles (clock_of d) (machine_in d) (heard_told (machine_in d) n.reading handled.tells.told) u settled.told q) paced turns;
+      by_second = subst (λ (u : Pace). Settles (machine_in d) (heard_told (machine_in d) n.reading handled.tells.told) u settled.told q) paced turns;
     };
   }
 
   has-settled : HasSettled w s m (length x1.node.log.entries) (record x1 { node = v }) r
   has-settled = record {
     front = handled.tells.told;
-    quiet = deed-quiet (clock_of d) (machine_in d) (node_effect w n c).deed n.reading n.pace handled.tells.told made;
+    quiet = deed-quiet (machine_in d) (node_effect w n c).deed n.reading n.pace handled.tells.told made;
     told = ap (λ (ts : List Told). handled.tells.told ++ ts) (sym (told-behind x1.node.log v.log at settled.told settled.grows));
     reading = heard-after;
     timer = handled.timer;
@@ -173,7 +173,7 @@ module _ (d : Description) (script : Script) (ps : List Program) (ms : List Mome
 pub performed-by : (d : Description) (script : Script) (ps : List Program) (ms : List Moment) (c : Cause) (at : Stamp) (event : Event) (number : ℕ) (old new : Ether) (x0 x1 x4 : Mote) (r : Effect) (v : NodeView)
     → MayPerform (code_world d script ps) ms c number event at old x0
     → (handled : Handled (code_world d script ps) (event_node (code_world d script ps) c) ((state (code_world d script ps) ms).nodes (event_node (code_world d script ps) c)) c at x0 x1 r)
-    → (settled : Tells x1.node v at (Settles (clock_of x1.node.description) (machine_in x1.node.description) (heard_of x1.node)))
+    → (settled : Tells x1.node v at (Settles (machine_in x1.node.description) (heard_of x1.node)))
     → WaitApart (heard_of v) → AreAwaited (heard_of v) (told_from (length x1.node.log.entries) v.log)
     → ((q : Pace) → IsTakenFrom (code_world d script ps) (state (code_world d script ps) ms) (came at.time c handled.tells.told settled.told q) old
     → HasSettled (code_world d script ps) (state (code_world d script ps) ms) (came at.time c handled.tells.told settled.told q) (length x1.node.log.entries) (record x1 { node = v }) r

@@ -9,9 +9,8 @@ use Rattle.mate_journal.specs.declared.air.Air.TheVariants as air
 use Rattle.mate_journal.specs.declared.air.Aired.{Aired}
 use Rattle.mate_journal.specs.Journal.{Told}
 use Rattle.mate_journal.specs.Journal.{Event as Entered}
-use Rattle.mate_journal.specs.WellFormed.{NotBefore, start}
-use Rattle.journal_laws.specs.Growth.{last_stamp}
-use Rattle.journal_laws.proofs.Append.{last_stamp-append}
+use Rattle.journal_laws.specs.Growth.{last_stamp, FollowsLast}
+use Rattle.journal_laws.proofs.Append.{last_stamp-append, start, FollowsLast-from}
 use Rattle.world_script.specs.declared.world.Link.{Link}
 use Rattle.radio_sim.specs.declared.wire.Wire.{Wire}
 use Rattle.radio_sim.specs.Wires.{wire_after, leaving}
@@ -85,13 +84,13 @@ journal-upto w k (m ∷ before) come = by (journal-upto w k before come.0) (k ==
       (last-same (IsUpTo (suc (length before)) m.time) (stamp_of m before) (last_stamp start (journal w k before)) m.told (old earlier) (record { event_high = omega arith; time_high = omega arith }))
 
 -- an event behind these may tell on the node
-pub next-timely : (w : World) (k : ℕ) (ms : List Moment) (at : Stamp) → HaveCome w ms → at.event ≡ suc (length ms) → last_time ms ≤ at.time → NotBefore (last_stamp start (journal w k ms)) at
+pub next-timely : (w : World) (k : ℕ) (ms : List Moment) (at : Stamp) → HaveCome w ms → at.event ≡ suc (length ms) → last_time ms ≤ at.time → FollowsLast (journal w k ms) at
 next-timely w k ms at come number ahead =
     let upto = journal-upto w k ms come in
     let e = upto.event_high in
     let t = upto.time_high in
-    record {
+    FollowsLast-from (journal w k ms) at (record {
       event = omega (arith, e, number);
       time = omega (arith, t, ahead);
       same = λ same. absurd (omega (arith, e, number, same));
-    }
+    })

@@ -4,12 +4,12 @@ use Rattle.mate_num.specs.declared.call.Stamp.{Stamp}
 use Rattle.mate_journal.specs.Machine.{Machine}
 use Rattle.mate_journal.specs.Journal.{Told, Event, Reading, nothing_heard, heard, heard_all, heard_told, journal_of, AtEachEntry}
 use Rattle.mate_journal.specs.Pace.{Pace}
-use Rattle.mate_journal.specs.WellFormed.{NotBefore, start, MayFollow, IsWellFormed}
+use Rattle.mate_journal.specs.WellFormed.{MayFollow, IsWellFormed}
 use Rattle.mate_journal.specs.Turns.{Settles}
 use Rattle.mate_journal.specs.declared.entry.Stamped.{Stamped}
 use Rattle.journal_laws.proofs.Append.{AtEachEntry-back, journal_of-same}
-use Rattle.journal_laws.specs.Growth.{last_stamp}
-use Rattle.node_invariant.specs.Meaning.{machine_in, clock_of}
+use Rattle.journal_laws.specs.Growth.{FollowsLast}
+use Rattle.node_invariant.specs.Meaning.{machine_in}
 use Rattle.node_invariant.specs.Keeps.{reading, event_at, Grows, IsTimely}
 use Rattle.node_invariant.proofs.PostLemmas.{in-machine}
 use Rattle.node_calls.specs.Pacing.{SettlesWithin}
@@ -25,7 +25,7 @@ use Rattle.world_event.proofs.ToldLemmas.{tells-heard, told-behind}
 
 -- the stamp may come next on the same node
 pub timely-behind : (old mid : NodeView) (at : Stamp) → IsSameNode old mid → IsTimely at old.log → IsTimely at mid.log
-timely-behind old mid at same t = let P : List Event → Type 0 = λ es. NotBefore (last_stamp start es) at in record { after_last = subst P (sym (journal_of-same old.log mid.log same.log)) t.after_last }
+timely-behind old mid at same t = let P : List Event → Type 0 = λ es. FollowsLast es at in record { after_last = subst P (sym (journal_of-same old.log mid.log same.log)) t.after_last }
 
 few-contexts : (d : Description) → HasFewContexts (machine_in d)
 few-contexts d h c is = let low = (in-machine d h c is).1 in let few = (bounds_of d).contexts_high in omega (arith, low, few)
@@ -48,10 +48,10 @@ turns-follow old new at told same grows formed =
     (AtEachEntry-back (MayFollow m) m (nothing_heard m) (journal_of old.log) (map (event_at at) told) (subst (AtEachEntry (MayFollow m) m (nothing_heard m)) grows.journal all))
 
 -- the node settled in one pace
-settled-few : (old new : NodeView) (at : Stamp) (p q : Pace) (told : List Told) → IsFormed old → SettlingTellsFew (machine_in old.description) → Settles (clock_of old.description) (machine_in old.description) (heard_of old) p told q
+settled-few : (old new : NodeView) (at : Stamp) (p q : Pace) (told : List Told) → IsFormed old → SettlingTellsFew (machine_in old.description) → Settles (machine_in old.description) (heard_of old) p told q
     → AreFollowing (machine_in old.description) (heard_of old) told → length told ≤ 32
 unfolding reading
-settled-few old new at p q told formed law settles follow = law (few-contexts old.description) (journal_of old.log) formed (clock_of old.description) p told q settles follow
+settled-few old new at p q told formed law settles follow = law (few-contexts old.description) (journal_of old.log) formed p told q settles follow
 
 formed-small : (v : NodeView) → IsFormed v → JournalsWaitSmall (machine_in v.description) → WaitSmall (heard_of v)
 unfolding reading
@@ -62,13 +62,13 @@ unfolding reading
 formed-apart v formed law = law (journal_of v.log) formed
 
 module _ (old mid new : NodeView) (at : Stamp) (bound : ℕ) (same : IsSameNode old mid) (paces : (p : Pace) → HasPace old p → HasPace mid p) (paced : IsPaced old)
-    (tells : Tells mid new at (SettlesWithin (clock_of mid.description) (machine_in mid.description) bound (heard_of mid))) where
-  pub turns-tell : Tells old new at (Settles (clock_of old.description) (machine_in old.description) (heard_of old))
+    (tells : Tells mid new at (SettlesWithin (machine_in mid.description) bound (heard_of mid))) where
+  pub turns-tell : Tells old new at (Settles (machine_in old.description) (heard_of old))
   turns-tell =
-      tells-behind old mid new at (λ d r. Settles (clock_of d) (machine_in d) r) same paces
-      (Tells-by mid new at (SettlesWithin (clock_of mid.description) (machine_in mid.description) bound (heard_of mid)) (Settles (clock_of mid.description) (machine_in mid.description) (heard_of mid)) (λ p told q x. x.settles) tells)
+      tells-behind old mid new at (λ d r. Settles (machine_in d) r) same paces
+      (Tells-by mid new at (SettlesWithin (machine_in mid.description) bound (heard_of mid)) (Settles (machine_in mid.description) (heard_of mid)) (λ p told q x. x.settles) tells)
 
-  settles : (q : Pace) × Settles (clock_of mid.description) (machine_in mid.description) (heard_of mid) paced.pace tells.told q
+  settles : (q : Pace) × Settles (machine_in mid.description) (heard_of mid) paced.pace tells.told q
   settles = let x = tells.paces paced.pace (paces paced.pace paced.has) in (x.0, x.1.settles)
 
   pub turns-few : IsFormed mid → IsFormed new → SettlingTellsFew (machine_in mid.description) → length new.log.entries ≤ length old.log.entries + 32
@@ -83,7 +83,7 @@ module _ (old mid new : NodeView) (at : Stamp) (bound : ℕ) (same : IsSameNode 
       let m : Machine = machine_in mid.description in
       let heard_is : heard_of new ≡ heard_told (machine_in mid.description) (heard_of mid) tells.told = tells-heard mid new at _ tells in
       let told_is : told_from (length old.log.entries) new.log ≡ tells.told = ap (λ (es : List Stamped). told_from (length es) new.log) (sym same.log.entries) ∙ told-behind mid.log new.log at tells.told tells.grows in
-      let waits = law (clock_of mid.description) (heard_of mid) paced.pace tells.told settles.0 settles.1 (turns-follow mid new at tells.told tells.description tells.grows formed_new)
+      let waits = law (heard_of mid) paced.pace tells.told settles.0 settles.1 (turns-follow mid new at tells.told tells.description tells.grows formed_new)
       (subst WaitSmall heard_is (formed-small new formed_new small)) in
       subst (AreAwaited (heard_of new)) (sym told_is) (subst (λ (r : Reading). AreAwaited r tells.told) (sym heard_is) waits)
 
@@ -95,7 +95,7 @@ drop-all (x ∷ xs) = drop-all xs
 
 module _ (v : NodeView) (at : Stamp) (none : IsNoneReady (heard_of v)) where
   -- no turn is had
-  pub none-tell : v.line ≡ [] → IsTimely at v.log → Tells v v at (Settles (clock_of v.description) (machine_in v.description) (heard_of v))
+  pub none-tell : v.line ≡ [] → IsTimely at v.log → Tells v v at (Settles (machine_in v.description) (heard_of v))
   none-tell empty timely = record {
     told = [];
     description = refl;

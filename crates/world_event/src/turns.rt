@@ -4,7 +4,7 @@ ghost use Rattle.std.specs.Prelude.{◌≤◌, ◌+◌, length, OnOk};
 ghost use Rattle.mate_journal.specs.Journal.{journal_of, nothing_heard};
 ghost use Rattle.mate_journal.specs.WellFormed.{IsWellFormed};
 ghost use Rattle.mate_journal.specs.Turns.{Settles};
-ghost use Rattle.node_invariant.specs.Meaning.{machine_in, clock_of};
+ghost use Rattle.node_invariant.specs.Meaning.{machine_in};
 ghost use Rattle.node_invariant.specs.Keeps.{IsTimely};
 ghost use Rattle.open_node.specs.View.{heard_of, Tells};
 ghost use Rattle.open_node.specs.Calls.{told_from};
@@ -20,7 +20,7 @@ use open_node::OpenNode;
 pub(crate) fn have_turns(node: &mut OpenNode, at: Stamp) -> Result<(), NoMemory>
     requires timely { IsTimely at node.old.log }
     requires paced { IsPaced node.old }
-    ensures tells { OnOk result (Tells node.old node.new at (Settles (clock_of node.old.description) (machine_in node.old.description)
+    ensures tells { OnOk result (Tells node.old node.new at (Settles (machine_in node.old.description)
         (heard_of node.old))) }
     ensures few { OnOk result (length node.new.log.entries ≤ length node.old.log.entries + 32) }
     ensures apart { OnOk result (WaitApart (heard_of node.new)) }

@@ -198,7 +198,7 @@ module _ (d : Description) (script : Script) (ps : List Program) (at : Stamp) (o
   handles-pump node timely pumps k n c is e = as-cause k n (radio.Pump node) c e (λ _. (
       let x = pumps (handlers w) n.exchange is.exchange in
       let slot : Option ℕ = next_slot (handlers w) n.exchange in
-      let T : Deed → Type 0 = λ deed. Tells old.node new.node at (Pacing (DeedMakes w.clock w.machine deed n.reading)) in
+      let T : Deed → Type 0 = λ deed. Tells old.node new.node at (Pacing (DeedMakes w.machine deed n.reading)) in
       record {
         tells = subst T (sym (slot-deed n.exchange slot)) (tells-nothing old.node new.node at timely (ap (λ (m : Mote). m.node) x.same));
         timer = ap (λ (m : Mote). m.timer) x.same ∙ is.timer ∙ sym (slot-timer n slot at.time);

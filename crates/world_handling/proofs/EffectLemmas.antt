@@ -12,7 +12,7 @@ use Rattle.capsule_codec.specs.Image.{CapsuleParts}
 use Rattle.capsule_codec.specs.Reading.{capsule_in}
 use Rattle.code_verifier.specs.Faults.{refusal_of}
 use Rattle.mate_code.specs.BytesVerification.{bytes_verification}
-use Rattle.node_invariant.specs.Meaning.{machine_in, clock_of}
+use Rattle.node_invariant.specs.Meaning.{machine_in}
 use Rattle.node_invariant.specs.Keeps.{IsTimely}
 use Rattle.node_invariant.proofs.KeepLemmas.{Grows-none}
 use Rattle.node_calls.specs.Installing.{InstallsBytes, Refuses, IsRightCapsule, program_by, capsule_handler}
@@ -103,10 +103,10 @@ stays-on false c is = refl
 -- a deed that changes the journal alone
 pub does-alone : (w : World) (n : Node) (deed : Deed) (at : Stamp) (old new : Mote) (r : Effect) (Rule : Pace → List Told → Type 0)
     → cuts deed ≡ false → resets deed ≡ false → old.exchange ≡ knowledge (handlers w) n.exchange → TellsAlone at (Pacing Rule) old new
-    → ((p : Pace) (told : List Told) → Rule p told → DeedMakes w.clock w.machine deed (heard_of old.node) p told) → r ≡ plain_effect
+    → ((p : Pace) (told : List Told) → Rule p told → DeedMakes w.machine deed (heard_of old.node) p told) → r ≡ plain_effect
     → DoesEffect w (seen_as old n) (record no_effect { deed = deed }) at old new r
 does-alone w n deed at old new r Rule no_cut no_reset known t goes plain = record {
-  tells = Tells-by old.node new.node at (Pacing Rule) (Pacing (DeedMakes w.clock w.machine deed (heard_of old.node))) (λ p told q h. (goes p told h.0, h.1)) t.tells;
+  tells = Tells-by old.node new.node at (Pacing Rule) (Pacing (DeedMakes w.machine deed (heard_of old.node))) (λ p told q h. (goes p told h.0, h.1)) t.tells;
   timer = ap (λ (m : Mote). m.timer) t.same;
   exchange = ap (λ (m : Mote). m.exchange) t.same ∙ known;
   pumps = ap (λ (m : Mote). m.pumps) t.same ∙ stays-on old.pumps (resets deed) no_reset;
@@ -174,16 +174,16 @@ module _ (script : Script) (ps : List Program) (n : Node) (earlier : List Happen
   abbrev pub installing : NodeEffect
   installing = record no_effect { deed = Installing p; happened = Installs p.handler.0 p.version p.image.items ∷ earlier; timer = Some trickle.Reset }
 
-  its-program : (q : Pace) (told : List Told) → InstallsBytes d (heard_of old.node) p.image.items q told → InstallsTold (clock_of d) (machine_in d) (heard_of old.node) q p told
+  its-program : (q : Pace) (told : List Told) → InstallsBytes d (heard_of old.node) p.image.items q told → InstallsTold (machine_in d) (heard_of old.node) q p told
   its-program q told x =
       let one : x.capsule ≡ t.capsule = one-capsule d p.image.items x.capsule t.capsule x.right.decoded t.right.decoded in
-      subst (λ (y : HeldProgram). InstallsTold (clock_of d) (machine_in d) (heard_of old.node) q y told) (ap (λ (y : CapsuleParts). program_by y p.image.items) one ∙ t.is) x.installs
+      subst (λ (y : HeldProgram). InstallsTold (machine_in d) (heard_of old.node) q y told) (ap (λ (y : CapsuleParts). program_by y p.image.items) one ∙ t.is) x.installs
 
   pub does-install : InstallsImage at p.handler p.version p.image.items (record old { exchange = known }) new r ⊎ LeavesImage p.handler p.version p.image.items (record old { exchange = known }) new r
       → DoesEffect (code_world d script ps) (seen_as old n) installing at old new r
   does-install (inl i) = record {
     tells =
-        Tells-by old.node new.node at (Pacing (InstallsBytes d (heard_of old.node) p.image.items)) (Pacing (λ (q : Pace) (told : List Told). InstallsTold (clock_of d) (machine_in d) (heard_of old.node) q p told))
+        Tells-by old.node new.node at (Pacing (InstallsBytes d (heard_of old.node) p.image.items)) (Pacing (λ (q : Pace) (told : List Told). InstallsTold (machine_in d) (heard_of old.node) q p told))
         (λ q told after h. (its-program q told h.0, h.1)) i.tells;
     timer = i.timer;
     exchange = i.exchange (length d.handlers.items) (earlier ++ n.exchange) is;

@@ -11,7 +11,7 @@ use Rattle.mate_journal.specs.NodeScript.{Occasion, Answers, ShowsOnce}
 use Rattle.node_calls.specs.Calls.{NobodyWaits}
 use Rattle.open_node.specs.Calls.{Pacing}
 use Rattle.open_node.specs.View.{heard_of}
-use Rattle.node_invariant.specs.Meaning.{machine_in, clock_of}
+use Rattle.node_invariant.specs.Meaning.{machine_in}
 use Rattle.node_programs.specs.ScriptSteps.{program_at}
 use Rattle.world_script.specs.declared.world.What.{What}
 use Rattle.world_rules.specs.World.{Want, Post, Show, ResetNode, want_of}
@@ -35,11 +35,11 @@ does-post at old new r h payload told plain =
     does-alone (code_world old.node.description script ps) n (Posting (h ∷ []) payload) at old new r (λ _. Occasion (machine_in old.node.description) (heard_of old.node) h payload) refl refl known told
     (λ p ts given. occasions-one (machine_in old.node.description) payload h (heard_of old.node) p ts given) plain)
 
-pub does-show : (at : Stamp) (old new : Mote) (r : Effect) → TellsAlone at (Pacing (ShowsOnce (clock_of old.node.description) (machine_in old.node.description) (heard_of old.node))) old new → r ≡ plain_effect
+pub does-show : (at : Stamp) (old new : Mote) (r : Effect) → TellsAlone at (Pacing (ShowsOnce (machine_in old.node.description) (heard_of old.node))) old new → r ≡ plain_effect
     → DoesBy at (λ _ _. of_line Show) old new r
 does-show at old new r told plain =
     does-by at (λ _ _. of_line Show) old new r (λ script ps n known takes.
-    does-alone (code_world old.node.description script ps) n Showing at old new r (ShowsOnce (clock_of old.node.description) (machine_in old.node.description) (heard_of old.node)) refl refl known told
+    does-alone (code_world old.node.description script ps) n Showing at old new r (ShowsOnce (machine_in old.node.description) (heard_of old.node)) refl refl known told
     (λ p ts given. given) plain)
 
 pub never : (b : Bool) → (b && false) ≡ false

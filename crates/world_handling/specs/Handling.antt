@@ -72,7 +72,7 @@ IsEffectOf n c w r = IsEffectBy n (node_effect w n c) r
 
 -- the node tells what the event's deed makes, and its timer, its exchange and its pump are those after the event
 pub record Handled (w : World) (k : ℕ) (n : Node) (c : Cause) (at : Stamp) (old new : Mote) (r : Effect) : Type 0 where
-  pub tells : Tells old.node new.node at (Pacing (DeedMakes w.clock w.machine (node_effect w n c).deed n.reading))
+  pub tells : Tells old.node new.node at (Pacing (DeedMakes w.machine (node_effect w n c).deed n.reading))
   pub timer : new.timer ≡ timer_after n (node_effect w n c) at.time
   pub exchange : new.exchange ≡ knowledge (handlers w) ((node_effect w n c).happened ++ n.exchange)
   pub pumps : new.pumps ≡ still_pumps c (node_effect w n c) n
@@ -87,7 +87,7 @@ TakesProgram w n e = (p : HeldProgram) → e.deed ≡ Installing p → IsTaken w
 
 -- the mote does what the effect says, and no pump that was due came
 pub record DoesEffect (w : World) (n : Node) (e : NodeEffect) (at : Stamp) (old new : Mote) (r : Effect) : Type 0 where
-  pub tells : Tells old.node new.node at (Pacing (DeedMakes w.clock w.machine e.deed n.reading))
+  pub tells : Tells old.node new.node at (Pacing (DeedMakes w.machine e.deed n.reading))
   pub timer : new.timer ≡ timer_after n e at.time
   pub exchange : new.exchange ≡ knowledge (handlers w) (e.happened ++ n.exchange)
   pub pumps : new.pumps ≡ (n.pumps && not (resets e.deed))

@@ -111,7 +111,8 @@ fn follow(
     match what {
         What::Inject { program, .. } => {
             let program = &programs.as_slice()[*program as usize];
-            mote.install(program.handler, program.version, &program.image, at, effect)
+            let image = program.image.image();
+            mote.install(program.handler, program.version, &image, at, effect)
         }
         What::Post { handler, payload } => mote.post(*handler, payload, at),
         What::Show => mote.show(at),

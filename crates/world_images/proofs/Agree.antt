@@ -14,7 +14,7 @@ use Rattle.mate_num.specs.declared.call.End.TheVariants as end
 use Rattle.mate_journal.specs.Grants.{IsStart}
 use Rattle.mate_journal.specs.Pace.{Pace, paced_all}
 use Rattle.mate_journal.specs.NodeScript.{Occasion}
-use Rattle.mate_journal.specs.Turns.{Clock, Turn, IsTurn, AreTurns, Settles, entry_at, mark_of, after_turn, told_in}
+use Rattle.mate_journal.specs.Turns.{Turn, IsTurn, AreTurns, Settles, entry_at, mark_of, after_turn, told_in}
 use Rattle.packet_codec.specs.declared.packet.Packet.{Packet}
 use Rattle.packet_codec.specs.declared.packet.Packet.TheVariants.{Vector, Status, Fragment, App}
 use Rattle.trickle_timer.specs.Intervals as trickle
@@ -92,20 +92,20 @@ mark-none n end.Halt = tt
 mark-none n (end.Fault kind) = tt
 mark-none n (end.Wants f args) = tt
 
-turn-none : (k : Clock) (m : Machine) (r : Reading) (p : Pace) (n : ℕ) (t : Turn) → IsTurn k m r p n t → NoneInstall t.told
-turn-none k m r p n t is = elim (cases_lt (p.counts t.invocation + n) (mark_of k m r t.invocation)) [
+turn-none : (m : Machine) (r : Reading) (p : Pace) (n : ℕ) (t : Turn) → IsTurn m r p n t → NoneInstall t.told
+turn-none m r p n t is = elim (cases_lt (p.counts t.invocation + n) (mark_of m r t.invocation)) [
   | inl low ↦ by_made t.told [] (is.short low) tt
   | inr high ↦ by_made t.told (entry_at t.invocation (whole_run m r t.invocation).end ∷ (is.reached high).starts) (is.reached high).told_is
       (mark-none t.invocation (whole_run m r t.invocation).end, starts-none (is.reached high).starts (is.reached high).are_starts)
 ]
 
-turns-none : (k : Clock) (m : Machine) (r : Reading) (p : Pace) (ts : List Turn) → AreTurns k m r p ts → NoneInstall (told_in ts)
-turns-none k m r p [] are = tt
-turns-none k m r p (t ∷ ts) are =
-    none-append t.told (told_in ts) (turn-none k m r p k.quantum t are.1) (turns-none k m (heard_told m r t.told) (after_turn k m r p t) ts are.2)
+turns-none : (m : Machine) (r : Reading) (p : Pace) (ts : List Turn) → AreTurns m r p ts → NoneInstall (told_in ts)
+turns-none m r p [] are = tt
+turns-none m r p (t ∷ ts) are =
+    none-append t.told (told_in ts) (turn-none m r p m.quantum t are.1) (turns-none m (heard_told m r t.told) (after_turn m r p t) ts are.2)
 
-pub settles-none : (k : Clock) (m : Machine) (r : Reading) (p : Pace) (told : List Told) (q : Pace) → Settles k m r p told q → NoneInstall told
-settles-none k m r p told q is = by_made told (told_in is.turns) is.made (turns-none k m r p is.turns is.are_turns)
+pub settles-none : (m : Machine) (r : Reading) (p : Pace) (told : List Told) (q : Pace) → Settles m r p told q → NoneInstall told
+settles-none m r p told q is = by_made told (told_in is.turns) is.made (turns-none m r p is.turns is.are_turns)
 
 occasion-none : (m : Machine) (r : Reading) (h : HandlerId) (payload : ArrayVec ℤ) (told : List Told) → Occasion m r h payload told → NoneInstall told
 occasion-none m r h payload told (inl a) = by_made told _ a.made (tt, tt)
@@ -118,8 +118,8 @@ occasions-none m payload (h ∷ hs) r p told both =
     by_made told (both.front ++ both.rest) both.made (none-append both.front both.rest (occasion-none m r h payload both.front both.by_first) (occasions-none m payload hs (heard_told m r both.front) (paced_all p both.front) both.rest both.by_second))
 
 -- behind its entry an install makes an occasion at most
-pub installs-rest : (k : Clock) (m : Machine) (r : Reading) (q : Pace) (p : HeldProgram) (told : List Told) → (is : DeedMakes k m (Installing p) r q told) → NoneInstall is.rest
-installs-rest k m r q p told is = elim (cases_Bool (m.runs_once p.handler)) [
+pub installs-rest : (m : Machine) (r : Reading) (q : Pace) (p : HeldProgram) (told : List Told) → (is : DeedMakes m (Installing p) r q told) → NoneInstall is.rest
+installs-rest m r q p told is = elim (cases_Bool (m.runs_once p.handler)) [
   | inl once ↦ occasion-none m (heard m r (Installed p)) p.handler (record { items = [] }) is.rest (is.once once)
   | inr never ↦ by_made is.rest [] (is.else never) tt
 ]
@@ -133,21 +133,21 @@ After (Answering inv value) f h = f h
 After Showing f h = f h
 After Resetting f h = f h
 
-deed-after : (k : Clock) (m : Machine) (r : Reading) (q : Pace) (d : Deed) (told : List Told) (h : HandlerId) → DeedMakes k m d r q told → (heard_told m r told).installed h ≡ After d r.installed h
-deed-after k m r q Nothing told h is = ap (λ (f : HandlerId → Option HeldProgram). f h) (same-all m r told (by_made told [] is tt))
-deed-after k m r q (Posting hs payload) told h is = ap (λ (f : HandlerId → Option HeldProgram). f h) (same-all m r told (occasions-none m payload hs r q told is))
-deed-after k m r q (Answering inv value) told h is = ap (λ (f : HandlerId → Option HeldProgram). f h) (same-all m r told (by_made told _ is (tt, tt)))
-deed-after k m r q Showing told h is = ap (λ (f : HandlerId → Option HeldProgram). f h) (same-all m r told (by_made told _ is.made (tt, tt)))
-deed-after k m r q Resetting told h is = ap (λ (f : HandlerId → Option HeldProgram). f h) (same-all m r told (by_made told _ is.made (tt, (tt, tt))))
-deed-after k m r q (Installing p) told h is = subst (λ (xs : List Told). (heard_told m r xs).installed h ≡ (if h.0 == p.handler.0 then Some p else r.installed h)) (sym is.made)
-    (ap (λ (f : HandlerId → Option HeldProgram). f h) (same-all m (heard m (heard m r (Seen is.seen)) (Installed p)) is.rest (installs-rest k m r q p told is)))
+deed-after : (m : Machine) (r : Reading) (q : Pace) (d : Deed) (told : List Told) (h : HandlerId) → DeedMakes m d r q told → (heard_told m r told).installed h ≡ After d r.installed h
+deed-after m r q Nothing told h is = ap (λ (f : HandlerId → Option HeldProgram). f h) (same-all m r told (by_made told [] is tt))
+deed-after m r q (Posting hs payload) told h is = ap (λ (f : HandlerId → Option HeldProgram). f h) (same-all m r told (occasions-none m payload hs r q told is))
+deed-after m r q (Answering inv value) told h is = ap (λ (f : HandlerId → Option HeldProgram). f h) (same-all m r told (by_made told _ is (tt, tt)))
+deed-after m r q Showing told h is = ap (λ (f : HandlerId → Option HeldProgram). f h) (same-all m r told (by_made told _ is.made (tt, tt)))
+deed-after m r q Resetting told h is = ap (λ (f : HandlerId → Option HeldProgram). f h) (same-all m r told (by_made told _ is.made (tt, (tt, tt))))
+deed-after m r q (Installing p) told h is = subst (λ (xs : List Told). (heard_told m r xs).installed h ≡ (if h.0 == p.handler.0 then Some p else r.installed h)) (sym is.made)
+    (ap (λ (f : HandlerId → Option HeldProgram). f h) (same-all m (heard m (heard m r (Seen is.seen)) (Installed p)) is.rest (installs-rest m r q p told is)))
 
-event-after : (k : Clock) (m : Machine) (r : Reading) (q : Pace) (d : Deed) (told : List Told) (after : Pace) (h : HandlerId) → FirstThen m (DeedMakes k m d) (λ s p xs. Settles k m s p xs after) r q told → (heard_told m r told).installed h ≡ After d r.installed h
-event-after k m r q d told after h both =
+event-after : (m : Machine) (r : Reading) (q : Pace) (d : Deed) (told : List Told) (after : Pace) (h : HandlerId) → FirstThen m (DeedMakes m d) (λ s p xs. Settles m s p xs after) r q told → (heard_told m r told).installed h ≡ After d r.installed h
+event-after m r q d told after h both =
     subst (λ (xs : List Told). (heard_told m r xs).installed h ≡ After d r.installed h) (sym both.made)
     (ap (λ (s : Reading). s.installed h) (hear-parts m r both.front both.rest)
-    ∙ ap (λ (f : HandlerId → Option HeldProgram). f h) (same-all m (heard_told m r both.front) both.rest (settles-none k m (heard_told m r both.front) (paced_all q both.front) both.rest after both.by_second))
-    ∙ deed-after k m r q d both.front h both.by_first) where
+    ∙ ap (λ (f : HandlerId → Option HeldProgram). f h) (same-all m (heard_told m r both.front) both.rest (settles-none m (heard_told m r both.front) (paced_all q both.front) both.rest after both.by_second))
+    ∙ deed-after m r q d both.front h both.by_first) where
       hear-parts : (m : Machine) (r : Reading) (xs ys : List Told) → heard_told m r (xs ++ ys) ≡ heard_told m (heard_told m r xs) ys
       hear-parts m r [] ys = refl
       hear-parts m r (x ∷ xs) ys = hear-parts m (heard m r x) xs ys
@@ -246,6 +246,6 @@ held_agrees w k h (m ∷ before) come = elim (eqb_tells k (event_node w m.cause)
       → held (heard_told w.machine (node_at w (state w before) m).reading m.told) (record { 0 = h }) ≡ held_version h ((effect_at w (state w before) m).happened ++ (node_at w (state w before) m).exchange)
   here old =
       held-is (heard_told w.machine (node_at w (state w before) m).reading m.told) (record { 0 = h })
-      ∙ ap held-of (event-after w.clock w.machine (node_at w (state w before) m).reading (node_at w (state w before) m).pace (effect_at w (state w before) m).deed m.told m.pace (record { 0 = h }) come.1.makes)
+      ∙ ap held-of (event-after w.machine (node_at w (state w before) m).reading (node_at w (state w before) m).pace (effect_at w (state w before) m).deed m.told m.pace (record { 0 = h }) come.1.makes)
       ∙ both-move (effect_at w (state w before) m).deed (node_at w (state w before) m).reading.installed h (held_version h (node_at w (state w before) m).exchange) (sym (held-is (node_at w (state w before) m).reading (record { 0 = h })) ∙ old)
       ∙ sym (moves w h (node_at w (state w before) m) m.cause)

@@ -4,7 +4,6 @@ use Rattle.std.proofs.lemmas.Bool.Decides.{eqb_tells}
 use Rattle.mate_journal.specs.Machine.{Machine, HeldProgram}
 use Rattle.mate_journal.specs.Journal.{Told, Installed, Seen, Reading, heard_told}
 use Rattle.mate_journal.specs.Pace.{Pace, paced_all}
-use Rattle.mate_journal.specs.Turns.{Clock}
 use Rattle.capsule_exchange.specs.Happenings.{held_version}
 use Rattle.world_rules.specs.World.{World}
 use Rattle.world_rules.specs.Effect.{Node, Deed, Nothing, Installing, Posting, Answering, Showing, Resetting, event_node}
@@ -22,17 +21,17 @@ none-installs [] p none a = a
 none-installs (t ∷ told) p none (inl e) = subst NoInstall e none.0
 none-installs (t ∷ told) p none (inr a) = none-installs told p none.1 a
 
-deed-installs : (k : Clock) (m : Machine) (r : Reading) (q : Pace) (d : Deed) (told : List Told) (p : HeldProgram) → DeedMakes k m d r q told → Among (Installed p) told → d ≡ Installing p
-deed-installs k m r q Nothing told p is a = absurd (none-installs told p (by_made told [] is tt) a)
-deed-installs k m r q (Posting hs payload) told p is a = absurd (none-installs told p (occasions-none m payload hs r q told is) a)
-deed-installs k m r q (Answering inv value) told p is a = absurd (none-installs told p (by_made told _ is (tt, tt)) a)
-deed-installs k m r q Showing told p is a = absurd (none-installs told p (by_made told _ is.made (tt, tt)) a)
-deed-installs k m r q Resetting told p is a = absurd (none-installs told p (by_made told _ is.made (tt, (tt, tt))) a)
-deed-installs k m r q (Installing x) told p is a = by (subst (λ (ts : List Told). Among (Installed p) ts) is.made a) where
+deed-installs : (m : Machine) (r : Reading) (q : Pace) (d : Deed) (told : List Told) (p : HeldProgram) → DeedMakes m d r q told → Among (Installed p) told → d ≡ Installing p
+deed-installs m r q Nothing told p is a = absurd (none-installs told p (by_made told [] is tt) a)
+deed-installs m r q (Posting hs payload) told p is a = absurd (none-installs told p (occasions-none m payload hs r q told is) a)
+deed-installs m r q (Answering inv value) told p is a = absurd (none-installs told p (by_made told _ is (tt, tt)) a)
+deed-installs m r q Showing told p is a = absurd (none-installs told p (by_made told _ is.made (tt, tt)) a)
+deed-installs m r q Resetting told p is a = absurd (none-installs told p (by_made told _ is.made (tt, (tt, tt))) a)
+deed-installs m r q (Installing x) told p is a = by (subst (λ (ts : List Told). Among (Installed p) ts) is.made a) where
   by : Among (Installed p) (Seen is.seen ∷ Installed x ∷ is.rest) → Installing x ≡ Installing p
   by (inl e) = cc
   by (inr (inl e)) = cc
-  by (inr (inr b)) = absurd (none-installs is.rest p (installs-rest k m r q x told is) b)
+  by (inr (inr b)) = absurd (none-installs is.rest p (installs-rest m r q x told is) b)
 
 tells-among : (told : List Told) (p : HeldProgram) → TellsInstall told p → Among (Installed p) told
 tells-among told p t = subst (λ (ts : List Told). Among (Installed p) ts) (sym t.split) (among-right (Installed p) t.front (Installed p ∷ t.rest) (inl refl))
@@ -43,15 +42,15 @@ installs_its_own w before m p come told = by (among-append (Installed p) come.1.
   s = state w before
 
   by : Among (Installed p) come.1.makes.front ⊎ Among (Installed p) come.1.makes.rest → (effect_at w (state w before) m).deed ≡ Installing p
-  by (inl a) = deed-installs w.clock w.machine (node_at w s m).reading (node_at w s m).pace (effect_at w s m).deed come.1.makes.front p come.1.makes.by_first a
-  by (inr a) = absurd (none-installs come.1.makes.rest p (settles-none w.clock w.machine (heard_told w.machine (node_at w s m).reading come.1.makes.front) (paced_all (node_at w s m).pace come.1.makes.front) come.1.makes.rest m.pace come.1.makes.by_second) a)
+  by (inl a) = deed-installs w.machine (node_at w s m).reading (node_at w s m).pace (effect_at w s m).deed come.1.makes.front p come.1.makes.by_first a
+  by (inr a) = absurd (none-installs come.1.makes.rest p (settles-none w.machine (heard_told w.machine (node_at w s m).reading come.1.makes.front) (paced_all (node_at w s m).pace come.1.makes.front) come.1.makes.rest m.pace come.1.makes.by_second) a)
 
 -- ---- a deed and its entry
 
 -- what an installing event made first
 made-install : (w : World) (before : List Moment) (m : Moment) (p : HeldProgram) (come : HaveCome w (m ∷ before)) → (effect_at w (state w before) m).deed ≡ Installing p
-    → DeedMakes w.clock w.machine (Installing p) (node_at w (state w before) m).reading (node_at w (state w before) m).pace come.1.makes.front
-made-install w before m p come is = subst (λ (d : Deed). DeedMakes w.clock w.machine d (node_at w (state w before) m).reading (node_at w (state w before) m).pace come.1.makes.front) is come.1.makes.by_first
+    → DeedMakes w.machine (Installing p) (node_at w (state w before) m).reading (node_at w (state w before) m).pace come.1.makes.front
+made-install w before m p come is = subst (λ (d : Deed). DeedMakes w.machine d (node_at w (state w before) m).reading (node_at w (state w before) m).pace come.1.makes.front) is come.1.makes.by_first
 
 pub entry-of : (w : World) (before : List Moment) (m : Moment) (p : HeldProgram) → HaveCome w (m ∷ before) → (effect_at w (state w before) m).deed ≡ Installing p → TellsInstall m.told p
 entry-of w before m p come is = record {

@@ -9,7 +9,6 @@ use Rattle.vm_desc.specs.declared.handler.HandlerKind.TheVariants as kind
 use Rattle.vm_desc.specs.declared.function.FunKind.TheVariants as fun
 use Rattle.mate_journal.specs.Machine.{Meaning, HeldProgram}
 use Rattle.mate_journal.specs.Pace.{no_pace}
-use Rattle.mate_journal.specs.Turns.{Clock}
 use Rattle.mate_journal.specs.Described.{machine_of}
 use Rattle.mate_journal.specs.Journal.{Posted, Started, Asked, Installed, Seen, Unposted, Ready}
 use Rattle.mate_journal.specs.declared.air.Air.TheVariants as air
@@ -38,13 +37,9 @@ description = record {
   valid = refl;
 }
 
--- what programs mean plays no part here
+-- what programs mean plays no part here, nor how far they come in a turn
 abbrev meaning : Meaning
-meaning = record { run = λ p s x a t. record { end = end.Halt; store = s; calls = [] }; uses = λ p. record { reads = λ r. false; writes = λ r. false } }
-
--- nor does how far they come in a turn
-abbrev clock : Clock
-clock = record { quantum = 10; mark = λ x s p a t. 1; after = λ n x s p a t. s }
+meaning = record { run = λ p s x a t. record { end = end.Halt; store = s; calls = [] }; uses = λ p. record { reads = λ r. false; writes = λ r. false }; mark = λ p s x a t. 1; after = λ n p s x a t. s }
 
 abbrev go : HeldProgram
 go = record { handler = record { 0 = 0 }; version = 1; image = record { items = 1 ∷ [] } }
@@ -56,7 +51,6 @@ abbrev world : World
 world = record {
   description = description;
   machine = machine_of description meaning;
-  clock = clock;
   nodes = 2;
   random = 5;
   until = 5000;

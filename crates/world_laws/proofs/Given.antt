@@ -19,7 +19,7 @@ use Rattle.mate_journal.proofs.JournalLemmas.{told_by-at}
 use Rattle.mate_journal.specs.Grants.{IsStart}
 use Rattle.mate_journal.specs.Pace.{Pace, paced_all}
 use Rattle.mate_journal.specs.NodeScript.{Occasion}
-use Rattle.mate_journal.specs.Turns.{Clock, Turn, IsTurn, AreTurns, Settles, entry_at, mark_of, after_turn, told_in}
+use Rattle.mate_journal.specs.Turns.{Turn, IsTurn, AreTurns, Settles, entry_at, mark_of, after_turn, told_in}
 use Rattle.world_rules.specs.World.{World}
 use Rattle.world_rules.specs.Effect.{Node, Deed, Nothing, Installing, Posting, Answering, Showing, Resetting, event_node}
 use Rattle.world_rules.specs.State.{Moment, WorldState, asked_by, calls_in, node_at, effect_at, state}
@@ -57,20 +57,20 @@ mark-own n (end.Wants f args) = refl
 own-made : (xs ys : List Told) → xs ≡ ys → All IsOwn ys → All IsOwn xs
 own-made xs ys is own = subst (λ (told : List Told). All IsOwn told) (sym is) own
 
-turn-own : (k : Clock) (m : Machine) (r : Reading) (p : Pace) (n : ℕ) (t : Turn) → IsTurn k m r p n t → All IsOwn t.told
-turn-own k m r p n t is = elim (cases_lt (p.counts t.invocation + n) (mark_of k m r t.invocation)) [
+turn-own : (m : Machine) (r : Reading) (p : Pace) (n : ℕ) (t : Turn) → IsTurn m r p n t → All IsOwn t.told
+turn-own m r p n t is = elim (cases_lt (p.counts t.invocation + n) (mark_of m r t.invocation)) [
   | inl low ↦ own-made t.told [] (is.short low) (All-nil IsOwn)
   | inr high ↦ own-made t.told (entry_at t.invocation (whole_run m r t.invocation).end ∷ (is.reached high).starts) (is.reached high).told_is
       (All-cons IsOwn (entry_at t.invocation (whole_run m r t.invocation).end) (is.reached high).starts (mark-own t.invocation (whole_run m r t.invocation).end) (starts-own (is.reached high).starts (is.reached high).are_starts))
 ]
 
-turns-own : (k : Clock) (m : Machine) (r : Reading) (p : Pace) (ts : List Turn) → AreTurns k m r p ts → All IsOwn (told_in ts)
-turns-own k m r p [] are = All-nil IsOwn
-turns-own k m r p (t ∷ ts) are =
-    All-append IsOwn t.told (told_in ts) (turn-own k m r p k.quantum t are.1) (turns-own k m (heard_told m r t.told) (after_turn k m r p t) ts are.2)
+turns-own : (m : Machine) (r : Reading) (p : Pace) (ts : List Turn) → AreTurns m r p ts → All IsOwn (told_in ts)
+turns-own m r p [] are = All-nil IsOwn
+turns-own m r p (t ∷ ts) are =
+    All-append IsOwn t.told (told_in ts) (turn-own m r p m.quantum t are.1) (turns-own m (heard_told m r t.told) (after_turn m r p t) ts are.2)
 
-settles-own : (k : Clock) (m : Machine) (r : Reading) (p : Pace) (told : List Told) (q : Pace) → Settles k m r p told q → All IsOwn told
-settles-own k m r p told q is = own-made told (told_in is.turns) is.made (turns-own k m r p is.turns is.are_turns)
+settles-own : (m : Machine) (r : Reading) (p : Pace) (told : List Told) (q : Pace) → Settles m r p told q → All IsOwn told
+settles-own m r p told q is = own-made told (told_in is.turns) is.made (turns-own m r p is.turns is.are_turns)
 
 own-gives : (told : List Told) → All IsOwn told → filter_map given_in told ≡ []
 own-gives [] all = refl
@@ -92,20 +92,20 @@ occasions-give m payload (h ∷ hs) r p told both =
     ∙ ap (λ (gs : List Given). GivesOccasion h ∷ gs) (occasions-give m payload hs (heard_told m r both.front) (paced_all p both.front) both.rest both.by_second)
 
 -- behind an install
-rest-gives : (k : Clock) (m : Machine) (r : Reading) (q : Pace) (p : HeldProgram) (told : List Told) (is : DeedMakes k m (Installing p) r q told)
+rest-gives : (m : Machine) (r : Reading) (q : Pace) (p : HeldProgram) (told : List Told) (is : DeedMakes m (Installing p) r q told)
     → filter_map given_in is.rest ≡ (if m.runs_once p.handler then GivesOccasion p.handler ∷ [] else [])
-rest-gives k m r q p told is = elim (cases_Bool (m.runs_once p.handler)) [
+rest-gives m r q p told is = elim (cases_Bool (m.runs_once p.handler)) [
   | inl once ↦ occasion-gives m (heard m r (Installed p)) p.handler (record { items = [] }) is.rest (is.once once) ∙ ap (λ (b : Bool). if b then GivesOccasion p.handler ∷ [] else []) (sym once)
   | inr never ↦ ap (filter_map given_in) (is.else never) ∙ ap (λ (b : Bool). if b then GivesOccasion p.handler ∷ [] else []) (sym never)
 ]
 
-deed-gives : (k : Clock) (m : Machine) (d : Deed) (r : Reading) (q : Pace) (told : List Told) → DeedMakes k m d r q told → filter_map given_in told ≡ given_by m d
-deed-gives k m Nothing r q told is = ap (filter_map given_in) is
-deed-gives k m (Installing p) r q told is = ap (filter_map given_in) is.made ∙ ap (λ (gs : List Given). SeesItsStore ∷ GivesInstall p ∷ gs) (rest-gives k m r q p told is)
-deed-gives k m (Posting hs payload) r q told is = occasions-give m payload hs r q told is
-deed-gives k m (Answering inv value) r q told is = ap (filter_map given_in) is
-deed-gives k m Showing r q told is = ap (filter_map given_in) is.made
-deed-gives k m Resetting r q told is = ap (filter_map given_in) is.made
+deed-gives : (m : Machine) (d : Deed) (r : Reading) (q : Pace) (told : List Told) → DeedMakes m d r q told → filter_map given_in told ≡ given_by m d
+deed-gives m Nothing r q told is = ap (filter_map given_in) is
+deed-gives m (Installing p) r q told is = ap (filter_map given_in) is.made ∙ ap (λ (gs : List Given). SeesItsStore ∷ GivesInstall p ∷ gs) (rest-gives m r q p told is)
+deed-gives m (Posting hs payload) r q told is = occasions-give m payload hs r q told is
+deed-gives m (Answering inv value) r q told is = ap (filter_map given_in) is
+deed-gives m Showing r q told is = ap (filter_map given_in) is.made
+deed-gives m Resetting r q told is = ap (filter_map given_in) is.made
 
 pub events_give_theirs : (w : World) → EventsGiveTheirs w
 events_give_theirs w before m come =
@@ -114,9 +114,9 @@ events_give_theirs w before m come =
     ap (filter_map given_in) makes.made
     ∙ filter_map-append given_in makes.front makes.rest
     ∙ ap (λ (gs : List Given). filter_map given_in makes.front ++ gs)
-    (own-gives makes.rest (settles-own w.clock w.machine (heard_told w.machine (node_at w s m).reading makes.front) (paced_all (node_at w s m).pace makes.front) makes.rest m.pace makes.by_second))
+    (own-gives makes.rest (settles-own w.machine (heard_told w.machine (node_at w s m).reading makes.front) (paced_all (node_at w s m).pace makes.front) makes.rest m.pace makes.by_second))
     ∙ append-nil (filter_map given_in makes.front)
-    ∙ deed-gives w.clock w.machine (effect_at w s m).deed (node_at w s m).reading (node_at w s m).pace makes.front makes.by_first
+    ∙ deed-gives w.machine (effect_at w s m).deed (node_at w s m).reading (node_at w s m).pace makes.front makes.by_first
 
 -- ---- journals
 
@@ -176,21 +176,21 @@ occasions-payload m payload (h ∷ hs) r p told both =
 abbrev no_payload : ArrayVec ℤ
 no_payload = record { items = [] }
 
-rest-payload : (k : Clock) (m : Machine) (r : Reading) (q : Pace) (p : HeldProgram) (told : List Told) (is : DeedMakes k m (Installing p) r q told) → All (HasPayload no_payload) is.rest
-rest-payload k m r q p told is = elim (cases_Bool (m.runs_once p.handler)) [
+rest-payload : (m : Machine) (r : Reading) (q : Pace) (p : HeldProgram) (told : List Told) (is : DeedMakes m (Installing p) r q told) → All (HasPayload no_payload) is.rest
+rest-payload m r q p told is = elim (cases_Bool (m.runs_once p.handler)) [
   | inl once ↦ occasion-payload m (heard m r (Installed p)) p.handler no_payload is.rest (is.once once)
   | inr never ↦ made-payloads no_payload is.rest [] (is.else never) (All-nil (HasPayload no_payload))
 ]
 
-deed-payload : (k : Clock) (m : Machine) (d : Deed) (r : Reading) (q : Pace) (told : List Told) → DeedMakes k m d r q told → All (HasPayload (payload_given d)) told
-deed-payload k m Nothing r q told is = made-payloads no_payload told [] is (All-nil (HasPayload no_payload))
-deed-payload k m (Installing p) r q told is =
+deed-payload : (m : Machine) (d : Deed) (r : Reading) (q : Pace) (told : List Told) → DeedMakes m d r q told → All (HasPayload (payload_given d)) told
+deed-payload m Nothing r q told is = made-payloads no_payload told [] is (All-nil (HasPayload no_payload))
+deed-payload m (Installing p) r q told is =
     made-payloads no_payload told (Seen is.seen ∷ Installed p ∷ is.rest) is.made
-    (All-cons (HasPayload no_payload) (Seen is.seen) (Installed p ∷ is.rest) tt (All-cons (HasPayload no_payload) (Installed p) is.rest tt (rest-payload k m r q p told is)))
-deed-payload k m (Posting hs payload) r q told is = occasions-payload m payload hs r q told is
-deed-payload k m (Answering inv value) r q told is = made-payloads no_payload told (Answered inv value ∷ []) is (All-cons (HasPayload no_payload) (Answered inv value) [] tt (All-nil (HasPayload no_payload)))
-deed-payload k m Showing r q told is = made-payloads no_payload told (Seen is.seen ∷ []) is.made (All-cons (HasPayload no_payload) (Seen is.seen) [] tt (All-nil (HasPayload no_payload)))
-deed-payload k m Resetting r q told is =
+    (All-cons (HasPayload no_payload) (Seen is.seen) (Installed p ∷ is.rest) tt (All-cons (HasPayload no_payload) (Installed p) is.rest tt (rest-payload m r q p told is)))
+deed-payload m (Posting hs payload) r q told is = occasions-payload m payload hs r q told is
+deed-payload m (Answering inv value) r q told is = made-payloads no_payload told (Answered inv value ∷ []) is (All-cons (HasPayload no_payload) (Answered inv value) [] tt (All-nil (HasPayload no_payload)))
+deed-payload m Showing r q told is = made-payloads no_payload told (Seen is.seen ∷ []) is.made (All-cons (HasPayload no_payload) (Seen is.seen) [] tt (All-nil (HasPayload no_payload)))
+deed-payload m Resetting r q told is =
     made-payloads no_payload told (Seen is.seen ∷ Reset ∷ []) is.made
     (All-cons (HasPayload no_payload) (Seen is.seen) (Reset ∷ []) tt (All-cons (HasPayload no_payload) Reset [] tt (All-nil (HasPayload no_payload))))
 
@@ -201,8 +201,8 @@ posts_have_their_payload w before m come =
     let pl : ArrayVec ℤ = payload_given (effect_at w s m).deed in
     made-payloads pl m.told (makes.front ++ makes.rest) makes.made
     (All-append (HasPayload pl) makes.front makes.rest
-    (deed-payload w.clock w.machine (effect_at w s m).deed (node_at w s m).reading (node_at w s m).pace makes.front makes.by_first)
-    (own-payloads pl makes.rest (settles-own w.clock w.machine (heard_told w.machine (node_at w s m).reading makes.front) (paced_all (node_at w s m).pace makes.front) makes.rest m.pace makes.by_second)))
+    (deed-payload w.machine (effect_at w s m).deed (node_at w s m).reading (node_at w s m).pace makes.front makes.by_first)
+    (own-payloads pl makes.rest (settles-own w.machine (heard_told w.machine (node_at w s m).reading makes.front) (paced_all (node_at w s m).pace makes.front) makes.rest m.pace makes.by_second)))
 
 -- ---- calls
 

@@ -1,6 +1,6 @@
 -- The programs of a made world.
 use Rattle.std.proofs.Common.{◌≡◌, ℕ, zero, suc, ◌+◌, ◌*◌, ◌<◌, ◌≤◌, Bool, true, false, List, [], ◌∷◌, ◌++◌, length, map, replicate, Option, Some, None, Result, Ok, Err, refl, sym, ◌∙◌, ap, subst, arith, codes, inl, inr, length-append, append_assoc}
-use Rattle.std.specs.Prelude.{slice_get, slice_index_or, All, IsSomeAnd, IsErrAnd, ⊤}
+use Rattle.std.specs.Prelude.{slice_get, slice_index_or, All, IsSomeAnd, ⊤}
 use Rattle.std.specs.List.{range_with_len}
 use Rattle.std.proofs.lemmas.Bool.{cases_lt}
 use Rattle.std.proofs.lemmas.List.{length-replicate, length_push}
@@ -274,8 +274,3 @@ short-source d v = by d.shared.items refl where
   by : (shared : List (List ℕ)) → d.shared.items ≡ shared → length (source_with (first_sensor d.functions.items) shared v) ≤ 1000
   by [] e = omega arith
   by (s ∷ more) e = short-with d s more v e (first_sensor d.functions.items) refl
-
--- a `?` hands on want of memory
-pub obtained-stops : {A B : Type 0} (P : A → Type 0) (Q : B → Type 0) (r : Refusal) (answer : Result B Refusal) → obtained P (Err r) → IsErrAnd answer (λ y. y ≡ r) → obtained Q answer
-obtained-stops P Q r (Ok b) wants is = absurd is
-obtained-stops P Q r (Err y) wants is = is ∙ wants

@@ -11,11 +11,11 @@ ghost use Rattle.world_maker.specs.Made.{made_sources};
 ghost use Rattle.world_programs.specs.Made.{made, IsMadeOf, AreOfVersion, AreOfVersions};
 ghost use Rattle.node_programs.specs.WorldPrograms.{AreProgramsOfWorld};
 
-use capsule_codec::{Capsule, encode};
 use mate_journal::{Program, Programs};
 use mate_num::{HandlerId, Texts};
 use mate_refusals::Refusal;
 use mate_steps::compiled_bytes;
+use script_programs::SharedSource;
 use sound_sources::sources_law;
 use std::alloc::Global;
 use vm_desc::Description;
@@ -136,16 +136,6 @@ fn made_program(
     ensures right { IfOk result (IsRightProgram desc.now) }
 {
     let compiled = compiled_bytes(alloc, desc, fold, "", source.as_bytes())?;
-    let capsule = Capsule {
-        vm_id: desc.vm_id,
-        handler,
-        version,
-        code: compiled.code,
-    };
-    Ok(Program {
-        handler,
-        version,
-        source: Some(compiled.script),
-        image: encode(&capsule),
-    })
+    let shared = SharedSource::new(alloc, compiled)?;
+    shared.program(alloc, desc, handler, version)
 }

@@ -6,8 +6,7 @@ use Rattle.std.specs.Option.{option_map_or, option_to_list}
 use Rattle.std.proofs.lemmas.List.Elements.{All-nil, All-cons, All-head, All-tail, All-append, All-map, All-weaker}
 use Rattle.vm_desc.specs.declared.description.Description.{Description}
 use Rattle.mate_journal.specs.Machine.{HeldProgram, Meaning}
-use Rattle.mate_journal.specs.Turns.{Clock}
-use Rattle.mate_journal.specs.WellFormed.{start}
+use Rattle.journal_laws.proofs.Append.{start}
 use Rattle.mate_journal.specs.declared.air.Air.{Air}
 use Rattle.mate_journal.specs.declared.air.Air.TheVariants as air
 use Rattle.mate_journal.specs.declared.air.Aired.{Aired}
@@ -147,10 +146,10 @@ lines-in-range d nodes until files programs [] i right = All-nil (IsAirInRange n
 lines-in-range d nodes until files programs (p ∷ ps) zero right = what-in-range d nodes files programs p.what (All-head (IsRightPlanned d nodes until files) p ps right).what
 lines-in-range d nodes until files programs (p ∷ ps) (suc i) right = lines-in-range d nodes until files programs ps i (All-tail (IsRightPlanned d nodes until files) p ps right)
 
-pub script-air : (d : Description) (meaning : Meaning) (clock : Clock) (script : Script) (programs : ℕ → HeldProgram) → IsRightWorld d script → HasAirInRange (world_of d meaning clock script programs)
-script-air d meaning clock script programs right = record {
+pub script-air : (d : Description) (meaning : Meaning) (script : Script) (programs : ℕ → HeldProgram) → IsRightWorld d script → HasAirInRange (world_of d meaning script programs)
+script-air d meaning script programs right = record {
   nodes_low = right.nodes_low;
-  ends = script-ends d meaning clock script programs right;
+  ends = script-ends d meaning script programs right;
   senders = λ j. sender-within script.nodes script.links j right.nodes_low right.links;
   lines = λ i. lines-in-range d script.nodes script.until (length script.files) programs script.events i right.events;
 }

@@ -11,7 +11,6 @@ use Rattle.mate_journal.specs.Machine.{Meaning, HeldProgram}
 use Rattle.mate_journal.specs.Journal.{Installed, nothing_heard, heard, heard_all, held, journal_of, AtEachEntry}
 use Rattle.mate_journal.specs.Journal.{Event as Entered}
 use Rattle.mate_journal.specs.NodeScript.{RunEnd}
-use Rattle.mate_journal.specs.Turns.{Clock}
 use Rattle.mate_journal.specs.declared.report.Report.{Report}
 use Rattle.world_script.specs.declared.world.World.{World as Script}
 use Rattle.world_script.specs.declared.world.Link.{Link}
@@ -93,35 +92,35 @@ install-by w how ms newer now b by h p es come is last was own of = record {
 
 -- ---- a line that is left alone
 
-undisturbed : (d : Description) (meaning : Meaning) (clock : Clock) (script : Script) (programs : ℕ → HeldProgram) (i by : ℕ) (h : HandlerId) (p : HeldProgram) (before later : List Moment) (m : Moment)
-    → IsRightScript d script programs → p.handler ≡ h → HaveCome (world_of d meaning clock script programs) (later ++ (m ∷ before)) → m.cause ≡ event.Planned i → IsLeftAlone script i h by
-    → IsUndisturbed (world_of d meaning clock script programs) p by (m ∷ before) later
-undisturbed d meaning clock script programs i by h p before later m right own come cause alone newer older x is low = (calm, none) where
-  come_x : HaveCome (world_of d meaning clock script programs) (x ∷ (older ++ (m ∷ before)))
-  come_x = earlier-come (world_of d meaning clock script programs) (x ∷ (older ++ (m ∷ before))) newer
-      (subst (λ (ms : List Moment). HaveCome (world_of d meaning clock script programs) ms) (ap (λ (ms : List Moment). ms ++ (m ∷ before)) is ∙ append_assoc newer (x ∷ older) (m ∷ before)) come)
+undisturbed : (d : Description) (meaning : Meaning) (script : Script) (programs : ℕ → HeldProgram) (i by : ℕ) (h : HandlerId) (p : HeldProgram) (before later : List Moment) (m : Moment)
+    → IsRightScript d script programs → p.handler ≡ h → HaveCome (world_of d meaning script programs) (later ++ (m ∷ before)) → m.cause ≡ event.Planned i → IsLeftAlone script i h by
+    → IsUndisturbed (world_of d meaning script programs) p by (m ∷ before) later
+undisturbed d meaning script programs i by h p before later m right own come cause alone newer older x is low = (calm, none) where
+  come_x : HaveCome (world_of d meaning script programs) (x ∷ (older ++ (m ∷ before)))
+  come_x = earlier-come (world_of d meaning script programs) (x ∷ (older ++ (m ∷ before))) newer
+      (subst (λ (ms : List Moment). HaveCome (world_of d meaning script programs) ms) (ap (λ (ms : List Moment). ms ++ (m ∷ before)) is ∙ append_assoc newer (x ∷ older) (m ∷ before)) come)
 
-  timely : IsPlanTimely (world_of d meaning clock script programs)
-  timely = (plans_rightly d meaning clock script programs right).timely
+  timely : IsPlanTimely (world_of d meaning script programs)
+  timely = (plans_rightly d meaning script programs right).timely
 
   said : (j : ℕ) (l : Planned) → x.cause ≡ event.Planned j → slice_get script.events j ≡ Some l → (l.what ≢ what.Reset) × IfInjects l.what (λ g version. g ≢ h)
   said j l cause_x stands =
-      let order : i < j = lines_in_order (world_of d meaning clock script programs) timely before older x m i j come_x cause cause_x in
+      let order : i < j = lines_in_order (world_of d meaning script programs) timely before older x m i j come_x cause cause_x in
       let line_stands : slice_get (map (line_planned programs) script.events) j ≡ Some (line_planned programs l)
       = slice_get-map (line_planned programs) script.events j ∙ ap (λ (o : Option Planned). option_map (line_planned programs) o) stands in
-      let time_is : x.time ≡ l.time = line-time (world_of d meaning clock script programs) (older ++ (m ∷ before)) x j (line_planned programs l) timely come_x cause_x line_stands in
+      let time_is : x.time ≡ l.time = line-time (world_of d meaning script programs) (older ++ (m ∷ before)) x j (line_planned programs l) timely come_x cause_x line_stands in
       alone j l order stands (omega (arith, time_is, low))
 
-  calm : resets (effect_at (world_of d meaning clock script programs) (state (world_of d meaning clock script programs) (older ++ (m ∷ before))) x).deed ≡ false
-  calm = elim (resets-by (world_of d meaning clock script programs) (node_at (world_of d meaning clock script programs) (state (world_of d meaning clock script programs) (older ++ (m ∷ before))) x) x.cause) [
+  calm : resets (effect_at (world_of d meaning script programs) (state (world_of d meaning script programs) (older ++ (m ∷ before))) x).deed ≡ false
+  calm = elim (resets-by (world_of d meaning script programs) (node_at (world_of d meaning script programs) (state (world_of d meaning script programs) (older ++ (m ∷ before))) x) x.cause) [
     | inl quiet ↦ quiet
     | inr found ↦ absurd (refused found (planned-at script programs found.place found.line found.stands))
   ] where
-    refused : (found : ResetsBy (world_of d meaning clock script programs) x.cause) → IsPlannedAt script programs found.place found.line → ⊥
+    refused : (found : ResetsBy (world_of d meaning script programs) x.cause) → IsPlannedAt script programs found.place found.line → ⊥
     refused found at = (said found.place at.planned found.cause at.stands).0 (says-reset programs at.planned.what (ap (λ (y : PlannedLine). y.what) at.line ∙ found.says))
 
-  none : (j : ℕ) (q : HeldProgram) → x.cause ≡ event.Planned j → InjectsAt (world_of d meaning clock script programs) j q → q.handler.0 ≡ p.handler.0 → q.version ≤ p.version
-  none j q cause_x injects same = absurd (refused (says-inject d meaning clock script programs j q injects)) where
+  none : (j : ℕ) (q : HeldProgram) → x.cause ≡ event.Planned j → InjectsAt (world_of d meaning script programs) j q → q.handler.0 ≡ p.handler.0 → q.version ≤ p.version
+  none j q cause_x injects same = absurd (refused (says-inject d meaning script programs j q injects)) where
     refused : SaysInject script programs j q → ⊥
     refused says =
         let other : says.handler ≢ h = subst (λ (y : What). IfInjects y (λ g version. g ≢ h)) says.what_is (said j says.planned cause_x says.stands).1 in
@@ -142,25 +141,25 @@ some-and P Q None step is = absurd is
 some-and P Q (Some x) step is = step x is
 
 -- whatever the programs mean
-pub report-bound : (d : Description) (meaning : Meaning) (clock : Clock) (script : Script) (programs : ℕ → HeldProgram) (how : RunEnd) (r : Report) (i time a b hops : ℕ) (h : HandlerId) (version : ℕ)
-    → IsRightScript d script programs → IsOpenScript script → (of : IsWorldReport (world_of d meaning clock script programs) how r)
+pub report-bound : (d : Description) (meaning : Meaning) (script : Script) (programs : ℕ → HeldProgram) (how : RunEnd) (r : Report) (i time a b hops : ℕ) (h : HandlerId) (version : ℕ)
+    → IsRightScript d script programs → IsOpenScript script → (of : IsWorldReport (world_of d meaning script programs) how r)
     → InjectsOn script i time a h version → IsAway script.links a b hops
     → IsLeftAlone script i h (time + 3 * longest d.trickle * hops)
-    → HasReached (world_of d meaning clock script programs) how of.moments (time + 3 * longest d.trickle * hops)
-    → IsSomeAnd (slice_get r.nodes b) (λ l. TellsInstallBy (world_of d meaning clock script programs).machine h version (time + 3 * longest d.trickle * hops) (journal_of l))
-report-bound d meaning clock script programs how r i time a b hops h version right is_open of injects away alone reached =
-    at_event (line-comes (world_of d meaning clock script programs) of.moments i (line_planned programs planned) (time + 3 * longest d.trickle * hops) of.come stands done (omega arith)) where
+    → HasReached (world_of d meaning script programs) how of.moments (time + 3 * longest d.trickle * hops)
+    → IsSomeAnd (slice_get r.nodes b) (λ l. TellsInstallBy (world_of d meaning script programs).machine h version (time + 3 * longest d.trickle * hops) (journal_of l))
+report-bound d meaning script programs how r i time a b hops h version right is_open of injects away alone reached =
+    at_event (line-comes (world_of d meaning script programs) of.moments i (line_planned programs planned) (time + 3 * longest d.trickle * hops) of.come stands done (omega arith)) where
       planned : Planned
       planned = record { time = time; node = a; what = what.Inject injects.program h version }
 
       stands : slice_get (map (line_planned programs) script.events) i ≡ Some (record { time = time; node = a; what = Inject (programs injects.program) })
       stands = slice_get-map (line_planned programs) script.events i ∙ ap (λ (o : Option Planned). option_map (line_planned programs) o) injects.line
 
-      injects_at : InjectsAt (world_of d meaning clock script programs) i (programs injects.program)
+      injects_at : InjectsAt (world_of d meaning script programs) i (programs injects.program)
       injects_at = (record { time = time; node = a; what = Inject (programs injects.program) }, stands, refl)
 
-      done : IsDone (state (world_of d meaning clock script programs) of.moments) (time + 3 * longest d.trickle * hops)
-      done = reached_is_done (world_of d meaning clock script programs) how of.moments (time + 3 * longest d.trickle * hops) of.come of.at_end reached
+      done : IsDone (state (world_of d meaning script programs) of.moments) (time + 3 * longest d.trickle * hops)
+      done = reached_is_done (world_of d meaning script programs) how of.moments (time + 3 * longest d.trickle * hops) of.come of.at_end reached
 
       program_is : IsInjectedProgram h version (programs injects.program)
       program_is = right.programs_are i injects.program version h (record { time = time; node = a; what = what.Inject injects.program h version }) injects.line refl
@@ -169,32 +168,32 @@ report-bound d meaning clock script programs how r i time a b hops h version rig
       node_low = (all-at (IsRightPlanned d script.nodes script.until _) script.events i _ right.right.events injects.line).node_high
 
       b_low : b < script.nodes
-      b_low = away-node (world_of d meaning clock script programs) a b hops (open_scripts d meaning clock script programs right is_open).ends node_low away
+      b_low = away-node (world_of d meaning script programs) a b hops (open_scripts d meaning script programs right is_open).ends node_low away
 
-      at_event : HasEvent of.moments time (event.Planned i) → IsSomeAnd (slice_get r.nodes b) (λ l. TellsInstallBy (world_of d meaning clock script programs).machine h version (time + 3 * longest d.trickle * hops) (journal_of l))
-      at_event found = installs (injected_is_installed d meaning clock script programs right is_open found.older found.newer found.moment i b hops (programs injects.program) come found.cause injects_at away_event calm done_event) where
-        come : HaveCome (world_of d meaning clock script programs) (found.newer ++ (found.moment ∷ found.older))
-        come = subst (λ (ms : List Moment). HaveCome (world_of d meaning clock script programs) ms) found.split of.come
+      at_event : HasEvent of.moments time (event.Planned i) → IsSomeAnd (slice_get r.nodes b) (λ l. TellsInstallBy (world_of d meaning script programs).machine h version (time + 3 * longest d.trickle * hops) (journal_of l))
+      at_event found = installs (injected_is_installed d meaning script programs right is_open found.older found.newer found.moment i b hops (programs injects.program) come found.cause injects_at away_event calm done_event) where
+        come : HaveCome (world_of d meaning script programs) (found.newer ++ (found.moment ∷ found.older))
+        come = subst (λ (ms : List Moment). HaveCome (world_of d meaning script programs) ms) found.split of.come
 
-        node_is : event_node (world_of d meaning clock script programs) found.moment.cause ≡ a
-        node_is = ap (event_node (world_of d meaning clock script programs)) found.cause ∙ ap (λ (o : Option PlannedLine). option_map_or (λ (l : PlannedLine). l.node) o 0) stands
+        node_is : event_node (world_of d meaning script programs) found.moment.cause ≡ a
+        node_is = ap (event_node (world_of d meaning script programs)) found.cause ∙ ap (λ (o : Option PlannedLine). option_map_or (λ (l : PlannedLine). l.node) o 0) stands
 
-        away_event : IsAway script.links (event_node (world_of d meaning clock script programs) found.moment.cause) b hops
+        away_event : IsAway script.links (event_node (world_of d meaning script programs) found.moment.cause) b hops
         away_event = subst (λ (k : ℕ). IsAway script.links k b hops) (sym node_is) away
 
-        calm : IsUndisturbed (world_of d meaning clock script programs) (programs injects.program) (found.moment.time + 3 * longest d.trickle * hops) (found.moment ∷ found.older) found.newer
-        calm = undisturbed d meaning clock script programs i (found.moment.time + 3 * longest d.trickle * hops) h (programs injects.program) found.older found.newer found.moment right program_is.handler_is come found.cause
+        calm : IsUndisturbed (world_of d meaning script programs) (programs injects.program) (found.moment.time + 3 * longest d.trickle * hops) (found.moment ∷ found.older) found.newer
+        calm = undisturbed d meaning script programs i (found.moment.time + 3 * longest d.trickle * hops) h (programs injects.program) found.older found.newer found.moment right program_is.handler_is come found.cause
             (subst (λ (t : ℕ). IsLeftAlone script i h (t + 3 * longest d.trickle * hops)) (sym found.time) alone)
 
-        done_event : IsDone (state (world_of d meaning clock script programs) (found.newer ++ (found.moment ∷ found.older))) (found.moment.time + 3 * longest d.trickle * hops)
-        done_event = subst (λ (t : ℕ). IsDone (state (world_of d meaning clock script programs) (found.newer ++ (found.moment ∷ found.older))) (t + 3 * longest d.trickle * hops)) (sym found.time)
-            (subst (λ (ms : List Moment). IsDone (state (world_of d meaning clock script programs) ms) (time + 3 * longest d.trickle * hops)) found.split done)
+        done_event : IsDone (state (world_of d meaning script programs) (found.newer ++ (found.moment ∷ found.older))) (found.moment.time + 3 * longest d.trickle * hops)
+        done_event = subst (λ (t : ℕ). IsDone (state (world_of d meaning script programs) (found.newer ++ (found.moment ∷ found.older))) (t + 3 * longest d.trickle * hops)) (sym found.time)
+            (subst (λ (ms : List Moment). IsDone (state (world_of d meaning script programs) ms) (time + 3 * longest d.trickle * hops)) found.split done)
 
-        installs : InstalledBy (world_of d meaning clock script programs) (programs injects.program) b (found.moment.time + 3 * longest d.trickle * hops) (found.moment ∷ found.older) found.newer
-            → IsSomeAnd (slice_get r.nodes b) (λ l. TellsInstallBy (world_of d meaning clock script programs).machine h version (time + 3 * longest d.trickle * hops) (journal_of l))
-        installs by = some-and (IsLogOf (world_of d meaning clock script programs) how of.moments b) (λ (l : Log). TellsInstallBy (world_of d meaning clock script programs).machine h version (time + 3 * longest d.trickle * hops) (journal_of l)) (slice_get r.nodes b)
-            (λ l is. subst (λ (v : ℕ). TellsInstallBy (world_of d meaning clock script programs).machine h v (time + 3 * longest d.trickle * hops) (journal_of l)) program_is.version_is
-            (install-by (world_of d meaning clock script programs) how of.moments by.newer (by.older ++ (found.moment ∷ found.older)) b (time + 3 * longest d.trickle * hops) h (programs injects.program) (journal_of l) of.come
+        installs : InstalledBy (world_of d meaning script programs) (programs injects.program) b (found.moment.time + 3 * longest d.trickle * hops) (found.moment ∷ found.older) found.newer
+            → IsSomeAnd (slice_get r.nodes b) (λ l. TellsInstallBy (world_of d meaning script programs).machine h version (time + 3 * longest d.trickle * hops) (journal_of l))
+        installs by = some-and (IsLogOf (world_of d meaning script programs) how of.moments b) (λ (l : Log). TellsInstallBy (world_of d meaning script programs).machine h version (time + 3 * longest d.trickle * hops) (journal_of l)) (slice_get r.nodes b)
+            (λ l is. subst (λ (v : ℕ). TellsInstallBy (world_of d meaning script programs).machine h v (time + 3 * longest d.trickle * hops) (journal_of l)) program_is.version_is
+            (install-by (world_of d meaning script programs) how of.moments by.newer (by.older ++ (found.moment ∷ found.older)) b (time + 3 * longest d.trickle * hops) h (programs injects.program) (journal_of l) of.come
             (found.split ∙ ap (λ (ms : List Moment). ms ++ (found.moment ∷ found.older)) by.split ∙ append_assoc by.newer by.older (found.moment ∷ found.older))
             (subst (λ (t : ℕ). last_time (by.older ++ (found.moment ∷ found.older)) ≤ t + 3 * longest d.trickle * hops) found.time by.in_time)
             by.installed program_is.handler_is is.journal))
@@ -202,7 +201,7 @@ report-bound d meaning clock script programs how r i time a b hops h version rig
 
 pub reports_keep_the_bound : ReportsKeepTheBound
 reports_keep_the_bound d script ps how r i time a b hops h version programs is_open of injects away alone reached =
-    report-bound d _ _ script _ how r i time a b hops h version (right-script d script ps programs) is_open of injects away alone reached
+    report-bound d _ script _ how r i time a b hops h version (right-script d script ps programs) is_open of injects away alone reached
 
 pub reports_show_the_bound : ReportsShowTheBound
 reports_show_the_bound d script ps how r programs of is_open i time a b hops h version injects away alone shows =

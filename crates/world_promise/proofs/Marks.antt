@@ -8,7 +8,7 @@ use Rattle.mate_journal.specs.Journal.{Told, Seen, Event, store_seen, told_of, j
 use Rattle.mate_journal.specs.Log.{Log}
 use Rattle.mate_journal.specs.NodeScript.{RunEnd, Whole, Full, Cut}
 use Rattle.mate_journal.specs.Tidy.{store_named}
-use Rattle.mate_journal.specs.WellFormed.{start}
+use Rattle.journal_laws.proofs.Append.{start}
 use Rattle.mate_journal.specs.declared.air.Aired.{Aired}
 use Rattle.mate_journal.specs.declared.entry.Entry.{Entry}
 use Rattle.mate_journal.specs.declared.entry.Entry.TheVariants as entry

@@ -4,7 +4,6 @@ use Rattle.std.specs.Prelude.{All, IsSomeAnd, slice_get}
 use Rattle.std.proofs.lemmas.List.Elements.{All-same, All-weaker}
 use Rattle.vm_desc.specs.declared.description.Description.{Description}
 use Rattle.mate_journal.specs.Machine.{HeldProgram, Meaning}
-use Rattle.mate_journal.specs.Turns.{Clock}
 use Rattle.mate_journal.specs.NodeScript.{RunEnd}
 use Rattle.mate_journal.specs.Tidy.{EventsRise, IsTidyLog, HasFullImages}
 use Rattle.mate_journal.specs.declared.air.Aired.{Aired}
@@ -49,6 +48,6 @@ report-tidy w how r few fit is =
           (λ a p. All-weaker (IsMarkOfRun w ms) (AreOfOneNode (marks r) a) (λ b q. one-node w ms (marks r) a b of_run p q) (marks r) of_run) (marks r) of_run;
     }
 
-pub world-tidy : (d : Description) (meaning : Meaning) (clock : Clock) (script : Script) (programs : ℕ → HeldProgram) (how : RunEnd) (r : Report)
-    → IsRightWorld d script → IsWorldReport (world_of d meaning clock script programs) how r → IsTidy d r
-world-tidy d meaning clock script programs how r right is = report-tidy (world_of d meaning clock script programs) how r right.nodes_high (script-air d meaning clock script programs right) is
+pub world-tidy : (d : Description) (meaning : Meaning) (script : Script) (programs : ℕ → HeldProgram) (how : RunEnd) (r : Report)
+    → IsRightWorld d script → IsWorldReport (world_of d meaning script programs) how r → IsTidy d r
+world-tidy d meaning script programs how r right is = report-tidy (world_of d meaning script programs) how r right.nodes_high (script-air d meaning script programs right) is

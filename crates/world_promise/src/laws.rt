@@ -4,7 +4,6 @@ ghost use Rattle.world_promise.specs.Bound.{ReportsKeepTheBound, ReportsShowTheB
 ghost use Rattle.std.specs.Prelude.{ℕ};
 ghost use Rattle.vm_desc.specs.declared.description.Description.{Description};
 ghost use Rattle.mate_journal.specs.Machine.{HeldProgram, Meaning};
-ghost use Rattle.mate_journal.specs.Turns.{Clock};
 ghost use Rattle.mate_journal.specs.NodeScript.{RunEnd};
 ghost use Rattle.mate_journal.specs.declared.report.Report.{Report};
 ghost use Rattle.world_script.specs.declared.world.World.{World as Script};
@@ -26,7 +25,7 @@ pub fn reports_keep_the_bound()
 
 /// The report of a right script's world is tidy, whatever its programs mean and however its run ends.
 pub fn world_report_is_tidy()
-    ensures { (d : Description) (meaning : Meaning) (clock : Clock) (script : Script) (programs : ℕ
+    ensures { (d : Description) (meaning : Meaning) (script : Script) (programs : ℕ
         → HeldProgram) (how : RunEnd) (r : Report) →
-        IsRightWorld d script → IsWorldReport (world_of d meaning clock script programs) how r → IsTidy d r }
+        IsRightWorld d script → IsWorldReport (world_of d meaning script programs) how r → IsTidy d r }
 {}

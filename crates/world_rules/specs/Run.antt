@@ -8,7 +8,7 @@ use Rattle.mate_journal.specs.Machine.{Machine}
 use Rattle.mate_journal.specs.Journal.{Told, Answered, Reading, heard_told}
 use Rattle.mate_journal.specs.Journal.{Event as Entered}
 use Rattle.mate_journal.specs.Pace.{Pace, paced_all}
-use Rattle.mate_journal.specs.Turns.{Clock, Settles}
+use Rattle.mate_journal.specs.Turns.{Settles}
 use Rattle.mate_journal.specs.NodeScript.{Occasion, Installs, ShowsOnce, Resets, RunEnd, Whole, Full, Cut, records_max}
 use Rattle.mate_journal.specs.declared.air.Air.TheVariants as air
 use Rattle.mate_journal.specs.declared.air.Aired.{Aired}
@@ -35,13 +35,13 @@ Occasions m payload [] r p told = told ≡ []
 Occasions m payload (h ∷ hs) r p told = FirstThen m (λ r p told. Occasion m r h payload told) (Occasions m payload hs) r p told
 
 -- what a deed makes
-abbrev pub DeedMakes : Clock → Machine → Deed → MakingRule
-DeedMakes k m Nothing r p told = told ≡ []
-DeedMakes k m (Installing x) r p told = Installs k m r p x told
-DeedMakes k m (Posting hs payload) r p told = Occasions m payload hs r p told
-DeedMakes k m (Answering inv value) r p told = told ≡ Answered inv value ∷ []
-DeedMakes k m Showing r p told = ShowsOnce k m r p told
-DeedMakes k m Resetting r p told = Resets k m r p told
+abbrev pub DeedMakes : Machine → Deed → MakingRule
+DeedMakes m Nothing r p told = told ≡ []
+DeedMakes m (Installing x) r p told = Installs m r p x told
+DeedMakes m (Posting hs payload) r p told = Occasions m payload hs r p told
+DeedMakes m (Answering inv value) r p told = told ≡ Answered inv value ∷ []
+DeedMakes m Showing r p told = ShowsOnce m r p told
+DeedMakes m Resetting r p told = Resets m r p told
 
 -- the event is the first of those that are due next
 pub record IsNext (s : WorldState) (time : ℕ) (cause : Cause) : Type 0 where
@@ -55,8 +55,8 @@ pub record MayCome (w : World) (s : WorldState) (m : Moment) : Type 0 where
   pub room : s.records < records_max
   pub next : IsNext s m.time m.cause
   pub in_time : m.time ≤ w.until
-  pub makes : FirstThen w.machine (DeedMakes w.clock w.machine (effect_at w s m).deed)
-      (λ r p told. Settles w.clock w.machine r p told m.pace) (node_at w s m).reading (node_at w s m).pace m.told
+  pub makes : FirstThen w.machine (DeedMakes w.machine (effect_at w s m).deed)
+      (λ r p told. Settles w.machine r p told m.pace) (node_at w s m).reading (node_at w s m).pace m.told
 
 -- these events came, the latest first
 abbrev pub HaveCome : World → List Moment → Type 0
@@ -95,7 +95,7 @@ journal w k (m ∷ before) = journal w k before ++ (if k == event_node w m.cause
 -- a whole run ends with the store of each node seen, under the next number, at the last time
 pub record SeesStore (w : World) (k : ℕ) (ms : List Moment) (last : List Entered) : Type 0 where
   pub told : List Told
-  pub shown : ShowsOnce w.clock w.machine ((state w ms).nodes k).reading ((state w ms).nodes k).pace told
+  pub shown : ShowsOnce w.machine ((state w ms).nodes k).reading ((state w ms).nodes k).pace told
   pub stamped : last ≡ map (λ t. record { stamp = record { event = suc (length ms); time = w.until }; told = t }) told
 
 -- the last entries of a node

@@ -16,7 +16,6 @@ use Rattle.vm_desc.specs.declared.function.FunKind.{FunKind}
 use Rattle.vm_desc.specs.declared.function.FunKind.TheVariants as fun
 use Rattle.mate_journal.specs.Machine.{Machine, Meaning, HeldProgram}
 use Rattle.mate_journal.specs.Described.{machine_of}
-use Rattle.mate_journal.specs.Turns.{Clock}
 use Rattle.world_script.specs.declared.world.World.{World as Script}
 use Rattle.world_script.specs.declared.world.Link.{Link}
 use Rattle.world_script.specs.declared.world.Series.{Series}
@@ -37,12 +36,11 @@ pub record PlannedLine : Type 0 where
   pub node : ℕ
   pub what : Want
 
--- The description with its machine, the clock of its nodes' turns, how many nodes there are, what the random streams start
--- from, the last time, whether suppression is on, the links, the answers of each node's sensors, and the script's lines
+-- The description with its machine, how many nodes there are, what the random streams start from, the last time, whether
+-- suppression is on, the links, the answers of each node's sensors, and the script's lines
 pub record World : Type 0 where
   pub description : Description
   pub machine : Machine
-  pub clock : Clock
   pub nodes : ℕ
   pub random : ℕ
   pub until : ℕ
@@ -128,12 +126,11 @@ abbrev pub series_in : List Series → ℕ → ℕ → List ℤ
 series_in [] node fun = []
 series_in (s ∷ series) node fun = if (s.node == node) && (s.fun.0 == fun) then s.values else series_in series node fun
 
--- the world of a script with its programs, for a description, with what programs mean and the clock
-abbrev pub world_of : Description → Meaning → Clock → Script → (ℕ → HeldProgram) → World
-world_of d meaning clock script programs = record {
+-- the world of a script with its programs, for a description, with what programs mean
+abbrev pub world_of : Description → Meaning → Script → (ℕ → HeldProgram) → World
+world_of d meaning script programs = record {
   description = d;
   machine = machine_of d meaning;
-  clock = clock;
   nodes = script.nodes;
   random = script.random;
   until = script.until;

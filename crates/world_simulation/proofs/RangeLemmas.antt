@@ -11,7 +11,7 @@ use Rattle.mate_journal.specs.NodeScript.{ShowsOnce}
 use Rattle.mate_journal.specs.Ranges.{HasLogRanges, HasAiredRanges, HasReportRanges}
 use Rattle.mate_journal.specs.declared.air.Aired.{Aired}
 use Rattle.journal_laws.proofs.GoesOnLemmas.{GoesOn-journal}
-use Rattle.node_invariant.specs.Meaning.{machine_in, clock_of}
+use Rattle.node_invariant.specs.Meaning.{machine_in}
 use Rattle.node_invariant.specs.Keeps.{event_at}
 use Rattle.open_node.specs.View.{heard_of}
 use Rattle.open_node.specs.Calls.{Pacing}
@@ -62,7 +62,7 @@ shown-ranges at olds news shows all k x below =
 -- the store of a node is shown
 pub shown-mote : (at : Stamp) (old new : Mote) (kept kept' : Log) (size : LogSize) → KeepsJournal old.node.description (machine_in old.node.description) old.node.log → KeepsJournal new.node.description (machine_in new.node.description) new.node.log
     → IsKept (record { all = old.node.log; gone = old.node.gone }) kept → IsSizeOf size kept
-    → TellsAlone at (Pacing (ShowsOnce (clock_of old.node.description) (machine_in old.node.description) (heard_of old.node))) old new → IsKept (record { all = new.node.log; gone = new.node.gone }) kept' → IsInRangeFrom size kept' → ShowsOneStore at old new
+    → TellsAlone at (Pacing (ShowsOnce (machine_in old.node.description) (heard_of old.node))) old new → IsKept (record { all = new.node.log; gone = new.node.gone }) kept' → IsInRangeFrom size kept' → ShowsOneStore at old new
 shown-mote at old new kept kept' size keeps keeps' held sized t held' rest = record {
   tells = t.tells;
   same = t.same;

@@ -12,10 +12,9 @@ use Rattle.mate_journal.specs.Journal.{Event as Entered}
 use Rattle.mate_journal.specs.NodeScript.{RunEnd, Whole, Full, ShowsOnce}
 use Rattle.mate_journal.specs.declared.program.Program.{Program}
 use Rattle.mate_journal.specs.declared.report.Report.{Report}
-use Rattle.node_invariant.specs.Meaning.{machine_in, clock_of}
+use Rattle.node_invariant.specs.Meaning.{machine_in}
 use Rattle.node_invariant.specs.Keeps.{event_at, IsTimely}
-use Rattle.mate_journal.specs.WellFormed.{NotBefore, start}
-use Rattle.journal_laws.specs.Growth.{last_stamp}
+use Rattle.journal_laws.specs.Growth.{FollowsLast}
 use Rattle.world_laws.specs.Times.{last_time}
 use Rattle.world_event.proofs.RoomLemmas.{next-timely}
 use Rattle.open_node.specs.View.{heard_of}
@@ -49,13 +48,13 @@ pub whole-log : (d : Description) (script : Script) (ps : List Program) (ms : Li
     → IsJournalOf (code_world d script ps) Whole ms k (journal_of new.node.log)
 whole-log d script ps ms at k old new stamp is shows =
     let turns = shows.tells.paces ((state (code_world d script ps) ms).nodes k).pace is.is.pace in
-    let one : ShowsOnce (clock_of d) (machine_in d) (heard_of old.node) ((state (code_world d script ps) ms).nodes k).pace shows.tells.told =
-    subst (λ (e : Description). ShowsOnce (clock_of e) (machine_in e) (heard_of old.node) ((state (code_world d script ps) ms).nodes k).pace shows.tells.told) is.is.description turns.1.0 in
+    let one : ShowsOnce (machine_in d) (heard_of old.node) ((state (code_world d script ps) ms).nodes k).pace shows.tells.told =
+    subst (λ (e : Description). ShowsOnce (machine_in e) (heard_of old.node) ((state (code_world d script ps) ms).nodes k).pace shows.tells.told) is.is.description turns.1.0 in
     record {
       last = map (event_at at) shows.tells.told;
       ends = record {
         told = shows.tells.told;
-        shown = subst (λ (r : Reading). ShowsOnce (clock_of d) (machine_in d) r ((state (code_world d script ps) ms).nodes k).pace shows.tells.told) is.is.reading one;
+        shown = subst (λ (r : Reading). ShowsOnce (machine_in d) r ((state (code_world d script ps) ms).nodes k).pace shows.tells.told) is.is.reading one;
         stamped = ap (λ (a : Stamp). map (event_at a) shows.tells.told) stamp;
       };
       journal_is = shows.tells.grows.journal ∙ ap (λ (es : List Entered). es ++ map (event_at at) shows.tells.told) is.journal;
@@ -87,7 +86,7 @@ pub all-timely : (d : Description) (script : Script) (ps : List Program) (ms : L
 all-timely d script ps ms at motes come count each number ends k x below =
     let mote = some-at (IsMoteAfter (code_world d script ps) ms k) motes k x below (each k (omega (arith, below, count))) in
     let within = last-within (code_world d script ps) ms come in
-    record { after_last = subst (λ (es : List Entered). NotBefore (last_stamp start es) at) (sym mote.journal) (next-timely (code_world d script ps) k ms at come number (omega (arith, within, ends))) }
+    record { after_last = subst (λ (es : List Entered). FollowsLast es at) (sym mote.journal) (next-timely (code_world d script ps) k ms at come number (omega (arith, within, ends))) }
 
 logs-at : (w : World) (how : RunEnd) (ms : List Moment) (motes : List Mote) (k : ℕ) → IsSomeAnd (slice_get motes k) (λ (m : Mote). IsLogOf w how ms k m.node.log) → IsSomeAnd (slice_get (mote_logs motes) k) (IsLogOf w how ms k)
 logs-at w how ms motes k is = subst (λ (o : Option Log). IsSomeAnd o (IsLogOf w how ms k)) (sym (slice_get-map (λ (m : Mote). m.node.log) motes k)) (by (slice_get motes k) is) where

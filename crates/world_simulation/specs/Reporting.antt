@@ -5,7 +5,7 @@ use Rattle.vm_desc.specs.declared.description.Description.{Description}
 use Rattle.mate_journal.specs.Log.{Log}
 use Rattle.mate_journal.specs.NodeScript.{ShowsOnce}
 use Rattle.mate_journal.specs.declared.report.Report.{Report}
-use Rattle.node_invariant.specs.Meaning.{machine_in, clock_of}
+use Rattle.node_invariant.specs.Meaning.{machine_in}
 use Rattle.open_node.specs.View.{heard_of, Tells}
 use Rattle.open_node.specs.Calls.{Pacing}
 use Rattle.report_ranges.specs.Growth.{IsInRange}
@@ -15,7 +15,7 @@ use Rattle.world_simulation.specs.declared.simulation.Simulation.{Simulation}
 -- the store of the node is seen, with this stamp
 pub record ShowsOneStore (at : Stamp) (old new : Mote) : Type 0 where
   pub tells : Tells old.node new.node at
-      (Pacing (ShowsOnce (clock_of old.node.description) (machine_in old.node.description) (heard_of old.node)))
+      (Pacing (ShowsOnce (machine_in old.node.description) (heard_of old.node)))
   pub same : new ≡ record old { node = new.node }
   pub ranges : IsInRange old.node.log old.node.gone → IsInRange new.node.log new.node.gone
 

@@ -239,7 +239,7 @@ run-awaited w k (m ∷ before) come follow = elim (eqb_tells k (event_node w m.c
   told : IsFollowed w (event_node w m.cause) (m ∷ before) → IsToldBy w (state w before) m
   told all = record {
     next = come.1.next;
-    begins = event-begins w.clock w.machine (node_at w (state w before) m).reading (node_at w (state w before) m).pace (effect_at w (state w before) m).deed m.told m.pace come.1.makes;
+    begins = event-begins w.machine (node_at w (state w before) m).reading (node_at w (state w before) m).pace (effect_at w (state w before) m).deed m.told m.pace come.1.makes;
     follow = followed-told w m before all;
     right = run-numbered w (event_node w m.cause) before (followed-before w (event_node w m.cause) m before all);
   }

@@ -12,7 +12,7 @@ use Rattle.mate_code.specs.Run.{Code}
 use Rattle.mate_code.specs.Verification.{Marks, Refusal}
 use Rattle.mate_journal.specs.Machine.{HeldProgram}
 use Rattle.mate_journal.specs.declared.program.Program.{Program}
-use Rattle.node_invariant.specs.Meaning.{meaning_of, clock_of}
+use Rattle.node_invariant.specs.Meaning.{meaning_of}
 use Rattle.node_calls.specs.Installing.{IsRightCapsule, program_by}
 use Rattle.node_programs.specs.Right.{IsRightProgram, AreRightPrograms}
 use Rattle.node_programs.specs.Sources.{held_as}
@@ -134,7 +134,7 @@ image-bytes c is =
 
 pub programs-fit : (d : Description) (script : Script) (ps : List Program) → AreProgramsOfWorld d script ps → AreProgramsFit (code_world d script ps)
 programs-fit d script ps right i p injects =
-    let version = injected_are_versions d (meaning_of (shape_of d)) (clock_of d) script (program_at ps) i p (right-script d script ps right) injects in
+    let version = injected_are_versions d (meaning_of (shape_of d)) script (program_at ps) i p (right-script d script ps right) injects in
     let own = line-program d script ps i p right injects in
     let same : own.program.version ≡ p.version = ap (λ (x : HeldProgram). x.version) own.is in
     let image : own.program.image.items ≡ p.image.items = ap (λ (x : HeldProgram). x.image.items) own.is in

@@ -8,7 +8,7 @@ use Rattle.vm_desc.specs.Shapes.{shape_of}
 use Rattle.mate_journal.specs.Machine.{HeldProgram}
 use Rattle.mate_journal.specs.Pace.{no_pace}
 use Rattle.mate_journal.specs.declared.program.Program.{Program}
-use Rattle.node_invariant.specs.Meaning.{meaning_of, clock_of}
+use Rattle.node_invariant.specs.Meaning.{meaning_of}
 use Rattle.node_programs.specs.ScriptSteps.{program_at}
 use Rattle.world_script.specs.declared.world.World.{World as Script}
 use Rattle.journal_laws.specs.Waiting.{HasFewContexts}
@@ -51,12 +51,12 @@ record IsRunnable (w : World) : Type 0 where
 
 runnable : (d : Description) (script : Script) (ps : List Program) → AreProgramsOfWorld d script ps → IsRunnable (code_world d script ps)
 runnable d script ps right = record {
-  ends = script-ends d (meaning_of (shape_of d)) (clock_of d) script (program_at ps) right.world;
+  ends = script-ends d (meaning_of (shape_of d)) script (program_at ps) right.world;
   set = right_set d;
   few = few-contexts d (meaning_of (shape_of d));
-  plan = plans_rightly d (meaning_of (shape_of d)) (clock_of d) script (program_at ps) (right-script d script ps right);
+  plan = plans_rightly d (meaning_of (shape_of d)) script (program_at ps) (right-script d script ps right);
   fit = programs-fit d script ps right;
-  newer = scripts_installs_are_newer d (meaning_of (shape_of d)) (clock_of d) script (program_at ps) (right-script d script ps right);
+  newer = scripts_installs_are_newer d (meaning_of (shape_of d)) script (program_at ps) (right-script d script ps right);
   lines = λ i q injects. line-program d script ps i q right injects;
 }
 

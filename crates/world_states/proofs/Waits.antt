@@ -12,7 +12,7 @@ use Rattle.mate_journal.specs.Journal.{Told, Posted, Dropped, Started, Asked, An
 use Rattle.mate_journal.specs.WellFormed.{IsWaiting, MayFollow}
 use Rattle.mate_journal.specs.NodeScript.{Occasion}
 use Rattle.mate_journal.specs.Pace.{Pace, paced_all}
-use Rattle.mate_journal.specs.Turns.{Clock, Settles}
+use Rattle.mate_journal.specs.Turns.{Settles}
 use Rattle.journal_laws.specs.Waiting.{AreFollowing, ends_wait}
 use Rattle.journal_laws.proofs.Staying.{waits-same, goes_on-told, follow-front, follow-back}
 use Rattle.journal_laws.proofs.Settling.{IsOfTurn, AreOfTurns, starts-of_turns, settles-of_turns}
@@ -184,13 +184,13 @@ pub record BeginsWith (d : Deed) (told : List Told) : Type 0 where
   pub begins : IsFirstOf d first
   pub plain : ArePlain rest
 
-deed-begins : (k : Clock) (m : Machine) (r : Reading) (p : Pace) (d : Deed) (told : List Told) → DeedMakes k m d r p told → BeginsWith d told
-deed-begins k m r p Nothing told is = record { first = []; rest = told; split = refl; begins = refl; plain = plain-as told [] is tt }
-deed-begins k m r p (Posting hs payload) told is = record { first = []; rest = told; split = refl; begins = refl; plain = occasions-plain m payload hs r p told is }
-deed-begins k m r p (Answering inv value) told is = record { first = Answered inv value ∷ []; rest = []; split = is; begins = refl; plain = tt }
-deed-begins k m r p Showing told is = record { first = []; rest = told; split = refl; begins = refl; plain = plain-as told (Seen is.seen ∷ []) is.made (tt, tt) }
-deed-begins k m r p Resetting told is = record { first = Seen is.seen ∷ Reset ∷ []; rest = []; split = is.made; begins = (is.seen, refl); plain = tt }
-deed-begins k m r p (Installing x) told is = record {
+deed-begins : (m : Machine) (r : Reading) (p : Pace) (d : Deed) (told : List Told) → DeedMakes m d r p told → BeginsWith d told
+deed-begins m r p Nothing told is = record { first = []; rest = told; split = refl; begins = refl; plain = plain-as told [] is tt }
+deed-begins m r p (Posting hs payload) told is = record { first = []; rest = told; split = refl; begins = refl; plain = occasions-plain m payload hs r p told is }
+deed-begins m r p (Answering inv value) told is = record { first = Answered inv value ∷ []; rest = []; split = is; begins = refl; plain = tt }
+deed-begins m r p Showing told is = record { first = []; rest = told; split = refl; begins = refl; plain = plain-as told (Seen is.seen ∷ []) is.made (tt, tt) }
+deed-begins m r p Resetting told is = record { first = Seen is.seen ∷ Reset ∷ []; rest = []; split = is.made; begins = (is.seen, refl); plain = tt }
+deed-begins m r p (Installing x) told is = record {
   first = Seen is.seen ∷ Installed x ∷ [];
   rest = is.rest;
   split = is.made;
@@ -205,15 +205,15 @@ regrouped : (xs ys zs : List Told) → (xs ++ ys) ++ zs ≡ xs ++ (ys ++ zs)
 regrouped [] ys zs = refl
 regrouped (x ∷ xs) ys zs = ap (λ (ts : List Told). x ∷ ts) (regrouped xs ys zs)
 
-pub event-begins : (k : Clock) (m : Machine) (r : Reading) (p : Pace) (d : Deed) (told : List Told) (after : Pace) → FirstThen m (DeedMakes k m d) (λ s q xs. Settles k m s q xs after) r p told → BeginsWith d told
-event-begins k m r p d told after both =
-    let deed : BeginsWith d both.front = deed-begins k m r p d both.front both.by_first in
+pub event-begins : (m : Machine) (r : Reading) (p : Pace) (d : Deed) (told : List Told) (after : Pace) → FirstThen m (DeedMakes m d) (λ s q xs. Settles m s q xs after) r p told → BeginsWith d told
+event-begins m r p d told after both =
+    let deed : BeginsWith d both.front = deed-begins m r p d both.front both.by_first in
     record {
       first = deed.first;
       rest = deed.rest ++ both.rest;
       split = both.made ∙ ap (λ (ts : List Told). ts ++ both.rest) deed.split ∙ regrouped deed.first deed.rest both.rest;
       begins = deed.begins;
-      plain = plain-append deed.rest both.rest deed.plain (turns-plain both.rest (settles-of_turns k m (heard_told m r both.front) (paced_all p both.front) both.rest after both.by_second));
+      plain = plain-append deed.rest both.rest deed.plain (turns-plain both.rest (settles-of_turns m (heard_told m r both.front) (paced_all p both.front) both.rest after both.by_second));
     }
 
 -- ---- the whole event

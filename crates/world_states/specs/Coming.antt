@@ -6,7 +6,7 @@ use Rattle.mate_journal.specs.Machine.{HeldProgram}
 use Rattle.mate_journal.specs.Journal.{Reading, held}
 use Rattle.mate_journal.specs.WellFormed.{IsWaiting}
 use Rattle.mate_journal.specs.declared.program.Program.{Program}
-use Rattle.node_invariant.specs.Meaning.{meaning_of, clock_of}
+use Rattle.node_invariant.specs.Meaning.{meaning_of}
 use Rattle.node_calls.specs.Installing.{IsRightCapsule, program_by}
 use Rattle.capsule_codec.specs.Image.{CapsuleParts}
 use Rattle.node_programs.specs.ScriptSteps.{program_at}
@@ -22,7 +22,7 @@ use Rattle.world_air.specs.Air.{IsFitPacket}
 
 -- the world of a script with its programs, whose nodes run the programs' code
 abbrev pub code_world : Description → Script → List Program → World
-code_world d script ps = world_of d (meaning_of (shape_of d)) (clock_of d) script (program_at ps)
+code_world d script ps = world_of d (meaning_of (shape_of d)) script (program_at ps)
 
 -- the program is one that the node installs: a right capsule, with bytes, and newer than what is held, by the journal and by the exchange
 pub record IsTaken (w : World) (n : Node) (p : HeldProgram) : Type 0 where

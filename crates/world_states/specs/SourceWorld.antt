@@ -1,7 +1,6 @@
 -- The world of a script whose programs mean their sources.
 use Rattle.std.specs.Prelude.{List}
 use Rattle.mate_journal.specs.declared.program.Program.{Program}
-use Rattle.node_invariant.specs.Meaning.{clock_of}
 use Rattle.node_programs.specs.ScriptSteps.{program_at}
 use Rattle.node_programs.specs.Sources.{meaning_by}
 use Rattle.vm_desc.specs.declared.description.Description.{Description}
@@ -10,4 +9,4 @@ use Rattle.world_rules.specs.World.{World, world_of}
 
 -- the world of a script with its programs, each of which means its source where it has one, and else its code
 abbrev pub source_world : Description → Script → List Program → World
-source_world d script ps = world_of d (meaning_by d ps) (clock_of d) script (program_at ps)
+source_world d script ps = world_of d (meaning_by d ps) script (program_at ps)

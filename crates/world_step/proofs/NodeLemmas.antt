@@ -4,9 +4,8 @@ use Rattle.mate_num.specs.declared.call.Stamp.{Stamp}
 use Rattle.mate_journal.specs.Log.{Log, IsSameLog}
 use Rattle.mate_journal.specs.Journal.{Told, Event, Reading, journal_of, nothing_heard, heard_all}
 use Rattle.mate_journal.specs.Pace.{Pace}
-use Rattle.mate_journal.specs.WellFormed.{NotBefore, start}
 use Rattle.mate_journal.specs.declared.entry.Stamped.{Stamped}
-use Rattle.journal_laws.specs.Growth.{last_stamp}
+use Rattle.journal_laws.specs.Growth.{FollowsLast}
 use Rattle.journal_laws.proofs.Append.{journal_of-same}
 use Rattle.vm_desc.specs.declared.description.Description.{Description}
 use Rattle.node_invariant.specs.Meaning.{machine_in}
@@ -17,7 +16,7 @@ use Rattle.world_step.specs.Motes.{IsTellable}
 pub tellable-same : (old mid : NodeView) (at : Stamp) → IsSameNode old mid → IsTellable old at → IsTellable mid at
 tellable-same old mid at same t =
     let journals : journal_of mid.log ≡ journal_of old.log = journal_of-same old.log mid.log same.log in
-    let P : List Event → Type 0 = λ es. NotBefore (last_stamp start es) at in
+    let P : List Event → Type 0 = λ es. FollowsLast es at in
     let long = ap (λ es. length {A = Stamped} es) same.log.entries in
     let few = t.few in
     record { timely = record { after_last = subst P (sym journals) t.timely.after_last }; few = omega (arith, long, few) }

@@ -9,7 +9,7 @@ use Rattle.mate_journal.specs.NodeScript.{Resets}
 use Rattle.mate_journal.specs.OpenLog.{nothing_gone}
 use Rattle.mate_journal.specs.declared.air.Air.{Air}
 use Rattle.mate_journal.specs.declared.air.Air.TheVariants as air
-use Rattle.node_invariant.specs.Meaning.{machine_in, clock_of}
+use Rattle.node_invariant.specs.Meaning.{machine_in}
 use Rattle.node_invariant.specs.Keeps.{IsTimely}
 use Rattle.node_calls.specs.Installing.{InstallsBytes, Refuses}
 use Rattle.node_calls.specs.declared.installing.InstallFault.{InstallFault}
@@ -80,7 +80,7 @@ begins_with t e = is_some_length (trickle.next_length t.set t.running.length e)
 -- the node is reset: what its exchange collected and owed is forgotten, and its shortest interval begins
 pub record ResetsMote (at : Stamp) (old new : Mote) (r : Effect) : Type 0 where
   pub tells : Tells old.node new.node at
-      (Pacing (Resets (clock_of old.node.description) (machine_in old.node.description) (heard_of old.node)))
+      (Pacing (Resets (machine_in old.node.description) (heard_of old.node)))
   pub timer : new.timer ≡ timed old.timer at.time trickle.Again
   pub exchange : Learns old.exchange Forgets new.exchange
   pub pumps : new.pumps ≡ false

@@ -3,7 +3,7 @@
 ghost use Rattle.std.specs.Prelude.{◌≡◌, ◌+◌, ◌<◌, ◌≤◌, ℕ, true, List, length, All, OnOk, IfOk, ◌⊎◌};
 ghost use Rattle.mate_num.specs.declared.bounds.TheConstants.{CONTEXTS_MAX};
 ghost use Rattle.mate_journal.specs.NodeScript.{Occasion, Answers, ShowsOnce};
-ghost use Rattle.node_invariant.specs.Meaning.{machine_in, clock_of};
+ghost use Rattle.node_invariant.specs.Meaning.{machine_in};
 ghost use Rattle.node_calls.specs.Calls.{NobodyWaits};
 ghost use Rattle.open_node.specs.View.{heard_of};
 ghost use Rattle.open_node.specs.Calls.{Pacing};
@@ -70,7 +70,7 @@ impl Mote {
     pub fn show(&mut self, at: Stamp) -> Result<(), NoMemory>
         requires { IsTellable self.old.node at }
         ensures { OnOk result (TellsAlone at
-            (Pacing (ShowsOnce (clock_of self.old.node.description) (machine_in self.old.node.description) (heard_of self.old.node)))
+            (Pacing (ShowsOnce (machine_in self.old.node.description) (heard_of self.old.node)))
             self.old self.new) }
     {
         self.node.reserve(1)?;

@@ -1,6 +1,5 @@
 use Rattle.std.proofs.Common.{sym, subst}
 use Rattle.mate_journal.specs.Machine.{Meaning}
-use Rattle.node_invariant.specs.Meaning.{clock_of}
 use Rattle.node_programs.specs.ScriptSteps.{program_at}
 use Rattle.node_programs.proofs.MeaningLemmas.{meaning_by-right}
 use Rattle.world_rules.specs.World.{world_of}
@@ -10,4 +9,4 @@ use Rattle.world_states.proofs.worlds_hold_by_their_sources.Goals as goal
 -- right programs mean by their sources what their code means, so the two worlds are one
 pub returns : goal.returns
 returns c = λ d script ps how r are holds.
-    subst (λ (meaning : Meaning). IsWorldReport (world_of d meaning (clock_of d) script (program_at ps)) how r) (sym (meaning_by-right d ps are.programs)) holds
+    subst (λ (meaning : Meaning). IsWorldReport (world_of d meaning script (program_at ps)) how r) (sym (meaning_by-right d ps are.programs)) holds

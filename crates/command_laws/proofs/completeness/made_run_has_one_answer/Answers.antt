@@ -1,8 +1,7 @@
-use Rattle.node_invariant.specs.Meaning.{clock_of}
 use Rattle.node_programs.specs.ScriptSteps.{program_at}
 use Rattle.node_programs.specs.Sources.{meaning_by}
 use Rattle.command_laws.proofs.OneWorld.{gen_agrees}
 use Rattle.command_laws.proofs.completeness.made_run_has_one_answer.Goals as goal
 
 pub returns : goal.returns
-returns c names fold short number vm = gen_agrees (λ d w ps right. c.script_has_one_report.ensures d (meaning_by d ps) (clock_of d) w (program_at ps) right) names fold short number vm
+returns c names fold short number vm = gen_agrees (λ d w ps right. c.script_has_one_report.ensures d (meaning_by d ps) w (program_at ps) right) names fold short number vm

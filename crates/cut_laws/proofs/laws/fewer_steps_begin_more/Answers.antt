@@ -2,4 +2,4 @@ use Rattle.cut_laws.proofs.NodeFronts.{begins}
 use Rattle.cut_laws.proofs.laws.fewer_steps_begin_more.Goals as goal
 
 pub returns : goal.returns
-returns c k m steps more how l l' run run' is = begins k m steps more how l l' run run' is
+returns c m steps more how l l' run run' is = begins m steps more how l l' run run' is

@@ -2,4 +2,4 @@ use Rattle.journal_answers.proofs.OneText.{journal-once}
 use Rattle.journal_answers.proofs.laws.script_has_one_journal.Goals as goal
 
 pub returns : goal.returns
-returns c k m steps how how' l l' itself itself' run run' = let same = journal-once k m steps how how' l l' itself itself' run run' in (same.events, same.ends)
+returns c m steps how how' l l' itself itself' run run' = let same = journal-once m steps how how' l l' itself itself' run run' in (same.events, same.ends)

@@ -5,7 +5,7 @@ use Rattle.journal_laws.proofs.FewAtOnce.{few-told}
 use Rattle.journal_laws.proofs.waits.settling_tells_few.Goals as goal
 
 pub returns : goal.returns
-returns c = λ m few es right k p told q settles follow.
+returns c = λ m few es right p told q settles follow.
     let n = nothing_heard m in
-    few-told m (heard_all m n es) told (settles-of_turns k m (heard_all m n es) p told q settles) follow
+    few-told m (heard_all m n es) told (settles-of_turns m (heard_all m n es) p told q settles) follow
     (apart-after m n es right.follow (nothing_heard-apart m)) (small-after m n es few right.follow (nothing_heard-small m))

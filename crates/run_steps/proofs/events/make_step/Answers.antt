@@ -4,7 +4,7 @@ use Rattle.mate_num.specs.declared.bounds.TheConstants.{CODE_MAX}
 use Rattle.std.specs.Prelude.{◌+◌, ◌*◌}
 use Rattle.script_reader.specs.declared.steps.Step.{Step}
 use Rattle.mate_journal.specs.NodeScript.{Post, Run, Show, ResetNode, ShowsOnce, Resets}
-use Rattle.node_invariant.specs.Meaning.{machine_in, clock_of}
+use Rattle.node_invariant.specs.Meaning.{machine_in}
 use Rattle.node_calls.specs.Pacing.{SettlesWithin}
 use Rattle.node_calls.specs.Posting.{PostGives}
 use Rattle.open_node.specs.View.{heard_of, Tells}
@@ -89,7 +89,7 @@ returns-in-Run c =
     let v = c.args.node.now in
     let P : Step → Type 0 = λ s. Tells v c.settle.new.self c.args.at (MakesOn v (step_of c.args.programs.now s)) in
     subst P (sym c.in-Run.is)
-    (Tells-by v c.settle.new.self c.args.at (SettlesWithin (clock_of v.description) (machine_in v.description) ((v.description.turns + 1) * CODE_MAX) (heard_of v)) (MakesOn v Run)
+    (Tells-by v c.settle.new.self c.args.at (SettlesWithin (machine_in v.description) ((v.description.turns + 1) * CODE_MAX) (heard_of v)) (MakesOn v Run)
     (λ p told q x. x.settles) c.settle.ensures)
 
 pub returns-in-Show : goal.returns-in-Show
@@ -97,11 +97,11 @@ returns-in-Show c =
     let v = c.args.node.now in
     let P : Step → Type 0 = λ s. Tells v c.seen.new.self c.args.at (MakesOn v (step_of c.args.programs.now s)) in
     subst P (sym c.in-Show.is)
-    (Tells-by v c.seen.new.self c.args.at (Pacing (ShowsOnce (clock_of v.description) (machine_in v.description) (heard_of v))) (MakesOn v Show) (λ p told q x. (x.0, x.1)) c.seen.ensures)
+    (Tells-by v c.seen.new.self c.args.at (Pacing (ShowsOnce (machine_in v.description) (heard_of v))) (MakesOn v Show) (λ p told q x. (x.0, x.1)) c.seen.ensures)
 
 pub returns-in-Reset : goal.returns-in-Reset
 returns-in-Reset c =
     let v = c.args.node.now in
     let P : Step → Type 0 = λ s. Tells v c.reset.new.self c.args.at (MakesOn v (step_of c.args.programs.now s)) in
     subst P (sym c.in-Reset.is)
-    (Tells-by v c.reset.new.self c.args.at (Pacing (Resets (clock_of v.description) (machine_in v.description) (heard_of v))) (MakesOn v ResetNode) (λ p told q x. (x.0, x.1)) c.reset.ensures)
+    (Tells-by v c.reset.new.self c.args.at (Pacing (Resets (machine_in v.description) (heard_of v))) (MakesOn v ResetNode) (λ p told q x. (x.0, x.1)) c.reset.ensures)

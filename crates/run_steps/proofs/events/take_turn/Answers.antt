@@ -1,7 +1,7 @@
 use Rattle.std.proofs.Common.{refl, inl, inr}
 use Rattle.mate_journal.specs.declared.entry.VoidCause.TheVariants as void
 use Rattle.mate_journal.specs.NodeScript.{StepIn}
-use Rattle.node_invariant.specs.Meaning.{machine_in, clock_of}
+use Rattle.node_invariant.specs.Meaning.{machine_in}
 use Rattle.open_node.specs.View.{heard_of}
 use Rattle.open_node.specs.Calls.{HasStepped}
 use Rattle.run_steps.specs.Running.{MakesOn}
@@ -12,7 +12,7 @@ use Rattle.run_steps.proofs.events.take_turn.Goals as goal
 pub returns-in-Ok : goal.returns-in-Ok
 returns-in-Ok c =
     let v = c.args.node.now in
-    Tells-by v c.step.new.self c.args.at (HasStepped (clock_of v.description) (machine_in v.description) (heard_of v) c.args.ctx c.args.n c.in-Ok.field-0) (MakesOn v (StepIn c.args.ctx c.args.n))
+    Tells-by v c.step.new.self c.args.at (HasStepped (machine_in v.description) (heard_of v) c.args.ctx c.args.n c.in-Ok.field-0) (MakesOn v (StepIn c.args.ctx c.args.n))
     (λ p told q x. inl x.turn) c.in-Ok.ensures
 
 pub returns-in-Err : goal.returns-in-Err

@@ -1,5 +1,6 @@
-use Rattle.std.proofs.Common.{◌≡◌, Ok, None, refl, subst, sym}
-use Rattle.capsule_codec.specs.Image.{capsule_parts}
+use Rattle.std.proofs.Common.{◌≡◌, ℕ, Ok, None, refl, subst, sym}
+use Rattle.arrayvec.specs.ArrayVec.{ArrayVec}
+use Rattle.capsule_codec.specs.Image.{capsule_parts, image_of}
 use Rattle.mate_journal.specs.declared.program.Program.{Program}
 use Rattle.mate_steps.specs.CapsuleFiles.{capsule}
 use Rattle.mate_steps.specs.declared.capsule_file.VerifiedCapsule.{VerifiedCapsule}
@@ -7,7 +8,8 @@ use Rattle.mate_steps.specs.Parts.{Folder}
 use Rattle.mate_steps.specs.Steps.{goes_on}
 use Rattle.mate_steps.proofs.Laws.{stops_by, reads-as, reads-err}
 use Rattle.node_programs.specs.Right.{IsRightProgram}
-use Rattle.script_programs.proofs.ReadLemmas.{if-err}
+use Rattle.script_programs.specs.Programs.{IsLoaded}
+use Rattle.script_programs.proofs.ReadLemmas.{if-err, obtained-stops, obtained-read}
 use Rattle.script_programs.proofs.EachLemmas.{capsule-text}
 use Rattle.script_programs.proofs.RightLemmas.{IsRightProgram-loaded}
 use Rattle.script_programs.proofs.programs.loaded.Goals as goal
@@ -22,7 +24,7 @@ returns-clause-does g c =
     let same : c.deref.result.now ≡ c.in_ok-held.held.value = cc in
     let Is : VerifiedCapsule → Type 0 = λ h. capsule f c.args.desc.now c.args.name.now (Ok (h.capsule, h.code)) in
     goes_on (held.capsule, held.code) (subst Is (sym same) c.in_ok-held.ensures.does)
-    (record { handler = refl; version_is = refl; source = refl; image = c.encode.ensures.bytes })
+    (record { handler = refl; version_is = refl; source = refl; image = c.in_ok-image.ensures.image })
 
 pub returns-clause-right : goal.returns-clause-right
 returns-clause-right g c =
@@ -31,8 +33,8 @@ returns-clause-right g c =
     let same : c.deref.result.now ≡ c.in_ok-held.held.value = cc in
     let Is : VerifiedCapsule → Type 0 = λ h. capsule f c.args.desc.now c.args.name.now (Ok (h.capsule, h.code)) in
     let text = capsule-text f c.args.desc.now c.args.name.now (held.capsule, held.code) (subst Is (sym same) c.in_ok-held.ensures.does) in
-    let p : Program = record { handler = held.capsule.handler; version = held.capsule.version; source = None; image = c.encode.result } in
-    IsRightProgram-loaded c.args.desc.now held.code (capsule_parts held.capsule) p text.1.is_verified text.1.is_for.shape_is text.1.is_for.bytes_are c.encode.ensures.fits text.1.is_for.of_machine refl refl refl c.encode.ensures.bytes
+    let p : Program = record { handler = held.capsule.handler; version = held.capsule.version; source = None; image = c.in_ok-image.image } in
+    IsRightProgram-loaded c.args.desc.now held.code (capsule_parts held.capsule) p text.1.is_verified text.1.is_for.shape_is text.1.is_for.bytes_are c.in_ok-image.ensures.fits text.1.is_for.of_machine refl refl refl c.in_ok-image.ensures.image
 
 pub returns-in_err-held-clause-reads : goal.returns-in_err-held-clause-reads
 returns-in_err-held-clause-reads g c = reads-err c.in_err-held.field-0.0 c.from_residual.result c.in_err-held.ensures.reads c.from_residual.ensures.1
@@ -42,3 +44,23 @@ returns-in_err-held-clause-right g c = if-err (IsRightProgram c.args.desc.now) c
 
 pub returns-clause-reads : goal.returns-clause-reads
 returns-clause-reads g c = reads-as c.in_ok-held.ensures.reads (λ unread. unread)
+
+pub returns-in_err-image-clause-does : goal.returns-in_err-image-clause-does
+returns-in_err-image-clause-does g c =
+    let f : Folder = record { told = g.F.Files.contents c.args.files.now; steady = g.F.Files.steady c.args.files.now } in
+    let held : VerifiedCapsule = c.deref.result.now in
+    let same : c.deref.result.now ≡ c.in_ok-held.held.value = cc in
+    let Is : VerifiedCapsule → Type 0 = λ h. capsule f c.args.desc.now c.args.name.now (Ok (h.capsule, h.code)) in
+    goes_on (held.capsule, held.code) (subst Is (sym same) c.in_ok-held.ensures.does)
+    (obtained-stops (λ (i : ArrayVec ℕ). i.items ≡ image_of (capsule_parts held.capsule)) (IsLoaded held.capsule) c.in_err-image.field-0.0 c.from_residual-in_err-image.result c.in_err-image.ensures.image
+    c.from_residual-in_err-image.ensures.1)
+
+pub returns-in_err-image-clause-reads : goal.returns-in_err-image-clause-reads
+returns-in_err-image-clause-reads g c =
+    let held : VerifiedCapsule = c.deref.result.now in
+    reads-as c.in_ok-held.ensures.reads (obtained-read (IsLoaded held.capsule) c.from_residual-in_err-image.result
+    (obtained-stops (λ (i : ArrayVec ℕ). i.items ≡ image_of (capsule_parts held.capsule)) (IsLoaded held.capsule) c.in_err-image.field-0.0 c.from_residual-in_err-image.result c.in_err-image.ensures.image
+    c.from_residual-in_err-image.ensures.1))
+
+pub returns-in_err-image-clause-right : goal.returns-in_err-image-clause-right
+returns-in_err-image-clause-right g c = if-err (IsRightProgram c.args.desc.now) c.in_err-image.field-0.0 c.from_residual-in_err-image.result c.from_residual-in_err-image.ensures.1

@@ -1,7 +1,7 @@
 -- The reset, as it is seen.
 use Rattle.std.proofs.Common.{subst}
 use Rattle.mate_journal.specs.NodeScript.{Resets}
-use Rattle.node_invariant.specs.Meaning.{machine_in, clock_of}
+use Rattle.node_invariant.specs.Meaning.{machine_in}
 use Rattle.open_node.specs.View.{NodeView, heard_of, Tells}
 use Rattle.open_node.specs.Calls.{Pacing}
 use Rattle.open_node.proofs.PaceLemmas.{seen_as}
@@ -14,5 +14,5 @@ invariant_of-self c = record { rests = c.reset_in.ensures.again.rests }
 pub returns : goal.returns
 returns c =
     let n = c.self.inside in
-    let P : NodeView → Type 0 = λ v. Tells v (seen_as n.description c.reset_in.new.parts) c.args.at (Pacing (Resets (clock_of v.description) (machine_in v.description) (heard_of v))) in
+    let P : NodeView → Type 0 = λ v. Tells v (seen_as n.description c.reset_in.new.parts) c.args.at (Pacing (Resets (machine_in v.description) (heard_of v))) in
     subst P c.self.view_is (Tells-paced n.description n.parts c.reset_in.new.parts c.args.at c.self.invariant.rests c.reset_in.ensures.gone _ c.reset_in.ensures.again)

@@ -1,7 +1,7 @@
 -- The store, as it is seen.
 use Rattle.std.proofs.Common.{subst}
 use Rattle.mate_journal.specs.NodeScript.{ShowsOnce}
-use Rattle.node_invariant.specs.Meaning.{machine_in, clock_of}
+use Rattle.node_invariant.specs.Meaning.{machine_in}
 use Rattle.open_node.specs.View.{NodeView, heard_of, Tells}
 use Rattle.open_node.specs.Calls.{Pacing}
 use Rattle.open_node.proofs.PaceLemmas.{seen_as}
@@ -14,5 +14,5 @@ invariant_of-self c = record { rests = c.seen_in.ensures.tells.again.rests }
 pub returns : goal.returns
 returns c =
     let n = c.self.inside in
-    let P : NodeView → Type 0 = λ v. Tells v (seen_as n.description c.seen_in.new.parts) c.args.at (Pacing (ShowsOnce (clock_of v.description) (machine_in v.description) (heard_of v))) in
+    let P : NodeView → Type 0 = λ v. Tells v (seen_as n.description c.seen_in.new.parts) c.args.at (Pacing (ShowsOnce (machine_in v.description) (heard_of v))) in
     subst P c.self.view_is (Tells-store n.description n.parts c.seen_in.new.parts c.args.at c.self.invariant.rests c.seen_in.ensures.gone c.seen_in.ensures.tells)

@@ -3,7 +3,7 @@ use Rattle.std.proofs.Common.{◌+◌, ◌*◌, ap, subst, arith}
 use Rattle.mate_num.specs.declared.bounds.TheConstants.{CODE_MAX}
 use Rattle.vm_desc.proofs.DescriptionLemmas.{bounds_of}
 use Rattle.node_contexts.specs.Programs.{held_at}
-use Rattle.node_invariant.specs.Meaning.{machine_in, clock_of}
+use Rattle.node_invariant.specs.Meaning.{machine_in}
 use Rattle.node_invariant.specs.Keeps.{reading}
 use Rattle.node_invariant.proofs.RoomLemmas.{owes-most}
 use Rattle.node_calls.specs.Pacing.{SettlesWithin}
@@ -26,5 +26,5 @@ settle-requires-clause-quantum c = let low = (bounds_of c.self.inside.descriptio
 pub returns : goal.returns
 returns c =
     let n = c.self.inside in
-    let P : NodeView → Type 0 = λ v. Tells v (seen_as n.description c.settle.new.parts) c.args.at (SettlesWithin (clock_of v.description) (machine_in v.description) ((v.description.turns + 1) * CODE_MAX) (heard_of v)) in
+    let P : NodeView → Type 0 = λ v. Tells v (seen_as n.description c.settle.new.parts) c.args.at (SettlesWithin (machine_in v.description) ((v.description.turns + 1) * CODE_MAX) (heard_of v)) in
     subst P c.self.view_is (Tells-settled n.description n.parts c.settle.new.parts c.args.at c.self.invariant.rests c.settle.ensures.gone c.settle.ensures.settles)

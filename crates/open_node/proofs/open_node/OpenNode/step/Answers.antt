@@ -3,7 +3,7 @@ use Rattle.std.proofs.Common.{◌≡◌, true, refl, sym, ◌∙◌, ap, subst, 
 use Rattle.mate_journal.specs.NodeScript.{IsReadyIn}
 use Rattle.node_contexts.specs.At.{at}
 use Rattle.node_contexts.specs.Programs.{held_at}
-use Rattle.node_invariant.specs.Meaning.{machine_in, clock_of}
+use Rattle.node_invariant.specs.Meaning.{machine_in}
 use Rattle.node_invariant.specs.Keeps.{reading}
 use Rattle.node_invariant.proofs.MoveLemmas.{none_ready}
 use Rattle.node_invariant.proofs.RoomLemmas.{starts-most}
@@ -38,5 +38,5 @@ pub returns : goal.returns
 returns c =
     let n = c.self.inside in
     let ready : (at n.parts.contexts c.args.ctx).ready ≡ true = sym c.is_ready.ensures ∙ c.if-not-is_ready.false in
-    let P : NodeView → Type 0 = λ v. Tells v (seen_as n.description c.take_turn.new.parts) c.args.at (HasStepped (clock_of v.description) (machine_in v.description) (heard_of v) c.args.ctx c.args.n c.take_turn.result) in
+    let P : NodeView → Type 0 = λ v. Tells v (seen_as n.description c.take_turn.new.parts) c.args.at (HasStepped (machine_in v.description) (heard_of v) c.args.ctx c.args.n c.take_turn.result) in
     subst P c.self.view_is (Tells-turn n.description n.parts c.take_turn.new.parts c.args.at c.args.ctx c.args.n c.take_turn.result c.self.invariant.rests ready c.take_turn.ensures.gone c.take_turn.ensures.turn)

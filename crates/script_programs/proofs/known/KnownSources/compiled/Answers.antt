@@ -3,21 +3,20 @@ use Rattle.mate_refusals.specs.declared.refusal.Refusal.{Refusal}
 use Rattle.mate_steps.specs.Sources.{compiled_bytes}
 use Rattle.mate_steps.specs.declared.code.CompiledScript.{CompiledScript}
 use Rattle.script_programs.specs.Known.{IsKnownAt}
-use Rattle.script_programs.proofs.KnownLemmas.{bytes-want, err-as, known-gives}
+use Rattle.script_programs.proofs.KnownLemmas.{bytes-want, err-as, known-gives, gives-obtained, filled-obtained}
 use Rattle.script_programs.proofs.known.KnownSources.compiled.Goals as goal
 
-pub returns-in-Ok-clause-does : goal.returns-in-Ok-clause-does
-returns-in-Ok-clause-does c =
-    let at = subst (λ (bs : List ℕ). IsKnownAt c.args.self.now bs c.in-Some.place) c.as_slice.ensures.value c.in-Some.ensures in
-    (known-gives c.args.desc.now c.args.fold c.args.self.now c.args.name.now c.args.bytes.items c.in-Some.place c.index.result.now c.in-Ok.compiled c.requires.known at c.index.ensures c.in-Ok.ensures).gives
-
-pub returns-in-Ok-clause-filled : goal.returns-in-Ok-clause-filled
-returns-in-Ok-clause-filled c =
-    let at = subst (λ (bs : List ℕ). IsKnownAt c.args.self.now bs c.in-Some.place) c.as_slice.ensures.value c.in-Some.ensures in
-    (known-gives c.args.desc.now c.args.fold c.args.self.now c.args.name.now c.args.bytes.items c.in-Some.place c.index.result.now c.in-Ok.compiled c.requires.known at c.index.ensures c.in-Ok.ensures).filled
-
 pub returns-in-Some-clause-does : goal.returns-in-Some-clause-does
-returns-in-Some-clause-does c = bytes-want c.args.desc.now c.args.fold c.args.name.now c.args.bytes.items
+returns-in-Some-clause-does c =
+    let at = subst (λ (bs : List ℕ). IsKnownAt c.args.self.now bs c.in-Some.place) c.as_slice.ensures.value c.in-Some.ensures in
+    let its = known-gives c.args.desc.now c.args.fold c.args.self.now c.args.name.now c.args.bytes.items c.in-Some.place c.index.result.now c.requires.known at c.index.ensures in
+    gives-obtained c.args.desc.now c.args.fold c.args.name.now c.args.bytes.items c.index.result.now.compiled c.share.result its.gives c.share.ensures
+
+pub returns-in-Some-clause-filled : goal.returns-in-Some-clause-filled
+returns-in-Some-clause-filled c =
+    let at = subst (λ (bs : List ℕ). IsKnownAt c.args.self.now bs c.in-Some.place) c.as_slice.ensures.value c.in-Some.ensures in
+    let its = known-gives c.args.desc.now c.args.fold c.args.self.now c.args.name.now c.args.bytes.items c.in-Some.place c.index.result.now c.requires.known at c.index.ensures in
+    filled-obtained c.index.result.now.compiled c.share.result its.filled c.share.ensures
 
 pub returns-in_err-compiled-in-None-clause-does : goal.returns-in_err-compiled-in-None-clause-does
 returns-in_err-compiled-in-None-clause-does c =

@@ -1,6 +1,6 @@
 use Rattle.std.proofs.Common.{true, refl, ap}
 use Rattle.mate_journal.specs.NodeScript.{Resets}
-use Rattle.node_invariant.specs.Meaning.{machine_in, clock_of}
+use Rattle.node_invariant.specs.Meaning.{machine_in}
 use Rattle.open_node.specs.Calls.{Pacing}
 use Rattle.world_step.specs.declared.effect.Effect.{Effect}
 use Rattle.world_step.proofs.NodeLemmas.{tellable-same, tells-behind}
@@ -11,7 +11,7 @@ reset-requires-clause-timely c = (tellable-same c.args.self.now.node c.reserve.n
 
 pub returns : goal.returns
 returns c = record {
-  tells = tells-behind c.args.self.now.node c.reserve.new.self c.reset.new.self c.args.at (λ d r. Pacing (Resets (clock_of d) (machine_in d) r)) c.in_ok-reserve.ensures.same c.in_ok-reserve.ensures.pace c.reset.ensures;
+  tells = tells-behind c.args.self.now.node c.reserve.new.self c.reset.new.self c.args.at (λ d r. Pacing (Resets (machine_in d) r)) c.in_ok-reserve.ensures.same c.in_ok-reserve.ensures.pace c.reset.ensures;
   timer = c.again.ensures.next.next;
   exchange = c.forget.ensures.learned;
   pumps = refl;

@@ -1,6 +1,6 @@
 use Rattle.std.proofs.Common.{refl}
 use Rattle.mate_journal.specs.NodeScript.{ShowsOnce}
-use Rattle.node_invariant.specs.Meaning.{machine_in, clock_of}
+use Rattle.node_invariant.specs.Meaning.{machine_in}
 use Rattle.open_node.specs.Calls.{Pacing}
 use Rattle.world_step.proofs.NodeLemmas.{tellable-same, tells-behind}
 use Rattle.world_step.proofs.mote.Mote.show.Goals as goal
@@ -10,6 +10,6 @@ seen-requires-clause-timely c = (tellable-same c.args.self.now.node c.reserve.ne
 
 pub returns : goal.returns
 returns c = record {
-  tells = tells-behind c.args.self.now.node c.reserve.new.self c.seen.new.self c.args.at (λ d r. Pacing (ShowsOnce (clock_of d) (machine_in d) r)) c.in_ok-reserve.ensures.same c.in_ok-reserve.ensures.pace c.seen.ensures;
+  tells = tells-behind c.args.self.now.node c.reserve.new.self c.seen.new.self c.args.at (λ d r. Pacing (ShowsOnce (machine_in d) r)) c.in_ok-reserve.ensures.same c.in_ok-reserve.ensures.pace c.seen.ensures;
   same = refl;
 }

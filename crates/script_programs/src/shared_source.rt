@@ -1,0 +1,108 @@
+//! A compiled source that several programs share.
+
+ghost use Rattle.std.specs.Prelude.{◌≡◌, ◌≤◌, ◌<◌, Bool, length, IfOk};
+ghost use Rattle.mate_steps.specs.SourceCode.{IsCompiledOf};
+ghost use Rattle.mate_steps.specs.Steps.{obtained};
+ghost use Rattle.node_programs.specs.Right.{IsRightProgram};
+ghost use Rattle.script_programs.specs.Programs.{IsInstalled};
+ghost use Rattle.ts_syntax.specs.Statement.{Block};
+ghost use Rattle.vm_desc.specs.Shapes.{shape_of};
+
+use crate::image::stored_image;
+use capsule_codec::Capsule;
+use mate_journal::{Program, SharedScript};
+use mate_num::{Code, HandlerId};
+use mate_refusals::Refusal;
+use mate_steps::CompiledScript;
+use std::alloc::Global;
+use std::marker::Model;
+use vm_desc::Description;
+
+/// A compiled script, whose tree is in one place for all programs that it gives. Contracts see the compiled script.
+#[derive(Drop)]
+pub struct SharedSource {
+    script: SharedScript,
+    code: Code,
+}
+
+impl Model for SharedSource {
+    ghost use Rattle.std.specs.Coded.{codes};
+    ghost use Rattle.ts_syntax.specs.contracts.checked_stmt.CStmt as stmt;
+    ghost use Rattle.mate_steps.specs.declared.code.CompiledScript.{CompiledScript as Compiled};
+
+    ghost Value = { Compiled };
+
+    ghost coded = { Prim.hlevel (codes, stmt.the_row.coded) };
+
+    ghost view = { λ s. record { script = s.script; code = s.code } };
+}
+
+/// A copy of code. It takes no memory.
+fn copy_of_code(code: &Code) -> Code
+    ensures { result ≡ code.now }
+{
+    let Ok(copy) = Code::try_from(code.as_slice()) else {
+        unreachable!()
+    };
+    copy
+}
+
+impl SharedSource {
+    /// The compiled script, with one owner of its tree.
+    pub fn new(alloc: Global, compiled: CompiledScript) -> Result<SharedSource, Refusal>
+        ensures { obtained (λ shared. shared ≡ compiled) result }
+    {
+        match SharedScript::new(alloc, compiled.script) {
+            Ok(script) => Ok(SharedSource {
+                script,
+                code: compiled.code,
+            }),
+            Err(_) => Err(Refusal::NoMemory),
+        }
+    }
+
+    /// The same for one owner more.
+    pub fn share(&self) -> Result<SharedSource, Refusal>
+        ensures { obtained (λ shared. shared ≡ self.now) result }
+    {
+        match self.script.share() {
+            Ok(script) => Ok(SharedSource {
+                script,
+                code: copy_of_code(&self.code),
+            }),
+            Err(_) => Err(Refusal::NoMemory),
+        }
+    }
+
+    /// The program that it is for a handler of the machine, as a version.
+    #[inline(never)]
+    pub fn program(
+        self,
+        alloc: Global,
+        desc: &Description,
+        handler: HandlerId,
+        version: u32,
+    ) -> Result<Program, Refusal>
+        requires handler { handler.0 < length desc.now.handlers.items }
+        requires version { 1 ≤ version }
+        requires filled { 1 ≤ length self.code.items }
+        ensures installed { obtained (IsInstalled desc.now handler version self) result }
+        ensures right { (fold : Bool) (tree : Block) → IsCompiledOf (shape_of desc.now) fold tree self
+            → IfOk result (IsRightProgram desc.now) }
+    {
+        let SharedSource { script, code } = self;
+        let capsule = Capsule {
+            vm_id: desc.vm_id,
+            handler,
+            version,
+            code,
+        };
+        let image = stored_image(alloc, &capsule)?;
+        Ok(Program {
+            handler,
+            version,
+            source: Some(script),
+            image,
+        })
+    }
+}
