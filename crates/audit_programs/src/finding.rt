@@ -5,8 +5,8 @@ ghost use Rattle.std.specs.List.{list_any};
 ghost use Rattle.node_programs.specs.Sources.{is_held_as};
 ghost use Rattle.audit_programs.specs.Naming.{IsHeldAt};
 
-use mate_journal::{Program, Programs};
-use mate_num::{HandlerId, Image};
+use mate_journal::{ImageRef, Program, Programs};
+use mate_num::HandlerId;
 
 /// The position of a program with the handler, the version and the image; None exactly where there is none. They are looked
 /// at from `from` on, and then from the first one: journals mostly install programs in their order, so the next one that is
@@ -16,7 +16,7 @@ pub fn find_program(
     from: usize,
     handler: HandlerId,
     version: u32,
-    image: &Image,
+    image: &ImageRef,
 ) -> Option<usize>
     ensures held { IfSome result (IsHeldAt (record { handler = handler; version = version; image = image.now }) programs.now) }
     ensures any { is_some result ≡ list_any (is_held_as record { handler = handler; version = version; image = image.now }) programs.now }
@@ -30,7 +30,12 @@ pub fn find_program(
 }
 
 /// The position of the first of these programs with the handler, the version and the image.
-fn place_in(programs: &[Program], handler: HandlerId, version: u32, image: &Image) -> Option<usize>
+fn place_in(
+    programs: &[Program],
+    handler: HandlerId,
+    version: u32,
+    image: &ImageRef,
+) -> Option<usize>
     ensures held { IfSome result (IsHeldAt (record { handler = handler; version = version; image = image.now }) programs.now) }
     ensures any { is_some result ≡ list_any (is_held_as record { handler = handler; version = version; image = image.now }) programs.now }
 {
@@ -43,7 +48,7 @@ fn place_in(programs: &[Program], handler: HandlerId, version: u32, image: &Imag
 }
 
 /// Whether the program has the handler, the version and the image. Images are compared last.
-fn is_held_as(program: &Program, handler: HandlerId, version: u32, image: &Image) -> bool
+fn is_held_as(program: &Program, handler: HandlerId, version: u32, image: &ImageRef) -> bool
     ensures { result ≡ is_held_as (record { handler = handler; version = version; image = image.now }) program.now }
 {
     handler.0 == program.handler.0

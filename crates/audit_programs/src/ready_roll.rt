@@ -28,8 +28,10 @@ fn program_named<'a>(
     ensures right { IsRightProgram trial.now.desc.now result.now }
     ensures image { result.now.image ≡ (named_program trial.now.log.now handler version image).image }
 {
-    let bytes = &trial.log.images()[image as usize];
-    let Some(found) = find_program(trial.programs, *place, handler, version, bytes) else {
+    let Some(bytes) = trial.log.images().get(image as usize) else {
+        unreachable!()
+    };
+    let Some(found) = find_program(trial.programs, *place, handler, version, &bytes) else {
         unreachable!()
     };
     *place = found;

@@ -15,6 +15,7 @@ ghost use Rattle.audit_replay.specs.Waiting.{waiting_store};
 use crate::same::same_values;
 use audit_programs::{ReadyRoll, Trial};
 use audit_roll::{Seat, Stage};
+use mate_journal::StoreRef;
 use mate_num::{BufId, NoMemory, Resource, Store, VarId};
 use std::alloc::Global;
 
@@ -40,11 +41,30 @@ fn values_at(store: &Store, at: Resource) -> &[i16]
     }
 }
 
-/// Whether two stores have the same there.
-fn same_at(a: &Store, b: &Store, at: Resource) -> bool
-    ensures { result ≡ are_same (journal.values_at a.now at) (journal.values_at b.now at) }
+/// What a store that is seen has at a resource.
+fn values_seen<'a>(seen: &StoreRef<'a>, at: Resource) -> &'a [i16]
+    ensures { result.now ≡ journal.values_at seen.now at }
 {
-    same_values(values_at(a, at), values_at(b, at))
+    match at {
+        Resource::Shared(var) => {
+            let place = usize::from(var.0);
+            let shared = seen.shared();
+            if place < shared.len() {
+                &shared[place..place + 1]
+            } else {
+                &[]
+            }
+        }
+        Resource::Buffer(buf) => seen.buffer(usize::from(buf.0)),
+        Resource::Device(_) => &[],
+    }
+}
+
+/// Whether a store that is seen and another one have the same there.
+fn same_at(seen: &StoreRef, store: &Store, at: Resource) -> bool
+    ensures { result ≡ are_same (journal.values_at seen.now at) (journal.values_at store.now at) }
+{
+    same_values(values_seen(seen, at), values_at(store, at))
 }
 
 /// The store that the run of the invocation leaves, up to the call that it waits in; None where it doesn't wait.
@@ -119,7 +139,7 @@ fn shows_unwritten(
     trial: &Trial,
     roll: &ReadyRoll,
     store: &Store,
-    seen: &Store,
+    seen: &StoreRef,
     at: Resource,
 ) -> bool
     requires tried { IsTried trial.now }
@@ -139,7 +159,7 @@ fn agrees_at(
     store: &Store,
     seat: &Seat,
     left: &Option<Store>,
-    seen: &Store,
+    seen: &StoreRef,
     at: Resource,
 ) -> bool
     requires tried { IsTried trial.now }
@@ -161,7 +181,7 @@ fn all_agree(
     roll: &ReadyRoll,
     store: &Store,
     stores: &[Option<Store>],
-    seen: &Store,
+    seen: &StoreRef,
     at: Resource,
 ) -> bool
     requires tried { IsTried trial.now }
@@ -187,7 +207,7 @@ fn is_shown_at(
     roll: &ReadyRoll,
     store: &Store,
     stores: &[Option<Store>],
-    seen: &Store,
+    seen: &StoreRef,
     at: Resource,
 ) -> bool
     requires tried { IsTried trial.now }
@@ -206,7 +226,7 @@ fn all_variables_shown(
     roll: &ReadyRoll,
     store: &Store,
     stores: &[Option<Store>],
-    seen: &Store,
+    seen: &StoreRef,
     count: usize,
 ) -> bool
     requires tried { IsTried trial.now }
@@ -238,7 +258,7 @@ fn all_buffers_shown(
     roll: &ReadyRoll,
     store: &Store,
     stores: &[Option<Store>],
-    seen: &Store,
+    seen: &StoreRef,
     count: usize,
 ) -> bool
     requires tried { IsTried trial.now }
@@ -270,7 +290,7 @@ pub(crate) fn is_store_shown(
     trial: &Trial,
     roll: &ReadyRoll,
     store: &Store,
-    seen: &Store,
+    seen: &StoreRef,
 ) -> Result<bool, NoMemory>
     requires tried { IsTried trial.now }
     requires ready { All (IsSeatReady trial.now roll.now) roll.now.roll.seats.items }

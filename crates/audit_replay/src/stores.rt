@@ -91,8 +91,10 @@ fn shows_right(
 {
     match entry {
         Entry::Seen { store: number } => {
-            let seen = &trial.log.stores()[*number as usize];
-            is_store_shown(alloc, trial, roll, store, seen)
+            let Some(seen) = trial.log.stores().get(*number as usize) else {
+                unreachable!()
+            };
+            is_store_shown(alloc, trial, roll, store, &seen)
         }
         Entry::Post { .. }
         | Entry::Dropped { .. }

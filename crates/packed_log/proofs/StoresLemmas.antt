@@ -11,14 +11,14 @@ use Rattle.arrayvec.specs.ArrayVec.{ArrayVec}
 use Rattle.mate_num.specs.declared.store.Store.{Store}
 use Rattle.mate_num.specs.Store.{payload, buffer_at}
 use Rattle.packed_log.specs.Pieces.{pieces}
-use Rattle.packed_log.specs.Stores.{AreParts, in_vec, items_in, parts_of, store_of}
+use Rattle.packed_log.specs.Stores.{AreParts, in_vec, items_in, store_parts, store_of}
 use Rattle.packed_log.proofs.PiecesLemmas.{length-pieces, pieces-push, pieces-take, get_or-pieces, cuts-within}
 
 pub in_vec-items : {A : Type 0} (vs : List (ArrayVec A)) → map in_vec (map items_in vs) ≡ vs
 in_vec-items {A = A} [] = refl
 in_vec-items {A = A} (v ∷ vs) = ap (λ (rest : List (ArrayVec A)). v ∷ rest) (in_vec-items vs)
 
-pub store_of-parts : (s : Store) → store_of (parts_of s) ≡ s
+pub store_of-parts : (s : Store) → store_of (store_parts s) ≡ s
 store_of-parts s = ap (λ (buffers : List (ArrayVec ℤ)). let out : Store = record { shared = s.shared; buffers = in_vec buffers } in out) (in_vec-items s.buffers.items)
 
 -- a store's parts among those of the stores: from `first` on, up to `behind`
@@ -108,30 +108,30 @@ short-more bs i b h is fits all =
 
 -- ---- one more store, and those at the front
 
-length-parts : (s : Store) → length (parts_of s) ≡ 1 + length s.buffers.items
+length-parts : (s : Store) → length (store_parts s) ≡ 1 + length s.buffers.items
 length-parts s = omega (arith, length-map s.buffers.items items_in)
 
 pub stores-push : (ns : List ℕ) (ps : List (List ℤ)) (s : Store) (count : ℕ) → sum ns ≡ length ps → count ≡ 1 + length s.buffers.items
-    → pieces (ns ++ count ∷ []) (ps ++ parts_of s) ≡ pieces ns ps ++ parts_of s ∷ []
+    → pieces (ns ++ count ∷ []) (ps ++ store_parts s) ≡ pieces ns ps ++ store_parts s ∷ []
 stores-push ns ps s count whole is =
-    ap (λ (k : ℕ). pieces (ns ++ k ∷ []) (ps ++ parts_of s)) (is ∙ sym (length-parts s)) ∙ pieces-push ns ps (parts_of s) whole
+    ap (λ (k : ℕ). pieces (ns ++ k ∷ []) (ps ++ store_parts s)) (is ∙ sym (length-parts s)) ∙ pieces-push ns ps (store_parts s) whole
 
 pub whole-push : (ns : List ℕ) (ps : List (List ℤ)) (s : Store) (count : ℕ) → sum ns ≡ length ps → count ≡ 1 + length s.buffers.items
-    → sum (ns ++ count ∷ []) ≡ length (ps ++ parts_of s)
-whole-push ns ps s count whole is = omega (arith, sum_by_push (λ x. x) ns count, length-append ps (parts_of s), length-parts s, whole, is)
+    → sum (ns ++ count ∷ []) ≡ length (ps ++ store_parts s)
+whole-push ns ps s count whole is = omega (arith, sum_by_push (λ x. x) ns count, length-append ps (store_parts s), length-parts s, whole, is)
 
 pub items-push : (ns : List ℕ) (ps : List (List ℤ)) (s : Store) (count : ℕ) → sum ns ≡ length ps → count ≡ 1 + length s.buffers.items
-    → map store_of (pieces (ns ++ count ∷ []) (ps ++ parts_of s)) ≡ map store_of (pieces ns ps) ++ s ∷ []
+    → map store_of (pieces (ns ++ count ∷ []) (ps ++ store_parts s)) ≡ map store_of (pieces ns ps) ++ s ∷ []
 items-push ns ps s count whole is =
     ap (λ (groups : List (List (List ℤ))). map store_of groups) (stores-push ns ps s count whole is)
-    ∙ map_push store_of (pieces ns ps) (parts_of s)
+    ∙ map_push store_of (pieces ns ps) (store_parts s)
     ∙ ap (λ (t : Store). map store_of (pieces ns ps) ++ t ∷ []) (store_of-parts s)
 
 pub right-push : (ns : List ℕ) (ps : List (List ℤ)) (s : Store) (count : ℕ) → sum ns ≡ length ps → count ≡ 1 + length s.buffers.items
-    → All AreParts (pieces ns ps) → AreParts (parts_of s) → All AreParts (pieces (ns ++ count ∷ []) (ps ++ parts_of s))
+    → All AreParts (pieces ns ps) → AreParts (store_parts s) → All AreParts (pieces (ns ++ count ∷ []) (ps ++ store_parts s))
 right-push ns ps s count whole is all right =
-    All-same AreParts (pieces (ns ++ count ∷ []) (ps ++ parts_of s)) (pieces ns ps ++ parts_of s ∷ []) (stores-push ns ps s count whole is)
-    (All-push AreParts (pieces ns ps) (parts_of s) all right)
+    All-same AreParts (pieces (ns ++ count ∷ []) (ps ++ store_parts s)) (pieces ns ps ++ store_parts s ∷ []) (stores-push ns ps s count whole is)
+    (All-push AreParts (pieces ns ps) (store_parts s) all right)
 
 pub whole-take : (n : ℕ) (ns : List ℕ) (ps : List (List ℤ)) → sum ns ≡ length ps → sum (take n ns) ≡ length (take (sum (take n ns)) ps)
 whole-take n ns ps whole = sym (length-take-le (sum (take n ns)) ps (omega (arith, cuts-within ns n, whole)))

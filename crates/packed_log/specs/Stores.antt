@@ -16,8 +16,8 @@ abbrev pub items_in : {A : Type 0} → ArrayVec A → List A
 items_in v = v.items
 
 -- the parts of a store: its shared variables, and then each of its buffers
-abbrev pub parts_of : Store → List (List ℤ)
-parts_of s = s.shared.items ∷ map items_in s.buffers.items
+abbrev pub store_parts : Store → List (List ℤ)
+store_parts s = s.shared.items ∷ map items_in s.buffers.items
 
 -- the store of these parts
 abbrev pub store_of : List (List ℤ) → Store

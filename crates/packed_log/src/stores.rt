@@ -2,7 +2,7 @@
 
 ghost use Rattle.std.specs.Prelude.{◌≡◌, ◌≤◌, ◌+◌, ◌*◌, ◌∷◌, ◌++◌, [], length, take, slice_get, OnOk};
 ghost use Rattle.mate_num.specs.Store.{buffer_at};
-ghost use Rattle.packed_log.specs.Stores.{AreParts, parts_of};
+ghost use Rattle.packed_log.specs.Stores.{AreParts, store_parts};
 
 use crate::cuts::Cuts;
 use crate::pieces::Pieces;
@@ -47,10 +47,10 @@ impl Model for Stores {
 fn push_parts(parts: &mut Pieces<i16>, store: &Store)
     requires places { 9 ≤ parts.old.places }
     requires room { 96 ≤ parts.old.room }
-    ensures parts { parts.new.pieces ≡ parts.old.pieces ++ parts_of store.now }
+    ensures parts { parts.new.pieces ≡ parts.old.pieces ++ store_parts store.now }
     ensures places { parts.old.places ≤ parts.new.places + 9 }
     ensures room { parts.old.room ≤ parts.new.room + 96 }
-    ensures right { AreParts (parts_of store.now) }
+    ensures right { AreParts (store_parts store.now) }
 {
     parts.push(store.shared.as_slice());
     for buffer in store.buffers.as_slice() {

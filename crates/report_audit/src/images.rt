@@ -14,8 +14,8 @@ ghost use Rattle.audit_roll.specs.Views.{HasHandlerBelow, installed_in, roll_in}
 
 use audit_programs::find_program;
 use audit_roll::{InstalledImage, Roll};
-use mate_journal::{Entry, NodeLog, Programs};
-use mate_num::{HandlerId, Image, NoMemory};
+use mate_journal::{Entry, ImageRef, NodeLog, Programs};
+use mate_num::{HandlerId, NoMemory};
 use std::alloc::Global;
 use vm_desc::Description;
 
@@ -26,7 +26,7 @@ fn is_one_of(
     place: &mut usize,
     handler: HandlerId,
     version: u32,
-    image: &Image,
+    image: &ImageRef,
 ) -> bool
     ensures { result ≡ list_any (is_held_as record { handler = handler; version = version; image = image.now }) programs.now }
 {
@@ -68,8 +68,10 @@ fn installs_right(
             version,
             image,
         } => {
-            let bytes = &log.images()[*image as usize];
-            is_one_of(programs, place, *handler, *version, bytes)
+            let Some(bytes) = log.images().get(*image as usize) else {
+                unreachable!()
+            };
+            is_one_of(programs, place, *handler, *version, &bytes)
                 && version_of(roll.installed[usize::from(handler.0)]) < *version
         }
         Entry::Post { .. }

@@ -1,9 +1,10 @@
 -- A log that goes on stays in the ranges of its types, where what is told more is.
 use Rattle.std.proofs.Common.{◌≡◌, ◌≤◌, ◌+◌, ◌-◌, ℕ, zero, suc, List, [], ◌∷◌, ◌++◌, length, map, drop, refl, sym, ◌∙◌, ap, subst, arith}
 use Rattle.std.specs.Prelude.{All}
+use Rattle.std.specs.List.{AllWithin}
 use Rattle.std.proofs.Math.Seq.{drop-append_seam, drop-nil}
-use Rattle.std.proofs.lemmas.List.{length-append, length-drop, length-map}
-use Rattle.std.proofs.lemmas.List.Elements.{All-nil, All-cons, All-head, All-tail, All-append}
+use Rattle.std.proofs.lemmas.List.{length-append, length-drop, length-map, get_or-drop}
+use Rattle.std.proofs.lemmas.List.Elements.{All-nil, All-cons, All-head, All-tail, All-append, All-from_get_or}
 use Rattle.arrayvec.specs.ArrayVec.{ArrayVec}
 use Rattle.mate_num.specs.declared.store.Store.{Store}
 use Rattle.mate_journal.specs.Log.{Log, IsEmpty, IsSameLog, GoesOn}
@@ -26,6 +27,12 @@ drop-map : {A B : Type 0} (f : A → B) (n : ℕ) (xs : List A) → drop n (map 
 drop-map f zero xs = refl
 drop-map f (suc n) [] = refl
 drop-map f (suc n) (x ∷ xs) = drop-map f n xs
+
+-- what holds of each from a place on holds of all behind it
+pub All-behind : {A : Type 0} (P : A → Type 0) (none : A) (xs : List A) (from upto : ℕ) → length xs ≤ upto → AllWithin P xs from upto → All P (drop from xs)
+All-behind P none xs from upto whole all =
+    All-from_get_or P (drop from xs) none
+    (λ i h. subst P (sym (get_or-drop from xs i none)) (all (from + i) none (omega arith) (omega (arith, h, length-drop from xs, whole))))
 
 -- what a list goes on with stands behind what it had
 pub more-is : {A : Type 0} (old new more : List A) → new ≡ old ++ more → drop (length old) new ≡ more

@@ -1,14 +1,13 @@
 //! What stands in a log, or in a record of the air, behind a place in it. Each function reads what it is given, and changes nothing.
 
 ghost use Rattle.std.specs.Prelude.{◌≡◌, length, drop, All};
-ghost use Rattle.mate_journal.specs.Ranges.{HasStampedRanges, HasAiredRanges, HasImageRanges, HasStoreRanges};
+ghost use Rattle.mate_journal.specs.Ranges.{HasStampedRanges, HasAiredRanges};
 ghost use Rattle.report_ranges.specs.Growth.{IsSizeOf, IsInRangeFrom};
 
 use crate::ranges::{
     airs_are_in_range, entries_are_in_range, images_are_in_range, stores_are_in_range,
 };
 use mate_journal::{Aired, NodeLog, Stamped};
-use mate_num::{Image, Store};
 
 /// How many entries, images and stores a log has.
 #[derive(Clone, Copy)]
@@ -36,8 +35,8 @@ pub fn log_is_in_range_from(log: &NodeLog, size: LogSize)
     ensures { IsInRangeFrom size log.now }
 {
     entries_are_in_range_from(log.entries(), size.entries);
-    images_are_in_range_from(log.images(), size.images);
-    stores_are_in_range_from(log.stores(), size.stores);
+    images_are_in_range(log.images(), size.images);
+    stores_are_in_range(log.stores(), size.stores);
 }
 
 /// What happened on the air behind so many records is in the ranges of its types.
@@ -54,21 +53,5 @@ fn entries_are_in_range_from(entries: &[Stamped], count: usize)
 {
     if count < entries.len() {
         entries_are_in_range(entries.split_at(count).1);
-    }
-}
-
-fn images_are_in_range_from(images: &[Image], count: usize)
-    ensures { All HasImageRanges (drop count images.now) }
-{
-    if count < images.len() {
-        images_are_in_range(images.split_at(count).1);
-    }
-}
-
-fn stores_are_in_range_from(stores: &[Store], count: usize)
-    ensures { All HasStoreRanges (drop count stores.now) }
-{
-    if count < stores.len() {
-        stores_are_in_range(stores.split_at(count).1);
     }
 }

@@ -1,12 +1,14 @@
 //! The numbers of a report are in the ranges of their types. Each function reads what it is given, and changes nothing.
 
-ghost use Rattle.std.specs.Prelude.{ℤ, All, FitsSigned};
+ghost use Rattle.std.specs.Prelude.{ℤ, All, FitsSigned, drop};
 ghost use Rattle.std.specs.Int.{w16};
 ghost use Rattle.arrayvec.specs.ArrayVec.{ArrayVec};
 ghost use Rattle.mate_journal.specs.Ranges.{IsByteList, AreValues, HasStampRange, HasVoidRanges, HasEntryRanges, HasAirRanges, HasImageRanges, HasStoreRanges, HasStampedRanges, HasAiredRanges, HasLogRanges, HasReportRanges};
 
-use mate_journal::{Air, Aired, Entry, NodeLog, Report, Stamped, VoidCause};
-use mate_num::{Image, Payload, Stamp, Store};
+use mate_journal::{
+    Air, Aired, Entry, ImageRef, Images, NodeLog, Report, Stamped, StoreRef, Stores, VoidCause,
+};
+use mate_num::{Payload, Stamp};
 
 /// The numbers of every report are in the ranges of their types. So the text of a tidy report is read as that report.
 pub fn report_is_in_range(report: &Report)
@@ -29,8 +31,8 @@ fn log_is_in_range(log: &NodeLog)
     ensures { HasLogRanges log.now }
 {
     entries_are_in_range(log.entries());
-    images_are_in_range(log.images());
-    stores_are_in_range(log.stores());
+    images_are_in_range(log.images(), 0);
+    stores_are_in_range(log.stores(), 0);
 }
 
 pub(crate) fn entries_are_in_range(entries: &[Stamped])
@@ -120,40 +122,48 @@ fn bytes_are_in_range(bytes: &[u8])
     let _bytes = bytes;
 }
 
-pub(crate) fn images_are_in_range(images: &[Image])
-    ensures { All HasImageRanges images.now }
+/// Those behind the first `from`.
+pub(crate) fn images_are_in_range(images: &Images, from: usize)
+    ensures { All HasImageRanges (drop from images.now.items) }
 {
-    for image in images {
-        image_is_in_range(image);
+    for index in from..images.len() {
+        let Some(image) = images.get(index) else {
+            unreachable!()
+        };
+        image_is_in_range(&image);
     }
 }
 
-fn image_is_in_range(image: &Image)
+fn image_is_in_range(image: &ImageRef)
     ensures { HasImageRanges image.now }
 {
     bytes_are_in_range(image.as_slice());
 }
 
-pub(crate) fn stores_are_in_range(stores: &[Store])
-    ensures { All HasStoreRanges stores.now }
+/// Those behind the first `from`.
+pub(crate) fn stores_are_in_range(stores: &Stores, from: usize)
+    ensures { All HasStoreRanges (drop from stores.now.items) }
 {
-    for store in stores {
-        store_is_in_range(store);
+    for index in from..stores.len() {
+        let Some(store) = stores.get(index) else {
+            unreachable!()
+        };
+        store_is_in_range(&store);
     }
 }
 
-fn store_is_in_range(store: &Store)
+fn store_is_in_range(store: &StoreRef)
     ensures { HasStoreRanges store.now }
 {
-    values_are_in_range(store.shared.as_slice());
-    buffers_are_in_range(store.buffers.as_slice());
+    values_are_in_range(store.shared());
+    buffers_are_in_range(store);
 }
 
-fn buffers_are_in_range(buffers: &[Payload])
-    ensures { All (λ (b : ArrayVec ℤ). AreValues b.items) buffers.now }
+fn buffers_are_in_range(store: &StoreRef)
+    ensures { All (λ (b : ArrayVec ℤ). AreValues b.items) store.now.buffers.items }
 {
-    for buffer in buffers {
-        payload_is_in_range(buffer);
+    for buffer in 0..store.buffers() {
+        values_are_in_range(store.buffer(buffer));
     }
 }
 

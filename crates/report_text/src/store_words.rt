@@ -7,20 +7,25 @@ ghost use Rattle.report_text.specs.Words.{spaced, shared_word, buffer_word, stor
 
 use crate::chunk::Chunk;
 use crate::front::values_in_front;
-use mate_num::{Name, Payload, Store};
+use mate_journal::StoreRef;
+use mate_num::Name;
 use vm_desc::Description;
 
 /// Room for each line that shows a store: 24 bytes a shared variable, 89 a buffer, and 41.
 pub const STORE_LINE: usize = 1144;
 
 /// `NAME=V` per shared variable, and then `NAME=[V V]` per buffer.
-pub fn store_in_front<const ROOM: usize>(line: &mut Chunk<ROOM>, desc: &Description, store: &Store)
+pub fn store_in_front<const ROOM: usize>(
+    line: &mut Chunk<ROOM>,
+    desc: &Description,
+    store: &StoreRef,
+)
     requires { length line.old + 24 * length desc.now.shared.items + 89 * length desc.now.buffers.items ≤ ROOM }
     ensures adds { IsInFront line.old line.new (store_words desc.now store.now) }
     ensures fits { length line.new ≤ length line.old + 24 * length desc.now.shared.items + 89 * length desc.now.buffers.items }
 {
-    buffers_in_front(line, desc.buffers.as_slice(), store.buffers.as_slice());
-    shared_in_front(line, desc.shared.as_slice(), store.shared.as_slice());
+    buffers_in_front(line, desc.buffers.as_slice(), store);
+    shared_in_front(line, desc.shared.as_slice(), store.shared());
 }
 
 fn shared_in_front<const ROOM: usize>(line: &mut Chunk<ROOM>, names: &[Name], values: &[i16])
@@ -46,25 +51,26 @@ fn shared_word<const ROOM: usize>(line: &mut Chunk<ROOM>, name: &Name, value: i1
     line.byte(b' ');
 }
 
-fn buffers_in_front<const ROOM: usize>(line: &mut Chunk<ROOM>, names: &[Name], buffers: &[Payload])
+fn buffers_in_front<const ROOM: usize>(line: &mut Chunk<ROOM>, names: &[Name], store: &StoreRef)
     requires { length line.old + 89 * length names.now ≤ ROOM }
-    ensures adds { IsInFront line.old line.new (flat_map buffer_word (zip names.now buffers.now)) }
+    ensures adds { IsInFront line.old line.new (flat_map buffer_word (zip names.now store.now.buffers.items)) }
     ensures fits { length line.new ≤ length line.old + 89 * length names.now }
 {
-    let mut left = names.len().min(buffers.len());
+    let mut left = names.len().min(store.buffers());
     while left > 0 {
         left -= 1;
-        buffer_word(line, &names[left], &buffers[left]);
+        buffer_word(line, &names[left], store.buffer(left));
     }
 }
 
-fn buffer_word<const ROOM: usize>(line: &mut Chunk<ROOM>, name: &Name, buffer: &Payload)
-    requires { length line.old + 89 ≤ ROOM }
-    ensures adds { IsInFront line.old line.new (buffer_word (name.now, buffer.now)) }
+fn buffer_word<const ROOM: usize>(line: &mut Chunk<ROOM>, name: &Name, values: &[i16])
+    requires few { length values.now ≤ 10 }
+    requires room { length line.old + 89 ≤ ROOM }
+    ensures adds { IsInFront line.old line.new (buffer_word (name.now, record { items = values.now })) }
     ensures fits { length line.new ≤ length line.old + 89 }
 {
     line.byte(b']');
-    spaced_in_front(line, buffer.as_slice());
+    spaced_in_front(line, values);
     line.text(b"=[");
     line.text(name.as_bytes());
     line.byte(b' ');

@@ -1,8 +1,7 @@
 //! Whether two reports tell the same.
 
 use mate_files::SinkFault;
-use mate_journal::{Aired, NodeLog, Report};
-use mate_num::Store;
+use mate_journal::{Aired, Images, NodeLog, Report, StoreRef, Stores};
 use memory_files::MemSink;
 use report_text::write_event;
 use std::alloc::Global;
@@ -27,17 +26,43 @@ pub fn are_same(alloc: Global, desc: &Description, a: &Report, b: &Report) -> bo
 }
 
 fn are_same_logs(alloc: Global, desc: &Description, a: &NodeLog, b: &NodeLog) -> bool {
-    a.images() == b.images()
+    are_same_images(a.images(), b.images())
         && are_same_stores(a.stores(), b.stores())
         && are_same_lines(lines(alloc, desc, &[], a), lines(alloc, desc, &[], b))
 }
 
-fn are_same_stores(a: &[Store], b: &[Store]) -> bool {
+fn are_same_images(a: &Images, b: &Images) -> bool {
     if a.len() != b.len() {
         return false;
     }
-    for (a, b) in a.iter().zip(b) {
-        if a.shared != b.shared || a.buffers != b.buffers {
+    for index in 0..a.len() {
+        match (a.get(index), b.get(index)) {
+            (Some(a), Some(b)) if a.as_slice() == b.as_slice() => {}
+            _ => return false,
+        }
+    }
+    true
+}
+
+fn are_same_stores(a: &Stores, b: &Stores) -> bool {
+    if a.len() != b.len() {
+        return false;
+    }
+    for index in 0..a.len() {
+        match (a.get(index), b.get(index)) {
+            (Some(a), Some(b)) if are_same_values(&a, &b) => {}
+            _ => return false,
+        }
+    }
+    true
+}
+
+fn are_same_values(a: &StoreRef, b: &StoreRef) -> bool {
+    if a.shared() != b.shared() || a.buffers() != b.buffers() {
+        return false;
+    }
+    for buffer in 0..a.buffers() {
+        if a.buffer(buffer) != b.buffer(buffer) {
             return false;
         }
     }

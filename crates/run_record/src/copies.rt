@@ -6,8 +6,8 @@ ghost use Rattle.mate_journal.specs.OpenLog.{entry_behind, stamped_behind, joine
 ghost use Rattle.mate_journal.specs.declared.entry.Stamped.{Stamped as StampedEntry};
 ghost use Rattle.run_record.specs.Records.{NumberFits, FitsBehind};
 
-use mate_journal::{Air, Aired, Entry, NodeLog, Stamped};
-use mate_num::{Image, Store, copy_of};
+use mate_journal::{Air, Aired, Entry, Images, NodeLog, Stamped, Stores};
+use mate_num::copy_of;
 
 /// The entry again, where so many images and stores stand before those of its own log.
 #[inline(never)]
@@ -76,29 +76,35 @@ pub(crate) fn append(own: &mut NodeLog, told: &NodeLog)
     copy_entries(own, told.entries(), images, stores);
 }
 
-fn copy_images(own: &mut NodeLog, images: &[Image])
-    requires room { length images.now ≤ own.old.spare }
-    requires few { length own.old.images + length images.now < 4000000000 }
+fn copy_images(own: &mut NodeLog, images: &Images)
+    requires room { length images.now.items ≤ own.old.spare }
+    requires few { length own.old.images + length images.now.items < 4000000000 }
     ensures entries { own.new.entries ≡ own.old.entries }
-    ensures images { own.new.images ≡ own.old.images ++ images.now }
+    ensures images { own.new.images ≡ own.old.images ++ images.now.items }
     ensures stores { own.new.stores ≡ own.old.stores }
-    ensures spare { own.old.spare ≤ own.new.spare + length images.now }
+    ensures spare { own.old.spare ≤ own.new.spare + length images.now.items }
 {
-    for image in images {
-        own.add_image(image);
+    for index in 0..images.len() {
+        let Some(image) = images.get(index) else {
+            unreachable!()
+        };
+        own.add_image(&image.copy());
     }
 }
 
-fn copy_stores(own: &mut NodeLog, stores: &[Store])
-    requires room { length stores.now ≤ own.old.spare }
-    requires few { length own.old.stores + length stores.now < 4000000000 }
+fn copy_stores(own: &mut NodeLog, stores: &Stores)
+    requires room { length stores.now.items ≤ own.old.spare }
+    requires few { length own.old.stores + length stores.now.items < 4000000000 }
     ensures entries { own.new.entries ≡ own.old.entries }
     ensures images { own.new.images ≡ own.old.images }
-    ensures stores { own.new.stores ≡ own.old.stores ++ stores.now }
-    ensures spare { own.old.spare ≤ own.new.spare + length stores.now }
+    ensures stores { own.new.stores ≡ own.old.stores ++ stores.now.items }
+    ensures spare { own.old.spare ≤ own.new.spare + length stores.now.items }
 {
-    for store in stores {
-        own.add_store(store);
+    for index in 0..stores.len() {
+        let Some(store) = stores.get(index) else {
+            unreachable!()
+        };
+        own.add_store(&store.copy());
     }
 }
 

@@ -6,4 +6,4 @@ use Rattle.mate_journal.specs.Ranges.{AreValues}
 use Rattle.report_ranges.proofs.ranges.buffers_are_in_range.Given as goal
 
 abbrev pub invariant-loop-buffer : goal.invariant-loop-buffer
-invariant-loop-buffer l = All (λ (b : ArrayVec ℤ). AreValues b.items) (take l.buffer-index l.buffers)
+invariant-loop-buffer l = All (λ (b : ArrayVec ℤ). AreValues b.items) (take l.buffer l.store.buffers.items)

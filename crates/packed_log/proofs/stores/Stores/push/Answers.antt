@@ -4,7 +4,7 @@ use Rattle.std.specs.List.{sum}
 use Rattle.std.proofs.lemmas.List.Elements.{All-same}
 use Rattle.mate_num.specs.declared.store.Store.{Store}
 use Rattle.packed_log.specs.Pieces.{pieces}
-use Rattle.packed_log.specs.Stores.{Listed, AreParts, parts_of, store_of}
+use Rattle.packed_log.specs.Stores.{Listed, AreParts, store_parts, store_of}
 use Rattle.packed_log.proofs.StoresLemmas.{items-push, right-push, whole-push}
 use Rattle.packed_log.proofs.stores.Stores.push.Goals as goal
 
@@ -19,7 +19,7 @@ invariant_of-self c =
     let parts_are = c.push_parts.ensures.parts in
     let both_are = ap (λ (ks : List ℕ). pieces ks c.push_parts.new.parts.pieces) lengths_are ∙ ap (λ (qs : List (List ℤ)). pieces (ns ++ count ∷ []) qs) parts_are in (
       ap sum lengths_are ∙ whole-push ns ps s count c.self.invariant.0 count_is ∙ sym (ap length parts_are),
-      All-same AreParts (pieces c.push.new.self.lengths c.push_parts.new.parts.pieces) (pieces (ns ++ count ∷ []) (ps ++ parts_of s)) both_are
+      All-same AreParts (pieces c.push.new.self.lengths c.push_parts.new.parts.pieces) (pieces (ns ++ count ∷ []) (ps ++ store_parts s)) both_are
           (right-push ns ps s count c.self.invariant.0 count_is c.self.invariant.1 c.push_parts.ensures.right),
     )
 
