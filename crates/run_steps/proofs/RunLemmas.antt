@@ -23,7 +23,7 @@ use Rattle.mate_journal.specs.declared.entry.Stamped.{Stamped}
 use Rattle.mate_journal.specs.declared.report.Report.{Report}
 use Rattle.mate_journal.specs.declared.report.TheConstants.{RECORDS_MAX}
 use Rattle.journal_laws.specs.Growth.{FollowsLast}
-use Rattle.journal_laws.proofs.Append.{journal_of-same, journal_of-empty}
+use Rattle.journal_laws.proofs.Append.{journal_of-same, journal_of-empty, FollowsLast-later}
 use Rattle.journal_laws.proofs.FewLemmas.{run-few}
 use Rattle.mate_journal.proofs.JournalLemmas.{told_by-at}
 use Rattle.journal_laws.proofs.ScriptRuns.{HaveMade-push, AreOfEvent-at}

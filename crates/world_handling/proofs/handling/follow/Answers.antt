@@ -1,7 +1,8 @@
-use Rattle.std.proofs.Common.{◌≡◌, ◌<◌, ℕ, List, length, Some, refl, sym, ◌∙◌, ap, subst, get_or}
-use Rattle.std.specs.Prelude.{Option, slice_get}
+use Rattle.std.proofs.Common.{◌≡◌, ◌<◌, ◌⊎◌, ℕ, List, length, Some, refl, sym, ◌∙◌, ap, subst, get_or}
+use Rattle.std.specs.Prelude.{Option, slice_get, OnOk}
 use Rattle.std.proofs.lemmas.Option.{slice_get_read}
 use Rattle.std.proofs.lemmas.Result.{on_ok_weaker}
+use Rattle.arrayvec.specs.ArrayVec.{ArrayVec}
 use Rattle.mate_journal.specs.declared.program.Program.{Program}
 use Rattle.node_programs.specs.Right.{IsRightProgram}
 use Rattle.node_programs.specs.ScriptSteps.{program_at, held_or_none}
@@ -10,6 +11,7 @@ use Rattle.world_script.specs.World.{IsRightWhat}
 use Rattle.world_script.specs.declared.world.What.{What}
 use Rattle.world_rules.specs.Effect.{of_line}
 use Rattle.world_rules.specs.World.{Inject, Post, Show, ResetNode, want_of}
+use Rattle.world_step.specs.Motes.{InstallsImage, LeavesImage}
 use Rattle.world_handling.proofs.HearLemmas.{does-inject}
 use Rattle.world_handling.proofs.LineLemmas.{by-want, does-post, does-show, does-reset}
 use Rattle.world_handling.proofs.handling.follow.Goals as goal
@@ -31,7 +33,10 @@ returns-in-Inject-clause-does c =
     let want : want_of (program_at ps) c.args.what.now ≡ Inject (held_as x) = ap (want_of (program_at ps)) c.in-Inject.is ∙ ap (λ (o : Option Program). Inject (held_or_none o)) there in
     let new = c.install.new.self in
     let r = c.install.new.effect in
-    on_ok_weaker c.install.result (λ installs. by-want ps c.args.what.now (Inject (held_as x)) at old new r want (does-inject at old new r (held_as x) below installs)) c.install.ensures
+    let P : ArrayVec ℕ → Type 0 =
+    λ image. OnOk c.install.result (InstallsImage at x.handler x.version image.items old new r ⊎ LeavesImage x.handler x.version image.items old new r) in
+    let installed : P x.image = subst P c.image-image.ensures c.install.ensures in
+    on_ok_weaker c.install.result (λ installs. by-want ps c.args.what.now (Inject (held_as x)) at old new r want (does-inject at old new r (held_as x) below installs)) installed
 
 pub returns-in-Post-clause-does : goal.returns-in-Post-clause-does
 returns-in-Post-clause-does c =
