@@ -1,4 +1,4 @@
-use Rattle.std.proofs.Common.{◌≤◌, length, subst, ap, arith, ◌∙◌}
+use Rattle.std.proofs.Common.{◌≤◌, length, subst, ap, arith}
 use Rattle.std.specs.Prelude.{ℤ, List}
 use Rattle.packed_log.proofs.StoresLemmas.{parts-more, short-more}
 use Rattle.packed_log.proofs.stores.push_parts.Goals as goal

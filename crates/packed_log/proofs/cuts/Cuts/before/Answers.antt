@@ -1,7 +1,7 @@
-use Rattle.std.proofs.Common.{◌≡◌, ◌≤◌, ◌<◌, ◌-◌, ◌∙◌, ap, subst, sym, length, get_or, take, arith, rules}
+use Rattle.std.proofs.Common.{◌≤◌, ◌<◌, ◌-◌, ◌∙◌, ap, sym, length, take, arith}
 use Rattle.std.specs.List.{sum}
 use Rattle.std.proofs.lemmas.List.{get_or_read}
-use Rattle.packed_log.specs.Pieces.{Cut, ends_from, lengths_from}
+use Rattle.packed_log.specs.Pieces.{Cut, lengths_from}
 use Rattle.packed_log.proofs.PiecesLemmas.{length-lengths, cuts-before}
 use Rattle.packed_log.proofs.cuts.Cuts.before.Goals as goal
 

@@ -1,6 +1,6 @@
-use Rattle.std.proofs.Common.{◌≡◌, ◌+◌, ◌++◌, ◌∷◌, [], ◌∙◌, ap, sym, length, arith}
+use Rattle.std.proofs.Common.{◌≡◌, ◌+◌, ◌++◌, ◌∷◌, [], ◌∙◌, ap, sym, arith}
 use Rattle.std.specs.List.{sum}
-use Rattle.packed_log.specs.Pieces.{Cut, ends_from, lengths_from}
+use Rattle.packed_log.specs.Pieces.{Cut, ends_from}
 use Rattle.packed_log.proofs.PiecesLemmas.{cuts-push, cuts-lengths, cuts-ends, cuts-whole}
 use Rattle.packed_log.proofs.cuts.Cuts.push.Goals as goal
 

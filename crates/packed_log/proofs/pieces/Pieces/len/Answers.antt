@@ -1,5 +1,4 @@
 use Rattle.std.proofs.Common.{length, ap, sym, ◌∙◌}
-use Rattle.packed_log.specs.Pieces.{Packed}
 use Rattle.packed_log.proofs.PiecesLemmas.{length-pieces}
 use Rattle.packed_log.proofs.pieces.Pieces.len.Goals as goal
 

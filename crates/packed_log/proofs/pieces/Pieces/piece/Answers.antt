@@ -1,5 +1,4 @@
-use Rattle.std.proofs.Common.{◌≡◌, ◌≤◌, ◌<◌, ◌+◌, [], ◌∙◌, ap, sym, length, get_or, take, arith, rules}
-use Rattle.std.specs.List.{sum}
+use Rattle.std.proofs.Common.{◌≤◌, ◌<◌, ◌+◌, [], ◌∙◌, ap, sym, length, get_or, arith, rules}
 use Rattle.packed_log.proofs.PiecesLemmas.{length-pieces, get_or-pieces, cuts-rise, cuts-within}
 use Rattle.packed_log.proofs.pieces.Pieces.piece.Goals as goal
 

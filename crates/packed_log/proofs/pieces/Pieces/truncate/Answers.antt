@@ -1,4 +1,4 @@
-use Rattle.std.proofs.Common.{◌≡◌, ◌∙◌, ap, take, length, arith}
+use Rattle.std.proofs.Common.{◌≡◌, ◌∙◌, ap, take, arith}
 use Rattle.std.specs.List.{sum}
 use Rattle.packed_log.specs.Pieces.{pieces}
 use Rattle.packed_log.proofs.PiecesLemmas.{pieces-take, cuts-whole}

@@ -1,4 +1,4 @@
-use Rattle.std.proofs.Common.{◌≡◌, ◌≤◌, ◌<◌, ◌+◌, ◌∙◌, ap, sym, length, arith, rules}
+use Rattle.std.proofs.Common.{◌≤◌, ◌+◌, ◌∙◌, ap, length, arith, rules}
 use Rattle.mate_num.specs.declared.store.Store.{Store}
 use Rattle.mate_num.specs.Store.{buffer_at}
 use Rattle.packed_log.proofs.StoresLemmas.{buffer-at, buffer-short}

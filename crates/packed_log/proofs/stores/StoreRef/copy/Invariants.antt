@@ -1,4 +1,4 @@
-use Rattle.std.proofs.Common.{◌≡◌, ◌≤◌, take, length}
+use Rattle.std.proofs.Common.{◌≡◌, take, length}
 use Rattle.packed_log.proofs.stores.StoreRef.copy.Given as goal
 
 abbrev pub invariant-loop-buffer : goal.invariant-loop-buffer
