@@ -1,4 +1,4 @@
-use Rattle.std.proofs.Common.{◌∙◌, sym, subst, [], arith, ℕ}
+use Rattle.std.proofs.Common.{sym, subst, [], arith, ℕ}
 use Rattle.std.proofs.lemmas.List.Elements.{AllWithin-none, AllWithin-more}
 use Rattle.std.proofs.lemmas.Option.{get_or_from_slice_get}
 use Rattle.arrayvec.specs.ArrayVec.{ArrayVec}
@@ -19,4 +19,4 @@ loop-index-preserved c =
 pub returns : goal.returns
 returns c =
     let none : ArrayVec ℕ = record { items = [] } in
-    All-behind HasImageRanges none c.args.images.now.items c.args.from c.loop-index.index (omega (arith, c.len.ensures, c.loop-index-test.false)) c.loop-index.invariant
+    All-behind HasImageRanges none c.args.images.now.items c.args.from c.loop-index.index (omega (arith, c.len-index-end.ensures, c.loop-index-test.false)) c.loop-index.invariant

@@ -1,4 +1,4 @@
-use Rattle.std.proofs.Common.{◌∙◌, sym, subst, [], arith, ℕ}
+use Rattle.std.proofs.Common.{sym, subst, arith}
 use Rattle.std.proofs.lemmas.List.Elements.{AllWithin-none, AllWithin-more}
 use Rattle.std.proofs.lemmas.Option.{get_or_from_slice_get}
 use Rattle.mate_num.specs.declared.store.Store.{Store}
@@ -20,4 +20,4 @@ loop-index-preserved c =
 pub returns : goal.returns
 returns c =
     let none : Store = zero_store 0 0 in
-    All-behind HasStoreRanges none c.args.stores.now.items c.args.from c.loop-index.index (omega (arith, c.len.ensures, c.loop-index-test.false)) c.loop-index.invariant
+    All-behind HasStoreRanges none c.args.stores.now.items c.args.from c.loop-index.index (omega (arith, c.len-index-end.ensures, c.loop-index-test.false)) c.loop-index.invariant
