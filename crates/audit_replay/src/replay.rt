@@ -1,6 +1,7 @@
 //! Serial replay along a journal.
 
-ghost use Rattle.std.specs.Prelude.{◌≡◌, true, false, length, IfOk, MatchOption};
+ghost use Rattle.std.specs.Prelude.{◌≡◌, length, IfOk, IsTrue};
+ghost use Rattle.std.specs.List.{list_all};
 ghost use Rattle.mate_num.specs.Store.{zero_store as zeros};
 ghost use Rattle.mate_journal.specs.Journal.{journal_of, told_of};
 ghost use Rattle.audit_finite.specs.Rerun as told;
@@ -26,67 +27,95 @@ pub(crate) fn zero_store(desc: &Description) -> Store
     Heap::new(desc.shared.len() as u8, desc.buffers.len() as u8).store()
 }
 
-/// The store at the beginning of the next era, if each started one has its calls so far.
-fn after_era(
+/// Whether each started one has its calls so far; the store then is that at the beginning of the next era.
+fn end_era(
     alloc: Global,
     trial: &Trial,
     roll: &ReadyRoll,
     place: usize,
-    store: &Store,
-) -> Result<Option<Store>, NoMemory>
+    store: &mut Store,
+) -> Result<bool, NoMemory>
     requires tried { IsTried trial.now }
     requires read { HasReadUpTo trial.now place roll.now }
-    requires lengths { HasLengthsOf (machine_for trial.now) store.now }
+    requires lengths { HasLengthsOf (machine_for trial.now) store.old }
     ensures { let m = machine_for trial.now in
-        let test = told.all_so_far m (roll_in trial.now.log.now.images roll.now.roll) store.now in
-        IfOk result (λ found. MatchOption found (test ≡ false) (λ next. (test ≡ true) × (next ≡ m.zero_store))) }
+        let test = told.all_so_far m (roll_in trial.now.log.now.images roll.now.roll) store.old in
+        IfOk result (λ right. (right ≡ test) × (IsTrue right → store.new ≡ m.zero_store)) }
 {
     let _place = place;
-    let right = all_so_far(alloc, trial, roll, store)?;
-    if !right {
-        return Ok(None);
+    if !all_so_far(alloc, trial, roll, store)? {
+        return Ok(false);
     }
-    Ok(Some(zero_store(trial.desc)))
+    *store = zero_store(trial.desc);
+    Ok(true)
 }
 
-/// The serial store after the entry, if the runs there are right.
-fn after_entry(
+/// Whether the invocation of that number ended so rightly; the store then is the serial one after it.
+fn end_at(
     alloc: Global,
     trial: &Trial,
     roll: &ReadyRoll,
     place: usize,
-    store: &Store,
-    entry: &Entry,
-) -> Result<Option<Store>, NoMemory>
+    store: &mut Store,
+    number: u32,
+    how: &End,
+) -> Result<bool, NoMemory>
     requires tried { IsTried trial.now }
     requires read { HasReadUpTo trial.now place roll.now }
-    requires lengths { HasLengthsOf (machine_for trial.now) store.now }
+    requires lengths { HasLengthsOf (machine_for trial.now) store.old }
+    ensures { let m = machine_for trial.now in
+        let x = roll_in trial.now.log.now.images roll.now.roll in
+        let test = list_all (told.ends_right m (conflict_of trial.now.desc.now) x store.old number how.now) x.seats in
+        IfOk result (λ right. (right ≡ test)
+        × (IsTrue right → (store.new ≡ told.store_left m store.old number x.seats) × HasLengthsOf m store.new)) }
+{
+    let _place = place;
+    let Some(next) = after_end(alloc, trial, roll, store, number, how)? else {
+        return Ok(false);
+    };
+    *store = next;
+    Ok(true)
+}
+
+/// Whether the runs at the entry are right; the store then is the serial one after it.
+fn run_at(
+    alloc: Global,
+    trial: &Trial,
+    roll: &ReadyRoll,
+    place: usize,
+    store: &mut Store,
+    entry: &Entry,
+) -> Result<bool, NoMemory>
+    requires tried { IsTried trial.now }
+    requires read { HasReadUpTo trial.now place roll.now }
+    requires lengths { HasLengthsOf (machine_for trial.now) store.old }
     ensures { let l = trial.now.log.now in
         let m = machine_for trial.now in
         let x = roll_in l.images roll.now.roll in
-        let test = told.runs_right m (conflict_of trial.now.desc.now) x store.now (told_of l entry.now) in
-        IfOk result (λ found. MatchOption found (test ≡ false) (λ next. (test ≡ true)
-        × (next ≡ told.serial_after m x store.now (told_of l entry.now)) × HasLengthsOf m next)) }
+        let test = told.runs_right m (conflict_of trial.now.desc.now) x store.old (told_of l entry.now) in
+        IfOk result (λ right. (right ≡ test) × (IsTrue right
+        → (store.new ≡ told.serial_after m x store.old (told_of l entry.now)) × HasLengthsOf m store.new)) }
 {
     match entry {
-        Entry::Halt { inv } => after_end(alloc, trial, roll, store, *inv, &End::Halt),
-        Entry::Fault { inv, kind } => after_end(
+        Entry::Halt { inv } => end_at(alloc, trial, roll, place, store, *inv, &End::Halt),
+        Entry::Fault { inv, kind } => end_at(
             alloc,
             trial,
             roll,
+            place,
             store,
             *inv,
             &End::Fault(*kind),
         ),
-        Entry::Install { .. } => after_era(alloc, trial, roll, place, store),
-        Entry::Reset => after_era(alloc, trial, roll, place, store),
-        Entry::Post { .. } => Ok(Some(store.copy())),
-        Entry::Dropped { .. } => Ok(Some(store.copy())),
-        Entry::Start { .. } => Ok(Some(store.copy())),
-        Entry::Ask { .. } => Ok(Some(store.copy())),
-        Entry::Answer { .. } => Ok(Some(store.copy())),
-        Entry::Seen { .. } => Ok(Some(store.copy())),
-        Entry::Void { .. } => Ok(Some(store.copy())),
+        Entry::Install { .. } => end_era(alloc, trial, roll, place, store),
+        Entry::Reset => end_era(alloc, trial, roll, place, store),
+        Entry::Post { .. } => Ok(true),
+        Entry::Dropped { .. } => Ok(true),
+        Entry::Start { .. } => Ok(true),
+        Entry::Ask { .. } => Ok(true),
+        Entry::Answer { .. } => Ok(true),
+        Entry::Seen { .. } => Ok(true),
+        Entry::Void { .. } => Ok(true),
     }
 }
 
@@ -103,10 +132,10 @@ pub fn replays_right(alloc: Global, trial: &Trial) -> Result<bool, NoMemory>
     let entries = trial.log.entries();
     for place in 0..entries.len() {
         let entry = &entries[place].entry;
-        let Some(next) = after_entry(alloc, trial, &roll, place, &store, entry)? else {
+        let right = run_at(alloc, trial, &roll, place, &mut store, entry)?;
+        if !right {
             return Ok(false);
-        };
-        store = next;
+        }
         roll.hear(alloc, trial, place)?;
     }
     all_so_far(alloc, trial, &roll, &store)

@@ -1,6 +1,6 @@
 //! Stores seen along a journal.
 
-ghost use Rattle.std.specs.Prelude.{◌≡◌, length, IfOk};
+ghost use Rattle.std.specs.Prelude.{◌≡◌, length, IfOk, OnOk};
 ghost use Rattle.std.specs.List.{All};
 ghost use Rattle.mate_journal.specs.Journal.{journal_of, told_of};
 ghost use Rattle.journal_laws.specs.Growth.{IsNamedBelow};
@@ -42,35 +42,36 @@ fn left_by(
     Ok(store.copy())
 }
 
-/// The serial store after the entry.
-fn store_after(
+/// The store becomes the serial one after the entry.
+fn go_past(
     alloc: Global,
     trial: &Trial,
     roll: &ReadyRoll,
-    store: &Store,
+    store: &mut Store,
     entry: &Entry,
-) -> Result<Store, NoMemory>
+) -> Result<(), NoMemory>
     requires tried { IsTried trial.now }
     requires ready { All (IsSeatReady trial.now roll.now) roll.now.roll.seats.items }
-    requires lengths { HasLengthsOf (machine_for trial.now) store.now }
+    requires lengths { HasLengthsOf (machine_for trial.now) store.old }
     ensures { let l = trial.now.log.now in
         let m = machine_for trial.now in
-        IfOk result (λ next. (next ≡ serial_after m (roll_in l.images roll.now.roll) store.now (told_of l entry.now))
-        × HasLengthsOf m next) }
+        OnOk result ((store.new ≡ serial_after m (roll_in l.images roll.now.roll) store.old (told_of l entry.now))
+        × HasLengthsOf m store.new) }
 {
     match entry {
-        Entry::Halt { inv } => left_by(alloc, trial, roll, store, *inv),
-        Entry::Fault { inv, kind: _ } => left_by(alloc, trial, roll, store, *inv),
-        Entry::Install { .. } => Ok(zero_store(trial.desc)),
-        Entry::Reset => Ok(zero_store(trial.desc)),
+        Entry::Halt { inv } => *store = left_by(alloc, trial, roll, store, *inv)?,
+        Entry::Fault { inv, kind: _ } => *store = left_by(alloc, trial, roll, store, *inv)?,
+        Entry::Install { .. } => *store = zero_store(trial.desc),
+        Entry::Reset => *store = zero_store(trial.desc),
         Entry::Post { .. }
         | Entry::Dropped { .. }
         | Entry::Start { .. }
         | Entry::Ask { .. }
         | Entry::Answer { .. }
         | Entry::Seen { .. }
-        | Entry::Void { .. } => Ok(store.copy()),
+        | Entry::Void { .. } => {}
     }
+    Ok(())
 }
 
 /// Whether the entry shows the store as the journal tells of it, if it shows one.
@@ -126,7 +127,7 @@ pub fn stores_right(alloc: Global, trial: &Trial) -> Result<bool, NoMemory>
         if !right {
             return Ok(false);
         }
-        store = store_after(alloc, trial, &roll, &store, entry)?;
+        go_past(alloc, trial, &roll, &mut store, entry)?;
         roll.hear(alloc, trial, place)?;
     }
     Ok(true)

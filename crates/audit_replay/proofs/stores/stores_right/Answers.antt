@@ -18,5 +18,5 @@ shows_right-requires-clause-named c =
     named-below t place e c.requires below
     (ap (λ (es : List Stamped). slice_index_or es place c.index-entries-place.result) c.entries-entries.ensures ∙ get_or_default entries place c.index-entries-place.result e below)
 
-pub store_after-requires-clause-ready : goal.store_after-requires-clause-ready
-store_after-requires-clause-ready c = seats-ready c.args.trial.now c.loop-place.place c.loop-place.roll c.loop-place.invariant.read
+pub go_past-requires-clause-ready : goal.go_past-requires-clause-ready
+go_past-requires-clause-ready c = seats-ready c.args.trial.now c.loop-place.place c.loop-place.roll c.loop-place.invariant.read
