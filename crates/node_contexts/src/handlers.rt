@@ -36,7 +36,7 @@ impl Model for Handlers {
 }
 
 impl Handlers {
-    ghost use Rattle.node_contexts.specs.Programs.{held_at, version_in};
+    ghost use Rattle.node_contexts.specs.Programs.{held_at, renewed, version_in};
 
     /// Places for so many handlers, in which nothing is installed. No other call takes memory.
     pub fn new(alloc: Global, count: usize) -> Result<Handlers, NoMemory>
@@ -66,6 +66,22 @@ impl Handlers {
         ensures { self.new.programs ≡ slice_set self.old.programs handler.0 (Some held) }
     {
         self.programs[usize::from(handler.0)] = Some(held);
+    }
+
+    /// What is installed for the handler, if something is, has this version and this image from now on. Its code and its locks
+    /// stay.
+    pub fn renew(&mut self, handler: HandlerId, version: u32, image: &Image)
+        requires { handler.0 < length self.old.programs }
+        ensures { self.new.programs ≡ slice_set self.old.programs handler.0
+            (renewed version image.now (held_at self.old.programs handler)) }
+    {
+        if let Some(held) = &mut self.programs[usize::from(handler.0)] {
+            let Ok(image) = Image::try_from(image.as_slice()) else {
+                unreachable!()
+            };
+            held.version = version;
+            held.image = image;
+        }
     }
 
     /// The version that is installed for the handler, 0 for none.
