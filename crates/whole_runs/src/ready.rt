@@ -102,7 +102,7 @@ impl<'a> ReadyProgram<'a> {
             IfOk result (λ o. o ≡ (meaning_by d ps).run h store.now payload.now answers.now turns) }
     {
         match &self.program.source {
-            Some(source) => play(alloc, source, store, payload, answers, turns),
+            Some(source) => play(alloc, source.as_checked(), store, payload, answers, turns),
             None => {
                 let mut heap = heap_of(store);
                 whole_run(alloc, &self.code, &mut heap, payload, answers, turns)
