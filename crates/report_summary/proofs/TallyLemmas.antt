@@ -21,7 +21,7 @@ use Rattle.report_summary.specs.declared.tally.Versions.{Versions}
 use Rattle.report_summary.specs.declared.tally.Installed.{Installed}
 use Rattle.report_summary.specs.declared.tally.LogTally.{LogTally}
 use Rattle.report_summary.specs.declared.tally.AirTally.{AirTally}
-use Rattle.report_summary.specs.Tally.{entries_counted, air_counted, versions_counted, versions_of, versions_none, versions_at, install_told, with_version, with_version_if, IsUpTo, IsAirUpTo, IsLogTally, IsAirTally, AddsEntry, AddsAir}
+use Rattle.report_summary.specs.Tally.{entries_counted, air_counted, versions_counted, versions_of, versions_none, versions_at, install_told, with_version, with_version_if, IsUpTo, IsAirTallyUpTo, IsLogTally, IsAirTally, AddsEntry, AddsAir}
 use Rattle.report_text.specs.Counts.{one_if}
 
 -- ---- one entry
@@ -293,13 +293,13 @@ air-next old new front xs i a low is adds so =
     (air-push old new (front ++ take i xs) a adds so)
 
 -- a tally counts no more than there is
-pub air-few : (most : ℕ) (t : AirTally) (xs : List Aired) → IsAirTally t xs → length xs ≤ most → IsAirUpTo most t
+pub air-few : (most : ℕ) (t : AirTally) (xs : List Aired) → IsAirTally t xs → length xs ≤ most → IsAirTallyUpTo most t
 air-few most t xs is few = record {
   records = let e = is.records in omega (arith, e, few);
   counts = λ k. let c = is.counts k in let l = count_by-le-length (λ (a : Aired). is_air k a.air) xs in omega (arith, c, l, few);
 }
 
-pub air-up-to : (m n : ℕ) (t : AirTally) → m ≤ n → IsAirUpTo m t → IsAirUpTo n t
+pub air-up-to : (m n : ℕ) (t : AirTally) → m ≤ n → IsAirTallyUpTo m t → IsAirTallyUpTo n t
 air-up-to m n t le up = record {
   records = let e = up.records in omega (arith, e, le);
   counts = λ k. let c = up.counts k in omega (arith, c, le);

@@ -71,7 +71,7 @@ pub record IsUpTo (n : ℕ) (t : LogTally) : Type 0 where
   pub entries : t.entries ≤ n
   pub counts : CountsUpTo n t.counts
 
-pub record IsAirUpTo (n : ℕ) (t : AirTally) : Type 0 where
+pub record IsAirTallyUpTo (n : ℕ) (t : AirTally) : Type 0 where
   pub records : t.records ≤ n
   pub counts : (k : AirKind) → air_counted k t ≤ n
 

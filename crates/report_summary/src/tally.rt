@@ -7,7 +7,7 @@ ghost use Rattle.report_text.specs.Brief.{is_entry, is_air};
 ghost use Rattle.report_text.specs.declared.summary.AirKind.TheVariants as air_kinds;
 ghost use Rattle.report_text.specs.declared.summary.EntryKind.TheVariants as kinds;
 ghost use Rattle.report_summary.specs.Tally.{entries_counted, install_told, with_version, versions_none, versions_at, CountsUpTo, IsUpTo};
-ghost use Rattle.report_summary.specs.Tally.{IsLogTally, InstallsVersion, Notes, AddsEntry, IsAirTally, IsAirUpTo, AddsAir};
+ghost use Rattle.report_summary.specs.Tally.{IsLogTally, InstallsVersion, Notes, AddsEntry, IsAirTally, IsAirTallyUpTo, AddsAir};
 ghost use Rattle.report_text.specs.Counts.{one_if};
 
 use mate_journal::{Air, Aired, Entry, Stamped};
@@ -205,9 +205,9 @@ impl AirTally {
 
     /// Counts records behind those that were counted.
     pub fn add_all(&mut self, air: &[Aired])
-        requires { IsAirUpTo (2 ^ 63) self.old }
+        requires { IsAirTallyUpTo (2 ^ 63) self.old }
         ensures tallies { (front : List AirRecord) → IsAirTally self.old front → IsAirTally self.new (front ++ air.now) }
-        ensures up { (n : ℕ) → IsAirUpTo n self.old → IsAirUpTo (n + 2 ^ 57) self.new }
+        ensures up { (n : ℕ) → IsAirTallyUpTo n self.old → IsAirTallyUpTo (n + 2 ^ 57) self.new }
     {
         for aired in air {
             self.add(&aired.air);
@@ -216,7 +216,7 @@ impl AirTally {
 
     /// Counts a record.
     fn add(&mut self, air: &Air)
-        requires { IsAirUpTo (2 ^ 63 + 2 ^ 57) self.old }
+        requires { IsAirTallyUpTo (2 ^ 63 + 2 ^ 57) self.old }
         ensures { AddsAir self.old self.new air.now }
     {
         self.records += 1;

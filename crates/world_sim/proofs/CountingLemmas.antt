@@ -14,7 +14,7 @@ use Rattle.mate_journal.specs.declared.entry.Stamped.{Stamped}
 use Rattle.radio_sim.specs.Radio.{Ether}
 use Rattle.report_summary.specs.Runs.{IsRunSummary}
 use Rattle.report_summary.specs.Summary.{IsNewTally}
-use Rattle.report_summary.specs.Tally.{IsLogTally, AreLogTallies, IsAirTally, IsUpTo, IsAirUpTo}
+use Rattle.report_summary.specs.Tally.{IsLogTally, AreLogTallies, IsAirTally, IsUpTo, IsAirTallyUpTo}
 use Rattle.report_summary.specs.declared.summary.RunTally.{RunTally}
 use Rattle.report_summary.specs.declared.summary.Summary.{Summary}
 use Rattle.report_summary.specs.declared.tally.AirTally.{AirTally}
@@ -156,7 +156,7 @@ module _ (t t' : RunTally) (s : Simulation) (node : ℕ) (own own' : LogTally) (
             all-at (IsUpTo (3 * 2 ^ 56)) t.nodes.items k a may.small.nodes was
       ]
 
-  pub event-small : MayCount t node → IsAirUpTo (3 * 2 ^ 56) t'.air → IsSmallTally t'
+  pub event-small : MayCount t node → IsAirTallyUpTo (3 * 2 ^ 56) t'.air → IsSmallTally t'
   event-small may air = record { nodes = small-at may; air = air }
 
 -- ---- what each node has at hand, one node after the other

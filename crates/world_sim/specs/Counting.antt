@@ -1,6 +1,6 @@
 -- The run of a world that is counted as its events end.
 use Rattle.std.specs.Prelude.{◌≡◌, ◌≢◌, ◌+◌, ◌*◌, ◌^◌, ℕ, List, length, take, slice_get, Some, All}
-use Rattle.report_summary.specs.Tally.{IsLogTally, IsAirTally, IsUpTo, IsAirUpTo}
+use Rattle.report_summary.specs.Tally.{IsLogTally, IsAirTally, IsUpTo, IsAirTallyUpTo}
 use Rattle.report_summary.specs.declared.summary.RunTally.{RunTally}
 use Rattle.report_summary.specs.declared.tally.LogTally.{LogTally}
 use Rattle.world_rules.specs.World.{World}
@@ -44,13 +44,13 @@ pub record IsTalliedBefore (n : ℕ) (t : RunTally) (s : Simulation) (node : ℕ
 -- 64 bits count their sum
 pub record IsSmallTally (t : RunTally) : Type 0 where
   pub nodes : All (IsUpTo (3 * 2 ^ 56)) t.nodes.items
-  pub air : IsAirUpTo (3 * 2 ^ 56) t.air
+  pub air : IsAirTallyUpTo (3 * 2 ^ 56) t.air
 
 -- so it is when what this node and the radio have at hand is counted, too
 pub record MayCount (t : RunTally) (node : ℕ) : Type 0 where
   pub small : IsSmallTally t
   pub own : (a : LogTally) → slice_get t.nodes.items node ≡ Some a → IsUpTo (2 ^ 56) a
-  pub air : IsAirUpTo (2 ^ 56) t.air
+  pub air : IsAirTallyUpTo (2 ^ 56) t.air
 
 -- a world before its first event, whose start was counted
 pub record StartsCounted (n : ℕ) (w : World) (s : Simulation) (t : RunTally) : Type 0 where
