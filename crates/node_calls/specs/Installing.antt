@@ -1,5 +1,6 @@
 -- What bytes are to a node that should install them: a capsule with right code, newer than what it holds; or the first refusal.
-use Rattle.std.specs.Prelude.{◌≡◌, ℕ, ◌<◌, ◌≤◌, List, Result, Ok, Err, MatchResult, ⊤, length}
+use Rattle.std.specs.Prelude.{◌≡◌, ℕ, ◌<◌, ◌≤◌, List, Option, Some, None, Result, Ok, Err, MatchResult, IsSomeAnd, ⊤, length}
+use Rattle.arrayvec.specs.ArrayVec.{ArrayVec}
 use Rattle.mate_num.specs.declared.call.Stamp.{Stamp}
 use Rattle.mate_num.specs.declared.id.HandlerId.{HandlerId}
 use Rattle.capsule_codec.specs.declared.capsule.Capsule.{Capsule as DecodedCapsule}
@@ -16,6 +17,8 @@ use Rattle.mate_journal.specs.Machine.{HeldProgram}
 use Rattle.mate_journal.specs.Journal.{Told, Reading, held}
 use Rattle.mate_journal.specs.NodeScript.{Installs}
 use Rattle.mate_journal.specs.Pace.{Pace}
+use Rattle.node_contexts.specs.Programs.{renewed}
+use Rattle.node_contexts.specs.declared.handlers.Held.{Held}
 use Rattle.node_invariant.specs.Meaning.{machine_in}
 use Rattle.node_invariant.specs.declared.parts.Parts.{Parts}
 use Rattle.node_invariant.specs.Keeps.{reading}
@@ -24,6 +27,7 @@ use Rattle.node_calls.specs.Calls.{RestsAgain, AtPace}
 use Rattle.node_calls.specs.declared.installing.InstallFault.{InstallFault}
 use Rattle.node_calls.specs.declared.installing.InstallFault.TheVariants.{Capsule, Code, NotNewer}
 use Rattle.node_calls.specs.declared.installing.Installable.{Installable}
+use Rattle.node_calls.specs.declared.installing.LockedCode.{LockedCode}
 
 -- the bytes are this capsule of the machine, and its code is verified
 pub record IsRightCapsule (d : Description) (bytes : List ℕ) (c : CapsuleParts) : Type 0 where
@@ -71,13 +75,40 @@ pub record InstallsBytes (d : Description) (r : Reading) (bytes : List ℕ) (p :
   pub right : IsRightCapsule d bytes capsule
   pub installs : Installs (machine_in d) r p (program_by capsule bytes) told
 
+-- what the handler's program is to be
+pub record Incoming : Type 0 where
+  pub handler : HandlerId
+  pub held : Held
+
 -- this can be installed: it is the program of the right capsule that the bytes are, with its locks
-pub record IsInstallable (d : Description) (bytes : List ℕ) (i : Installable) : Type 0 where
+pub record IsInstallable (d : Description) (bytes : List ℕ) (i : Incoming) : Type 0 where
   pub capsule : CapsuleParts
   pub right : IsRightCapsule d bytes capsule
   pub is_held : IsHeld d i.held
   pub program : program_of i.handler i.held ≡ program_by capsule bytes
   pub handler : i.handler.0 < length d.handlers.items
+
+-- what the handler holds with this version and this image, and with this code or that of what it held
+abbrev pub held_with : Option Held → ℕ → ArrayVec ℕ → Option LockedCode → Option Held
+held_with held version image None = renewed version image held
+held_with held version image (Some x) = Some (record { version = version; image = image; code = x.code; locks = x.locks })
+
+abbrev pub held_after : Option Held → Installable → Option Held
+held_after held i = held_with held i.version i.image i.code
+
+-- the program that comes, as a journal has it
+abbrev pub comes : Installable → HeldProgram
+comes i = record { handler = i.handler; version = i.version; image = i.image }
+
+-- with what the handler holds, this can be installed
+pub record CanInstall (d : Description) (bytes : List ℕ) (held : Option Held) (i : Installable) : Type 0 where
+  pub x : Held
+  pub after : held_after held i ≡ Some x
+  pub can : IsInstallable d bytes (record { handler = i.handler; held = x })
+
+-- what is held has this code
+abbrev pub HoldsCode : Option Held → List ℕ → Type 0
+HoldsCode held code = IsSomeAnd held (λ x. x.code.bytes ≡ code)
 
 -- ---- what an install leaves
 

@@ -1,17 +1,17 @@
 //! Installs: a newer capsule takes the place of a handler's program, and an era begins.
 
-ghost use Rattle.std.specs.Prelude.{◌≡◌, ◌<◌, ◌≤◌, ◌∷◌, [], true, false, length};
+ghost use Rattle.std.specs.Prelude.{◌≡◌, ◌<◌, ◌≤◌, ◌∷◌, [], true, false, length, slice_set, Option, IsTrue};
 ghost use Rattle.mate_journal.specs.Journal.{journal_of, Installed};
 ghost use Rattle.journal_laws.specs.Growth.{last_is_seen};
 ghost use Rattle.vm_desc.specs.Shapes.{shape_of};
 ghost use Rattle.code_verifier.specs.Verified.{IsVerificationOf};
-ghost use Rattle.lock_inference.specs.Locks.{AreLocksOf};
-ghost use Rattle.node_invariant.specs.Fits.{IsHeld, program_of};
+ghost use Rattle.node_contexts.specs.Programs.{held_at};
+ghost use Rattle.node_contexts.specs.declared.handlers.Held.{Held};
 ghost use Rattle.node_invariant.specs.Keeps.{IsTimely};
 ghost use Rattle.node_invariant.specs.Meaning.{machine_in};
 ghost use Rattle.node_invariant.specs.Starting.{Rests};
 ghost use Rattle.node_calls.specs.Calls.{RestsAgain};
-ghost use Rattle.node_calls.specs.Installing.{IsInstallable, IsReadAs, InstallGives};
+ghost use Rattle.node_calls.specs.Installing.{CanInstall, HoldsCode, IsReadAs, InstallGives, comes, held_after};
 
 use crate::era::clear;
 use crate::posting::post_in;
@@ -21,7 +21,7 @@ use code_verifier::{Verified, VerifyFault, verify};
 use lock_inference::locks;
 use mate_code::Table;
 use mate_num::{HandlerId, Image, LockSet, Payload, Stamp};
-use node_contexts::Held;
+use node_contexts::{Handlers, Held};
 use node_invariant::Parts;
 use vm_desc::{Description, HandlerKind, shape};
 
@@ -36,64 +36,140 @@ pub enum InstallFault {
     NotNewer { held: u32 },
 }
 
-/// A program that can be installed for the handler.
+/// Verified code, with the locks that it takes.
+#[derive(Drop)]
+struct LockedCode {
+    code: Verified,
+    locks: LockSet,
+}
+
+/// A program that can be installed for the handler. Its code comes with it, unless it is the code that the handler holds.
 #[derive(Drop)]
 struct Installable {
     handler: HandlerId,
-    held: Held,
+    version: u32,
+    image: Image,
+    code: Option<LockedCode>,
 }
 
-/// The program of the capsule that the bytes are.
+/// The bytes as an image.
+fn image_in(description: &Description, bytes: &[u8], capsule: &Capsule) -> Image
+    requires { IsReadAs description.now bytes.now capsule.now }
+    ensures { result.items ≡ bytes.now }
+{
+    let _description = description;
+    let _capsule = capsule;
+    let Ok(image) = Image::try_from(bytes) else {
+        unreachable!()
+    };
+    image
+}
+
+/// The program of the capsule that the bytes are, with its code.
 #[inline(never)]
-fn program_in(
+fn new_program(
     description: &Description,
     bytes: &[u8],
     capsule: &Capsule,
     code: Verified,
-    locks: LockSet,
 ) -> Installable
     requires read { IsReadAs description.now bytes.now capsule.now }
     requires verified { IsVerificationOf (shape_of description.now) capsule.now.code.items code }
-    requires locks { AreLocksOf (shape_of description.now) code.code locks }
-    ensures { IsInstallable description.now bytes.now result }
+    ensures { (held : Option Held) → CanInstall description.now bytes.now held result }
 {
-    let _description = description;
-    let Ok(image) = Image::try_from(bytes) else {
-        unreachable!()
-    };
+    let locks = locks(description, &code);
     Installable {
         handler: capsule.handler,
-        held: Held {
-            version: capsule.version,
-            image,
-            code,
-            locks,
-        },
+        version: capsule.version,
+        image: image_in(description, bytes, capsule),
+        code: Some(LockedCode { code, locks }),
+    }
+}
+
+/// Whether the capsule's handler holds the capsule's code.
+fn holds_code(parts: &Parts, capsule: &Capsule) -> bool
+    ensures { IsTrue result → HoldsCode (held_at parts.now.handlers.programs capsule.now.handler) capsule.now.code.items }
+{
+    match parts.handlers.get(capsule.handler) {
+        Some(held) => held.code.code().as_slice() == capsule.code.as_slice(),
+        None => false,
+    }
+}
+
+/// The program of the capsule that the bytes are, whose code the handler holds. What was verified of the code, and its locks, are
+/// still right: they depend on the machine and the code alone.
+#[inline(never)]
+fn known_program(
+    description: &Description,
+    parts: &Parts,
+    bytes: &[u8],
+    capsule: &Capsule,
+) -> Installable
+    requires rests { Rests description.now parts.now }
+    requires read { IsReadAs description.now bytes.now capsule.now }
+    requires known { HoldsCode (held_at parts.now.handlers.programs capsule.now.handler) capsule.now.code.items }
+    ensures { CanInstall description.now bytes.now (held_at parts.now.handlers.programs result.handler) result }
+{
+    let _parts = parts;
+    Installable {
+        handler: capsule.handler,
+        version: capsule.version,
+        image: image_in(description, bytes, capsule),
+        code: None,
+    }
+}
+
+/// The program takes the place of what the handler had.
+#[inline(never)]
+fn put(handlers: &mut Handlers, program: Installable)
+    requires { program.handler.0 < length handlers.old.programs }
+    ensures { handlers.new.programs ≡ slice_set handlers.old.programs program.handler.0
+        (held_after (held_at handlers.old.programs program.handler) program) }
+{
+    let Installable {
+        handler,
+        version,
+        image,
+        code,
+    } = program;
+    match code {
+        Some(LockedCode { code, locks }) => handlers.install(
+            handler,
+            Held {
+                version,
+                image,
+                code,
+                locks,
+            },
+        ),
+        None => handlers.renew(handler, version, &image),
     }
 }
 
 /// An era begins with the program in place of what the handler had.
 #[inline(never)]
-fn begin(description: &Description, parts: &mut Parts, program: Installable, at: Stamp)
+fn begin(
+    description: &Description,
+    parts: &mut Parts,
+    bytes: &[u8],
+    program: Installable,
+    at: Stamp,
+)
     requires rests { Rests description.now parts.old }
     requires timely { IsTimely at parts.old.log.all }
     requires room { 1 ≤ parts.old.log.all.spare }
     requires few { length parts.old.log.all.entries < 4100000000 }
     requires seen { last_is_seen false (journal_of parts.old.log.all) ≡ true }
-    requires held { IsHeld description.now program.held }
-    requires handler { program.handler.0 < length description.now.handlers.items }
-    ensures again { RestsAgain description.now parts.old parts.new at (λ told. told ≡ Installed (program_of program.handler program.held)
-        ∷ []) }
+    requires can { CanInstall description.now bytes.now (held_at parts.old.handlers.programs program.handler) program }
+    ensures again { RestsAgain description.now parts.old parts.new at (λ told. told ≡ Installed (comes program) ∷ []) }
     ensures gone { parts.new.log.gone ≡ parts.old.log.gone }
 {
-    parts.log.push_install(
-        at,
-        program.handler,
-        program.held.version,
-        &program.held.image,
-    );
+    let _bytes = bytes;
+    parts
+        .log
+        .push_install(at, program.handler, program.version, &program.image);
     clear(description, parts);
-    parts.handlers.install(program.handler, program.held);
+    put(&mut parts.handlers, program);
 }
 
 /// Whether the handler has the kind `once`.
@@ -120,18 +196,17 @@ fn install_program(
     requires timely { IsTimely at parts.old.log.all }
     requires room { 4 ≤ parts.old.log.all.spare }
     requires few { length parts.old.log.all.entries < 4000000000 }
-    requires installable { IsInstallable description.now bytes.now program }
+    requires can { CanInstall description.now bytes.now (held_at parts.old.handlers.programs program.handler) program }
     ensures installs { InstallGives description.now parts.old parts.new bytes.now at result }
     ensures gone { parts.new.log.gone ≡ parts.old.log.gone }
 {
-    let _bytes = bytes;
     let handler = program.handler;
     let held = parts.handlers.version(handler);
-    if program.held.version <= held {
+    if program.version <= held {
         return Err(InstallFault::NotNewer { held });
     }
     seen_in(description, parts, at);
-    begin(description, parts, program, at);
+    begin(description, parts, bytes, program, at);
     if runs_once(description, handler) {
         let _ = post_in(description, parts, handler, &Payload::new(), at);
     }
@@ -158,14 +233,8 @@ fn install_code(
     ensures installs { InstallGives description.now parts.old parts.new bytes.now at result }
     ensures gone { parts.new.log.gone ≡ parts.old.log.gone }
 {
-    let locks = locks(description, &code);
-    install_program(
-        description,
-        parts,
-        bytes,
-        program_in(description, bytes, capsule, code, locks),
-        at,
-    )
+    let program = new_program(description, bytes, capsule, code);
+    install_program(description, parts, bytes, program, at)
 }
 
 /// The capsule of the machine that the bytes are is installed for its handler, where it is newer than what the node holds:
@@ -191,6 +260,10 @@ pub fn install_in(
         Ok(capsule) => capsule,
         Err(fault) => return Err(InstallFault::Capsule(*fault)),
     };
+    if holds_code(parts, capsule) {
+        let program = known_program(description, parts, bytes, capsule);
+        return install_program(description, parts, bytes, program, at);
+    }
     let table = Table::of(&shape(description));
     match verify(&table, description, capsule.code.as_slice()) {
         Ok(code) => install_code(description, parts, bytes, capsule, code, at),
