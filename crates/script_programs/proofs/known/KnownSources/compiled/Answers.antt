@@ -3,7 +3,7 @@ use Rattle.mate_refusals.specs.declared.refusal.Refusal.{Refusal}
 use Rattle.mate_steps.specs.Sources.{compiled_bytes}
 use Rattle.mate_steps.specs.declared.code.CompiledScript.{CompiledScript}
 use Rattle.script_programs.specs.Known.{IsKnownAt}
-use Rattle.script_programs.proofs.KnownLemmas.{bytes-want, err-as, known-gives, gives-obtained, filled-obtained}
+use Rattle.script_programs.proofs.KnownLemmas.{err-as, known-gives, gives-obtained, filled-obtained}
 use Rattle.script_programs.proofs.known.KnownSources.compiled.Goals as goal
 
 pub returns-in-Some-clause-does : goal.returns-in-Some-clause-does
@@ -26,8 +26,18 @@ returns-in_err-compiled-in-None-clause-does c =
 
 pub remember-requires-clause-gives : goal.remember-requires-clause-gives
 remember-requires-clause-gives c =
-    subst (λ (bs : List ℕ). compiled_bytes c.args.desc.now c.args.fold c.args.name.now bs (Ok c.in_ok-compiled-in-None.compiled)) c.as_slice-in-None.ensures.value c.in_ok-compiled-in-None.ensures.does
+    gives-obtained c.args.desc.now c.args.fold c.args.name.now c.args.bytes.items c.in_ok-compiled-in-None.compiled (Ok c.in_ok-shared-in-None.shared)
+    (subst (λ (bs : List ℕ). compiled_bytes c.args.desc.now c.args.fold c.args.name.now bs (Ok c.in_ok-compiled-in-None.compiled)) c.as_slice-in-None.ensures.value c.in_ok-compiled-in-None.ensures.does) c.in_ok-shared-in-None.ensures
 
-pub returns-clause-does : goal.returns-clause-does
-returns-clause-does c =
-    subst (λ (bs : List ℕ). compiled_bytes c.args.desc.now c.args.fold c.args.name.now bs (Ok c.in_ok-compiled-in-None.compiled)) c.as_slice-in-None.ensures.value c.in_ok-compiled-in-None.ensures.does
+pub returns-in_ok-shared-in-None-clause-does : goal.returns-in_ok-shared-in-None-clause-does
+returns-in_ok-shared-in-None-clause-does c =
+    gives-obtained c.args.desc.now c.args.fold c.args.name.now c.args.bytes.items c.in_ok-compiled-in-None.compiled (Ok c.in_ok-shared-in-None.shared)
+    (subst (λ (bs : List ℕ). compiled_bytes c.args.desc.now c.args.fold c.args.name.now bs (Ok c.in_ok-compiled-in-None.compiled)) c.as_slice-in-None.ensures.value c.in_ok-compiled-in-None.ensures.does) c.in_ok-shared-in-None.ensures
+
+pub returns-in_err-shared-in-None-clause-does : goal.returns-in_err-shared-in-None-clause-does
+returns-in_err-shared-in-None-clause-does c =
+    let e = c.in_err-shared-in-None.field-0.0 in
+    err-as (λ (r : Result CompiledScript Refusal). compiled_bytes c.args.desc.now c.args.fold c.args.name.now c.args.bytes.items r) e c.from_residual-in_err-shared-in-None.result
+    (gives-obtained c.args.desc.now c.args.fold c.args.name.now c.args.bytes.items c.in_ok-compiled-in-None.compiled (Err e)
+    (subst (λ (bs : List ℕ). compiled_bytes c.args.desc.now c.args.fold c.args.name.now bs (Ok c.in_ok-compiled-in-None.compiled)) c.as_slice-in-None.ensures.value c.in_ok-compiled-in-None.ensures.does) c.in_err-shared-in-None.ensures)
+    c.from_residual-in_err-shared-in-None.ensures.1

@@ -1,0 +1,20 @@
+use Rattle.std.proofs.Common.{◌≡◌, Some, refl, sym, subst}
+use Rattle.capsule_codec.specs.Image.{CapsuleParts}
+use Rattle.mate_journal.specs.declared.program.Program.{Program}
+use Rattle.mate_steps.specs.SourceCode.{IsCompiledOf}
+use Rattle.mate_steps.specs.declared.code.CompiledScript.{CompiledScript}
+use Rattle.vm_desc.specs.Shapes.{shape_of}
+use Rattle.script_programs.proofs.RightLemmas.{IsRightProgram-compiled}
+use Rattle.script_programs.proofs.shared_source.SharedSource.program.Goals as goal
+
+pub returns-clause-right : goal.returns-clause-right
+returns-clause-right c =
+    λ fold tree is.
+    let d = c.args.desc.now in
+    let x : CompiledScript = record { script = c.self.inside.script; code = c.self.inside.code } in
+    let view = c.self.view_is in
+    let same : c.args.self ≡ x = cc in
+    let parts : CapsuleParts = record { vm_id = d.vm_id; handler = c.args.handler.0; version = c.args.version; code = x.code.items } in
+    let p : Program = record { handler = c.args.handler; version = c.args.version; source = Some x.script; image = c.in_ok-image.image } in
+    IsRightProgram-compiled d fold tree x parts p (subst (λ (s : CompiledScript). IsCompiledOf (shape_of d) fold tree s) same is) c.in_ok-image.ensures.fits (record { vm_id = refl; handler = c.requires.handler }) refl refl refl refl
+    c.in_ok-image.ensures.image
