@@ -14,10 +14,11 @@ use Rattle.proc_expansion.specs.Answer.{IsExpansion}
 use Rattle.proc_meaning.specs.FrameLaw.{RunsWithFrames}
 use Rattle.ts_procs.specs.Reading.{IsProcedureText}
 use Rattle.mate_steps.specs.Expansions.{expanded_bytes}
-use Rattle.mate_steps.specs.SourceCode.{compiled_tree, IsCompiledOf}
+use Rattle.mate_steps.specs.SourceCode.{compiled_tree, IsCompiledOf, MeansTree}
 use Rattle.mate_steps.specs.Sources.{compiled_bytes}
 use Rattle.mate_steps.specs.Steps.{goes_on, stops}
 use Rattle.mate_steps.specs.declared.code.CompiledScript.{CompiledScript}
+use Rattle.mate_steps.proofs.CodeLemmas.{means-tree}
 use Rattle.expansion_laws.specs.CompiledText.{CompilesAsSource}
 use Rattle.expansion_laws.specs.ExpansionText.{expansion_text, TextMeansIt}
 
@@ -47,6 +48,7 @@ compiles_as_source law machine fold from to bytes plain c expands compiles =
     let t : IsCompiledTree machine fold (script_line (source_of plain)) c = compiled_of machine fold to (script_line (source_of plain)) c compiles in
     let accepted : IsAccepted machine (expansion_text (written_of e.script)) t.tree =
     subst (λ (bs : List ℕ). IsAccepted machine bs t.tree) (ap script_line e.expands.is) t.accepted in
+    let means : MeansTree (shape_of machine) fold t.tree = means-tree (shape_of machine) fold t.tree c t.compiled in
     let frames : RunsWithFrames machine (written_of e.script) t.tree = law bytes e.script e.text machine t.tree accepted in
     record {
       source = written_of e.script;
@@ -55,6 +57,6 @@ compiles_as_source law machine fold from to bytes plain c expands compiles =
         code = code_of (compiled_tree fold t.tree);
         marks = t.compiled.code_is.verified.0;
         verified = t.compiled.code_is.verified.1;
-        runs = λ store msg answers turns. t.compiled.code_is.runs store msg answers turns ∙ frames store msg answers turns;
+        runs = λ store msg answers turns. means.runs store msg answers turns ∙ frames store msg answers turns;
       };
     }

@@ -9,7 +9,7 @@ use Rattle.capsule_codec.specs.declared.capsule.Capsule.{Capsule}
 use Rattle.capsule_codec.specs.declared.decoding.CapsuleFault.{CapsuleFault}
 use Rattle.capsule_codec.specs.declared.hex_text.HexFault.{HexFault}
 use Rattle.code_verifier.specs.Faults.{refusal_of}
-use Rattle.code_verifier.specs.Verified.{VerifiedCode, IsVerifiedCode, marks_of}
+use Rattle.code_verifier.specs.Verified.{VerifiedCode, marks_of}
 use Rattle.code_verifier.specs.declared.fault.VerifyFault.{VerifyFault}
 use Rattle.code_verifier.specs.declared.fault.VerifyFault.TheVariants as verify
 use Rattle.mate_code.specs.BytesVerification.{bytes_verification}
@@ -66,16 +66,6 @@ refused_once shape bytes f g p q =
     let same : refusal_of f ≡ refusal_of g = cc in
     sym (fault_in-refusal_of f) ∙ ap fault_in same ∙ fault_in-refusal_of g
 
--- what verification says of the bytes of a capsule
-accepted_code : (d : Description) (c : CapsuleParts) (v : VerifiedCode) → IsVerifiedCode v → v.shape ≡ shape_of d → v.bytes ≡ c.code
-    → bytes_verification (shape_of d) c.code ≡ Ok (v.code, marks_of v)
-accepted_code d c v is shape_is bytes_are =
-    subst (λ (bs : List ℕ). bytes_verification (shape_of d) bs ≡ Ok (v.code, marks_of v)) bytes_are
-    (subst (λ (s : Shape). bytes_verification s v.bytes ≡ Ok (v.code, marks_of v)) shape_is is.accepted)
-
-verified : (d : Description) (text : List ℕ) (c : CapsuleParts) (v : VerifiedCode) → SpellsVerified d text c v → bytes_verification (shape_of d) c.code ≡ Ok (v.code, marks_of v)
-verified d text c v h = accepted_code d c v h.is_verified h.is_for.shape_is h.is_for.bytes_are
-
 -- ---- texts
 
 one_image : (text : List ℕ) (a b : ArrayVec ℕ) → image_in text ≡ Ok a → image_in text ≡ Ok b → a ≡ b
@@ -101,9 +91,9 @@ one_fault d text f g p q =
 one : (d : Description) (bytes : List ℕ) (a b : Capsule × VerifiedCode) → SpellsVerified d bytes (capsule_parts a.0) a.1 → SpellsVerified d bytes (capsule_parts b.0) b.1 → SameCapsule a b
 one d bytes a b p q =
     let same = one_capsule d bytes (capsule_parts a.0) (capsule_parts b.0) p.spells q.spells in
-    let y = subst (λ (c : CapsuleParts). bytes_verification (shape_of d) c.code ≡ Ok (b.1.code, marks_of b.1)) (sym same) (verified d bytes (capsule_parts b.0) b.1 q) in record {
+    let y = subst (λ (c : CapsuleParts). bytes_verification (shape_of d) c.code ≡ Ok (b.1.code, marks_of b.1)) (sym same) q.accepted in record {
       parts = same;
-      code = first_same a.1.code b.1.code (marks_of a.1) (marks_of b.1) _ (verified d bytes (capsule_parts a.0) a.1 p) y;
+      code = first_same a.1.code b.1.code (marks_of a.1) (marks_of b.1) _ p.accepted y;
     }
 
 not_refused : (d : Description) (bytes : List ℕ) (a : Capsule × VerifiedCode) (e : CapsuleCause) → SpellsVerified d bytes (capsule_parts a.0) a.1 → RefusesText d bytes e → ⊥
@@ -112,7 +102,7 @@ not_refused d bytes a (Image f) p q = no_capsule d bytes (capsule_parts a.0) f p
 not_refused d bytes a (BadCode f) p q =
     let same = one_capsule d bytes (capsule_parts a.0) q.capsule p.spells q.spells in
     let y = subst (λ (c : CapsuleParts). bytes_verification (shape_of d) c.code ≡ Err (refusal_of f)) (sym same) q.refused in
-    not_both (a.1.code, marks_of a.1) (refusal_of f) _ (verified d bytes (capsule_parts a.0) a.1 p) y
+    not_both (a.1.code, marks_of a.1) (refusal_of f) _ p.accepted y
 
 no_image : {A : Type 0} (text : List ℕ) (a : ArrayVec ℕ) (f : HexFault) → image_in text ≡ Ok a → image_in text ≡ Err f → A
 no_image text a f p q = let e : Ok a ≡ Err f = sym p ∙ q in absurd cc

@@ -11,7 +11,7 @@ use Rattle.capsule_codec.specs.declared.capsule.Capsule.{Capsule}
 use Rattle.capsule_codec.specs.declared.decoding.CapsuleFault.{CapsuleFault}
 use Rattle.capsule_listing.specs.CapsuleText.{IsVerifiedFor}
 use Rattle.code_verifier.specs.Faults.{refusal_of}
-use Rattle.code_verifier.specs.Verified.{VerifiedCode, IsVerifiedCode}
+use Rattle.code_verifier.specs.Verified.{VerifiedCode, marks_of}
 use Rattle.code_verifier.specs.declared.fault.VerifyFault.{VerifyFault}
 use Rattle.mate_code.specs.BytesVerification.{bytes_verification}
 use Rattle.vm_desc.specs.Shapes.{shape_of}
@@ -38,7 +38,7 @@ pub record SpellsCapsule (d : Description) (text : List ℕ) (c : CapsuleParts) 
 pub record SpellsVerified (d : Description) (text : List ℕ) (c : CapsuleParts) (v : VerifiedCode) : Type 0 where
   pub spells : SpellsCapsule d text c
   pub is_for : IsVerifiedFor d c v
-  pub is_verified : IsVerifiedCode v
+  pub accepted : bytes_verification (shape_of d) c.code ≡ Ok (v.code, marks_of v)
 
 -- the text spells an image that is no capsule of the machine, with the first fault
 pub record SpellsNoCapsule (d : Description) (text : List ℕ) (fault : CapsuleFault) : Type 0 where

@@ -22,21 +22,10 @@ abbrev pub compiled_tree : Bool → Block → Block
 compiled_tree true tree = folded tree
 compiled_tree false tree = tree
 
--- the code of the compiled tree runs as the accepted one, whatever the store, the message, the answers and the turns are
-abbrev pub RunsAsAccepted : Shape → Bool → Block → Type 0
-RunsAsAccepted shape fold tree =
-    (store : Store) (msg : ArrayVec ℤ) (answers : List ℤ) (turns : ℕ) →
-    code_run shape (code_of (compiled_tree fold tree)) store msg answers turns ≡ run_of tree store msg answers turns
-
--- Code of an accepted tree: the bytes of the compiled tree's code. The verifier takes them, and they run as the compiled tree
--- and as the accepted one; they use what the compiled tree uses, which is nothing more than the accepted one does.
+-- Code of an accepted tree: the bytes of the compiled tree's code, which the verifier takes.
 pub record IsCodeOf (shape : Shape) (fold : Bool) (tree : Block) (code : ArrayVec ℕ) : Type 0 where
   pub compiled : IsCompiled shape (compiled_tree fold tree) code
   pub verified : AreAccepted shape (compiled_tree fold tree) code
-  pub plays : RunsAsItsScript shape (compiled_tree fold tree)
-  pub runs : RunsAsAccepted shape fold tree
-  pub uses : UsesAsItsScript shape (compiled_tree fold tree)
-  pub no_more : UsesNoMore shape tree (compiled_tree fold tree)
 
 -- the compiled tree has no code, for this reason
 abbrev pub HasNoCode : Shape → Bool → Block → CompileFault → Type 0
@@ -53,3 +42,19 @@ abbrev pub GivesCode : Shape → Bool → Block → Result CompiledScript CodeFa
 GivesCode shape fold tree (Ok c) = IsCompiledOf shape fold tree c
 GivesCode shape fold tree (Err (Uncompiled fault)) = HasNoCode shape fold tree fault
 GivesCode shape fold tree (Err NoMemory) = fold ≡ true
+
+-- ---- what follows of it
+
+-- the code of the compiled tree runs as the accepted one, whatever the store, the message, the answers and the turns are
+abbrev pub RunsAsAccepted : Shape → Bool → Block → Type 0
+RunsAsAccepted shape fold tree =
+    (store : Store) (msg : ArrayVec ℤ) (answers : List ℤ) (turns : ℕ) →
+    code_run shape (code_of (compiled_tree fold tree)) store msg answers turns ≡ run_of tree store msg answers turns
+
+-- The code of the compiled tree runs as that tree and as the accepted one; it uses what the compiled tree uses, which is nothing more
+-- than the accepted one does.
+pub record MeansTree (shape : Shape) (fold : Bool) (tree : Block) : Type 0 where
+  pub plays : RunsAsItsScript shape (compiled_tree fold tree)
+  pub runs : RunsAsAccepted shape fold tree
+  pub uses : UsesAsItsScript shape (compiled_tree fold tree)
+  pub no_more : UsesNoMore shape tree (compiled_tree fold tree)

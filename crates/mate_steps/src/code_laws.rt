@@ -1,6 +1,6 @@
 //! Laws where compiler, verifier and lock inference meet. Each is what a function promises that does nothing.
 
-ghost use Rattle.std.specs.Prelude.{◌≡◌, ℕ, Ok, Err};
+ghost use Rattle.std.specs.Prelude.{◌≡◌, ℕ, Bool, Ok, Err};
 ghost use Rattle.arrayvec.specs.ArrayVec.{ArrayVec};
 ghost use Rattle.mate_num.specs.Uses.{IsSameUses};
 ghost use Rattle.mate_num.specs.declared.lock_set.LockSet.{LockSet as LockSetValue};
@@ -12,6 +12,8 @@ ghost use Rattle.ts_compiler.specs.Compiled.{AreAccepted};
 ghost use Rattle.code_verifier.specs.Verified.{VerifiedCode, Verifies};
 ghost use Rattle.code_verifier.specs.declared.fault.VerifyFault.{VerifyFault as VerifyFaultValue};
 ghost use Rattle.lock_inference.specs.Locks.{AreLocksOf, held_uses};
+ghost use Rattle.mate_steps.specs.SourceCode.{IsCompiledOf, MeansTree};
+ghost use Rattle.mate_steps.specs.declared.code.CompiledScript.{CompiledScript as CompiledScriptValue};
 
 /// The verifier takes whatever the compiler gives for a tree, and finds the tree's code in it.
 pub fn compiled_code_is_verified()
@@ -25,4 +27,10 @@ pub fn compiled_code_is_verified()
 pub fn locks_of_compiled_code()
     ensures { (shape : Shape) (tree : Block) (set : LockSetValue) → AreLocksOf shape (code_of tree) set
         → IsSameUses (held_uses set) (uses_of shape tree) }
+{}
+
+/// The code of a compiled script runs as the accepted tree does, and uses nothing more.
+pub fn code_means_its_tree()
+    ensures { (shape : Shape) (fold : Bool) (tree : Block) (c : CompiledScriptValue) → IsCompiledOf shape fold tree c
+        → MeansTree shape fold tree }
 {}

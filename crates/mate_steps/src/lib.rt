@@ -16,7 +16,7 @@ pub use acceptance::acceptance_law;
 pub use accepting::accept;
 pub use capsule_file::{VerifiedCapsule, capsule_of};
 pub use code::{CodeFault, CompiledScript, compiled_script};
-pub use code_laws::{compiled_code_is_verified, locks_of_compiled_code};
+pub use code_laws::{code_means_its_tree, compiled_code_is_verified, locks_of_compiled_code};
 pub use expansion::expansion_of;
 pub use parts::{machine_of, read_file};
 pub use refusal::SourceRefusal;

@@ -17,9 +17,10 @@ use Rattle.ts_meaning.specs.Meaning.{run_of}
 use Rattle.ts_meaning.specs.Uses.{uses_of}
 use Rattle.ts_meaning.specs.Translation as translation
 use Rattle.capsule_codec.specs.Image.{CapsuleParts, image_of, IsCapsule, IsOfMachine}
-use Rattle.code_verifier.specs.Verified.{VerifiedCode, IsVerifiedCode, marks_of}
-use Rattle.mate_steps.specs.SourceCode.{IsCompiledOf, compiled_tree}
+use Rattle.code_verifier.specs.Verified.{VerifiedCode, marks_of}
+use Rattle.mate_steps.specs.SourceCode.{IsCompiledOf, MeansTree, compiled_tree}
 use Rattle.mate_steps.specs.declared.code.CompiledScript.{CompiledScript}
+use Rattle.mate_steps.proofs.CodeLemmas.{means-tree}
 use Rattle.vm_desc.specs.Shapes.{shape_of}
 use Rattle.vm_desc.specs.declared.description.Description.{Description}
 use Rattle.mate_journal.specs.declared.program.Program.{Program}
@@ -57,12 +58,13 @@ source-of_code : (shape : Shape) (fold : Bool) (tree : Block) (x : CompiledScrip
 source-of_code shape fold tree x c image is bytes image_is =
     let verified : bytes_verification shape c.code ≡ Ok (translation.code_of (compiled_tree fold tree), is.code_is.verified.0) = ap (bytes_verification shape) bytes ∙ is.code_is.verified.1 in
     let code_is : code_of shape image ≡ translation.code_of (compiled_tree fold tree) = image-code shape c image (translation.code_of (compiled_tree fold tree)) is.code_is.verified.0 image_is verified in
+    let means : MeansTree shape fold tree = means-tree shape fold tree x is in
     let R : Code → Type 0 = λ code. (store : _) (msg : _) (answers : _) (turns : _) → code_run shape code store msg answers turns ≡ run_of (compiled_tree fold tree) store msg answers turns in
     record {
       shape_is = is.shape_is;
       runs = λ store msg answers turns.
-          subst R (sym code_is) is.code_is.plays store msg answers turns ∙ ap (λ (t : Block). run_of t store msg answers turns) (sym is.tree_is);
-      uses = ap (code_uses shape) code_is ∙ is.code_is.uses ∙ ap (uses_of shape) (sym is.tree_is);
+          subst R (sym code_is) means.plays store msg answers turns ∙ ap (λ (t : Block). run_of t store msg answers turns) (sym is.tree_is);
+      uses = ap (code_uses shape) code_is ∙ means.uses ∙ ap (uses_of shape) (sym is.tree_is);
     }
 
 -- the program of a compiled script
@@ -80,18 +82,15 @@ IsRightProgram-compiled d fold tree x c p is capsule machine bytes handler versi
 }
 
 -- the program of a capsule that the verifier takes
-pub IsRightProgram-loaded : (d : Description) (v : VerifiedCode) (c : CapsuleParts) (p : Program) → IsVerifiedCode v → v.shape ≡ shape_of d → v.bytes ≡ c.code → IsCapsule c → IsOfMachine d c
+pub IsRightProgram-loaded : (d : Description) (v : VerifiedCode) (c : CapsuleParts) (p : Program) → bytes_verification (shape_of d) c.code ≡ Ok (v.code, marks_of v) → IsCapsule c → IsOfMachine d c
     → c.handler ≡ p.handler.0 → c.version ≡ p.version → p.source ≡ None → p.image.items ≡ image_of c → IsRightProgram d p
-IsRightProgram-loaded d v c p is shape bytes capsule machine handler version source image =
-    let at_shape = subst (λ (s : Shape). bytes_verification s v.bytes ≡ Ok (v.code, marks_of v)) shape is.accepted in
-    let at_bytes = subst (λ (bs : List ℕ). bytes_verification (shape_of d) bs ≡ Ok (v.code, marks_of v)) bytes at_shape in
-    record {
-      capsule = c;
-      is_capsule = capsule;
-      of_machine = machine;
-      handler = handler;
-      version = version;
-      image = image;
-      verified = IsOk-by (bytes_verification (shape_of d) c.code) (v.code, marks_of v) at_bytes;
-      source = subst (λ (o : _). IfSome o (IsSourceOf (shape_of d) (code_of (shape_of d) p.image))) (sym source) tt;
-    }
+IsRightProgram-loaded d v c p accepted capsule machine handler version source image = record {
+  capsule = c;
+  is_capsule = capsule;
+  of_machine = machine;
+  handler = handler;
+  version = version;
+  image = image;
+  verified = IsOk-by (bytes_verification (shape_of d) c.code) (v.code, marks_of v) accepted;
+  source = subst (λ (o : _). IfSome o (IsSourceOf (shape_of d) (code_of (shape_of d) p.image))) (sym source) tt;
+}

@@ -12,12 +12,12 @@ pub returns-in-Ok-compile-clause-gives : goal.returns-in-Ok-compile-clause-gives
 returns-in-Ok-compile-clause-gives c =
     let s = c.in-Ok.script in
     let code = c.in-Ok-compile.ensures in
+    let shape_is = c.in-Ok.ensures.shape ∙ c.requires in
     record {
-      shape_is = c.in-Ok.ensures.shape ∙ c.requires;
+      shape_is = shape_is;
       tree_is = c.in-Ok.ensures.tree;
-      code_is = folded_code (shape_of_script s) (shape_of_script c.args.script.now) (shape_of c.args.desc.now) (tree_of c.args.script.now) (tree_of s) c.in-Ok-compile.code
-          c.in-Ok.ensures.shape c.requires c.in-Ok.ensures.tree record { compiled = code.gives; verified = code.verified; plays = code.runs; uses = code.uses }
-          c.in-Ok.ensures.runs c.in-Ok.ensures.uses;
+      code_is = folded_code (shape_of_script s) (shape_of c.args.desc.now) (tree_of c.args.script.now) (tree_of s) c.in-Ok-compile.code shape_is c.in-Ok.ensures.tree
+          record { compiled = code.gives; verified = code.verified };
     }
 
 pub returns-in-Ok-compile-clause-filled : goal.returns-in-Ok-compile-clause-filled

@@ -11,10 +11,6 @@ returns-in-Ok-clause-gives c =
     let is : IsCodeOf (shape_of_script c.args.script) false tree c.in-Ok.code = record {
       compiled = c.in-Ok.ensures.gives;
       verified = c.in-Ok.ensures.verified;
-      plays = c.in-Ok.ensures.runs;
-      runs = c.in-Ok.ensures.runs;
-      uses = c.in-Ok.ensures.uses;
-      no_more = record { reads = λ r h. h; writes = λ r h. h };
     } in record {
       shape_is = c.requires;
       tree_is = refl;

@@ -32,7 +32,7 @@ returns-clause-right g c =
     let Is : VerifiedCapsule → Type 0 = λ h. capsule f c.args.desc.now c.args.name.now (Ok (h.capsule, h.code)) in
     let text = capsule-text f c.args.desc.now c.args.name.now (held.capsule, held.code) (subst Is (sym same) c.in_ok-held.ensures.does) in
     let p : Program = record { handler = held.capsule.handler; version = held.capsule.version; source = None; image = c.encode.result } in
-    IsRightProgram-loaded c.args.desc.now held.code (capsule_parts held.capsule) p text.1.is_verified text.1.is_for.shape_is text.1.is_for.bytes_are c.encode.ensures.fits text.1.is_for.of_machine refl refl refl c.encode.ensures.bytes
+    IsRightProgram-loaded c.args.desc.now held.code (capsule_parts held.capsule) p text.1.accepted c.encode.ensures.fits text.1.is_for.of_machine refl refl refl c.encode.ensures.bytes
 
 pub returns-in_err-held-clause-reads : goal.returns-in_err-held-clause-reads
 returns-in_err-held-clause-reads g c = reads-err c.in_err-held.field-0.0 c.from_residual.result c.in_err-held.ensures.reads c.from_residual.ensures.1
