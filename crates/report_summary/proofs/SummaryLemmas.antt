@@ -15,7 +15,7 @@ use Rattle.report_text.specs.declared.summary.EntryKind.{EntryKind}
 use Rattle.report_text.specs.declared.summary.EntryKind.TheVariants as entry_kind
 use Rattle.report_text.specs.declared.summary.AirKind.TheVariants as air_kind
 use Rattle.report_text.proofs.EventLemmas.{flat_map-below_next}
-use Rattle.report_summary.specs.Tally.{entries_counted, versions_at, versions_of, IsUpTo, IsLogTally, AreLogTallies}
+use Rattle.report_summary.specs.Tally.{entries_counted, versions_at, IsUpTo, IsLogTally, AreLogTallies}
 use Rattle.report_summary.specs.Summary.{SumsReport, AreSmall, IsSmall, IsOfNode, entries_summed, newest_counted, holders_counted, newest_line_counted, counted_lines, summary_text}
 use Rattle.report_summary.specs.declared.tally.LogTally.{LogTally}
 use Rattle.report_summary.specs.declared.summary.Summary.{Summary}

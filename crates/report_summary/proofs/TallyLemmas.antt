@@ -1,24 +1,27 @@
 -- Lemmas on `specs/Tally.antt`.
-use Rattle.std.proofs.Common.{◌≡◌, ℕ, zero, suc, ◌+◌, ◌<◌, ◌≤◌, ◌==◌, max, Bool, true, false, cond, true≢false, List, ◌++◌, ◌∷◌, [], length, map, take, get_or, set, refl, ap, sym, subst, ◌∙◌, arith, append_assoc}
-use Rattle.std.specs.Prelude.{fold, filter_map, count_by, if◌then◌else◌, Option, None, Some, All}
-use Rattle.std.proofs.lemmas.Bool.Decides.{Decides-eqb}
-use Rattle.std.proofs.lemmas.List.{take_more, length-append, length-map, get_or_default, get_or-set_same, get_or-set_other}
+use Rattle.std.proofs.Common.{◌≡◌, ℕ, zero, suc, ◌+◌, ◌<◌, ◌≤◌, ◌==◌, max, Bool, true, false, cond, List, ◌++◌, ◌∷◌, [], length, map, take, get_or, refl, ap, sym, subst, ◌∙◌, arith, append_assoc}
+use Rattle.std.specs.Prelude.{fold, count_by, if◌then◌else◌, Option, None, Some, All}
+use Rattle.std.proofs.lemmas.List.{take_more, take-append-drop, length-append, length-map}
 use Rattle.std.proofs.lemmas.Option.{same_Some}
 use Rattle.std.proofs.lemmas.List.Elements.{filter_map-append, All-head, All-tail}
 use Rattle.std.proofs.lemmas.List.Sums.{fold-append, sum_by-append, sum_by-cons, count_by-le-length, count_by_more_yes, count_by_more_no}
-use Rattle.mate_num.specs.declared.id.HandlerId.{HandlerId}
+use Rattle.mate_journal.specs.Log.{Log}
+use Rattle.mate_journal.specs.declared.air.Air.{Air}
+use Rattle.mate_journal.specs.declared.air.Aired.{Aired}
 use Rattle.mate_journal.specs.declared.entry.Entry.{Entry}
 use Rattle.mate_journal.specs.declared.entry.Entry.TheVariants as entry
 use Rattle.mate_journal.specs.declared.entry.Stamped.{Stamped}
-use Rattle.mate_journal.specs.OpenLog.{entry_behind, stamped_behind}
-use Rattle.report_text.specs.Brief.{is_entry, installed}
+use Rattle.mate_journal.specs.OpenLog.{OpenView, IsKept, entry_behind, stamped_behind}
+use Rattle.report_text.specs.Brief.{is_entry, is_air, installed}
+use Rattle.report_text.specs.declared.summary.AirKind.{AirKind}
 use Rattle.report_text.specs.declared.summary.EntryKind.{EntryKind}
 use Rattle.report_text.specs.declared.summary.EntryKind.TheVariants as entry_kind
 use Rattle.report_summary.specs.declared.tally.EntryCounts.{EntryCounts}
 use Rattle.report_summary.specs.declared.tally.Versions.{Versions}
 use Rattle.report_summary.specs.declared.tally.Installed.{Installed}
 use Rattle.report_summary.specs.declared.tally.LogTally.{LogTally}
-use Rattle.report_summary.specs.Tally.{entries_counted, versions_counted, versions_of, versions_none, versions_at, install_told, with_version, with_version_if, CountsUpTo, IsUpTo, IsLogTally, InstallsVersion, AddsEntry}
+use Rattle.report_summary.specs.declared.tally.AirTally.{AirTally}
+use Rattle.report_summary.specs.Tally.{entries_counted, air_counted, versions_counted, versions_of, versions_none, versions_at, install_told, with_version, with_version_if, IsUpTo, IsAirUpTo, IsLogTally, IsAirTally, AddsEntry, AddsAir}
 use Rattle.report_text.specs.Counts.{one_if}
 
 -- ---- one entry
@@ -244,3 +247,60 @@ tally-behind n images stores t front es is =
           (filter_map-append (λ (x : Stamped). installed h x.entry) front es ∙ ap (λ (vs : List ℕ). versions_counted h front ++ vs) (sym (versions-behind h images stores es))
           ∙ sym (filter_map-append (λ (x : Stamped). installed h x.entry) front again));
     }
+
+-- ---- what is at hand of a log
+
+-- all is counted, where what is at hand was counted behind what is gone
+pub counted-kept : (n : ℕ) (v : OpenView) (kept : Log) (t : LogTally) (es : List Stamped) → es ≡ kept.entries → IsKept v kept → IsLogTally n t (take v.gone.entries v.all.entries ++ es) → IsLogTally n t v.all.entries
+counted-kept n v kept t es same is counted =
+    let front = take v.gone.entries v.all.entries in
+    let by_kept : IsLogTally n t (front ++ kept.entries) = subst (λ (xs : List Stamped). IsLogTally n t (front ++ xs)) same counted in
+    tally-same n t (front ++ map (stamped_behind v.gone.images v.gone.stores) kept.entries) v.all.entries
+    (ap (λ (xs : List Stamped). front ++ xs) (sym is.entries) ∙ take-append-drop v.gone.entries v.all.entries)
+    (tally-behind n v.gone.images v.gone.stores t front kept.entries by_kept)
+
+pub up-to : (m n : ℕ) (t : LogTally) → m ≤ n → IsUpTo m t → IsUpTo n t
+up-to m n t le up = record {
+  entries = let e = up.entries in omega (arith, e, le);
+  counts = λ k. let c = up.counts k in omega (arith, c, le);
+}
+
+-- ---- the air
+
+count-one-air : (k : AirKind) (a : Aired) (b : Bool) → is_air k a.air ≡ b → count_by (λ (x : Aired). is_air k x.air) (a ∷ []) ≡ one_if (is_air k a.air)
+count-one-air k a true is = rw is refl
+count-one-air k a false is = rw is refl
+
+-- a record more
+air-push : (old new : AirTally) (xs : List Aired) (a : Aired) → AddsAir old new a.air → IsAirTally old xs → IsAirTally new (xs ++ a ∷ [])
+air-push old new xs a adds is = record {
+  records = let x = adds.records in let y = is.records in let l = length-append xs (a ∷ []) in omega (arith, x, y, l);
+  counts = λ k.
+      let x = adds.counts k in let y = is.counts k in
+      let both = sum_by-append (λ (z : Aired). cond (is_air k z.air) 1 0) xs (a ∷ []) in
+      let one = count-one-air k a (is_air k a.air) refl in
+      omega (arith, x, y, both, one);
+}
+
+pub air-same : (t : AirTally) (xs ys : List Aired) → xs ≡ ys → IsAirTally t xs → IsAirTally t ys
+air-same t xs ys same is = subst (IsAirTally t) same is
+
+-- the records before a place, and one more
+pub air-next : (old new : AirTally) (front xs : List Aired) (i : ℕ) (a : Aired) → i < length xs → a ≡ get_or xs i a → AddsAir old new a.air → IsAirTally old (front ++ take i xs) → IsAirTally new (front ++ take (i + 1) xs)
+air-next old new front xs i a low is adds so =
+    air-same new ((front ++ take i xs) ++ a ∷ []) (front ++ take (i + 1) xs)
+    (append_assoc front (take i xs) (a ∷ []) ∙ ap (λ (ys : List Aired). front ++ ys) (ap (λ (x : Aired). take i xs ++ x ∷ []) is ∙ sym (take_more xs i a low)))
+    (air-push old new (front ++ take i xs) a adds so)
+
+-- a tally counts no more than there is
+pub air-few : (most : ℕ) (t : AirTally) (xs : List Aired) → IsAirTally t xs → length xs ≤ most → IsAirUpTo most t
+air-few most t xs is few = record {
+  records = let e = is.records in omega (arith, e, few);
+  counts = λ k. let c = is.counts k in let l = count_by-le-length (λ (a : Aired). is_air k a.air) xs in omega (arith, c, l, few);
+}
+
+pub air-up-to : (m n : ℕ) (t : AirTally) → m ≤ n → IsAirUpTo m t → IsAirUpTo n t
+air-up-to m n t le up = record {
+  records = let e = up.records in omega (arith, e, le);
+  counts = λ k. let c = up.counts k in omega (arith, c, le);
+}

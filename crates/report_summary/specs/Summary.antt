@@ -9,8 +9,9 @@ use Rattle.report_text.specs.Text.{end_word}
 use Rattle.report_text.specs.Brief.{count_line}
 use Rattle.report_text.specs.declared.summary.EntryKind.{EntryKind}
 use Rattle.report_text.specs.declared.summary.EntryKind.TheVariants as entry_kind
-use Rattle.report_summary.specs.Tally.{entries_counted, versions_at, IsUpTo, AreLogTallies, IsAirTally}
+use Rattle.report_summary.specs.Tally.{entries_counted, versions_at, IsUpTo, IsLogTally, AreLogTallies, IsAirTally}
 use Rattle.report_summary.specs.declared.tally.LogTally.{LogTally}
+use Rattle.report_summary.specs.declared.summary.RunTally.{RunTally}
 use Rattle.report_summary.specs.declared.summary.Summary.{Summary}
 
 -- it is that of this report
@@ -27,7 +28,7 @@ pub record AreSmall (ts : List LogTally) : Type 0 where
 
 pub record IsSmall (s : Summary) : Type 0 where
   pub nodes : AreSmall s.nodes.items
-  pub air : s.air.records ≤ 2 ^ 57
+  pub air : s.air.records ≤ 3 * 2 ^ 56
 
 -- it is that of a run on one node
 pub record IsOfNode (t : LogTally) (events : ℕ) (whole : Bool) (s : Summary) : Type 0 where
@@ -35,6 +36,12 @@ pub record IsOfNode (t : LogTally) (events : ℕ) (whole : Bool) (s : Summary) :
   pub air : IsAirTally s.air []
   pub events_are : s.events ≡ events
   pub whole_is : s.whole ≡ whole
+
+-- what was counted of a run on so many nodes before anything happened
+pub record IsNewTally (handlers nodes : ℕ) (t : RunTally) : Type 0 where
+  pub count : length t.nodes.items ≡ nodes
+  pub none : All (λ (a : LogTally). IsLogTally handlers a []) t.nodes.items
+  pub air : IsAirTally t.air []
 
 -- ---- its text
 

@@ -1,12 +1,13 @@
 -- What is counted of a log and of the air.
-use Rattle.std.specs.Prelude.{◌≡◌, ◌≤◌, ◌<◌, ◌+◌, ◌==◌, ℕ, Bool, true, false, if◌then◌else◌, List, [], ◌∷◌, length, max, fold, filter_map}
+use Rattle.std.specs.Prelude.{◌≡◌, ◌≤◌, ◌<◌, ◌+◌, ◌==◌, ℕ, if◌then◌else◌, List, [], ◌∷◌, length, max, fold, filter_map}
 use Rattle.std.specs.Prelude.{count_by, slice_index_or, Option, None, Some, ⊤}
 use Rattle.mate_journal.specs.Log.{Log}
+use Rattle.mate_journal.specs.declared.air.Air.{Air}
 use Rattle.mate_journal.specs.declared.air.Aired.{Aired}
 use Rattle.mate_journal.specs.declared.entry.Entry.{Entry}
 use Rattle.mate_journal.specs.declared.entry.Entry.TheVariants as entry
 use Rattle.mate_journal.specs.declared.entry.Stamped.{Stamped}
-use Rattle.report_text.specs.Brief.{is_entry, air_of, installed}
+use Rattle.report_text.specs.Brief.{is_entry, is_air, air_of, installed}
 use Rattle.report_text.specs.Counts.{one_if}
 use Rattle.report_text.specs.declared.summary.EntryKind.{EntryKind}
 use Rattle.report_text.specs.declared.summary.EntryKind.TheVariants as entry_kind
@@ -70,6 +71,10 @@ pub record IsUpTo (n : ℕ) (t : LogTally) : Type 0 where
   pub entries : t.entries ≤ n
   pub counts : CountsUpTo n t.counts
 
+pub record IsAirUpTo (n : ℕ) (t : AirTally) : Type 0 where
+  pub records : t.records ≤ n
+  pub counts : (k : AirKind) → air_counted k t ≤ n
+
 -- what was counted of these entries, on a machine of so many handlers
 pub record IsLogTally (handlers : ℕ) (t : LogTally) (es : List Stamped) : Type 0 where
   pub size : length t.versions.items ≡ handlers
@@ -107,3 +112,8 @@ pub record AddsEntry (old new : LogTally) (e : Entry) : Type 0 where
   pub entries : new.entries ≡ old.entries + 1
   pub counts : (k : EntryKind) → entries_counted k new.counts ≡ entries_counted k old.counts + one_if (is_entry k e)
   pub notes : Notes old.versions.items new.versions.items e
+
+-- a record of the air more
+pub record AddsAir (old new : AirTally) (a : Air) : Type 0 where
+  pub records : new.records ≡ old.records + 1
+  pub counts : (k : AirKind) → air_counted k new ≡ air_counted k old + one_if (is_air k a)

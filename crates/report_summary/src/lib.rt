@@ -4,5 +4,5 @@
 pub mod summary;
 pub mod tally;
 
-pub use summary::Summary;
+pub use summary::{RunTally, Summary};
 pub use tally::{AirTally, LogTally};

@@ -7,7 +7,7 @@ ghost use Rattle.mate_journal.specs.Tidy.{below};
 ghost use Rattle.report_text.specs.Brief.{count_line};
 ghost use Rattle.report_summary.specs.Tally.{versions_at};
 ghost use Rattle.report_summary.specs.Summary.{entries_summed, newest_counted, counted_lines, newest_line_counted, summary_text, AreSmall};
-ghost use Rattle.report_summary.specs.Summary.{IsSmall, IsOfNode};
+ghost use Rattle.report_summary.specs.Summary.{IsSmall, IsOfNode, IsNewTally};
 
 use crate::tally::{AirTally, LogTally, one_if};
 use mate_files::{Pen, Sink, SinkFault};
@@ -18,6 +18,42 @@ use report_text::text::end_word;
 use report_text::words::{number, word};
 use std::alloc::Global;
 use vm_desc::Description;
+
+/// What is counted of a run so far: of the log of each of its nodes, and of the air.
+#[derive(Drop)]
+pub struct RunTally {
+    pub nodes: Vec<LogTally>,
+    pub air: AirTally,
+}
+
+impl RunTally {
+    /// That of a run on so many nodes, for so many handlers, before anything happened.
+    pub fn new(alloc: Global, nodes: u8, handlers: usize) -> Result<RunTally, NoMemory>
+        ensures { IfOk result (IsNewTally handlers nodes) }
+    {
+        let mut tallies = Vec::new(alloc);
+        for _node in 0..nodes {
+            tallies.push(LogTally::new(alloc, handlers)?)?;
+        }
+        Ok(RunTally {
+            nodes: tallies,
+            air: AirTally::new(),
+        })
+    }
+
+    /// The summary of the run, of so many events. It takes no memory.
+    pub fn summary(self, events: u64, whole: bool) -> Summary
+        ensures { result ≡ record { nodes = self.nodes; air = self.air; events = events; whole = whole } }
+    {
+        let RunTally { nodes, air } = self;
+        Summary {
+            nodes,
+            air,
+            events,
+            whole,
+        }
+    }
+}
 
 /// What is counted of a run: of the log of each of its nodes and of the air; the number of its last event; and whether it is whole.
 #[derive(Drop)]

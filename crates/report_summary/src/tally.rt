@@ -1,16 +1,18 @@
 //! What is counted of a log and of the air, entry by entry.
 
 ghost use Rattle.std.specs.Prelude.{◌≡◌, ◌+◌, ◌++◌, ◌≤◌, ◌<◌, ◌^◌, ℕ, List, [], length, IfOk, slice_index_or, if◌then◌else◌, ◌==◌};
+ghost use Rattle.mate_journal.specs.declared.air.Aired.{Aired as AirRecord};
 ghost use Rattle.mate_journal.specs.declared.entry.Stamped.{Stamped as StampedEntry};
-ghost use Rattle.report_text.specs.Brief.{is_entry};
+ghost use Rattle.report_text.specs.Brief.{is_entry, is_air};
+ghost use Rattle.report_text.specs.declared.summary.AirKind.TheVariants as air_kinds;
 ghost use Rattle.report_text.specs.declared.summary.EntryKind.TheVariants as kinds;
 ghost use Rattle.report_summary.specs.Tally.{entries_counted, install_told, with_version, versions_none, versions_at, CountsUpTo, IsUpTo};
-ghost use Rattle.report_summary.specs.Tally.{IsLogTally, InstallsVersion, Notes, AddsEntry, IsAirTally};
+ghost use Rattle.report_summary.specs.Tally.{IsLogTally, InstallsVersion, Notes, AddsEntry, IsAirTally, IsAirUpTo, AddsAir};
 ghost use Rattle.report_text.specs.Counts.{one_if};
 
-use mate_journal::{Entry, Stamped};
+use mate_journal::{Air, Aired, Entry, Stamped};
 use mate_num::{HandlerId, NoMemory};
-use report_text::summary::EntryKind;
+use report_text::summary::{AirKind, EntryKind};
 use std::alloc::Global;
 
 /// How many entries of each kind there are.
@@ -200,6 +202,28 @@ impl AirTally {
             lost: 0,
         }
     }
+
+    /// Counts records behind those that were counted.
+    pub fn add_all(&mut self, air: &[Aired])
+        requires { IsAirUpTo (2 ^ 63) self.old }
+        ensures tallies { (front : List AirRecord) → IsAirTally self.old front → IsAirTally self.new (front ++ air.now) }
+        ensures up { (n : ℕ) → IsAirUpTo n self.old → IsAirUpTo (n + 2 ^ 57) self.new }
+    {
+        for aired in air {
+            self.add(&aired.air);
+        }
+    }
+
+    /// Counts a record.
+    fn add(&mut self, air: &Air)
+        requires { IsAirUpTo (2 ^ 63 + 2 ^ 57) self.old }
+        ensures { AddsAir self.old self.new air.now }
+    {
+        self.records += 1;
+        self.sent += one_if(is_air(air, AirKind::Sent));
+        self.got += one_if(is_air(air, AirKind::Got));
+        self.lost += one_if(is_air(air, AirKind::Lost));
+    }
 }
 
 pub(crate) fn one_if(is: bool) -> u64
@@ -218,5 +242,15 @@ fn is_entry(entry: &Entry, kind: EntryKind) -> bool
         EntryKind::Halt => matches!(entry, Entry::Halt { .. }),
         EntryKind::Fault => matches!(entry, Entry::Fault { .. }),
         EntryKind::Install => matches!(entry, Entry::Install { .. }),
+    }
+}
+
+fn is_air(air: &Air, kind: AirKind) -> bool
+    ensures { result ≡ is_air kind air.now }
+{
+    match kind {
+        AirKind::Sent => matches!(air, Air::Sent { .. }),
+        AirKind::Got => matches!(air, Air::Got { .. }),
+        AirKind::Lost => matches!(air, Air::Lost { .. }),
     }
 }

@@ -1,35 +1,21 @@
 -- What a run on one node counts.
-use Rattle.std.proofs.Common.{◌≡◌, ◌≤◌, ℕ, List, [], ◌++◌, Result, Ok, Err, IfOk, sym, ◌∙◌, ap, subst, arith, length, map, take, take_all}
-use Rattle.std.proofs.lemmas.List.{take-append-drop, take-append-le, length-take}
+use Rattle.std.proofs.Common.{◌≡◌, ◌≤◌, ℕ, List, [], ◌++◌, Result, Ok, Err, IfOk, sym, ◌∙◌, ap, subst, arith, length, take, take_all}
+use Rattle.std.proofs.lemmas.List.{take-append-le, length-take}
 use Rattle.mate_journal.specs.Log.{Log, GoesOn}
-use Rattle.mate_journal.specs.OpenLog.{Gone, OpenView, IsKept, stamped_behind, nothing_gone, gone_of}
+use Rattle.mate_journal.specs.OpenLog.{Gone, IsKept, nothing_gone, gone_of}
 use Rattle.mate_journal.specs.declared.entry.Stamped.{Stamped}
 use Rattle.open_node.specs.View.{NodeView, IsSameNode}
 use Rattle.report_summary.specs.Tally.{IsUpTo, IsLogTally}
 use Rattle.report_summary.specs.declared.tally.LogTally.{LogTally}
-use Rattle.report_summary.proofs.TallyLemmas.{tally-same, tally-few, tally-behind}
+use Rattle.report_summary.proofs.TallyLemmas.{tally-same, tally-few, counted-kept}
 
 -- ---- what is at hand
-
-counted-kept : (n : ℕ) (v : OpenView) (kept : Log) (t : LogTally) (es : List Stamped) → es ≡ kept.entries → IsKept v kept → IsLogTally n t (take v.gone.entries v.all.entries ++ es) → IsLogTally n t v.all.entries
-counted-kept n v kept t es same is counted =
-    let front = take v.gone.entries v.all.entries in
-    let by_kept : IsLogTally n t (front ++ kept.entries) = subst (λ (xs : List Stamped). IsLogTally n t (front ++ xs)) same counted in
-    tally-same n t (front ++ map (stamped_behind v.gone.images v.gone.stores) kept.entries) v.all.entries
-    (ap (λ (xs : List Stamped). front ++ xs) (sym is.entries) ∙ take-append-drop v.gone.entries v.all.entries)
-    (tally-behind n v.gone.images v.gone.stores t front kept.entries by_kept)
 
 -- the same, of the node as it is seen where it is read
 pub counted-as : (n : ℕ) (self v : NodeView) → self ≡ v → (kept : Log) (t : LogTally) (es : List Stamped) → es ≡ kept.entries → IsKept (record { all = v.log; gone = v.gone }) kept
     → IsLogTally n t (take self.gone.entries self.log.entries ++ es) → IsLogTally n t self.log.entries
 counted-as n self v e kept t es same is counted =
     counted-kept n (record { all = self.log; gone = self.gone }) kept t es same (subst (λ (x : NodeView). IsKept (record { all = x.log; gone = x.gone }) kept) (sym e) is) counted
-
-pub up-to : (m n : ℕ) (t : LogTally) → m ≤ n → IsUpTo m t → IsUpTo n t
-up-to m n t le up = record {
-  entries = let e = up.entries in omega (arith, e, le);
-  counts = λ k. let c = up.counts k in omega (arith, c, le);
-}
 
 pub same-on : (a b c : NodeView) → IsSameNode a b → IsSameNode b c → IsSameNode a c
 same-on a b c f g = record {

@@ -1,4 +1,4 @@
-use Rattle.std.proofs.Common.{List, length, sum_by, ap, sym, subst, ◌+◌, ◌∙◌, codes, arith}
+use Rattle.std.proofs.Common.{length, sum_by, ap, sym, subst, ◌+◌, ◌∙◌, codes, arith}
 use Rattle.mate_files.proofs.PenLemmas.{◌⟫◌, Prints-by}
 use Rattle.report_text.specs.Brief.{count_line}
 use Rattle.report_text.specs.declared.summary.EntryKind.TheVariants as entry_kind
