@@ -1,5 +1,5 @@
 -- Words have one answer, so what is owed comes.
-use Rattle.std.proofs.Common.{◌≡◌, ℕ, Bool, true, false, inl, inr, List, Ok, Err, refl, subst}
+use Rattle.std.proofs.Common.{◌≡◌, ℕ, Bool, true, false, not, inl, inr, List, Ok, Err, refl, subst}
 use Rattle.command_line.specs.Commands.{Task, Node, Sim, Gen, Table, Compile, Check, Expand, Feed, Audit}
 use Rattle.command_laws.specs.Completed.{IsUnhindered, Completes, whole, full, wanting}
 use Rattle.command_laws.specs.SameText.{SameText}
@@ -11,7 +11,8 @@ use Rattle.command_laws.proofs.OneText.{WorldsHaveOneReport}
 use Rattle.command_laws.proofs.OneWorld.{sim_agrees, gen_agrees}
 use Rattle.command_laws.proofs.Steady.{owes_steady}
 use Rattle.mate_cli.specs.Ends as ends
-use Rattle.mate_cli.specs.Ends.{command, Owes, Sinks, RefusesTo, IsDocumentWritten, IsRunWritten, IsOutputWritten, CallEnds}
+use Rattle.mate_cli.specs.Ends.{command, Owes, Sinks, RefusesTo, IsTextWritten, IsRunWritten, IsOutputWritten, CallEnds}
+use Rattle.mate_documents.specs.Documents.{document_text}
 use Rattle.mate_documents.specs.declared.document.Document.{Document}
 use Rattle.mate_documents.specs.declared.output.Output.{Output}
 use Rattle.mate_documents.specs.declared.output.Output.TheVariants as output
@@ -25,6 +26,7 @@ use Rattle.mate_refusals.specs.declared.status.Status.TheVariants as status
 use Rattle.mate_steps.specs.OneAnswer.{AnswersAgree, steady}
 use Rattle.mate_steps.specs.Parts.{Folder}
 use Rattle.mate_steps.proofs.OneAnswer.{then_agrees}
+use Rattle.report_summary.specs.Summary.{summary_text}
 use Rattle.run_steps.specs.Running.{IsReportOf}
 use Rattle.run_writing.specs.Writing.{OfRun}
 use Rattle.vm_desc.specs.declared.description.Description.{Description}
@@ -54,11 +56,16 @@ told s t r code (inl x) wants = subst (λ (y : Refusal). code ≡ status_of y) w
 told s t r code (inr x) wants = x.0
 
 module _ (names : Names) (words : List (List ℕ)) (s t : Sinks) (code : Status) (quiet : Rose s.out_faults t.out_faults → ⊥) where
-  document_completes : (x : Document) → Owes (steady names) words (Ok (output.Document x)) → IsDocumentWritten x s t code → Completes names words s t code
-  document_completes x owes (ends.done some sent same is) = whole (output.Document x) owes _ (some, refl) sent same is
-  document_completes x owes (ends.full all sent tells) = full (output.Document x) owes _ (all, refl) sent tells
-  document_completes x owes (ends.failed part rose tells) = absurd (quiet rose)
-  document_completes x owes (ends.wanting part tells) = wanting (told s t NoMemory code tells refl)
+  text_completes : (o : Output) (bs : List ℕ) (all : Bool) → Owes (steady names) words (Ok o) → ((how : Bool) → all ≡ not how → IsTextOf how o bs) → IsTextWritten bs all s t code → Completes names words s t code
+  text_completes o bs all owes texts (ends.done is_all sent same is) = whole o owes bs (texts false is_all) sent same is
+  text_completes o bs all owes texts (ends.full is_cut sent tells) = full o owes bs (texts true is_cut) sent tells
+  text_completes o bs all owes texts (ends.failed part rose tells) = absurd (quiet rose)
+  text_completes o bs all owes texts (ends.wanting part tells) = wanting (told s t NoMemory code tells refl)
+
+  -- a document tells of no run that a full log ended
+  document_text_of : (x : Document) (how : Bool) → true ≡ not how → IsTextOf how (output.Document x) (document_text x)
+  document_text_of x false is = (refl, refl)
+  document_text_of x true is = absurd (let e : true ≡ false = is in cc)
 
   -- of a run, whose texts these are
   run_completes : (d : Description) (Is : OfRun) (o : Output) → Owes (steady names) words (Ok o) → ((how : Bool) (bs : List ℕ) → IsRunText d Is (run_end how) bs → IsTextOf how o bs)
@@ -69,7 +76,8 @@ module _ (names : Names) (words : List (List ℕ)) (s t : Sinks) (code : Status)
   run_completes d Is o owes texts (ends.cut r part tells) = wanting (told s t NoMemory code tells refl)
 
   output_completes : (o : Output) → Owes (steady names) words (Ok o) → IsOutputWritten o s t code → Completes names words s t code
-  output_completes (output.Document x) owes written = document_completes x owes written
+  output_completes (output.Document x) owes written = text_completes (output.Document x) (document_text x) true owes (document_text_of x) written
+  output_completes (output.Summary d sum) owes written = text_completes (output.Summary d sum) (summary_text d sum) sum.whole owes (λ how is. (is, refl)) written
   output_completes (output.Run d script ps) owes written = run_completes d (IsReportOf d script ps) (output.Run d script ps) owes (λ how bs is. is) written
   output_completes (output.World d w ps) owes written = run_completes d (IsReportOfWorld d w ps) (output.World d w ps) owes (λ how bs is. is) written
 

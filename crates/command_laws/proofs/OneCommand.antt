@@ -47,6 +47,8 @@ pub writes_agree : (bytes : List ℕ) → AnswersAgree SameText (writes bytes) (
 writes_agree bytes (Ok (output.Document a)) (Ok (output.Document b)) p q = p ∙ sym q
 writes_agree bytes (Ok (output.Document a)) (Ok (output.Run d s ps)) p q = absurd q
 writes_agree bytes (Ok (output.Document a)) (Ok (output.World d w ps)) p q = absurd q
+writes_agree bytes (Ok (output.Document a)) (Ok (output.Summary d s)) p q = absurd q
+writes_agree bytes (Ok (output.Summary d s)) (Ok b) p q = absurd p
 writes_agree bytes (Ok (output.Run d s ps)) (Ok b) p q = absurd p
 writes_agree bytes (Ok (output.World d w ps)) (Ok b) p q = absurd p
 writes_agree bytes (Ok a) (Err r) p q = q

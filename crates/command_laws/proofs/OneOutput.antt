@@ -20,9 +20,11 @@ same_outputs a b o n same is is' = subst (λ (x : Output). SameText x n) (sym is
 
 -- and two summaries are
 same_briefs : (d : Description) (r r' : Report) (o n : Output) → IsBrief d r o → IsBrief d r' n → brief d r ≡ brief d r' → SameText o n
-same_briefs d r r' (output.Document x) (output.Document y) is is' told = is.0 ∙ told ∙ sym is'.0
-same_briefs d r r' (output.Document x) (output.Run d' script ps) is is' told = absurd is'
-same_briefs d r r' (output.Document x) (output.World d' w ps) is is' told = absurd is'
+same_briefs d r r' (output.Summary x s) (output.Summary y s') is is' told = is.0 ∙ told ∙ sym is'.0
+same_briefs d r r' (output.Summary x s) (output.Document y) is is' told = absurd is'
+same_briefs d r r' (output.Summary x s) (output.Run d' script ps) is is' told = absurd is'
+same_briefs d r r' (output.Summary x s) (output.World d' w ps) is is' told = absurd is'
+same_briefs d r r' (output.Document x) n is is' told = absurd is
 same_briefs d r r' (output.Run d' script ps) n is is' told = absurd is
 same_briefs d r r' (output.World d' w ps) n is is' told = absurd is
 

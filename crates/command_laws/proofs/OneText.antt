@@ -59,6 +59,13 @@ world-once law d d' w w' ps ps' same full full' bs bs' is is' =
 
 pub one-text : WorldsHaveOneReport → (o o' : Output) → SameText o o' → (full full' : Bool) (bs bs' : List ℕ) → IsTextOf full o bs → IsTextOf full' o' bs' → bs ≡ bs'
 one-text law (output.Document x) (output.Document y) same full full' bs bs' is is' = is.1 ∙ same ∙ sym is'.1
+one-text law (output.Document x) (output.Summary d s) same full full' bs bs' is is' = absurd same
+one-text law (output.Summary d s) (output.Summary d' s') same full full' bs bs' is is' = is.1 ∙ same ∙ sym is'.1
+one-text law (output.Summary d s) (output.Document y) same full full' bs bs' is is' = absurd same
+one-text law (output.Summary d s) (output.Run d' s' ps) same full full' bs bs' is is' = absurd same
+one-text law (output.Summary d s) (output.World d' w ps) same full full' bs bs' is is' = absurd same
+one-text law (output.Run d s ps) (output.Summary d' s') same full full' bs bs' is is' = absurd same
+one-text law (output.World d w ps) (output.Summary d' s') same full full' bs bs' is is' = absurd same
 one-text law (output.Document x) (output.Run d s ps) same full full' bs bs' is is' = absurd same
 one-text law (output.Document x) (output.World d w ps) same full full' bs bs' is is' = absurd same
 one-text law (output.Run d s ps) (output.Document y) same full full' bs bs' is is' = absurd same

@@ -6,6 +6,7 @@ use Rattle.mate_documents.specs.declared.output.Output.TheVariants as output
 use Rattle.mate_journal.specs.declared.program.Program.{Program}
 use Rattle.node_programs.specs.ScriptSteps.{steps_of}
 use Rattle.node_programs.specs.Sources.{meaning_by}
+use Rattle.report_summary.specs.Summary.{summary_text}
 use Rattle.script_reader.specs.Steps.{NodeScript}
 use Rattle.vm_desc.specs.declared.description.Description.{Description}
 use Rattle.world_script.specs.declared.world.World.{World}
@@ -23,9 +24,10 @@ pub record IsSameWorld (d d' : Description) (w w' : World) (ps ps' : List Progra
   pub world : w ≡ w'
   pub meaning : source_world d w ps ≡ source_world d' w' ps'
 
--- documents with the same text, and the same runs
+-- documents or summaries with the same text, and the same runs
 abbrev pub SameText : Output → Output → Type 0
 SameText (output.Document x) (output.Document y) = document_text x ≡ document_text y
+SameText (output.Summary d s) (output.Summary d' s') = summary_text d s ≡ summary_text d' s'
 SameText (output.Run d script ps) (output.Run d' script' ps') = IsSameRun d d' script script' ps ps'
 SameText (output.World d w ps) (output.World d' w' ps') = IsSameWorld d d' w w' ps ps'
 SameText _ _ = ⊥

@@ -1,10 +1,11 @@
 -- The texts that outputs are.
-use Rattle.std.specs.Prelude.{◌≡◌, ℕ, Bool, true, false, List}
-use Rattle.mate_documents.specs.Documents.{document_text, is_full}
+use Rattle.std.specs.Prelude.{◌≡◌, ℕ, Bool, true, false, not, List}
+use Rattle.mate_documents.specs.Documents.{document_text}
 use Rattle.mate_documents.specs.declared.output.Output.{Output}
 use Rattle.mate_documents.specs.declared.output.Output.TheVariants as output
 use Rattle.mate_journal.specs.NodeScript.{RunEnd, Whole, Full}
 use Rattle.mate_journal.specs.declared.report.Report.{Report}
+use Rattle.report_summary.specs.Summary.{summary_text}
 use Rattle.report_text.specs.Text.{text}
 use Rattle.run_steps.specs.Running.{IsReportOf}
 use Rattle.run_writing.specs.Writing.{OfRun}
@@ -24,6 +25,7 @@ pub record IsRunText (d : Description) (Is : OfRun) (how : RunEnd) (bs : List �
 
 -- a text of an output, which tells whether a full log ended the run
 abbrev pub IsTextOf : (full : Bool) → Output → List ℕ → Type 0
-IsTextOf full (output.Document x) bs = (is_full x ≡ full) × (bs ≡ document_text x)
+IsTextOf full (output.Document x) bs = (full ≡ false) × (bs ≡ document_text x)
+IsTextOf full (output.Summary d s) bs = (s.whole ≡ not full) × (bs ≡ summary_text d s)
 IsTextOf full (output.Run d script ps) bs = IsRunText d (IsReportOf d script ps) (run_end full) bs
 IsTextOf full (output.World d w ps) bs = IsRunText d (IsReportOfWorld d w ps) (run_end full) bs

@@ -1,7 +1,7 @@
 -- What a call of the program owes, and how it ends.
-use Rattle.std.specs.Prelude.{◌≡◌, ℕ, true, false, List, Option, Result, Ok, Err, ⊤, ◌⊎◌}
+use Rattle.std.specs.Prelude.{◌≡◌, ℕ, Bool, true, false, List, Option, Result, Ok, Err, ⊤, ◌⊎◌}
 use Rattle.mate_files.specs.Counts.{Rose}
-use Rattle.mate_files.specs.Sink.{Sent, SentPart}
+use Rattle.mate_files.specs.Sink.{Sent, SentPart, SentShort}
 use Rattle.command_line.specs.Commands.{Task, Node, Sim, Gen, Table, Compile, Check, Expand, Feed, Audit, Says, SaysNothing}
 use Rattle.mate_refusals.specs.Refusals.{TellsRefusal}
 use Rattle.mate_refusals.specs.declared.status.Status.{Status}
@@ -15,18 +15,18 @@ use Rattle.mate_documents.specs.Feed.{feed}
 use Rattle.mate_cli.specs.Audit.{audit}
 use Rattle.mate_cli.specs.Node.{node}
 use Rattle.mate_cli.specs.Worlds.{sim, made_run}
-use Rattle.mate_documents.specs.Documents.{document_text, is_full}
+use Rattle.mate_documents.specs.Documents.{document_text}
 use Rattle.mate_steps.specs.Parts.{Folder, IsUnreadAnswer}
 use Rattle.mate_steps.specs.Steps.{judged, ◌▸◌}
 use Rattle.mate_documents.specs.Table.{opcode_table}
-use Rattle.mate_documents.specs.declared.document.Document.{Document}
 use Rattle.mate_documents.specs.declared.output.Output.{Output}
 use Rattle.mate_documents.specs.declared.output.Output.TheVariants as output
 use Rattle.mate_journal.specs.NodeScript.{Whole, Full}
 use Rattle.mate_journal.specs.declared.report.Report.{Report}
+use Rattle.report_summary.specs.Summary.{summary_text}
 use Rattle.report_text.specs.Text.{text}
 use Rattle.run_steps.specs.Running.{IsReportOf}
-use Rattle.run_writing.specs.Writing.{OfRun, IsWrittenPart, IsNothingRun}
+use Rattle.run_writing.specs.Writing.{OfRun, IsWrittenPart, IsWrittenShort, IsNothingRun}
 use Rattle.run_writing.specs.declared.write_fault.WriteFault.{WriteFault}
 use Rattle.run_writing.specs.declared.write_fault.WriteFault.TheVariants as fault
 use Rattle.vm_desc.specs.declared.description.Description.{Description}
@@ -62,17 +62,16 @@ pub record Sinks : Type 0 where
 abbrev pub RefusesTo : Sinks → Sinks → Refusal → Status → Type 0
 RefusesTo s t r status = TellsRefusal s.err s.err_faults t.err t.err_faults r status
 
--- How the writing of a document ends.
-pub data IsDocumentWritten (x : Document) (s t : Sinks) (status : Status) : Type 0 where
-  -- the whole text was written, and nothing told
-  done : is_full x ≡ false → Sent s.out t.out (document_text x) → t.err ≡ s.err → status ≡ AllDone → IsDocumentWritten x s t status
-  -- the whole text was written, of a run that a full log ended
-  full : is_full x ≡ true → Sent s.out t.out (document_text x) → RefusesTo s t LogFull status → IsDocumentWritten x s t status
-  -- `out` failed, and a prefix of the text was written
-  failed : SentPart s.out t.out (document_text x) → Rose s.out_faults t.out_faults → RefusesTo s t SinkFault status
-      → IsDocumentWritten x s t status
-  -- memory was wanting, and a prefix of the text was written
-  wanting : SentPart s.out t.out (document_text x) → RefusesTo s t NoMemory status → IsDocumentWritten x s t status
+-- How the writing of a text ends, which tells of a whole run, or of one that a full log ended.
+pub data IsTextWritten (bs : List ℕ) (whole : Bool) (s t : Sinks) (status : Status) : Type 0 where
+  -- all of it was written, and nothing told
+  done : whole ≡ true → Sent s.out t.out bs → t.err ≡ s.err → status ≡ AllDone → IsTextWritten bs whole s t status
+  -- all of it was written, of a run that a full log ended
+  full : whole ≡ false → Sent s.out t.out bs → RefusesTo s t LogFull status → IsTextWritten bs whole s t status
+  -- `out` failed, and a prefix of it was written that lacks at least its last byte
+  failed : SentShort s.out t.out bs → Rose s.out_faults t.out_faults → RefusesTo s t SinkFault status → IsTextWritten bs whole s t status
+  -- memory was wanting, and a prefix of it was written
+  wanting : SentPart s.out t.out bs → RefusesTo s t NoMemory status → IsTextWritten bs whole s t status
 
 -- How the writing of a run ends, on nodes of this machine, where these reports are of the run. Its report is that of the events that
 -- ended.
@@ -83,16 +82,17 @@ pub data IsRunWritten (d : Description) (Is : OfRun) (s t : Sinks) (status : Sta
   -- the log was full before an event, and the whole text of the report up to there was written
   stopped : (r : Report) → Is Full r → Sent s.out t.out (text d r) → RefusesTo s t LogFull status
       → IsRunWritten d Is s t status
-  -- `out` failed, and a prefix of the report's text was written, with all lines of its events but those of the last one; of a run that
-  -- was cut no last line was
-  unwritten : (r : Report) → IsWrittenPart d Is s.out t.out r → Rose s.out_faults t.out_faults → RefusesTo s t SinkFault status
+  -- `out` failed, and a prefix of the report's text was written that lacks at least its last byte, with all lines of its events but those
+  -- of the last one; of a run that was cut no last line was
+  unwritten : (r : Report) → IsWrittenShort d Is s.out t.out r → Rose s.out_faults t.out_faults → RefusesTo s t SinkFault status
       → IsRunWritten d Is s t status
   -- memory was wanting; such a prefix was written, or nothing was run
   cut : (r : Report) → IsNothingRun s.out t.out r ⊎ IsWrittenPart d Is s.out t.out r → RefusesTo s t NoMemory status
       → IsRunWritten d Is s t status
 
 abbrev pub IsOutputWritten : Output → Sinks → Sinks → Status → Type 0
-IsOutputWritten (output.Document x) s t status = IsDocumentWritten x s t status
+IsOutputWritten (output.Document x) s t status = IsTextWritten (document_text x) true s t status
+IsOutputWritten (output.Summary d sum) s t status = IsTextWritten (summary_text d sum) sum.whole s t status
 IsOutputWritten (output.Run d script ps) s t status = IsRunWritten d (IsReportOf d script ps) s t status
 IsOutputWritten (output.World d w ps) s t status = IsRunWritten d (IsReportOfWorld d w ps) s t status
 
@@ -106,13 +106,13 @@ pub data CallEnds (f : Folder) (words : List (List ℕ)) (before now : ℕ) (s t
 
 -- ---- on the way
 
--- what is told of a run that was not written whole
+-- what is told of a run, or of a text, that was not written whole
 abbrev pub run_refusal : WriteFault → Refusal
 run_refusal fault.LogFull = LogFull
 run_refusal fault.NoMemory = NoMemory
 run_refusal fault.Sink = SinkFault
 
--- how the writing of a run ended is told, and the status comes
+-- how the writing ended is told, and the status comes
 abbrev pub TellsEnd : Result (Unit {0}) WriteFault → Option (List ℕ) → ℕ → Option (List ℕ) → ℕ → Status → Type 0
 TellsEnd (Ok all) err faults err' faults' status = (err' ≡ err) × (status ≡ AllDone)
 TellsEnd (Err why) err faults err' faults' status = TellsRefusal err faults err' faults' (run_refusal why) status

@@ -1,8 +1,8 @@
 -- What is written of a run, of a node script or of a world.
-use Rattle.std.specs.Prelude.{◌≡◌, Bool, true, false, not, Result}
+use Rattle.std.specs.Prelude.{◌≡◌, Bool, true, false, Result}
 use Rattle.mate_documents.specs.declared.output.Output.{Output}
 use Rattle.mate_documents.specs.declared.output.Output.TheVariants as output
-use Rattle.mate_documents.specs.Documents.{document_text, is_full}
+use Rattle.report_summary.specs.Summary.{summary_text}
 use Rattle.report_text.specs.Brief.{brief}
 use Rattle.mate_journal.specs.declared.report.Report.{Report}
 use Rattle.mate_refusals.specs.declared.refusal.Refusal.{Refusal}
@@ -14,9 +14,10 @@ use Rattle.vm_desc.specs.declared.description.Description.{Description}
 abbrev pub report_of : OfRun → Result Report Refusal → Type 0
 report_of Is = obtained (IsEnded Is)
 
--- a document with the summary of this report, which tells whether it is whole
+-- the summary of this report, which tells whether it is whole
 abbrev pub IsBrief : Description → Report → Output → Type 0
-IsBrief d r (output.Document x) = (document_text x ≡ brief d r) × (is_full x ≡ not r.whole)
+IsBrief d r (output.Document x) = ⊥
+IsBrief d r (output.Summary d' s) = (summary_text d' s ≡ brief d r) × (s.whole ≡ r.whole)
 IsBrief d r (output.Run d' script ps) = ⊥
 IsBrief d r (output.World d' w ps) = ⊥
 

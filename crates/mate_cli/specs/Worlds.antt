@@ -1,10 +1,9 @@
 -- The commands `sim` and `gen`: the run of a world with its programs, or the summary of its report.
 use Rattle.std.specs.Prelude.{ℕ, Bool, List, Result}
-use Rattle.mate_cli.specs.Runs.{report_of, output_of}
+use Rattle.mate_cli.specs.Runs.{output_of}
 use Rattle.mate_documents.specs.declared.output.Output.{Output}
 use Rattle.mate_documents.specs.declared.output.Output.TheVariants as output
 use Rattle.mate_journal.specs.declared.program.Program.{Program}
-use Rattle.mate_journal.specs.declared.report.Report.{Report}
 use Rattle.mate_refusals.specs.declared.refusal.Refusal.{Refusal}
 use Rattle.mate_steps.specs.Parts.{Folder, machine}
 use Rattle.mate_steps.specs.Steps.{◌▸◌}
@@ -14,10 +13,6 @@ use Rattle.world_programs.specs.Made.{made}
 use Rattle.world_programs.specs.WorldFiles.{world}
 use Rattle.world_script.specs.declared.world.World.{World}
 use Rattle.world_sim.specs.Promise.{IsReportOfWorld}
-
--- the report of the world's run
-abbrev pub world_reported : Description → World → List Program → Result Report Refusal → Type 0
-world_reported d w ps = report_of (IsReportOfWorld d w ps)
 
 -- what is written of the run
 abbrev pub world_output : Bool → Description → World → List Program → Result Output Refusal → Type 0

@@ -8,7 +8,7 @@ ghost use Rattle.mate_steps.specs.Parts.{ReadsFiles};
 ghost use Rattle.node_programs.specs.ScriptSteps.{AreProgramsOf};
 
 use command_line::ScriptRun;
-use mate_documents::{BoxedMachine, Document, Output};
+use mate_documents::{BoxedMachine, Output};
 use mate_files::Files;
 use mate_journal::Programs;
 use mate_refusals::Refusal;
@@ -90,7 +90,7 @@ fn summary(
     ensures writable { IfOk result CanBeWritten }
 {
     match sum_steps(alloc, machine.description(), script, programs) {
-        Ok(summary) => Ok(Output::Document(Document::Counted(machine, summary))),
+        Ok(summary) => Ok(Output::Summary(machine, summary)),
         Err(_) => Err(Refusal::NoMemory),
     }
 }

@@ -1,19 +1,17 @@
 //! The run of a world.
 
 ghost use Rattle.std.specs.Prelude.{◌≡◌, IfOk, IfErr, true};
-ghost use Rattle.mate_cli.specs.Worlds.{world_output, world_reported};
+ghost use Rattle.mate_cli.specs.Worlds.{world_output};
 ghost use Rattle.mate_documents.specs.Outputs.{CanBeWritten};
 ghost use Rattle.mate_refusals.specs.declared.refusal.Refusal.TheVariants.{NoMemory};
-ghost use Rattle.report_text.specs.Tidy.{IsTidy};
 ghost use Rattle.node_programs.specs.WorldPrograms.{AreProgramsOfWorld};
 
-use mate_documents::{BoxedMachine, Document, Output};
-use mate_journal::{Programs, Report, RunFault};
+use mate_documents::{BoxedMachine, Output};
+use mate_journal::Programs;
 use mate_refusals::Refusal;
 use std::alloc::Global;
-use vm_desc::Description;
 use world_script::World;
-use world_sim::run;
+use world_sim::sum_world;
 
 /// The run of a world with these programs, or the summary of its report.
 #[inline(never)]
@@ -36,7 +34,7 @@ pub(crate) fn world_output(
     }
 }
 
-/// The summary of the report of a world's run.
+/// The summary of the report of a world's run, whole or until its log is full. The run is made, and no report is kept.
 #[inline(never)]
 fn summary(
     alloc: Global,
@@ -49,25 +47,8 @@ fn summary(
     ensures memory { IfErr result (λ r. r ≡ NoMemory) }
     ensures writable { IfOk result CanBeWritten }
 {
-    let report = reported(alloc, machine.description(), world, programs)?;
-    Ok(Output::Document(Document::Summary(machine, report)))
-}
-
-/// The report of a world's run, whole or until its log is full.
-#[inline(never)]
-fn reported(
-    alloc: Global,
-    desc: &Description,
-    world: &World,
-    programs: &Programs,
-) -> Result<Report, Refusal>
-    requires { AreProgramsOfWorld desc.now world.now programs.now }
-    ensures does { world_reported desc.now world.now programs.now result }
-    ensures tidy { IfOk result (IsTidy desc.now) }
-{
-    match run(alloc, desc, world, programs) {
-        Ok(report) => Ok(report),
-        Err(RunFault::LogFull(report)) => Ok(report),
-        Err(RunFault::NoMemory) => Err(Refusal::NoMemory),
+    match sum_world(alloc, machine.description(), world, programs) {
+        Ok(summary) => Ok(Output::Summary(machine, summary)),
+        Err(_) => Err(Refusal::NoMemory),
     }
 }

@@ -3,17 +3,20 @@
 ghost use Rattle.world_sim.specs.Promise.{IsReportOfWorld};
 ghost use Rattle.run_steps.specs.Running.{IsReportOf};
 ghost use Rattle.node_programs.specs.WorldPrograms.{AreProgramsOfWorld};
-ghost use Rattle.mate_cli.specs.Ends.{IsDocumentWritten, IsOutputWritten, IsRunWritten, TellsEnd};
+ghost use Rattle.std.specs.Prelude.{true};
+ghost use Rattle.mate_cli.specs.Ends.{IsTextWritten, IsOutputWritten, IsRunWritten, TellsEnd};
 ghost use Rattle.mate_documents.specs.Outputs.{CanBeWritten};
-ghost use Rattle.mate_documents.specs.Documents.{HasText};
+ghost use Rattle.mate_documents.specs.Documents.{document_text, HasText};
 ghost use Rattle.node_programs.specs.ScriptSteps.{AreProgramsOf};
+ghost use Rattle.report_summary.specs.Summary.{summary_text, IsSmall};
 
 use mate_documents::{Document, Output};
-use mate_files::{Sink, SinkFault};
+use mate_files::Sink;
 use mate_journal::Programs;
 use mate_refusals::{Refusal, Status};
+use report_summary::Summary;
 use run_steps::write_steps;
-use run_writing::WriteFault;
+use run_writing::{WriteFault, ended};
 use script_reader::Steps;
 use std::alloc::Global;
 use vm_desc::Description;
@@ -35,6 +38,9 @@ pub(crate) fn write_output<S: Sink, E: Sink>(
 {
     match output {
         Output::Document(document) => write_document(document, out, err),
+        Output::Summary(machine, summary) => {
+            write_summary(machine.description(), summary, out, err)
+        }
         Output::Run(machine, script, programs) => {
             write_run(alloc, machine.description(), script, programs, out, err)
         }
@@ -48,16 +54,29 @@ pub(crate) fn write_output<S: Sink, E: Sink>(
 #[inline(never)]
 fn write_document<S: Sink, E: Sink>(document: &Document, out: &mut S, err: &mut E) -> Status
     requires { HasText document.now }
-    ensures { IsDocumentWritten document.now
+    ensures { IsTextWritten (document_text document.now) true
         (record { out = S.written out.old; out_faults = S.faults out.old; err = E.written err.old; err_faults = E.faults err.old })
         (record { out = S.written out.new; out_faults = S.faults out.new; err = E.written err.new; err_faults = E.faults err.new }) result }
 {
-    match document.write(out) {
-        Ok(()) if document.is_full() => Refusal::LogFull.refuse(err),
-        Ok(()) => Status::Ok,
-        Err(SinkFault::Failed) => Refusal::SinkFault.refuse(err),
-        Err(SinkFault::NoMemory) => Refusal::NoMemory.refuse(err),
-    }
+    let written = document.write(out);
+    told(ended(true, written), err)
+}
+
+/// Writes the summary of a run.
+#[inline(never)]
+fn write_summary<S: Sink, E: Sink>(
+    desc: &Description,
+    summary: &Summary,
+    out: &mut S,
+    err: &mut E,
+) -> Status
+    requires { IsSmall summary.now }
+    ensures { IsTextWritten (summary_text desc.now summary.now) summary.now.whole
+        (record { out = S.written out.old; out_faults = S.faults out.old; err = E.written err.old; err_faults = E.faults err.old })
+        (record { out = S.written out.new; out_faults = S.faults out.new; err = E.written err.new; err_faults = E.faults err.new }) result }
+{
+    let written = summary.write(desc, out);
+    told(ended(summary.whole, written), err)
 }
 
 /// Runs a script, and writes the lines of each event when it ends. After a fault of `out` no further event is run.
@@ -98,7 +117,7 @@ fn run_world<S: Sink, E: Sink>(
     told(written, err)
 }
 
-/// Tells how the writing of a run ended.
+/// Tells how the writing ended.
 fn told<E: Sink>(written: Result<(), WriteFault>, err: &mut E) -> Status
     ensures { TellsEnd written (E.written err.old) (E.faults err.old) (E.written err.new) (E.faults err.new) result }
 {

@@ -1,8 +1,5 @@
 -- The texts that commands write when all their parts are at hand.
-use Rattle.std.specs.Prelude.{ℕ, Bool, false, not, List, ◌++◌, codes, ⊤}
-use Rattle.report_text.specs.Brief.{brief}
-use Rattle.report_text.specs.Tidy.{IsTidy}
-use Rattle.report_summary.specs.Summary.{summary_text, IsSmall}
+use Rattle.std.specs.Prelude.{ℕ, List, ◌++◌, codes, ⊤}
 use Rattle.opcode_gen.specs.TableText.{table_text}
 use Rattle.hex.specs.Hex.{encode_lower}
 use Rattle.capsule_codec.specs.Image.{capsule_parts}
@@ -14,8 +11,6 @@ use Rattle.mate_documents.specs.declared.document.Document.{Document}
 use Rattle.mate_documents.specs.declared.document.Document.TheVariants as document
 
 abbrev pub document_text : Document → List ℕ
-document_text (document.Summary d r) = brief d r
-document_text (document.Counted d s) = summary_text d s
 document_text (document.OpcodeTable d) = table_text d
 document_text (document.Capsule image) = encode_lower image.value.items ++ codes "\n"
 document_text (document.Listing d l) = capsule_text d (capsule_parts l.value.capsule) l.value.code.code
@@ -23,16 +18,8 @@ document_text (document.Expansion s) = script_line (source_of s)
 document_text (document.Answers d stream) = feed_text d stream.items
 document_text document.Serial = codes "serial\n"
 
--- it tells of a run that a full log ended
-abbrev pub is_full : Document → Bool
-is_full (document.Summary d r) = not r.whole
-is_full (document.Counted d s) = not s.whole
-is_full _ = false
-
 -- its parts are such that its text can be written
 abbrev pub HasText : Document → Type 0
-HasText (document.Summary d r) = IsTidy d r
-HasText (document.Counted d s) = IsSmall s
 HasText (document.OpcodeTable d) = ⊤
 HasText (document.Capsule image) = ⊤
 HasText (document.Listing d l) = IsVerifiedFor d (capsule_parts l.value.capsule) l.value.code

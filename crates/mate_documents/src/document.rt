@@ -10,20 +10,14 @@ use crate::boxed_machine::BoxedMachine;
 use capsule_feed::write_answers;
 use capsule_listing::print_capsule;
 use mate_files::{Pen, Sink, SinkFault};
-use mate_journal::Report;
 use mate_num::Image;
 use mate_steps::VerifiedCapsule;
-use report_summary::Summary;
 use ts_printer::print;
 use ts_syntax::Script;
 
 /// What the text of a document is made from. What is large is boxed.
 #[derive(Drop)]
 pub enum Document {
-    /// The summary of a report of this machine.
-    Summary(BoxedMachine, Report),
-    /// The summary of a run on this machine that was counted as its events ended.
-    Counted(BoxedMachine, Summary),
     /// The opcode table of this machine.
     OpcodeTable(BoxedMachine),
     /// The image of a capsule, in hexadecimal digits.
@@ -40,7 +34,7 @@ pub enum Document {
 
 impl Document {
     ghost use Rattle.std.specs.Prelude.{◌≡◌};
-    ghost use Rattle.mate_documents.specs.Documents.{document_text, is_full, HasText};
+    ghost use Rattle.mate_documents.specs.Documents.{document_text, HasText};
 
     /// Writes its text; where `out` fails, a prefix was written.
     pub fn write<S: Sink>(&self, out: &mut S) -> Result<(), SinkFault>
@@ -48,10 +42,6 @@ impl Document {
         ensures { Puts (S.written out.old) (S.faults out.old) (S.written out.new) (S.faults out.new) result (document_text self.now) }
     {
         match self {
-            Document::Summary(machine, report) => {
-                report_text::brief(machine.description(), report, out)
-            }
-            Document::Counted(machine, summary) => summary.write(machine.description(), out),
             Document::OpcodeTable(machine) => opcode_gen::print_table(machine.description(), out),
             Document::Capsule(image) => write_image(image, out),
             Document::Listing(machine, held) => {
@@ -62,22 +52,6 @@ impl Document {
                 write_answers(machine.description(), stream.as_slice(), out)
             }
             Document::Serial => write_serial(out),
-        }
-    }
-
-    /// Whether it tells of a run that a full log ended.
-    pub fn is_full(&self) -> bool
-        ensures { result ≡ is_full self.now }
-    {
-        match self {
-            Document::Summary(_, report) => !report.whole(),
-            Document::Counted(_, summary) => !summary.whole,
-            Document::OpcodeTable(_) => false,
-            Document::Capsule(_) => false,
-            Document::Listing(_, _) => false,
-            Document::Expansion(_) => false,
-            Document::Answers(_, _) => false,
-            Document::Serial => false,
         }
     }
 }

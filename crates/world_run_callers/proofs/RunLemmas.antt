@@ -1,10 +1,10 @@
 -- What a run gives, told of its end.
-use Rattle.std.proofs.Common.{◌≡◌, ◌≤◌, ℕ, suc, List, [], ◌∷◌, ◌++◌, map, length, Option, Some, None, Result, Ok, Err, sym, ap, ◌∙◌, subst, arith}
+use Rattle.std.proofs.Common.{◌≡◌, ◌≤◌, ◌<◌, ℕ, suc, false, List, [], ◌∷◌, ◌++◌, map, length, Option, Some, None, Result, Ok, Err, sym, ap, ◌∙◌, subst, arith}
 use Rattle.std.specs.Prelude.{slice_get, IsSomeAnd, IfOk, IfErr}
 use Rattle.mate_num.specs.declared.call.Stamp.{Stamp}
 use Rattle.mate_journal.specs.Journal.{Event, Told, Seen}
 use Rattle.mate_journal.specs.Log.{Log}
-use Rattle.mate_journal.specs.NodeScript.{Full, Whole}
+use Rattle.mate_journal.specs.NodeScript.{RunEnd, Full, Whole, Cut}
 use Rattle.mate_journal.specs.declared.program.Program.{Program}
 use Rattle.mate_journal.specs.declared.report.Report.{Report}
 use Rattle.mate_journal.specs.declared.report.IntoFault.{IntoFault}
@@ -17,7 +17,9 @@ use Rattle.world_rules.specs.Report.{IsWorldReport, IsLogOf}
 use Rattle.world_rules.specs.Run.{HaveCome, journal}
 use Rattle.world_rules.specs.State.{Moment}
 use Rattle.world_rules.specs.World.{World}
-use Rattle.run_writing.specs.Writing.{RunsInto}
+use Rattle.mate_files.specs.Sink.{SentPart, SentShort}
+use Rattle.report_text.specs.Text.{lines}
+use Rattle.run_writing.specs.Writing.{RunsInto, written_text}
 use Rattle.world_sim.specs.Promise.{IsReportOfWorld, WorldRunGives}
 use Rattle.world_states.specs.SourceWorld.{source_world}
 use Rattle.world_run_callers.specs.Runs.{CameWithRoom, EndsSeen, IsFullBehind}
@@ -80,4 +82,23 @@ keeps_nodes d script ps out out' before now (Err (into.LogFull r)) gives = λ re
 keeps_nodes d script ps out out' before now (Err (into.NoMemory r)) gives = λ report is. cc
 keeps_nodes d script ps out out' before now (Err (into.Sink r)) gives = λ report is.
     let same : r ≡ report = cc in
-    subst (λ (x : Report). length x.nodes ≡ script.nodes) same gives.0.report.run.nodes
+    subst (λ (x : Report). length x.nodes ≡ script.nodes) same gives.0.written.report.run.nodes
+
+-- of a run that isn't whole, and whose log isn't full, the text is its lines
+cut_short : (w : World) (d : Description) (how : RunEnd) (r : Report) (out out' : Option (List ℕ)) → IsWorldReport w how r → (part : SentPart out out' (written_text how d r)) → 0 < length part.rest
+    → r.whole ≡ false → (IsFullBehind w r.events → ⊥) → SentShort out out' (lines d r)
+cut_short w d Whole r out out' told part unsent cut few = let whole = told.whole in absurd cc
+cut_short w d Full r out out' told part unsent cut few = absurd (few (record { moments = told.moments; come = told.come; count = told.events; full = told.at_end.0 }))
+cut_short w d Cut r out out' told part unsent cut few = record { part = part; unsent = unsent }
+
+pub lacks_byte : (d : Description) (script : Script) (ps : List Program) (out out' : Option (List ℕ)) (before now : ℕ) (r : Result Report IntoFault) → RunsInto d (IsReportOfWorld d script ps) out out' before now r
+    → IfErr r (λ fault. (report : Report) → fault ≡ into.Sink report → report.whole ≡ false → (IsFullBehind (source_world d script ps) report.events → ⊥) → SentShort out out' (lines d report))
+lacks_byte d script ps out out' before now (Ok r) gives = tt
+lacks_byte d script ps out out' before now (Err (into.LogFull r)) gives = λ report is. cc
+lacks_byte d script ps out out' before now (Err (into.NoMemory r)) gives = λ report is. cc
+lacks_byte d script ps out out' before now (Err (into.Sink r)) gives = λ report is.
+    let same : r ≡ report = cc in
+    let w : World = source_world d script ps in
+    let left = gives.0 in
+    subst (λ (x : Report). x.whole ≡ false → (IsFullBehind w x.events → ⊥) → SentShort out out' (lines d x)) same
+    (cut_short w d left.written.how r out out' left.written.report.run left.written.part left.unsent)

@@ -1,10 +1,12 @@
 //! The run of a world.
 
-ghost use Rattle.std.specs.Prelude.{◌≡◌, ◌≤◌, suc, length, slice_get, IsSomeAnd, IfOk, IfErr};
+ghost use Rattle.std.specs.Prelude.{◌≡◌, ◌≤◌, suc, false, length, slice_get, IsSomeAnd, IfOk, IfErr};
+ghost use Rattle.mate_files.specs.Sink.{SentShort};
 ghost use Rattle.mate_journal.specs.declared.report.Report.{Report as Reported};
 ghost use Rattle.mate_journal.specs.declared.report.IntoFault.TheVariants.{Sink as StoppedBySink};
 ghost use Rattle.mate_journal.specs.declared.report.RunFault.TheVariants.{LogFull};
 ghost use Rattle.node_programs.specs.WorldPrograms.{AreProgramsOfWorld};
+ghost use Rattle.report_text.specs.Text.{lines};
 ghost use Rattle.world_states.specs.SourceWorld.{source_world};
 ghost use Rattle.world_run_callers.specs.Runs.{CameWithRoom, EndsSeen, IsFullBehind};
 
@@ -66,6 +68,22 @@ pub fn a_stopped_report_has_its_nodes<S: Sink>(
 ) -> Result<Report, IntoFault>
     requires { AreProgramsOfWorld desc.now world.now programs.now }
     ensures { IfErr result (λ fault. (report : Reported) → fault ≡ StoppedBySink report → length report.nodes ≡ world.now.nodes) }
+{
+    run_into(alloc, desc, world, programs, out)
+}
+
+/// A run that hands out the report without the last stores, all of whose lines were sent, would lack no byte of them.
+pub fn a_cut_report_lacks_a_byte<S: Sink>(
+    alloc: Global,
+    desc: &Description,
+    world: &World,
+    programs: &Programs,
+    out: &mut S,
+) -> Result<Report, IntoFault>
+    requires { AreProgramsOfWorld desc.now world.now programs.now }
+    ensures { IfErr result (λ fault. (report : Reported) → fault ≡ StoppedBySink report → report.whole ≡ false
+        → (IsFullBehind (source_world desc.now world.now programs.now) report.events → ⊥)
+        → SentShort (S.written out.old) (S.written out.new) (lines desc.now report)) }
 {
     run_into(alloc, desc, world, programs, out)
 }

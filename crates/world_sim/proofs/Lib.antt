@@ -4,3 +4,4 @@ pub mod EndingLemmas
 pub mod HandLemmas
 pub mod SameLemmas
 pub mod LastLemmas
+pub mod CountingLemmas

@@ -27,7 +27,7 @@ use Rattle.run_record.specs.Records.{HasLog, IsEmptyRecord, IsSameRecord, MayAdd
 use Rattle.run_record.specs.declared.record.Record.{Record}
 use Rattle.open_node.proofs.KeptLemmas.{count-kept}
 use Rattle.run_record.proofs.KeptLemmas.{may-add, adds-whole, joined-whole}
-use Rattle.run_record.proofs.RecordLemmas.{same-then, all-self, all-then, all-long, all-set_one, all-at, one-log, joined-as}
+use Rattle.run_record.proofs.RecordLemmas.{same-self, same-then, all-self, all-then, all-long, all-set_one, all-at, one-log, joined-as}
 use Rattle.world_rules.specs.World.{World}
 use Rattle.world_rules.specs.State.{Moment}
 use Rattle.world_rules.specs.Run.{journal}
@@ -93,7 +93,7 @@ mote-low [] k m found = absurd (none-some found) where
 mote-low (x ∷ motes) zero m found = omega arith
 mote-low (x ∷ motes) (suc k) m found = let rest = mote-low motes k m found in omega (arith, rest)
 
-one-mote : (a b : Mote) → Some a ≡ Some b → a ≡ b
+pub one-mote : (a b : Mote) → Some a ≡ Some b → a ≡ b
 one-mote a b is = ap (λ (o : Option Mote). unwrap_or o a) is
 
 set-back : (ls : List Log) (k : ℕ) (x y : Log) → slice_get ls k ≡ Some y → set (set ls k x) k y ≡ ls
@@ -323,11 +323,11 @@ few-more a b on na nb one =
 long-journal : (l : Log) → length (journal_of l) ≡ length l.entries
 long-journal l = length-map l.entries (λ (e : Stamped). let v : Entered = record { stamp = e.stamp; told = told_of l e.entry } in v)
 
--- each node has its store at hand, behind what is recorded of it
-module _ (r : Record) (w : World) (ms : List Moment) (at : Stamp) (olds mids news : List Mote) (f : HaveForgotten (length olds) olds mids) (shows : ShowStores at (length mids) mids news)
-    (told : ShowTheirStores w ms (mote_logs mids) (mote_logs news)) (logs : AllZip IsSameLog r.logs.items (mote_logs mids)) (places : length r.places ≡ length (mote_logs mids)) where
-  one-store : (k : ℕ) (own : Log) (m : Mote) → HasLog r k own → slice_get news k ≡ Some m → k < length mids → HasStoreBehind own m
-  one-store k own m has found low =
+-- each node has its store at hand, behind the log that it had
+module _ (w : World) (ms : List Moment) (at : Stamp) (olds mids news : List Mote) (f : HaveForgotten (length olds) olds mids) (shows : ShowStores at (length mids) mids news)
+    (told : ShowTheirStores w ms (mote_logs mids) (mote_logs news)) where
+  pub store-behind : (k : ℕ) (m : Mote) → slice_get news k ≡ Some m → (low : k < length mids) → HasStoreBehind (first-mote mids k low).node.log m
+  store-behind k m found low =
       let count = f.count in
       let more = shows.count in
       let first : k < length olds = omega (arith, low, count) in
@@ -357,7 +357,7 @@ module _ (r : Record) (w : World) (ms : List Moment) (at : Stamp) (olds mids new
       let same = ap (λ (es : List Stamped). length es) forgot.log.entries in
       record {
         front = b.node.log;
-        same = all-at r.logs.items (mote_logs mids) k own b.node.log logs has (log-found mids k b is_b);
+        same = same-self b.node.log;
         gone = seen.tells.gone ∙ forgot.gone ∙ sym (ap gone_of (alike b.node.log a.node.log forgot.log));
         goes_on = on;
         numbered = nm;
@@ -365,20 +365,36 @@ module _ (r : Record) (w : World) (ms : List Moment) (at : Stamp) (olds mids new
         small = few-more b.node.log m.node.log on nb nm grown;
       }
 
-  stores-behind : HaveStoresBehind r news
-  stores-behind =
-      let long = all-long r.logs.items (mote_logs mids) logs in
-      let mine = long-logs mids in
-      let more = shows.count in record {
-        count = long ∙ mine ∙ sym more;
-        places = places ∙ mine ∙ sym more;
-        each = λ k own m has found. one-store k own m has found (let low = mote-low news k m found in omega (arith, low, more));
-      }
+  -- behind what is recorded of it
+  module _ (r : Record) (logs : AllZip IsSameLog r.logs.items (mote_logs mids)) (places : length r.places ≡ length (mote_logs mids)) where
+    one-store : (k : ℕ) (own : Log) (m : Mote) → HasLog r k own → slice_get news k ≡ Some m → k < length mids → HasStoreBehind own m
+    one-store k own m has found low =
+        let b = first-mote mids k low in
+        let s = store-behind k m found low in
+        record {
+          front = s.front;
+          same = same-then own b.node.log s.front (all-at r.logs.items (mote_logs mids) k own b.node.log logs has (log-found mids k b (at-mote mids k low))) s.same;
+          gone = s.gone;
+          goes_on = s.goes_on;
+          numbered = s.numbered;
+          few = s.few;
+          small = s.small;
+        }
+
+    stores-behind : HaveStoresBehind r news
+    stores-behind =
+        let long = all-long r.logs.items (mote_logs mids) logs in
+        let mine = long-logs mids in
+        let more = shows.count in record {
+          count = long ∙ mine ∙ sym more;
+          places = places ∙ mine ∙ sym more;
+          each = λ k own m has found. one-store k own m has found (let low = mote-low news k m found in omega (arith, low, more));
+        }
 
 pub stores-before : (kept : Option Record) (w : World) (ms : List Moment) (at : Stamp) (olds : List Mote) (mid new : Simulation) → HaveForgotten (length olds) olds mid.motes.items → ShowStores at (length mid.motes.items) mid.motes.items new.motes.items
     → ShowTheirStores w ms (mote_logs mid.motes.items) (mote_logs new.motes.items) → new.radio.air ≡ mid.radio.air → IsRecorded kept mid → AreStoresBefore kept new
 stores-before None w ms at olds mid new f shows told air of = tt
-stores-before (Some r) w ms at olds mid new f shows told air of = (stores-behind r w ms at olds mid.motes.items new.motes.items f shows told of.logs of.places, of.air ∙ sym air)
+stores-before (Some r) w ms at olds mid new f shows told air of = (stores-behind w ms at olds mid.motes.items new.motes.items f shows told r of.logs of.places, of.air ∙ sym air)
 
 -- ---- they are appended, one node after the other
 

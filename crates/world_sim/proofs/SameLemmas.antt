@@ -25,7 +25,7 @@ use Rattle.world_script.specs.declared.world.World.{World as Script}
 use Rattle.world_simulation.specs.Reporting.{told_report}
 use Rattle.world_states.specs.Coming.{code_world}
 use Rattle.world_sim.specs.Writing.{WritesRecorded}
-use Rattle.run_writing.specs.Writing.{OfRun, IsWrittenPart, IsNothingRun, WritesReport, last_event, lines_before, written_text}
+use Rattle.run_writing.specs.Writing.{OfRun, IsWrittenPart, IsWrittenShort, IsNothingRun, WritesReport, last_event, lines_before, written_text}
 use Rattle.run_writing.specs.declared.write_fault.WriteFault.{WriteFault}
 use Rattle.run_writing.specs.declared.write_fault.WriteFault.TheVariants.{LogFull, NoMemory, Sink}
 use Rattle.vm_desc.specs.declared.description.Description.{Description}
@@ -117,6 +117,10 @@ module _ (d : Description) (Is Has : OfRun) (out out' : Option (List ℕ)) (a b 
     covers = p.covers ∙ ap (λ (bs : List ℕ). bs ++ p.more) (before-same (last_event p.how b.events) ∙ ap (λ (n : ℕ). lines_before d a (last_event p.how n)) (sym same.events));
   }
 
+  short-same : IsWrittenShort d Is out out' b → IsWrittenShort d Has out out' a
+  unfolding part-same
+  short-same s = record { written = part-same s.written; unsent = s.unsent }
+
   nothing-same : IsNothingRun out out' b → IsNothingRun out out' a
   nothing-same none = record {
     report = λ i. record {
@@ -133,7 +137,7 @@ module _ (d : Description) (Is Has : OfRun) (out out' : Option (List ℕ)) (a b 
   gives-as f f' (Err LogFull) gives = (has Full gives.0, subst (λ (bs : List ℕ). Sent out out' bs) (written-same Full) gives.1)
   gives-as f f' (Err NoMemory) (inl none) = inl (nothing-same none)
   gives-as f f' (Err NoMemory) (inr part) = inr (part-same part)
-  gives-as f f' (Err Sink) gives = (part-same gives.0, gives.1)
+  gives-as f f' (Err Sink) gives = (short-same gives.0, gives.1)
 
 -- ---- the report that is handed out
 

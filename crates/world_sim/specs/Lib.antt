@@ -1,3 +1,4 @@
 pub mod Promise
 pub mod Recording
 pub mod Writing
+pub mod Counting

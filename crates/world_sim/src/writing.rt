@@ -387,7 +387,7 @@ fn entries_in(motes: &[Mote]) -> Option<u64>
 }
 
 /// What each node keeps of its log.
-fn logs_are_kept(motes: &[Mote])
+pub(crate) fn logs_are_kept(motes: &[Mote])
     ensures { LogsAreKept motes.now }
 {
     for mote in motes {

@@ -1,4 +1,4 @@
-use Rattle.std.proofs.Common.{not, refl, ap, subst}
+use Rattle.std.proofs.Common.{refl, subst}
 use Rattle.vm_desc.specs.declared.description.Description.{Description}
 use Rattle.mate_steps.specs.Steps.{goes_on, stops}
 use Rattle.mate_refusals.specs.declared.refusal.Refusal.TheVariants.{NoMemory}
@@ -11,7 +11,7 @@ pub returns-in-Ok-clause-does : goal.returns-in-Ok-clause-does
 returns-in-Ok-clause-does c =
     let is : IsRunSummary c.args.machine (IsReportOf c.args.machine c.args.script.now c.args.programs.now) c.in-Ok.summary =
     subst (λ (d : Description). IsRunSummary d (IsReportOf d c.args.script.now c.args.programs.now) c.in-Ok.summary) c.description.ensures c.in-Ok.ensures in
-    goes_on is.report is.ended (text-same c.args.machine c.in-Ok.summary is.report is.of, ap not is.of.whole)
+    goes_on is.report is.ended (text-same c.args.machine c.in-Ok.summary is.report is.of, is.of.whole)
 
 pub returns-in-Ok-clause-writable : goal.returns-in-Ok-clause-writable
 returns-in-Ok-clause-writable c = c.in-Ok.ensures.small

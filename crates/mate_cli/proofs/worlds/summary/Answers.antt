@@ -1,24 +1,20 @@
-use Rattle.std.proofs.Common.{Ok, Err, refl, subst}
+use Rattle.std.proofs.Common.{refl, subst}
 use Rattle.vm_desc.specs.declared.description.Description.{Description}
-use Rattle.mate_steps.specs.Steps.{goes_on}
-use Rattle.mate_steps.proofs.Laws.{stops_by}
-use Rattle.mate_cli.specs.Worlds.{world_reported}
-use Rattle.std.proofs.lemmas.Result.{IfOk-from_err}
-use Rattle.report_text.specs.Tidy.{IsTidy}
+use Rattle.mate_steps.specs.Steps.{goes_on, stops}
+use Rattle.mate_refusals.specs.declared.refusal.Refusal.TheVariants.{NoMemory}
+use Rattle.report_summary.specs.Runs.{IsRunSummary}
+use Rattle.report_summary.proofs.SummaryLemmas.{text-same}
+use Rattle.world_sim.specs.Promise.{IsReportOfWorld}
 use Rattle.mate_cli.proofs.worlds.summary.Goals as goal
 
-pub returns-in_err-report-clause-does : goal.returns-in_err-report-clause-does
-returns-in_err-report-clause-does c = stops_by c.in_err-report.field-0.0 c.from_residual.result
-    (subst (λ (d : Description). world_reported d c.args.world.now c.args.programs.now (Err c.in_err-report.field-0.0)) c.description.ensures c.in_err-report.ensures.does) c.from_residual.ensures.1
+pub returns-in-Ok-clause-does : goal.returns-in-Ok-clause-does
+returns-in-Ok-clause-does c =
+    let is : IsRunSummary c.args.machine (IsReportOfWorld c.args.machine c.args.world.now c.args.programs.now) c.in-Ok.summary =
+    subst (λ (d : Description). IsRunSummary d (IsReportOfWorld d c.args.world.now c.args.programs.now) c.in-Ok.summary) c.description.ensures c.in-Ok.ensures in
+    goes_on is.report is.ended (text-same c.args.machine c.in-Ok.summary is.report is.of, is.of.whole)
 
-pub returns-clause-does : goal.returns-clause-does
-returns-clause-does c = goes_on c.in_ok-report.report (subst (λ (d : Description). world_reported d c.args.world.now c.args.programs.now (Ok c.in_ok-report.report)) c.description.ensures c.in_ok-report.ensures.does) (refl, refl)
+pub returns-in-Ok-clause-writable : goal.returns-in-Ok-clause-writable
+returns-in-Ok-clause-writable c = c.in-Ok.ensures.small
 
-pub returns-in_err-report-clause-writable : goal.returns-in_err-report-clause-writable
-returns-in_err-report-clause-writable c = IfOk-from_err c.from_residual.result _ c.from_residual.ensures.0
-
-pub returns-clause-memory : goal.returns-clause-memory
-returns-clause-memory c = tt
-
-pub returns-clause-writable : goal.returns-clause-writable
-returns-clause-writable c = subst (λ (d : Description). IsTidy d c.in_ok-report.report) c.description.ensures c.in_ok-report.ensures.tidy
+pub returns-in-Err-clause-does : goal.returns-in-Err-clause-does
+returns-in-Err-clause-does c = stops NoMemory refl refl

@@ -1,0 +1,7 @@
+use Rattle.mate_cli.proofs.RunLemmas.{text-written}
+use Rattle.report_summary.specs.Summary.{summary_text}
+use Rattle.mate_cli.proofs.writing.write_summary.Goals as goal
+
+pub returns : goal.returns
+returns g c =
+    text-written (summary_text c.args.desc.now c.args.summary.now) c.args.summary.now.whole _ _ c.write-written.result c.ended.result c.told.result c.write-written.ensures c.ended.ensures c.told.ensures

@@ -1,0 +1,20 @@
+use Rattle.std.proofs.Common.{◌≡◌, length}
+use Rattle.mate_journal.specs.Log.{IsEmpty}
+use Rattle.world_states.specs.Coming.{code_world}
+use Rattle.world_step.specs.Motes.{plain_effect}
+use Rattle.world_simulation.specs.Ranging.{AreInRange}
+use Rattle.world_simulation.specs.Running.{StandsAfter}
+use Rattle.world_simulation.specs.Telling.{LogsAreKept}
+use Rattle.world_sim.specs.Counting.{IsTallied, IsSmallTally}
+use Rattle.world_sim.proofs.counting.sum_world.Given as goal
+
+abbrev pub invariant-loop-events : goal.invariant-loop-events
+invariant-loop-events l = record {
+  stands : StandsAfter (code_world l.desc l.world l.programs) l.events l.sim;
+  kept : LogsAreKept l.sim.motes.items;
+  empty : IsEmpty l.room;
+  plain : l.effect ≡ plain_effect;
+  ranges : AreInRange l.sim;
+  counted : IsTallied (length l.desc.handlers.items) l.tally l.sim;
+  small : IsSmallTally l.tally;
+}
