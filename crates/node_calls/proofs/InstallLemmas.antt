@@ -52,7 +52,7 @@ use Rattle.node_calls.specs.declared.installing.LockedCode.{LockedCode}
 use Rattle.node_calls.specs.declared.posting.PostAnswer.{PostAnswer}
 use Rattle.node_calls.specs.declared.posting.PostAnswer.TheVariants.{Posted as PostedAnswer, NoCode, AllBusy}
 use Rattle.node_calls.specs.Calls.{RestsAgain, AtPace, TellsStore, IsCleared}
-use Rattle.node_calls.specs.Installing.{IsUnverified, IsNoNewer, Incoming, IsInstallable, InstallsBytes, IsReadAs, CanInstall, HoldsCode, comes, held_with, held_after}
+use Rattle.node_calls.specs.Installing.{IsUnverified, IsNoNewer, Incoming, IsInstallable, InstallsBytes, IsReadAs, CanInstall, HoldsCode, comes, held_with, holding_after}
 use Rattle.node_calls.specs.Posting.{PostGives}
 use Rattle.node_calls.proofs.QuietLemmas.{RestsAgain-then, RestsAgain-as}
 use Rattle.node_calls.proofs.EraLemmas.{BeginsEra, RestsAgain-era}
@@ -253,25 +253,25 @@ CanInstall-known d s bytes c image rests read known same = by (held_at s.handler
   by None is holds = absurd holds
 
 -- the program that comes is the one that is held then
-pub comes-held : (held : Option Held) (i : Installable) (x : Held) → held_after held i ≡ Some x → program_of i.handler x ≡ comes i
+pub comes-held : (held : Option Held) (i : Installable) (x : Held) → holding_after held i ≡ Some x → program_of i.handler x ≡ comes i
 comes-held held i x after = by held i.code after where
   by : (o : Option Held) (code : Option LockedCode) → held_with o i.version i.image code ≡ Some x → program_of i.handler x ≡ comes i
   by o (Some code) is = let e : record { version = i.version; image = i.image; code = code.code; locks = code.locks } ≡ x = cc in ap (λ (y : Held). program_of i.handler y) (sym e)
   by (Some y) None is = let e : record y { version = i.version; image = i.image } ≡ x = cc in ap (λ (z : Held). program_of i.handler z) (sym e)
   by None None is = cc
 
-pub comes-version : (held : Option Held) (i : Installable) (x : Held) → held_after held i ≡ Some x → x.version ≡ i.version
+pub comes-version : (held : Option Held) (i : Installable) (x : Held) → holding_after held i ≡ Some x → x.version ≡ i.version
 comes-version held i x after = ap (λ (p : HeldProgram). p.version) (comes-held held i x after)
 
 -- its image and what is held then take their places, and all is cleared
 pub RestsAgain-comes : (d : Description) (old mid : Parts) (pushed : OpenView) (handlers : HeldPrograms) (at_ : Stamp) (bytes : List ℕ) (i : Installable) → Rests d old → IsTimely at_ old.log.all → last_is_seen false (journal_of old.log.all) ≡ true
     → CanInstall d bytes (held_at old.handlers.programs i.handler) i → IsInstalledIn old.log.all i.handler i.version i.image at_ pushed.all → old.log.all.spare ≤ pushed.all.spare + 1 → IsCleared d (record old { log = pushed }) mid
-    → handlers.programs ≡ set mid.handlers.programs i.handler.0 (held_after (held_at mid.handlers.programs i.handler) i) → RestsAgain d old (record mid { handlers = handlers }) at_ (λ told. told ≡ Installed (comes i) ∷ [])
+    → handlers.programs ≡ set mid.handlers.programs i.handler.0 (holding_after (held_at mid.handlers.programs i.handler) i) → RestsAgain d old (record mid { handlers = handlers }) at_ (λ told. told ≡ Installed (comes i) ∷ [])
 RestsAgain-comes d old mid pushed handlers at_ bytes i rests timely seen can is room cleared put_is =
     let x : Held = can.x in
     let comes_is : program_of i.handler x ≡ comes i = comes-held (held_at old.handlers.programs i.handler) i x can.after in
     let programs_are : mid.handlers.programs ≡ old.handlers.programs = ap (λ (s : Parts). s.handlers.programs) cleared.same in
-    let after : held_after (held_at mid.handlers.programs i.handler) i ≡ Some x = ap (λ (ps : List (Option Held)). held_after (held_at ps i.handler) i) programs_are ∙ can.after in
+    let after : holding_after (held_at mid.handlers.programs i.handler) i ≡ Some x = ap (λ (ps : List (Option Held)). holding_after (held_at ps i.handler) i) programs_are ∙ can.after in
     let set_now : handlers.programs ≡ set mid.handlers.programs i.handler.0 (Some x) = put_is ∙ ap (λ (o : Option Held). set mid.handlers.programs i.handler.0 o) after in
     let I : HeldProgram → Type 0 = λ p. IsInstalledIn old.log.all i.handler p.version p.image at_ pushed.all in
     let R : HeldProgram → Type 0 = λ p. RestsAgain d old (record mid { handlers = handlers }) at_ (λ told. told ≡ Installed p ∷ []) in

@@ -93,8 +93,8 @@ abbrev pub held_with : Option Held → ℕ → ArrayVec ℕ → Option LockedCod
 held_with held version image None = renewed version image held
 held_with held version image (Some x) = Some (record { version = version; image = image; code = x.code; locks = x.locks })
 
-abbrev pub held_after : Option Held → Installable → Option Held
-held_after held i = held_with held i.version i.image i.code
+abbrev pub holding_after : Option Held → Installable → Option Held
+holding_after held i = held_with held i.version i.image i.code
 
 -- the program that comes, as a journal has it
 abbrev pub comes : Installable → HeldProgram
@@ -103,7 +103,7 @@ comes i = record { handler = i.handler; version = i.version; image = i.image }
 -- with what the handler holds, this can be installed
 pub record CanInstall (d : Description) (bytes : List ℕ) (held : Option Held) (i : Installable) : Type 0 where
   pub x : Held
-  pub after : held_after held i ≡ Some x
+  pub after : holding_after held i ≡ Some x
   pub can : IsInstallable d bytes (record { handler = i.handler; held = x })
 
 -- what is held has this code

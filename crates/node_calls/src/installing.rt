@@ -11,7 +11,7 @@ ghost use Rattle.node_invariant.specs.Keeps.{IsTimely};
 ghost use Rattle.node_invariant.specs.Meaning.{machine_in};
 ghost use Rattle.node_invariant.specs.Starting.{Rests};
 ghost use Rattle.node_calls.specs.Calls.{RestsAgain};
-ghost use Rattle.node_calls.specs.Installing.{CanInstall, HoldsCode, IsReadAs, InstallGives, comes, held_after};
+ghost use Rattle.node_calls.specs.Installing.{CanInstall, HoldsCode, IsReadAs, InstallGives, comes, holding_after};
 
 use crate::era::clear;
 use crate::posting::post_in;
@@ -124,7 +124,7 @@ fn known_program(
 fn put(handlers: &mut Handlers, program: Installable)
     requires { program.handler.0 < length handlers.old.programs }
     ensures { handlers.new.programs ≡ slice_set handlers.old.programs program.handler.0
-        (held_after (held_at handlers.old.programs program.handler) program) }
+        (holding_after (held_at handlers.old.programs program.handler) program) }
 {
     let Installable {
         handler,
