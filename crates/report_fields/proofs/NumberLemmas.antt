@@ -1,19 +1,17 @@
 -- Numbers and values are read as they are written.
-use Rattle.std.proofs.Common.{◌≡◌, ℕ, zero, suc, ◌^◌, ◌<◌, ◌≤◌, ◌==◌, nat_lt, true, false, not, ◌||◌, List, [], ◌∷◌, length, get_or, Option, Some, Result, Ok, Err, sym, ap, subst, ◌∙◌, arith, rules, inl, inr}
+use Rattle.std.proofs.Common.{◌≡◌, ℕ, zero, suc, ◌^◌, ◌<◌, ◌≤◌, ◌==◌, nat_lt, Bool, true, false, not, ◌&&◌, ◌||◌, cond, List, [], ◌∷◌, length, get_or, Option, Some, None, refl, sym, ap, subst, ◌∙◌, arith, rules, inl, inr}
 use Rattle.std.specs.Char.{is_ascii_digit}
 use Rattle.std.specs.Prelude.{ℤ, pos, negsuc}
 use Rattle.std.specs.List.{list_all}
-use Rattle.std.specs.Result.{result_ok, OkIff}
 use Rattle.std.specs.Option.{option_and_then}
 use Rattle.std.specs.Fmt.{decimal, signed_decimal}
-use Rattle.std.specs.Str.{IsUtf8}
-use Rattle.std.specs.Str.Parse.{digits_value, ParsesUnsigned}
-use Rattle.std.proofs.lemmas.Str.{IsUtf8-from_ascii}
-use Rattle.std.proofs.lemmas.Str.Parse.{IsNumeralModel, numerals_by_value, parse_digits}
-use Rattle.std.proofs.lemmas.Fmt.{digits_decimal, digits_value-decimal, decimal-digits_value, decimal_nonempty, first_decimal, decimal_digit, IsAscii-from_digits}
-use Rattle.std.proofs.lemmas.Bool.{and_parts, and_from, lt-ltb, le-ltb, eqb-true, cond-true, cond-false, cases_Bool, cases_lt}
+use Rattle.std.specs.Str.Parse.{digits_value}
+use Rattle.std.proofs.lemmas.Str.Parse.{IsNumeralModel, numerals_by_value}
+use Rattle.std.proofs.lemmas.Fmt.{digits_decimal, digits_value-decimal, decimal-digits_value, decimal_nonempty, first_decimal, decimal_digit}
+use Rattle.std.proofs.lemmas.Bool.{and_parts, and_from, lt-ltb, eqb-true, cond-true, cond-false, cases_Bool, cases_lt}
 use Rattle.std.proofs.lemmas.Bool.Decides.{nat_tests}
-use Rattle.report_fields.specs.Numbers.{is_plain_numeral, below_limit, unsigned_of, below_of, negative, positive, value_of}
+use Rattle.decimal_text.specs.Spelling.{spelled}
+use Rattle.report_fields.specs.Numbers.{is_plain_numeral, has_plain_lead, below_limit, unsigned_of, below_of, negative, positive, value_of}
 use Rattle.report_fields.proofs.OptionLemmas.{steps, when_some, below_some}
 
 own : IsNumeralModel (λ ds. list_all is_ascii_digit ds ≡ true) (digits_value 10)
@@ -41,24 +39,23 @@ plain-is_plain_numeral : (w : List ℕ) → IsPlain w → is_plain_numeral w ≡
 plain-is_plain_numeral [] p = absurd (omega (arith, p.some))
 plain-is_plain_numeral (b ∷ bs) p = and_from (list_all is_ascii_digit (b ∷ bs)) (not (b == 48) || length bs == 0) p.digits (of_lead b (length bs) p.lead)
 
--- a numeral is a text
-pub is_plain_numeral-IsUtf8 : (w : List ℕ) → is_plain_numeral w ≡ true → IsUtf8 w
-is_plain_numeral-IsUtf8 w h = IsUtf8-from_ascii w (IsAscii-from_digits w (own.to w (plain w h).digits))
+-- what digits and a lead decide, and how large the number is
+by_lead : (digits lead small : Bool) (n : ℕ) → lead ≡ true → cond (digits && small) (Some n) None ≡ cond {A = Option ℕ} (digits && lead) (cond small (Some n) None) None
+by_lead true true small n is = refl
+by_lead false true small n is = refl
+by_lead digits false small n is = absurd (cc)
 
--- what the parser of numbers gives
-parsed_as : {E : Type 0} (w : List ℕ) (r : Result ℕ E) → OkIff r ((0 < length w) × (digits_value 10 w < 2 ^ 64)) (digits_value 10 w) → 0 < length w
-    → result_ok r ≡ below_limit (2 ^ 64) (digits_value 10 w)
-parsed_as w (Ok n) h some = ap Some h.1 ∙ sym (cond-true (nat_lt (digits_value 10 w) (2 ^ 64)) _ _ (lt-ltb _ _ h.0.1))
-parsed_as w (Err e) h some =
-    elim (cases_lt (digits_value 10 w) (2 ^ 64)) [
-      | inl low ↦ absurd (h (some, low))
-      | inr high ↦ sym (cond-false (nat_lt (digits_value 10 w) (2 ^ 64)) _ _ (le-ltb _ _ high))
-    ]
+no_lead : (digits lead : Bool) (o : Option ℕ) → lead ≡ false → None ≡ cond {A = Option ℕ} (digits && lead) o None
+no_lead true false o is = refl
+no_lead false false o is = refl
+no_lead digits true o is = absurd (cc)
 
-pub parses : {E : Type 0} (w : List ℕ) (r : Result ℕ E) (o : Option ℕ) → is_plain_numeral w ≡ true → ParsesUnsigned 64 10 w r → o ≡ result_ok r → o ≡ unsigned_of w
-parses w r o h p e =
-    let is : IsPlain w = plain w h in
-    e ∙ parsed_as w r (parse_digits own 64 w r p is.digits) is.some ∙ sym (cond-true (is_plain_numeral w) _ _ h)
+-- what the digits spell is the number, if the lead is plain
+pub spelled-unsigned_of : (w : List ℕ) → has_plain_lead w ≡ true → spelled w ≡ unsigned_of w
+spelled-unsigned_of w is = by_lead (list_all is_ascii_digit w) (has_plain_lead w) (nat_lt (digits_value 10 w) (2 ^ 64)) (digits_value 10 w) is
+
+pub none-unsigned_of : (w : List ℕ) → has_plain_lead w ≡ false → None ≡ unsigned_of w
+none-unsigned_of w is = no_lead (list_all is_ascii_digit w) (has_plain_lead w) (below_limit (2 ^ 64) (digits_value 10 w)) is
 
 -- ---- numbers
 

@@ -6,10 +6,14 @@ use Rattle.std.specs.List.{list_all}
 use Rattle.std.specs.Option.{option_and_then}
 use Rattle.std.specs.Str.Parse.{digits_value}
 
+-- one byte, or more that do not begin with `0`
+abbrev pub has_plain_lead : List ℕ → Bool
+has_plain_lead [] = false
+has_plain_lead (b ∷ bs) = not (b == 48) || length bs == 0
+
 -- one digit, or more that do not begin with `0`
 abbrev pub is_plain_numeral : List ℕ → Bool
-is_plain_numeral [] = false
-is_plain_numeral (b ∷ bs) = list_all is_ascii_digit (b ∷ bs) && (not (b == 48) || length bs == 0)
+is_plain_numeral word = list_all is_ascii_digit word && has_plain_lead word
 
 abbrev pub below_limit : ℕ → ℕ → Option ℕ
 below_limit limit n = if nat_lt n limit then Some n else None

@@ -1,23 +1,17 @@
 //! Numbers and values, as a report writes them: no leading zero, no `+` and no `-0`.
 
-ghost use Rattle.std.specs.Prelude.{◌≡◌, ◌<◌, true, IfSome};
-ghost use Rattle.std.specs.List.{list_all};
-ghost use Rattle.std.specs.Char.{is_ascii_digit};
-ghost use Rattle.report_fields.specs.Numbers.{is_plain_numeral, unsigned_of, below_of, negative, positive, value_of};
+ghost use Rattle.std.specs.Prelude.{◌≡◌, ◌<◌, IfSome};
+ghost use Rattle.report_fields.specs.Numbers.{has_plain_lead, unsigned_of, below_of, negative, positive, value_of};
 
-fn are_digits(bytes: &[u8]) -> bool
-    ensures { result ≡ list_all is_ascii_digit bytes.now }
-{
-    bytes.iter().all(|byte| byte.is_ascii_digit())
-}
+use decimal_text::spelled;
 
-/// Whether the word is one digit, or more that do not begin with `0`.
-fn is_plain_numeral(word: &[u8]) -> bool
-    ensures { result ≡ is_plain_numeral word.now }
+/// Whether the word is one byte, or more that do not begin with `0`.
+fn has_plain_lead(word: &[u8]) -> bool
+    ensures { result ≡ has_plain_lead word.now }
 {
     match word {
         [] => false,
-        [first, rest @ ..] => are_digits(word) && (*first != b'0' || rest.is_empty()),
+        [first, rest @ ..] => *first != b'0' || rest.is_empty(),
     }
 }
 
@@ -25,20 +19,10 @@ fn is_plain_numeral(word: &[u8]) -> bool
 pub fn unsigned(word: &[u8]) -> Option<u64>
     ensures { result ≡ unsigned_of word.now }
 {
-    if !is_plain_numeral(word) {
+    if !has_plain_lead(word) {
         return None;
     }
-    let Ok(text) = str::from_utf8(word) else {
-        unreachable!()
-    };
-    parsed(text)
-}
-
-fn parsed(text: &str) -> Option<u64>
-    requires { is_plain_numeral text.now ≡ true }
-    ensures { result ≡ unsigned_of text.now }
-{
-    text.parse::<u64>().ok()
+    spelled(word)
 }
 
 /// The number below `limit` that a word tells.

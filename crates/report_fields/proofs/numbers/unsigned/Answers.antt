@@ -1,6 +1,9 @@
-use Rattle.std.proofs.Common.{rules}
-use Rattle.report_fields.proofs.NumberLemmas.{is_plain_numeral-IsUtf8}
+use Rattle.std.proofs.Common.{sym, ◌∙◌}
+use Rattle.report_fields.proofs.NumberLemmas.{spelled-unsigned_of, none-unsigned_of}
 use Rattle.report_fields.proofs.numbers.unsigned.Goals as goal
 
-pub unreachable-requires : goal.unreachable-requires
-unreachable-requires c = search (rules, is_plain_numeral-IsUtf8)
+pub returns-then-not-has_plain_lead : goal.returns-then-not-has_plain_lead
+returns-then-not-has_plain_lead c = none-unsigned_of c.args.word.now (sym c.has_plain_lead.ensures ∙ c.if-not-has_plain_lead.true)
+
+pub returns : goal.returns
+returns c = c.spelled.ensures ∙ spelled-unsigned_of c.args.word.now (sym c.has_plain_lead.ensures ∙ c.if-not-has_plain_lead.false)
