@@ -27,7 +27,8 @@ pub fn programs_are_installed()
 
 /// Whether a journal whose entries follow one another keeps the grant rule is told by whoever is live.
 pub fn grants_are_told()
-    ensures { (m : Machine) (conflict : ConflictTest) (es : List Event) → TellsConflicts m.meaning conflict → IsWellFormed m (nothing_heard m) es →
+    ensures { (m : Machine) (conflict : ConflictTest) (es : List Event) → TellsConflicts m.meaning conflict
+        → IsWellFormed m (nothing_heard m) es →
         Decides (grants_in_order conflict nobody 0 es) (GrantsInOrder m (nothing_heard m) 0 es) }
 {}
 

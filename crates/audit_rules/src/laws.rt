@@ -25,7 +25,8 @@ ghost use Rattle.audit_verdict.specs.declared.law.Verdict.TheVariants.{Serial};
 /// The order of calls to devices follows from the other laws: it is never the first to fail.
 pub fn devices_follow()
     ensures { (d : Description) (ps : List Program) (es : List Event) → AreRightPrograms d ps →
-        IsWellFormed (machine_by d ps) (nothing_heard (machine_by d ps)) es → IsSerial (machine_by d ps) (nothing_heard (machine_by d ps)) es
+        IsWellFormed (machine_by d ps) (nothing_heard (machine_by d ps)) es
+        → IsSerial (machine_by d ps) (nothing_heard (machine_by d ps)) es
         → GrantsInOrder (machine_by d ps) (nothing_heard (machine_by d ps)) 0 es →
         AsksDevicesInOrder (machine_by d ps).device_of es }
 {}

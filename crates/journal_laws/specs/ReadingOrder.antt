@@ -25,4 +25,5 @@ pub record AsksInOrder (device_of : DeviceOf) (d : DeviceId) (era : List Event) 
 
 -- in each era of a journal, and in each part of one, the calls to each device are in the order of that reading
 abbrev pub ReadsDevicesInOrder : DeviceOf → List Event → Type 0
-ReadsDevicesInOrder device_of es = (front era back : List Event) (d : DeviceId) → es ≡ front ++ (era ++ back) → AreOfOneEra era → AsksInOrder device_of d era
+ReadsDevicesInOrder device_of es =
+    (front era back : List Event) (d : DeviceId) → es ≡ front ++ (era ++ back) → AreOfOneEra era → AsksInOrder device_of d era
