@@ -1,2 +1,3 @@
+mod CopyLemmas
 pub mod RecordLemmas
 pub mod KeptLemmas
