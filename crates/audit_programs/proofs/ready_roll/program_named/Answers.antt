@@ -9,9 +9,9 @@ pub returns-clause-right : goal.returns-clause-right
 returns-clause-right c =
     let l = c.args.trial.now.log.now in
     let ps : List Program = c.args.trial.now.programs.now in
-    let k = c.in-Some-2.found in
+    let k = c.in-Some-find_program.found in
     let at = image-at l.images c.images.result.now.items c.args.image c.in-Some.bytes c.images.ensures c.in-Some.ensures in
-    let held = subst (λ (image : ArrayVec ℕ). IsHeldAt (record { handler = c.args.handler; version = c.args.version; image = image }) ps k) at c.in-Some-2.ensures.held in
+    let held = subst (λ (image : ArrayVec ℕ). IsHeldAt (record { handler = c.args.handler; version = c.args.version; image = image }) ps k) at c.in-Some-find_program.ensures.held in
     let p : Program = c.index-as_slice-found.result in
     (found-right c.args.trial.now.desc.now (named_program l c.args.handler c.args.version c.args.image) ps k p c.requires.right held
     (c.index-as_slice-found.is ∙ ap (λ (xs : List Program). get_or xs k p) c.as_slice.ensures)).0
@@ -20,9 +20,9 @@ pub returns-clause-image : goal.returns-clause-image
 returns-clause-image c =
     let l = c.args.trial.now.log.now in
     let ps : List Program = c.args.trial.now.programs.now in
-    let k = c.in-Some-2.found in
+    let k = c.in-Some-find_program.found in
     let at = image-at l.images c.images.result.now.items c.args.image c.in-Some.bytes c.images.ensures c.in-Some.ensures in
-    let held = subst (λ (image : ArrayVec ℕ). IsHeldAt (record { handler = c.args.handler; version = c.args.version; image = image }) ps k) at c.in-Some-2.ensures.held in
+    let held = subst (λ (image : ArrayVec ℕ). IsHeldAt (record { handler = c.args.handler; version = c.args.version; image = image }) ps k) at c.in-Some-find_program.ensures.held in
     let p : Program = c.index-as_slice-found.result in
     held_image (named_program l c.args.handler c.args.version c.args.image) p
     (found-right c.args.trial.now.desc.now (named_program l c.args.handler c.args.version c.args.image) ps k p c.requires.right held
