@@ -1,4 +1,4 @@
-use Rattle.std.proofs.Common.{◌≡◌, ◌<◌, ◌+◌, ℕ, length, refl, sym, ◌∙◌, ap, subst, arith}
+use Rattle.std.proofs.Common.{◌≡◌, ◌<◌, ◌+◌, ℕ, List, length, set, refl, sym, ◌∙◌, ap, subst, arith}
 use Rattle.std.specs.Prelude.{Some, slice_get}
 use Rattle.std.proofs.lemmas.Option.{slice_get-get_or}
 use Rattle.report_summary.specs.declared.tally.LogTally.{LogTally}
@@ -40,11 +40,12 @@ loop-mote-preserved c =
     let at = c.loop-mote.invariant.node in
     let low : c.loop-mote.node < length now = omega (arith, below, count, same, at) in
     let found : slice_get now c.loop-mote.node ≡ Some own = slice_get-get_or now c.loop-mote.node own low ∙ ap (λ (x : LogTally). Some x) (sym c.index_mut.ensures.value) in
+    let new : List LogTally = set now c.loop-mote.node c.count_kept.new.tally in
     let here : slice_get c.args.motes.now c.loop-mote.mote-index ≡ Some m = slice_get-get_or c.args.motes.now c.loop-mote.mote-index m below ∙ ap (λ (x : Mote). Some x) (sym c.mote-item.is) in
     record {
       node = omega (arith, at);
-      counted = subst (λ (k : ℕ). StoresCounted (k + 1) c.args.tallies.now.items _ c.args.motes.now) at
-          (store-counted c.args.tallies.now.items now _ c.args.motes.now c.loop-mote.node own c.count_kept.new.tally m
+      counted = subst (λ (k : ℕ). StoresCounted (k + 1) c.args.tallies.now.items new c.args.motes.now) at
+          (store-counted c.args.tallies.now.items now new c.args.motes.now c.loop-mote.node own c.count_kept.new.tally m
           (subst (λ (k : ℕ). StoresCounted k c.args.tallies.now.items now c.args.motes.now) (sym at) c.loop-mote.invariant.counted) low found
           (subst (λ (k : ℕ). slice_get c.args.motes.now k ≡ Some m) (sym at) here) refl c.count_kept.ensures);
     }

@@ -13,7 +13,7 @@ use Rattle.world_sim.proofs.counting.sum_world.Goals as goal
 
 pub loop-events-init : goal.loop-events-init
 loop-events-init c =
-    let s = c.in_ok-made.ensures in
+    let s = c.in_ok-sim.ensures in
     record {
       stands = s.stands;
       kept = s.kept;
