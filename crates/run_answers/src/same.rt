@@ -36,9 +36,14 @@ fn are_same_images(a: &Images, b: &Images) -> bool {
         return false;
     }
     for index in 0..a.len() {
-        match (a.get(index), b.get(index)) {
-            (Some(a), Some(b)) if a.as_slice() == b.as_slice() => {}
-            _ => return false,
+        let Some(one) = a.get(index) else {
+            return false;
+        };
+        let Some(other) = b.get(index) else {
+            return false;
+        };
+        if one.as_slice() != other.as_slice() {
+            return false;
         }
     }
     true
@@ -49,9 +54,14 @@ fn are_same_stores(a: &Stores, b: &Stores) -> bool {
         return false;
     }
     for index in 0..a.len() {
-        match (a.get(index), b.get(index)) {
-            (Some(a), Some(b)) if are_same_values(&a, &b) => {}
-            _ => return false,
+        let Some(one) = a.get(index) else {
+            return false;
+        };
+        let Some(other) = b.get(index) else {
+            return false;
+        };
+        if !are_same_values(&one, &other) {
+            return false;
         }
     }
     true
