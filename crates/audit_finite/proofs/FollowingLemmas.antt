@@ -8,7 +8,7 @@ use Rattle.mate_num.specs.declared.call.Stamp.{Stamp}
 use Rattle.mate_num.specs.declared.id.ContextId.{ContextId}
 use Rattle.mate_num.specs.declared.id.HandlerId.{HandlerId}
 use Rattle.mate_journal.specs.Machine.{Machine, HeldProgram, IsContextOf}
-use Rattle.mate_journal.specs.Journal.{Told, Posted, Dropped, Started, Asked, Answered, Ended, Installed, Reset, Seen, Void, Event, Queued, Ready, is_live, Invocation, Reading, nothing_heard, heard, AtEachEntry}
+use Rattle.mate_journal.specs.Journal.{JournalEntry, Posted, Dropped, Started, Asked, Answered, Ended, Installed, Reset, Seen, Void, TimedEntry, Queued, Ready, is_live, Invocation, NodeState, first_state, next_state, AtEachEntry}
 use Rattle.mate_journal.specs.WellFormed.{IsIdle, IsWaiting, Closes, MayFollow, NotBefore, IsInTime, StampsRise, IsWellFormed}
 use Rattle.journal_laws.proofs.Apart.{IsNumbered, numbered-step, nothing_heard-orderly}
 use Rattle.audit_finite.specs.Roll.{Seat, Roll, nobody, seat, is_queued, is_ready, is_waiting, rolled, IsRoll, is_at}
@@ -28,11 +28,11 @@ not_before-Decides old new =
     (Decides-and (leb old.time new.time) (not (old.event == new.event) || (old.time == new.time)) (leb-Decides old.time new.time)
     (implies-Decides (eqb old.event new.event) (eqb old.time new.time) (Decides-eqb old.event new.event) (Decides-eqb old.time new.time))))
 
-in_time-Decides : (last : Stamp) (es : List Event) → Decides (is_in_time last es) (IsInTime last es)
+in_time-Decides : (last : Stamp) (es : List TimedEntry) → Decides (is_in_time last es) (IsInTime last es)
 in_time-Decides last [] = (λ e. tt, λ h. refl)
 in_time-Decides last (e ∷ es) = Decides-and (not_before last e.stamp) (is_in_time e.stamp es) (not_before-Decides last e.stamp) (in_time-Decides e.stamp es)
 
-pub stamps-Decides : (es : List Event) → Decides (stamps_rise es) (StampsRise es)
+pub stamps-Decides : (es : List TimedEntry) → Decides (stamps_rise es) (StampsRise es)
 stamps-Decides [] = (λ e. tt, λ h. refl)
 stamps-Decides (e ∷ es) = in_time-Decides e.stamp es
 
@@ -49,7 +49,7 @@ context_of-Decides m h c =
 same_context : (c d : ContextId) → c.0 ≡ d.0 → c ≡ d
 same_context c d e = ap (λ (n : ℕ). let x : ContextId = record { 0 = n } in x) e
 
-idle-Decides : (r : Reading) (x : Roll) (c : ContextId) → IsRoll r x → Decides (not (is_taken x c)) (IsIdle r c)
+idle-Decides : (r : NodeState) (x : Roll) (c : ContextId) → IsRoll r x → Decides (not (is_taken x c)) (IsIdle r c)
 idle-Decides r x c right = by (is_taken x c) refl where
   by : (b : Bool) → is_taken x c ≡ b → Decides (not b) (IsIdle r c)
   by true is =
@@ -68,16 +68,16 @@ closes-Decides end.Halt = (λ e. tt, λ h. refl)
 closes-Decides (end.Fault kind) = (λ e. tt, λ h. refl)
 closes-Decides (end.Wants f args) = (λ e. absurd (true≢false (sym e)), λ h. absurd h)
 
-queued_at : (r : Reading) (x : Roll) (n : ℕ) → IsRoll r x → Decides (is_at x n is_queued) ((r.invocations n).phase ≡ Queued)
+queued_at : (r : NodeState) (x : Roll) (n : ℕ) → IsRoll r x → Decides (is_at x n is_queued) ((r.invocations n).phase ≡ Queued)
 queued_at r x n right = chained (is_at x n is_queued) (is_queued (r.invocations n).phase) (at-Decides r x n is_queued right queued-LiveTest) (queued-Decides (r.invocations n).phase)
 
-ready_at : (r : Reading) (x : Roll) (n : ℕ) → IsRoll r x → Decides (is_at x n is_ready) ((r.invocations n).phase ≡ Ready)
+ready_at : (r : NodeState) (x : Roll) (n : ℕ) → IsRoll r x → Decides (is_at x n is_ready) ((r.invocations n).phase ≡ Ready)
 ready_at r x n right = chained (is_at x n is_ready) (is_ready (r.invocations n).phase) (at-Decides r x n is_ready right ready-LiveTest) (ready-Decides (r.invocations n).phase)
 
-waiting_at : (r : Reading) (x : Roll) (n : ℕ) → IsRoll r x → Decides (is_at x n is_waiting) (IsWaiting r n)
+waiting_at : (r : NodeState) (x : Roll) (n : ℕ) → IsRoll r x → Decides (is_at x n is_waiting) (IsWaiting r n)
 waiting_at r x n right = chained (is_at x n is_waiting) (is_waiting (r.invocations n).phase) (at-Decides r x n is_waiting right waiting-LiveTest) (waiting-Decides r n)
 
-pub may_follow-Decides : (m : Machine) (r : Reading) (x : Roll) (t : Told) → IsRoll r x → Decides (may_follow m x t) (MayFollow m r t)
+pub may_follow-Decides : (m : Machine) (r : NodeState) (x : Roll) (t : JournalEntry) → IsRoll r x → Decides (may_follow m x t) (MayFollow m r t)
 may_follow-Decides m r x (Posted n h c payload) right =
     Decides-like (may_follow m x (Posted n h c payload)) (λ p. (p.0, p.1.0, p.1.1.0, p.1.1.1)) (λ f. (f.0, (f.1, (f.2, f.3))))
     (Decides-and (n == suc x.posts) (is_some (x.installed h) && (is_context_of m h c && not (is_taken x c)))
@@ -97,20 +97,20 @@ may_follow-Decides m r x (Void cause) right = always tt
 
 -- ---- the journal
 
-pub follow-Decides : (m : Machine) (r : Reading) (x : Roll) (es : List Event) → IsNumbered r → IsRoll r x → Decides (follow_one_another m x es) (AtEachEntry (MayFollow m) m r es)
+pub follow-Decides : (m : Machine) (r : NodeState) (x : Roll) (es : List TimedEntry) → IsNumbered r → IsRoll r x → Decides (follow_one_another m x es) (AtEachEntry (MayFollow m) m r es)
 follow-Decides m r x [] numbered right = always tt
 follow-Decides m r x (e ∷ es) numbered right =
     by (may_follow m x e.told) (may_follow-Decides m r x e.told right)
-    (λ follows. follow-Decides m (heard m r e.told) (rolled x e.told) es (numbered-step m r e.told follows numbered) (IsRoll-step m r x e.told follows numbered right)) where
-      by : (b : Bool) → Decides b (MayFollow m r e.told) → (MayFollow m r e.told → Decides (follow_one_another m (rolled x e.told) es) (AtEachEntry (MayFollow m) m (heard m r e.told) es))
-          → Decides (b && follow_one_another m (rolled x e.told) es) (MayFollow m r e.told × AtEachEntry (MayFollow m) m (heard m r e.told) es)
+    (λ follows. follow-Decides m (next_state m r e.told) (rolled x e.told) es (numbered-step m r e.told follows numbered) (IsRoll-step m r x e.told follows numbered right)) where
+      by : (b : Bool) → Decides b (MayFollow m r e.told) → (MayFollow m r e.told → Decides (follow_one_another m (rolled x e.told) es) (AtEachEntry (MayFollow m) m (next_state m r e.told) es))
+          → Decides (b && follow_one_another m (rolled x e.told) es) (MayFollow m r e.told × AtEachEntry (MayFollow m) m (next_state m r e.told) es)
       by true here rest = (λ is. (here.0 refl, (rest (here.0 refl)).0 is), λ h. (rest h.0).1 h.1)
       by false here rest = (λ is. absurd (true≢false (sym is)), λ h. here.1 h.0)
 
-pub nothing_heard-numbered : (m : Machine) → IsNumbered (nothing_heard m)
+pub nothing_heard-numbered : (m : Machine) → IsNumbered (first_state m)
 nothing_heard-numbered m = record { numbered = (nothing_heard-orderly m).numbered }
 
-pub following-Decides : (m : Machine) (es : List Event) → Decides (entries_follow m es) (IsWellFormed m (nothing_heard m) es)
+pub following-Decides : (m : Machine) (es : List TimedEntry) → Decides (entries_follow m es) (IsWellFormed m (first_state m) es)
 following-Decides m es =
-    Decides-like (entries_follow m es) (λ h. let s : IsWellFormed m (nothing_heard m) es = record { in_time = h.0; follow = h.1 } in s) (λ s. (s.in_time, s.follow))
-    (Decides-and (stamps_rise es) (follow_one_another m nobody es) (stamps-Decides es) (follow-Decides m (nothing_heard m) nobody es (nothing_heard-numbered m) (nobody-IsRoll m)))
+    Decides-like (entries_follow m es) (λ h. let s : IsWellFormed m (first_state m) es = record { in_time = h.0; follow = h.1 } in s) (λ s. (s.in_time, s.follow))
+    (Decides-and (stamps_rise es) (follow_one_another m nobody es) (stamps-Decides es) (follow-Decides m (first_state m) nobody es (nothing_heard-numbered m) (nobody-IsRoll m)))

@@ -5,9 +5,9 @@ use Rattle.std.proofs.lemmas.Bool.{and_parts, and_from}
 use Rattle.std.proofs.lemmas.Bool.Decides.{Decides-eqb, Decides-not, Decides-and, Decides-or, Decides-ltb}
 use Rattle.mate_num.specs.Uses.{Conflicts}
 use Rattle.mate_journal.specs.Machine.{Machine}
-use Rattle.mate_journal.specs.Journal.{Told, Posted, Dropped, Started, Asked, Answered, Ended, Installed, Reset, Seen, Void, Event, Queued, is_live, is_started, Invocation, Reading, nothing_heard, heard, AtEachEntry}
+use Rattle.mate_journal.specs.Journal.{JournalEntry, Posted, Dropped, Started, Asked, Answered, Ended, Installed, Reset, Seen, Void, TimedEntry, Queued, is_live, is_started, Invocation, NodeState, first_state, next_state, AtEachEntry}
 use Rattle.mate_journal.specs.WellFormed.{MayFollow, IsWellFormed}
-use Rattle.mate_journal.specs.Grants.{IsAhead, AreConflicting, IsHeldBack, AllHeldBack, MayStart, IsGranted, start_of, GrantsInOrder}
+use Rattle.mate_journal.specs.Grants.{IsAhead, AreConflicting, IsHeldBack, AllHeldBack, MayStart, IsGranted, started_number, GrantsInOrder}
 use Rattle.journal_laws.proofs.Apart.{IsNumbered, numbered-step, queued_live}
 use Rattle.journal_laws.proofs.Moves.{started_live}
 use Rattle.audit_finite.specs.Roll.{Seat, Roll, nobody, seat, is_queued, rolled, IsRoll}
@@ -18,24 +18,24 @@ use Rattle.audit_finite.proofs.RollLemmas.{queued-Decides, nobody-IsRoll, IsRoll
 use Rattle.audit_finite.proofs.FollowingLemmas.{nothing_heard-numbered}
 
 -- whoever is ahead is live
-ahead_live : (r : Reading) (n k : ℕ) → IsAhead r n k → IsTrue (is_live (r.invocations k).phase)
+ahead_live : (r : NodeState) (n k : ℕ) → IsAhead r n k → IsTrue (is_live (r.invocations k).phase)
 ahead_live r n k (inl started) = started_live (r.invocations k).phase started
 ahead_live r n k (inr earlier) = queued_live r k earlier.1
 
-ahead-Decides : (r : Reading) (s t : Seat) → r.invocations t.number ≡ t.invocation → Decides (is_ahead s t) (IsAhead r s.number t.number)
+ahead-Decides : (r : NodeState) (s t : Seat) → r.invocations t.number ≡ t.invocation → Decides (is_ahead s t) (IsAhead r s.number t.number)
 ahead-Decides r s t is =
     subst (λ (i : Invocation). Decides (is_ahead s t) (IsTrue (is_started i.phase) ⊎ ((t.number < s.number) × (i.phase ≡ Queued)))) (sym is)
     (Decides-or (is_started t.invocation.phase) (nat_lt t.number s.number && is_queued t.invocation.phase) (λ e. e, λ e. e)
     (Decides-and (nat_lt t.number s.number) (is_queued t.invocation.phase) (Decides-ltb t.number s.number) (queued-Decides t.invocation.phase)))
 
-pub conflict-Decides : (m : Machine) (conflict : ConflictTest) (r : Reading) (s t : Seat) → TellsConflicts m.meaning conflict → r.invocations s.number ≡ s.invocation → r.invocations t.number ≡ t.invocation
+pub conflict-Decides : (m : Machine) (conflict : ConflictTest) (r : NodeState) (s t : Seat) → TellsConflicts m.meaning conflict → r.invocations s.number ≡ s.invocation → r.invocations t.number ≡ t.invocation
     → Decides (conflict s.invocation.program t.invocation.program) (AreConflicting m r s.number t.number)
 conflict-Decides m conflict r s t tells first second =
     subst (λ (i : Invocation). Decides (conflict s.invocation.program t.invocation.program) (Conflicts (m.meaning.uses i.program) (m.meaning.uses (r.invocations t.number).program))) (sym first)
     (subst (λ (i : Invocation). Decides (conflict s.invocation.program t.invocation.program) (Conflicts (m.meaning.uses s.invocation.program) (m.meaning.uses i.program))) (sym second)
     (tells s.invocation.program t.invocation.program))
 
-held_back-Decides : (m : Machine) (conflict : ConflictTest) (r : Reading) (x : Roll) (s : Seat) → TellsConflicts m.meaning conflict → IsRoll r x → Contains x.seats s
+held_back-Decides : (m : Machine) (conflict : ConflictTest) (r : NodeState) (x : Roll) (s : Seat) → TellsConflicts m.meaning conflict → IsRoll r x → Contains x.seats s
     → Decides (is_held_back conflict x s) (IsHeldBack m r s.number)
 held_back-Decides m conflict r x s tells right has = (there, back) where
   here : r.invocations s.number ≡ s.invocation
@@ -58,7 +58,7 @@ held_back-Decides m conflict r x s tells right has = (there, back) where
       any-has (holds_back conflict s) x.seats t (right.seated h.by (ahead_live r s.number h.by h.ahead))
       (and_from (is_ahead s t) (conflict s.invocation.program t.invocation.program) ((ahead-Decides r s t refl).1 h.ahead) ((conflict-Decides m conflict r s t tells here refl).1 h.conflict))
 
-all_held_back-Decides : (m : Machine) (conflict : ConflictTest) (r : Reading) (x : Roll) → TellsConflicts m.meaning conflict → IsRoll r x → Decides (all_held_back conflict x) (AllHeldBack m r)
+all_held_back-Decides : (m : Machine) (conflict : ConflictTest) (r : NodeState) (x : Roll) → TellsConflicts m.meaning conflict → IsRoll r x → Decides (all_held_back conflict x) (AllHeldBack m r)
 all_held_back-Decides m conflict r x tells right = (there, back) where
   tells_each : (s : Seat) → Contains x.seats s → Decides (not (is_queued s.invocation.phase) || is_held_back conflict x s) (s.invocation.phase ≡ Queued → IsHeldBack m r s.number)
   tells_each s has =
@@ -76,13 +76,13 @@ all_held_back-Decides m conflict r x tells right = (there, back) where
       (λ s has. (tells_each s has).1 (λ queued. all s.number (ap (λ (i : Invocation). i.phase) (right.lives s has).1 ∙ queued)))
 
 -- nothing ahead conflicts: it isn't held back
-free-MayStart : (m : Machine) (r : Reading) (n : ℕ) → (IsHeldBack m r n → ⊥) → MayStart m r n
+free-MayStart : (m : Machine) (r : NodeState) (n : ℕ) → (IsHeldBack m r n → ⊥) → MayStart m r n
 free-MayStart m r n free k ahead conflict = free (record { by = k; ahead = ahead; conflict = conflict })
 
-MayStart-free : (m : Machine) (r : Reading) (n : ℕ) → MayStart m r n → IsHeldBack m r n → ⊥
+MayStart-free : (m : Machine) (r : NodeState) (n : ℕ) → MayStart m r n → IsHeldBack m r n → ⊥
 MayStart-free m r n may h = may h.by h.ahead h.conflict
 
-may_start-Decides : (m : Machine) (conflict : ConflictTest) (r : Reading) (x : Roll) (n : ℕ) → TellsConflicts m.meaning conflict → IsRoll r x → (r.invocations n).phase ≡ Queued
+may_start-Decides : (m : Machine) (conflict : ConflictTest) (r : NodeState) (x : Roll) (n : ℕ) → TellsConflicts m.meaning conflict → IsRoll r x → (r.invocations n).phase ≡ Queued
     → Decides (is_free_to_start conflict x n) (MayStart m r n)
 may_start-Decides m conflict r x n tells right queued = (there, back) where
   tells_each : (s : Seat) → Contains x.seats s → Decides (not (s.number == n) || not (is_held_back conflict x s)) (s.number ≡ n → IsHeldBack m r s.number → ⊥)
@@ -101,7 +101,7 @@ may_start-Decides m conflict r x n tells right queued = (there, back) where
       has-all (λ (s : Seat). not (s.number == n) || not (is_held_back conflict x s)) x.seats
       (λ s has. (tells_each s has).1 (λ e. subst (λ (k : ℕ). IsHeldBack m r k → ⊥) (sym e) (MayStart-free m r n may)))
 
-granted-Decides : (m : Machine) (conflict : ConflictTest) (r : Reading) (x : Roll) (last : ℕ) (t : Told) → TellsConflicts m.meaning conflict → IsRoll r x → MayFollow m r t
+granted-Decides : (m : Machine) (conflict : ConflictTest) (r : NodeState) (x : Roll) (last : ℕ) (t : JournalEntry) → TellsConflicts m.meaning conflict → IsRoll r x → MayFollow m r t
     → Decides (is_granted conflict x last t) (IsGranted m r last t)
 granted-Decides m conflict r x last (Started n) tells right follows =
     Decides-and (is_free_to_start conflict x n) (nat_lt last n) (may_start-Decides m conflict r x n tells right follows) (Decides-ltb last n)
@@ -115,13 +115,13 @@ granted-Decides m conflict r x last Reset tells right follows = all_held_back-De
 granted-Decides m conflict r x last (Seen store) tells right follows = all_held_back-Decides m conflict r x tells right
 granted-Decides m conflict r x last (Void cause) tells right follows = all_held_back-Decides m conflict r x tells right
 
-pub grants-Decides : (m : Machine) (conflict : ConflictTest) (r : Reading) (x : Roll) (last : ℕ) (es : List Event) → TellsConflicts m.meaning conflict → IsNumbered r → IsRoll r x → AtEachEntry (MayFollow m) m r es
+pub grants-Decides : (m : Machine) (conflict : ConflictTest) (r : NodeState) (x : Roll) (last : ℕ) (es : List TimedEntry) → TellsConflicts m.meaning conflict → IsNumbered r → IsRoll r x → AtEachEntry (MayFollow m) m r es
     → Decides (grants_in_order conflict x last es) (GrantsInOrder m r last es)
 grants-Decides m conflict r x last [] tells numbered right follow = all_held_back-Decides m conflict r x tells right
 grants-Decides m conflict r x last (e ∷ es) tells numbered right follow =
-    Decides-and (is_granted conflict x last e.told) (grants_in_order conflict (rolled x e.told) (start_of e.told) es) (granted-Decides m conflict r x last e.told tells right follow.0)
-    (grants-Decides m conflict (heard m r e.told) (rolled x e.told) (start_of e.told) es tells (numbered-step m r e.told follow.0 numbered) (IsRoll-step m r x e.told follow.0 numbered right) follow.1)
+    Decides-and (is_granted conflict x last e.told) (grants_in_order conflict (rolled x e.told) (started_number e.told) es) (granted-Decides m conflict r x last e.told tells right follow.0)
+    (grants-Decides m conflict (next_state m r e.told) (rolled x e.told) (started_number e.told) es tells (numbered-step m r e.told follow.0 numbered) (IsRoll-step m r x e.told follow.0 numbered right) follow.1)
 
-pub grants_told : (m : Machine) (conflict : ConflictTest) (es : List Event) → TellsConflicts m.meaning conflict → IsWellFormed m (nothing_heard m) es
-    → Decides (grants_in_order conflict nobody 0 es) (GrantsInOrder m (nothing_heard m) 0 es)
-grants_told m conflict es tells follows = grants-Decides m conflict (nothing_heard m) nobody 0 es tells (nothing_heard-numbered m) (nobody-IsRoll m) follows.follow
+pub grants_told : (m : Machine) (conflict : ConflictTest) (es : List TimedEntry) → TellsConflicts m.meaning conflict → IsWellFormed m (first_state m) es
+    → Decides (grants_in_order conflict nobody 0 es) (GrantsInOrder m (first_state m) 0 es)
+grants_told m conflict es tells follows = grants-Decides m conflict (first_state m) nobody 0 es tells (nothing_heard-numbered m) (nobody-IsRoll m) follows.follow

@@ -8,7 +8,7 @@ use Rattle.arrayvec.specs.ArrayVec.{ArrayVec}
 use Rattle.mate_num.specs.declared.id.ContextId.{ContextId}
 use Rattle.mate_num.specs.declared.id.HandlerId.{HandlerId}
 use Rattle.mate_journal.specs.Machine.{Machine, HeldProgram}
-use Rattle.mate_journal.specs.Journal.{Told, Posted, Dropped, Started, Asked, Answered, Ended, Installed, Reset, Seen, Void, Queued, Ready, Waiting, Invocation, no_program, in_phase}
+use Rattle.mate_journal.specs.Journal.{JournalEntry, Posted, Dropped, Started, Asked, Answered, Ended, Installed, Reset, Seen, Void, Queued, Ready, Waiting, Invocation, no_program, in_phase}
 use Rattle.audit_finite.specs.Roll.{Seat, Roll, nobody, seat, seat_changed, roll_changed, has_other_number, with_answer, rolled, LiveAreInstalled}
 use Rattle.audit_finite.specs.Following.{is_context_of, is_taken, may_follow}
 use Rattle.audit_finite.proofs.Members.{Contains-nil, Contains-map_from, Contains-filter_from}
@@ -54,7 +54,7 @@ posted-LiveAreInstalled m x n h c payload follows right = record {
 
 -- ---- each entry
 
-pub LiveAreInstalled-step : (m : Machine) (x : Roll) (t : Told) → IsTrue (may_follow m x t) → LiveAreInstalled x → LiveAreInstalled (rolled x t)
+pub LiveAreInstalled-step : (m : Machine) (x : Roll) (t : JournalEntry) → IsTrue (may_follow m x t) → LiveAreInstalled x → LiveAreInstalled (rolled x t)
 LiveAreInstalled-step m x (Posted n h c payload) follows right = posted-LiveAreInstalled m x n h c payload follows right
 LiveAreInstalled-step m x (Dropped h cause) follows right = right
 LiveAreInstalled-step m x (Started n) follows right = roll_changed-LiveAreInstalled x n (in_phase Ready) (λ i e. e) right

@@ -10,7 +10,7 @@ use Rattle.mate_num.specs.declared.call.End.TheVariants as end
 use Rattle.mate_num.specs.declared.id.FunId.{FunId}
 use Rattle.mate_num.specs.declared.store.Store.{Store}
 use Rattle.mate_journal.specs.Machine.{Machine}
-use Rattle.mate_journal.specs.Journal.{Told, Posted, Dropped, Started, Asked, Answered, Ended, Installed, Reset, Seen, Void, Event, Phase, Unposted, Queued, Ready, Waiting, Over, is_live, is_started, Invocation, Reading, nothing_heard, in_phase, whole_run, heard, AtEachEntry}
+use Rattle.mate_journal.specs.Journal.{JournalEntry, Posted, Dropped, Started, Asked, Answered, Ended, Installed, Reset, Seen, Void, TimedEntry, Phase, Unposted, Queued, Ready, Waiting, Over, is_live, is_started, Invocation, NodeState, first_state, in_phase, whole_run, next_state, AtEachEntry}
 use Rattle.mate_journal.specs.WellFormed.{MayFollow, IsWellFormed}
 use Rattle.mate_journal.specs.Serial.{IsSerial}
 use Rattle.mate_journal.specs.Grants.{AreConflicting}
@@ -46,12 +46,12 @@ so_far-Decides m store i =
     Decides-and (same_calls (run_on m store i).calls i.calls) (wants_as i.phase (run_on m store i).end) (calls-Decides (run_on m store i).calls i.calls) (wants-Decides i.phase (run_on m store i).end)
 
 -- of an invocation by its number
-run-Decides : (m : Machine) (r : Reading) (n : ℕ) (i : Invocation) → r.invocations n ≡ i → Decides (is_so_far m r.serial i) (IsRunSoFar m r n)
+run-Decides : (m : Machine) (r : NodeState) (n : ℕ) (i : Invocation) → r.invocations n ≡ i → Decides (is_so_far m r.serial i) (IsRunSoFar m r n)
 run-Decides m r n i is =
     Decides-like (is_so_far m r.serial i) (λ h. so_far_told m r n (subst (λ (i : Invocation). IsSoFar m r.serial i) (sym is) h)) (λ h. subst (λ (i : Invocation). IsSoFar m r.serial i) is (told_so_far m r n h))
     (so_far-Decides m r.serial i)
 
-all-Decides : (m : Machine) (r : Reading) (x : Roll) → IsRoll r x → Decides (all_so_far m x r.serial) (AllRunSoFar m r)
+all-Decides : (m : Machine) (r : NodeState) (x : Roll) → IsRoll r x → Decides (all_so_far m x r.serial) (AllRunSoFar m r)
 all-Decides m r x right = (there, back) where
   each : (s : Seat) → Contains x.seats s → Decides (not (is_started s.invocation.phase) || is_so_far m r.serial s.invocation) (IsTrue (is_started s.invocation.phase) → IsRunSoFar m r s.number)
   each s has = implies-Decides (is_started s.invocation.phase) (is_so_far m r.serial s.invocation) (λ e. e, λ e. e) (run-Decides m r s.number s.invocation (right.lives s has).1)
@@ -69,7 +69,7 @@ all-Decides m r x right = (there, back) where
 
 -- ---- an end
 
-undisturbed-Decides : (m : Machine) (conflict : ConflictTest) (r : Reading) (x : Roll) (n : ℕ) (how : End) (s : Seat) → TellsConflicts m.meaning conflict → IsRoll r x → Contains x.seats s
+undisturbed-Decides : (m : Machine) (conflict : ConflictTest) (r : NodeState) (x : Roll) (n : ℕ) (how : End) (s : Seat) → TellsConflicts m.meaning conflict → IsRoll r x → Contains x.seats s
     → Decides (is_undisturbed m conflict r.serial (whole_run m r n).store n (r.invocations n) s)
     (s.number ≢ n → IsTrue (is_started s.invocation.phase) → AreConflicting m r n s.number → IsRunSoFar m r s.number × IsSoFar m (whole_run m r n).store s.invocation)
 undisturbed-Decides m conflict r x n how s tells right has =
@@ -83,26 +83,26 @@ undisturbed-Decides m conflict r x n how s tells right has =
     (Decides-and (is_so_far m r.serial s.invocation) (is_so_far m after s.invocation) (run-Decides m r s.number s.invocation is) (so_far-Decides m after s.invocation))))
 
 -- another one after the end is as before
-after-end : (m : Machine) (r : Reading) (n k : ℕ) (how : End) (i : Invocation) → k ≢ n → r.invocations k ≡ i → IsSoFar m (whole_run m r n).store i → IsRunSoFar m (heard m r (Ended n how)) k
+after-end : (m : Machine) (r : NodeState) (n k : ℕ) (how : End) (i : Invocation) → k ≢ n → r.invocations k ≡ i → IsSoFar m (whole_run m r n).store i → IsRunSoFar m (next_state m r (Ended n how)) k
 after-end m r n k how i other is h =
-    so_far_told m (heard m r (Ended n how)) k
+    so_far_told m (next_state m r (Ended n how)) k
     (subst (λ (i : Invocation). IsSoFar m (whole_run m r n).store i) (sym (changed-other r.invocations n (in_phase Over (r.invocations n)) k other ∙ is)) h)
 
-end-after : (m : Machine) (r : Reading) (n k : ℕ) (how : End) (i : Invocation) → k ≢ n → r.invocations k ≡ i → IsRunSoFar m (heard m r (Ended n how)) k → IsSoFar m (whole_run m r n).store i
+end-after : (m : Machine) (r : NodeState) (n k : ℕ) (how : End) (i : Invocation) → k ≢ n → r.invocations k ≡ i → IsRunSoFar m (next_state m r (Ended n how)) k → IsSoFar m (whole_run m r n).store i
 end-after m r n k how i other is h =
-    subst (λ (i : Invocation). IsSoFar m (whole_run m r n).store i) (changed-other r.invocations n (in_phase Over (r.invocations n)) k other ∙ is) (told_so_far m (heard m r (Ended n how)) k h)
+    subst (λ (i : Invocation). IsSoFar m (whole_run m r n).store i) (changed-other r.invocations n (in_phase Over (r.invocations n)) k other ∙ is) (told_so_far m (next_state m r (Ended n how)) k h)
 
-others-Decides : (m : Machine) (conflict : ConflictTest) (r : Reading) (x : Roll) (n : ℕ) (how : End) → TellsConflicts m.meaning conflict → IsRoll r x
-    → Decides (list_all (is_undisturbed m conflict r.serial (whole_run m r n).store n (r.invocations n)) x.seats) (OthersRun m r (heard m r (Ended n how)) n)
+others-Decides : (m : Machine) (conflict : ConflictTest) (r : NodeState) (x : Roll) (n : ℕ) (how : End) → TellsConflicts m.meaning conflict → IsRoll r x
+    → Decides (list_all (is_undisturbed m conflict r.serial (whole_run m r n).store n (r.invocations n)) x.seats) (OthersRun m r (next_state m r (Ended n how)) n)
 others-Decides m conflict r x n how tells right = (there, back) where
-  there : list_all (is_undisturbed m conflict r.serial (whole_run m r n).store n (r.invocations n)) x.seats ≡ true → OthersRun m r (heard m r (Ended n how)) n
+  there : list_all (is_undisturbed m conflict r.serial (whole_run m r n).store n (r.invocations n)) x.seats ≡ true → OthersRun m r (next_state m r (Ended n how)) n
   there all k other started c =
       let s = seat k (r.invocations k) in
       let has = right.seated k (started_live (r.invocations k).phase started) in
       let h = (undisturbed-Decides m conflict r x n how s tells right has).0 (all-has (is_undisturbed m conflict r.serial (whole_run m r n).store n (r.invocations n)) x.seats s all has) other started c in
       (h.0, after-end m r n k how (r.invocations k) other refl h.1)
 
-  back : OthersRun m r (heard m r (Ended n how)) n → list_all (is_undisturbed m conflict r.serial (whole_run m r n).store n (r.invocations n)) x.seats ≡ true
+  back : OthersRun m r (next_state m r (Ended n how)) n → list_all (is_undisturbed m conflict r.serial (whole_run m r n).store n (r.invocations n)) x.seats ≡ true
   back runs =
       has-all (is_undisturbed m conflict r.serial (whole_run m r n).store n (r.invocations n)) x.seats
       (λ s has. (undisturbed-Decides m conflict r x n how s tells right has).1
@@ -116,7 +116,7 @@ abbrev end_test : Machine → ConflictTest → Roll → Store → ℕ → End �
 end_test m conflict x store n how i =
     (same_end (run_on m store i).end how && same_calls (run_on m store i).calls i.calls) && list_all (is_undisturbed m conflict store (run_on m store i).store n i) x.seats
 
-end_test-Decides : (m : Machine) (conflict : ConflictTest) (r : Reading) (x : Roll) (n : ℕ) (how : End) → TellsConflicts m.meaning conflict → IsRoll r x
+end_test-Decides : (m : Machine) (conflict : ConflictTest) (r : NodeState) (x : Roll) (n : ℕ) (how : End) → TellsConflicts m.meaning conflict → IsRoll r x
     → Decides (end_test m conflict x r.serial n how (r.invocations n)) (RunsAt m r (Ended n how))
 end_test-Decides m conflict r x n how tells right =
     let runs = list_all (is_undisturbed m conflict r.serial (whole_run m r n).store n (r.invocations n)) x.seats in
@@ -126,7 +126,7 @@ end_test-Decides m conflict r x n how tells right =
     (Decides-and (same_end (whole_run m r n).end how) (same_calls (whole_run m r n).calls (r.invocations n).calls) (end-Decides (whole_run m r n).end how) (calls-Decides (whole_run m r n).calls (r.invocations n).calls))
     (others-Decides m conflict r x n how tells right))
 
-pub ended-Decides : (m : Machine) (conflict : ConflictTest) (r : Reading) (x : Roll) (n : ℕ) (how : End) → TellsConflicts m.meaning conflict → IsRoll r x → IsTrue (is_live (r.invocations n).phase)
+pub ended-Decides : (m : Machine) (conflict : ConflictTest) (r : NodeState) (x : Roll) (n : ℕ) (how : End) → TellsConflicts m.meaning conflict → IsRoll r x → IsTrue (is_live (r.invocations n).phase)
     → Decides (list_all (ends_right m conflict x r.serial n how) x.seats) (RunsAt m r (Ended n how))
 ended-Decides m conflict r x n how tells right live = (there, back) where
   each : (t : Seat) → Contains x.seats t → Decides (ends_right m conflict x r.serial n how t) (t.number ≡ n → RunsAt m r (Ended n how))
@@ -145,7 +145,7 @@ ended-Decides m conflict r x n how tells right live = (there, back) where
   back : RunsAt m r (Ended n how) → list_all (ends_right m conflict x r.serial n how) x.seats ≡ true
   back runs = has-all (ends_right m conflict x r.serial n how) x.seats (λ t has. (each t has).1 (λ e. runs))
 
-runs-Decides : (m : Machine) (conflict : ConflictTest) (r : Reading) (x : Roll) (t : Told) → TellsConflicts m.meaning conflict → IsRoll r x → MayFollow m r t
+runs-Decides : (m : Machine) (conflict : ConflictTest) (r : NodeState) (x : Roll) (t : JournalEntry) → TellsConflicts m.meaning conflict → IsRoll r x → MayFollow m r t
     → Decides (runs_right m conflict x r.serial t) (RunsAt m r t)
 runs-Decides m conflict r x (Posted n h c payload) tells right follows = always tt
 runs-Decides m conflict r x (Dropped h cause) tells right follows = always tt
@@ -160,7 +160,7 @@ runs-Decides m conflict r x (Void cause) tells right follows = always tt
 
 -- ---- the serial store
 
-store_left-is : (m : Machine) (r : Reading) (n : ℕ) (seats : List Seat) → ((s : Seat) → Contains seats s → r.invocations s.number ≡ s.invocation) → Contains seats (seat n (r.invocations n))
+store_left-is : (m : Machine) (r : NodeState) (n : ℕ) (seats : List Seat) → ((s : Seat) → Contains seats s → r.invocations s.number ≡ s.invocation) → Contains seats (seat n (r.invocations n))
     → store_left m r.serial n seats ≡ (whole_run m r n).store
 store_left-is m r n [] each has = absurd (Contains-nil (seat n (r.invocations n)) has)
 store_left-is m r n (s ∷ seats) each has = by (s.number == n) refl (Contains-cases s seats (seat n (r.invocations n)) has) (store_left-is m r n seats (λ t later. each t (Contains-tail s seats t later))) where
@@ -172,7 +172,7 @@ store_left-is m r n (s ∷ seats) each has = by (s.number == n) refl (Contains-c
   by false is (inl e) later = absurd (both_ways (s.number == n) is (eq-eqb s.number n (ap (λ (t : Seat). t.number) e)))
   by false is (inr h) later = later h
 
-pub serial-is : (m : Machine) (r : Reading) (x : Roll) (t : Told) → IsRoll r x → MayFollow m r t → serial_after m x r.serial t ≡ (heard m r t).serial
+pub serial-is : (m : Machine) (r : NodeState) (x : Roll) (t : JournalEntry) → IsRoll r x → MayFollow m r t → serial_after m x r.serial t ≡ (next_state m r t).serial
 serial-is m r x (Posted n h c payload) right follows = refl
 serial-is m r x (Dropped h cause) right follows = refl
 serial-is m r x (Started n) right follows = refl
@@ -186,18 +186,18 @@ serial-is m r x (Void cause) right follows = refl
 
 -- ---- along a journal
 
-pub replays-Decides : (m : Machine) (conflict : ConflictTest) (r : Reading) (x : Roll) (store : Store) (es : List Event) → TellsConflicts m.meaning conflict → IsNumbered r → IsRoll r x → store ≡ r.serial
+pub replays-Decides : (m : Machine) (conflict : ConflictTest) (r : NodeState) (x : Roll) (store : Store) (es : List TimedEntry) → TellsConflicts m.meaning conflict → IsNumbered r → IsRoll r x → store ≡ r.serial
     → AtEachEntry (MayFollow m) m r es → Decides (replays_right m conflict x store es) (ReplaysAtEnds m r es)
 replays-Decides m conflict r x store [] tells numbered right is follow = subst (λ (s : Store). Decides (all_so_far m x s) (AllRunSoFar m r)) (sym is) (all-Decides m r x right)
 replays-Decides m conflict r x store (e ∷ es) tells numbered right is follow =
     subst (λ (s : Store). Decides (replays_right m conflict x s (e ∷ es)) (ReplaysAtEnds m r (e ∷ es))) (sym is)
     (Decides-and (runs_right m conflict x r.serial e.told) (replays_right m conflict (rolled x e.told) (serial_after m x r.serial e.told) es) (runs-Decides m conflict r x e.told tells right follow.0)
-    (replays-Decides m conflict (heard m r e.told) (rolled x e.told) (serial_after m x r.serial e.told) es tells (numbered-step m r e.told follow.0 numbered) (IsRoll-step m r x e.told follow.0 numbered right)
+    (replays-Decides m conflict (next_state m r e.told) (rolled x e.told) (serial_after m x r.serial e.told) es tells (numbered-step m r e.told follow.0 numbered) (IsRoll-step m r x e.told follow.0 numbered right)
     (serial-is m r x e.told right follow.0) follow.1))
 
-pub replay_told : (m : Machine) (conflict : ConflictTest) (es : List Event) → GoesByParts m.meaning → TellsConflicts m.meaning conflict → IsWellFormed m (nothing_heard m) es
-    → Decides (replays_right m conflict nobody m.zero_store es) (IsSerial m (nothing_heard m) es)
+pub replay_told : (m : Machine) (conflict : ConflictTest) (es : List TimedEntry) → GoesByParts m.meaning → TellsConflicts m.meaning conflict → IsWellFormed m (first_state m) es
+    → Decides (replays_right m conflict nobody m.zero_store es) (IsSerial m (first_state m) es)
 replay_told m conflict es parts tells follows =
     let enough = ends_enough m conflict es parts tells follows in
     Decides-like (replays_right m conflict nobody m.zero_store es) enough.1 enough.0
-    (replays-Decides m conflict (nothing_heard m) nobody m.zero_store es tells (nothing_heard-numbered m) (nobody-IsRoll m) refl follows.follow)
+    (replays-Decides m conflict (first_state m) nobody m.zero_store es tells (nothing_heard-numbered m) (nobody-IsRoll m) refl follows.follow)

@@ -9,7 +9,7 @@ use Rattle.mate_num.specs.declared.call.End.{End}
 use Rattle.mate_num.specs.declared.id.ContextId.{ContextId}
 use Rattle.mate_num.specs.declared.id.HandlerId.{HandlerId}
 use Rattle.mate_journal.specs.Machine.{Machine, HeldProgram}
-use Rattle.mate_journal.specs.Journal.{Told, Posted, Dropped, Started, Asked, Answered, Ended, Installed, Reset, Seen, Void, Phase, Unposted, Queued, Ready, Waiting, Over, is_live, Invocation, Reading, nothing_heard, no_program, changed, in_phase, cut, heard}
+use Rattle.mate_journal.specs.Journal.{JournalEntry, Posted, Dropped, Started, Asked, Answered, Ended, Installed, Reset, Seen, Void, Phase, Unposted, Queued, Ready, Waiting, Over, is_live, Invocation, NodeState, first_state, no_program, changed, in_phase, cut_at_era, next_state}
 use Rattle.mate_journal.specs.WellFormed.{MayFollow, IsWaiting}
 use Rattle.journal_laws.proofs.Changed.{changed-here, changed-other, untrue}
 use Rattle.journal_laws.proofs.Moves.{cut-dead}
@@ -23,7 +23,7 @@ use Rattle.audit_finite.proofs.Members.{Contains-nil, Contains-map, Contains-map
 abbrev pub IsLiveTest : (Phase → Bool) → Type 0
 IsLiveTest test = (phase : Phase) → test phase ≡ true → is_live phase ≡ true
 
-pub at-Decides : (r : Reading) (x : Roll) (n : ℕ) (test : Phase → Bool) → IsRoll r x → IsLiveTest test → Decides (is_at x n test) (test (r.invocations n).phase ≡ true)
+pub at-Decides : (r : NodeState) (x : Roll) (n : ℕ) (test : Phase → Bool) → IsRoll r x → IsLiveTest test → Decides (is_at x n test) (test (r.invocations n).phase ≡ true)
 at-Decides r x n test right live = (there, back) where
   there : is_at x n test ≡ true → test (r.invocations n).phase ≡ true
   there found =
@@ -74,7 +74,7 @@ ready-Decides Ready = (λ e. refl, λ e. refl)
 ready-Decides (Waiting f args) = (λ e. cc, λ e. cc)
 ready-Decides Over = (λ e. cc, λ e. cc)
 
-pub waiting-Decides : (r : Reading) (n : ℕ) → Decides (is_waiting (r.invocations n).phase) (IsWaiting r n)
+pub waiting-Decides : (r : NodeState) (n : ℕ) → Decides (is_waiting (r.invocations n).phase) (IsWaiting r n)
 waiting-Decides r n = by (r.invocations n).phase refl where
   by : (phase : Phase) → (r.invocations n).phase ≡ phase → Decides (is_waiting phase) (IsWaiting r n)
   by Unposted is = (λ e. cc, λ w. let e : Unposted ≡ Waiting w.fun w.args = sym is ∙ w.waits in cc)
@@ -85,7 +85,7 @@ waiting-Decides r n = by (r.invocations n).phase refl where
 
 -- ---- before anything was heard
 
-pub nobody-IsRoll : (m : Machine) → IsRoll (nothing_heard m) nobody
+pub nobody-IsRoll : (m : Machine) → IsRoll (first_state m) nobody
 nobody-IsRoll m = record {
   posts = refl;
   installed = λ h. refl;
@@ -95,8 +95,8 @@ nobody-IsRoll m = record {
 
 -- ---- one is posted
 
-posted-IsRoll : (m : Machine) (r : Reading) (x : Roll) (n : ℕ) (h : HandlerId) (c : ContextId) (payload : ArrayVec ℤ) → n ≡ suc r.posts → IsNumbered r → IsRoll r x
-    → IsRoll (heard m r (Posted n h c payload)) (rolled x (Posted n h c payload))
+posted-IsRoll : (m : Machine) (r : NodeState) (x : Roll) (n : ℕ) (h : HandlerId) (c : ContextId) (payload : ArrayVec ℤ) → n ≡ suc r.posts → IsNumbered r → IsRoll r x
+    → IsRoll (next_state m r (Posted n h c payload)) (rolled x (Posted n h c payload))
 posted-IsRoll m r x n h c payload next numbered right = record {
   posts = refl;
   installed = right.installed;
@@ -135,7 +135,7 @@ posted-IsRoll m r x n h c payload next numbered right = record {
       subst (λ (i : Invocation). Contains (x.seats ++ seat n posted ∷ []) (seat k i)) (sym is) (Contains-append_left x.seats (seat n posted ∷ []) (seat k (r.invocations k)) (right.seated k was))
 
 -- the seat is that of a live invocation
-abbrev IsSeatOf : Reading → Seat → Type 0
+abbrev IsSeatOf : NodeState → Seat → Type 0
 IsSeatOf t s = IsTrue (is_live s.invocation.phase) × (t.invocations s.number ≡ s.invocation)
 
 -- ---- one moves
@@ -147,7 +147,7 @@ pub seat_changed-other : (n : ℕ) (f : Invocation → Invocation) (s : Seat) �
 seat_changed-other n f s other = elim (eqb_tells s.number n) [ inl t ↦ absurd (other t.1) | inr u ↦ rw u.0 refl ]
 
 -- the invocation n comes to another state, and stays live
-roll_changed-IsRoll : (r t : Reading) (x : Roll) (n : ℕ) (f : Invocation → Invocation) → t.posts ≡ r.posts → ((h : HandlerId) → t.installed h ≡ r.installed h)
+roll_changed-IsRoll : (r t : NodeState) (x : Roll) (n : ℕ) (f : Invocation → Invocation) → t.posts ≡ r.posts → ((h : HandlerId) → t.installed h ≡ r.installed h)
     → ((k : ℕ) → t.invocations k ≡ changed r.invocations n (f (r.invocations n)) k)
     → IsTrue (is_live (r.invocations n).phase) → IsTrue (is_live (f (r.invocations n)).phase) → IsRoll r x → IsRoll t (roll_changed n f x)
 roll_changed-IsRoll r t x n f posts installed each was now right = record {
@@ -195,7 +195,7 @@ has_other_number-true n k other i = elim (eqb_tells k n) [ inl t ↦ absurd (oth
 has_other_number-apart : (n : ℕ) (s : Seat) → has_other_number n s ≡ true → s.number ≢ n
 has_other_number-apart n s is e = elim (eqb_tells s.number n) [ inl t ↦ true≢false (sym is ∙ ap not t.0) | inr u ↦ u.1 e ]
 
-ended-IsRoll : (m : Machine) (r : Reading) (x : Roll) (n : ℕ) (how : End) → IsRoll r x → IsRoll (heard m r (Ended n how)) (rolled x (Ended n how))
+ended-IsRoll : (m : Machine) (r : NodeState) (x : Roll) (n : ℕ) (how : End) → IsRoll r x → IsRoll (next_state m r (Ended n how)) (rolled x (Ended n how))
 ended-IsRoll m r x n how right = record {
   posts = right.posts;
   installed = right.installed;
@@ -220,20 +220,20 @@ ended-IsRoll m r x n how right = record {
 
 -- ---- an era ends
 
-nobody_lives : (r : Reading) (n : ℕ) → IsTrue (is_live (cut (r.invocations n)).phase) → ⊥
+nobody_lives : (r : NodeState) (n : ℕ) → IsTrue (is_live (cut_at_era (r.invocations n)).phase) → ⊥
 nobody_lives r n live = cut-dead (r.invocations n) live
 
 -- ---- each entry
 
-pub IsRoll-step : (m : Machine) (r : Reading) (x : Roll) (t : Told) → MayFollow m r t → IsNumbered r → IsRoll r x → IsRoll (heard m r t) (rolled x t)
+pub IsRoll-step : (m : Machine) (r : NodeState) (x : Roll) (t : JournalEntry) → MayFollow m r t → IsNumbered r → IsRoll r x → IsRoll (next_state m r t) (rolled x t)
 IsRoll-step m r x (Posted n h c payload) follows numbered right = posted-IsRoll m r x n h c payload follows.0 numbered right
 IsRoll-step m r x (Dropped h cause) follows numbered right = right
 IsRoll-step m r x (Started n) follows numbered right =
-    roll_changed-IsRoll r (heard m r (Started n)) x n (in_phase Ready) refl (λ h. refl) (λ k. refl) (queued_live r n follows) refl right
+    roll_changed-IsRoll r (next_state m r (Started n)) x n (in_phase Ready) refl (λ h. refl) (λ k. refl) (queued_live r n follows) refl right
 IsRoll-step m r x (Asked n f args) follows numbered right =
-    roll_changed-IsRoll r (heard m r (Asked n f args)) x n (in_phase (Waiting f args)) refl (λ h. refl) (λ k. refl) (ready_live r n follows) refl right
+    roll_changed-IsRoll r (next_state m r (Asked n f args)) x n (in_phase (Waiting f args)) refl (λ h. refl) (λ k. refl) (ready_live r n follows) refl right
 IsRoll-step m r x (Answered n value) follows numbered right =
-    roll_changed-IsRoll r (heard m r (Answered n value)) x n (with_answer value) refl (λ h. refl) (λ k. refl) (waiting_live r n follows) refl right
+    roll_changed-IsRoll r (next_state m r (Answered n value)) x n (with_answer value) refl (λ h. refl) (λ k. refl) (waiting_live r n follows) refl right
 IsRoll-step m r x (Ended n how) follows numbered right = ended-IsRoll m r x n how right
 IsRoll-step m r x (Installed p) follows numbered right = record {
   posts = right.posts;

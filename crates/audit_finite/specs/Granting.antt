@@ -3,9 +3,9 @@ use Rattle.std.specs.Prelude.{ℕ, ◌==◌, nat_lt, ◌&&◌, ◌||◌, not, Bo
 use Rattle.std.specs.List.{list_any, list_all}
 use Rattle.mate_num.specs.Uses.{Conflicts}
 use Rattle.mate_journal.specs.Machine.{HeldProgram, Meaning}
-use Rattle.mate_journal.specs.Journal.{Told, Posted, Dropped, Started, Asked, Answered, Ended, Installed, Reset, Seen, Void, Event}
+use Rattle.mate_journal.specs.Journal.{JournalEntry, Posted, Dropped, Started, Asked, Answered, Ended, Installed, Reset, Seen, Void, TimedEntry}
 use Rattle.mate_journal.specs.Journal.{is_started}
-use Rattle.mate_journal.specs.Grants.{start_of}
+use Rattle.mate_journal.specs.Grants.{started_number}
 use Rattle.audit_finite.specs.Roll.{Seat, Roll, rolled, is_queued}
 
 -- a test whether two programs conflict
@@ -35,7 +35,7 @@ all_held_back conflict x = list_all (λ s. not (is_queued s.invocation.phase) ||
 abbrev pub is_free_to_start : ConflictTest → Roll → ℕ → Bool
 is_free_to_start conflict x n = list_all (λ s. not (s.number == n) || not (is_held_back conflict x s)) x.seats
 
-abbrev pub is_granted : ConflictTest → Roll → ℕ → Told → Bool
+abbrev pub is_granted : ConflictTest → Roll → ℕ → JournalEntry → Bool
 is_granted conflict x last (Started n) = is_free_to_start conflict x n && nat_lt last n
 is_granted conflict x last (Posted n h c payload) = all_held_back conflict x
 is_granted conflict x last (Dropped h cause) = all_held_back conflict x
@@ -48,7 +48,7 @@ is_granted conflict x last (Seen store) = all_held_back conflict x
 is_granted conflict x last (Void cause) = all_held_back conflict x
 
 -- along a journal, with the number of the invocation that the entry before started
-abbrev pub grants_in_order : ConflictTest → Roll → ℕ → List Event → Bool
+abbrev pub grants_in_order : ConflictTest → Roll → ℕ → List TimedEntry → Bool
 grants_in_order conflict x last [] = all_held_back conflict x
 grants_in_order conflict x last (e ∷ es) = is_granted conflict x last e.told
-    && grants_in_order conflict (rolled x e.told) (start_of e.told) es
+    && grants_in_order conflict (rolled x e.told) (started_number e.told) es

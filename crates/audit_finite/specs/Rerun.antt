@@ -6,7 +6,7 @@ use Rattle.mate_num.specs.declared.call.End.TheVariants as end
 use Rattle.mate_num.specs.declared.outcome.Outcome.{Outcome}
 use Rattle.mate_num.specs.declared.store.Store.{Store}
 use Rattle.mate_journal.specs.Machine.{Machine}
-use Rattle.mate_journal.specs.Journal.{Told, Posted, Dropped, Started, Asked, Answered, Ended, Installed, Reset, Seen, Void, Event, Phase}
+use Rattle.mate_journal.specs.Journal.{JournalEntry, Posted, Dropped, Started, Asked, Answered, Ended, Installed, Reset, Seen, Void, TimedEntry, Phase}
 use Rattle.mate_journal.specs.Journal.{Unposted, Queued, Ready, Waiting, Over, is_started, Invocation, answers_of}
 use Rattle.audit_finite.specs.Roll.{Seat, Roll, rolled}
 use Rattle.audit_finite.specs.Granting.{ConflictTest}
@@ -48,7 +48,7 @@ ends_right m conflict x store n how t =
     && list_all (is_undisturbed m conflict store (run_on m store t.invocation).store n t.invocation) x.seats)
 
 -- what is run at an entry is right
-abbrev pub runs_right : Machine → ConflictTest → Roll → Store → Told → Bool
+abbrev pub runs_right : Machine → ConflictTest → Roll → Store → JournalEntry → Bool
 runs_right m conflict x store (Ended n how) = list_all (ends_right m conflict x store n how) x.seats
 runs_right m conflict x store (Installed p) = all_so_far m x store
 runs_right m conflict x store Reset = all_so_far m x store
@@ -66,7 +66,7 @@ store_left m store n [] = store
 store_left m store n (s ∷ seats) = if s.number == n then (run_on m store s.invocation).store else store_left m store n seats
 
 -- the serial store after an entry
-abbrev pub serial_after : Machine → Roll → Store → Told → Store
+abbrev pub serial_after : Machine → Roll → Store → JournalEntry → Store
 serial_after m x store (Ended n how) = store_left m store n x.seats
 serial_after m x store (Installed p) = m.zero_store
 serial_after m x store Reset = m.zero_store
@@ -79,7 +79,7 @@ serial_after m x store (Seen seen) = store
 serial_after m x store (Void cause) = store
 
 -- along a journal
-abbrev pub replays_right : Machine → ConflictTest → Roll → Store → List Event → Bool
+abbrev pub replays_right : Machine → ConflictTest → Roll → Store → List TimedEntry → Bool
 replays_right m conflict x store [] = all_so_far m x store
 replays_right m conflict x store (e ∷ es) = runs_right m conflict x store e.told
     && replays_right m conflict (rolled x e.told) (serial_after m x store e.told) es

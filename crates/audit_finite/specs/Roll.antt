@@ -5,8 +5,8 @@ use Rattle.std.specs.List.{list_any}
 use Rattle.mate_num.specs.declared.call.Call.{Call}
 use Rattle.mate_num.specs.declared.id.HandlerId.{HandlerId}
 use Rattle.mate_journal.specs.Machine.{HeldProgram}
-use Rattle.mate_journal.specs.Journal.{Told, Posted, Dropped, Started, Asked, Answered, Ended, Installed, Reset, Seen, Void, Phase}
-use Rattle.mate_journal.specs.Journal.{Unposted, Queued, Ready, Waiting, Over, is_live, Invocation, Reading, no_program, in_phase}
+use Rattle.mate_journal.specs.Journal.{JournalEntry, Posted, Dropped, Started, Asked, Answered, Ended, Installed, Reset, Seen, Void, Phase}
+use Rattle.mate_journal.specs.Journal.{Unposted, Queued, Ready, Waiting, Over, is_live, Invocation, NodeState, no_program, in_phase}
 
 -- a live invocation, with its number
 pub record Seat : Type 0 where
@@ -72,7 +72,7 @@ abbrev pub with_answer : ℤ → Invocation → Invocation
 with_answer value i = record i { calls = calls_with i.phase value i.calls; phase = Ready }
 
 -- the roll after an entry
-abbrev pub rolled : Roll → Told → Roll
+abbrev pub rolled : Roll → JournalEntry → Roll
 rolled x (Posted n h c payload) = record x {
   posts = n;
   seats = x.seats ++ seat n (record {
@@ -99,7 +99,7 @@ rolled x (Seen store) = x
 rolled x (Void cause) = x
 
 -- the roll is that of what was heard: it has exactly the live invocations, as they are
-pub record IsRoll (r : Reading) (x : Roll) : Type 0 where
+pub record IsRoll (r : NodeState) (x : Roll) : Type 0 where
   pub posts : x.posts ≡ r.posts
   pub installed : (h : HandlerId) → x.installed h ≡ r.installed h
   pub lives : (s : Seat) → Contains x.seats s → IsTrue (is_live s.invocation.phase) × (r.invocations s.number ≡ s.invocation)

@@ -5,9 +5,9 @@ use Rattle.mate_num.specs.declared.resource.Resource.{Resource}
 use Rattle.mate_num.specs.declared.resource.Resource.TheVariants.{Shared, Buffer}
 use Rattle.mate_num.specs.declared.store.Store.{Store}
 use Rattle.mate_journal.specs.Machine.{Machine}
-use Rattle.mate_journal.specs.Journal.{Told, Posted, Dropped, Started, Asked, Answered, Ended, Installed, Reset, Seen, Void, store_seen}
-use Rattle.mate_journal.specs.Journal.{Event, is_started, Reading, whole_run}
-use Rattle.mate_journal.specs.Stores.{values_at, Writes}
+use Rattle.mate_journal.specs.Journal.{JournalEntry, Posted, Dropped, Started, Asked, Answered, Ended, Installed, Reset, Seen, Void, store_seen}
+use Rattle.mate_journal.specs.Journal.{TimedEntry, is_started, NodeState, whole_run}
+use Rattle.mate_journal.specs.Stores.{values_at, WritesResource}
 use Rattle.mate_journal.specs.WellFormed.{IsWaiting}
 use Rattle.audit_finite.specs.Roll.{Seat, Roll, rolled, is_waiting}
 use Rattle.audit_finite.specs.Same.{same_values}
@@ -15,11 +15,11 @@ use Rattle.audit_finite.specs.Rerun.{run_on, serial_after}
 
 -- What no started live invocation writes has the serial store's value; what a waiting one writes has the value in the store of its
 -- run, up to the call that it waits in. (Of what a ready one writes the journal alone tells nothing.)
-pub record ShowsValues (m : Machine) (r : Reading) (seen : Store) : Type 0 where
-  pub unwritten : (at : Resource) → ((n : ℕ) → Writes m r n at → ⊥) → values_at seen at ≡ values_at r.serial at
-  pub waiting : (at : Resource) (n : ℕ) → Writes m r n at → IsWaiting r n → values_at seen at ≡ values_at (whole_run m r n).store at
+pub record ShowsValues (m : Machine) (r : NodeState) (seen : Store) : Type 0 where
+  pub unwritten : (at : Resource) → ((n : ℕ) → WritesResource m r n at → ⊥) → values_at seen at ≡ values_at r.serial at
+  pub waiting : (at : Resource) (n : ℕ) → WritesResource m r n at → IsWaiting r n → values_at seen at ≡ values_at (whole_run m r n).store at
 
-abbrev pub ShowsValuesAt : Machine → Reading → Told → Type 0
+abbrev pub ShowsValuesAt : Machine → NodeState → JournalEntry → Type 0
 ShowsValuesAt m r told = IfSome (store_seen told) (ShowsValues m r)
 
 -- the store has as many variables and as many buffers as those of the machine
@@ -28,13 +28,13 @@ pub record HasLengthsOf (m : Machine) (s : Store) : Type 0 where
   pub buffers : length s.buffers.items ≡ length m.zero_store.buffers.items
 
 -- each store that is seen has them
-abbrev pub SeenLengths : Machine → List Event → Type 0
+abbrev pub SeenLengths : Machine → List TimedEntry → Type 0
 SeenLengths m [] = Unit {0}
 SeenLengths m (e ∷ es) = IfSome (store_seen e.told) (HasLengthsOf m) × SeenLengths m es
 
 -- a run keeps them
 abbrev pub KeepsLengths : Machine → Type 0
-KeepsLengths m = (r : Reading) (n : ℕ) → HasLengthsOf m r.serial → HasLengthsOf m (whole_run m r n).store
+KeepsLengths m = (r : NodeState) (n : ℕ) → HasLengthsOf m r.serial → HasLengthsOf m (whole_run m r n).store
 
 -- ---- the same as tests
 
@@ -61,7 +61,7 @@ is_store_shown m x store seen =
     all_below (λ v. is_shown_at m x store seen (Shared record { 0 = v })) (length m.zero_store.shared.items)
     && all_below (λ b. is_shown_at m x store seen (Buffer record { 0 = b })) (length m.zero_store.buffers.items)
 
-abbrev pub shows_right : Machine → Roll → Store → Told → Bool
+abbrev pub shows_right : Machine → Roll → Store → JournalEntry → Bool
 shows_right m x store (Seen seen) = is_store_shown m x store seen
 shows_right m x store (Posted n h c payload) = true
 shows_right m x store (Dropped h cause) = true
@@ -73,6 +73,6 @@ shows_right m x store (Installed p) = true
 shows_right m x store Reset = true
 shows_right m x store (Void cause) = true
 
-abbrev pub stores_right : Machine → Roll → Store → List Event → Bool
+abbrev pub stores_right : Machine → Roll → Store → List TimedEntry → Bool
 stores_right m x store [] = true
 stores_right m x store (e ∷ es) = shows_right m x store e.told && stores_right m (rolled x e.told) (serial_after m x store e.told) es

@@ -2,7 +2,7 @@
 
 ghost use Rattle.std.specs.Prelude.{◌↔◌, Decides, IsTrue, List};
 ghost use Rattle.mate_journal.specs.Machine.{Machine};
-ghost use Rattle.mate_journal.specs.Journal.{Event, Told, Reading, nothing_heard, heard, AtEachEntry};
+ghost use Rattle.mate_journal.specs.Journal.{TimedEntry, JournalEntry, NodeState, first_state, next_state, AtEachEntry};
 ghost use Rattle.mate_journal.specs.WellFormed.{MayFollow, IsWellFormed};
 ghost use Rattle.mate_journal.specs.Serial.{IsSerial};
 ghost use Rattle.mate_journal.specs.Grants.{GrantsInOrder};
@@ -15,40 +15,40 @@ ghost use Rattle.audit_finite.specs.Shown.{ShowsValuesAt, SeenLengths, KeepsLeng
 
 /// Whether the entries of a journal follow one another is told by whoever is live.
 pub fn following_is_told()
-    ensures { (m : Machine) (es : List Event) → Decides (entries_follow m es) (IsWellFormed m (nothing_heard m) es) }
+    ensures { (m : Machine) (es : List TimedEntry) → Decides (entries_follow m es) (IsWellFormed m (first_state m) es) }
 {}
 
 /// Whoever is live has the program that is installed for its handler, from the beginning on and past each entry that may
 /// follow.
 pub fn programs_are_installed()
     ensures begins { LiveAreInstalled nobody }
-    ensures goes_on { (m : Machine) (x : Roll) (t : Told) → IsTrue (may_follow m x t) → LiveAreInstalled x → LiveAreInstalled (rolled x t) }
+    ensures goes_on { (m : Machine) (x : Roll) (t : JournalEntry) → IsTrue (may_follow m x t) → LiveAreInstalled x → LiveAreInstalled (rolled x t) }
 {}
 
 /// Whether a journal whose entries follow one another keeps the grant rule is told by whoever is live.
 pub fn grants_are_told()
-    ensures { (m : Machine) (conflict : ConflictTest) (es : List Event) → TellsConflicts m.meaning conflict
-        → IsWellFormed m (nothing_heard m) es →
-        Decides (grants_in_order conflict nobody 0 es) (GrantsInOrder m (nothing_heard m) 0 es) }
+    ensures { (m : Machine) (conflict : ConflictTest) (es : List TimedEntry) → TellsConflicts m.meaning conflict
+        → IsWellFormed m (first_state m) es →
+        Decides (grants_in_order conflict nobody 0 es) (GrantsInOrder m (first_state m) 0 es) }
 {}
 
 /// A journal whose entries follow one another is serial exactly where its runs are right at ends alone: at the end of each
 /// invocation, and at the end of its era. Where one ends that conflicts with others, these are run before it and after it.
 pub fn ends_are_enough()
-    ensures { (m : Machine) (conflict : ConflictTest) (es : List Event) → GoesByParts m.meaning → TellsConflicts m.meaning conflict
-        → IsWellFormed m (nothing_heard m) es →
-        IsSerial m (nothing_heard m) es ↔ ReplaysAtEnds m (nothing_heard m) es }
+    ensures { (m : Machine) (conflict : ConflictTest) (es : List TimedEntry) → GoesByParts m.meaning → TellsConflicts m.meaning conflict
+        → IsWellFormed m (first_state m) es →
+        IsSerial m (first_state m) es ↔ ReplaysAtEnds m (first_state m) es }
 {}
 
 /// Whether such a journal is serial is told by runs at ends.
 pub fn replay_is_told()
-    ensures { (m : Machine) (conflict : ConflictTest) (es : List Event) → GoesByParts m.meaning → TellsConflicts m.meaning conflict
-        → IsWellFormed m (nothing_heard m) es →
-        Decides (replays_right m conflict nobody m.zero_store es) (IsSerial m (nothing_heard m) es) }
+    ensures { (m : Machine) (conflict : ConflictTest) (es : List TimedEntry) → GoesByParts m.meaning → TellsConflicts m.meaning conflict
+        → IsWellFormed m (first_state m) es →
+        Decides (replays_right m conflict nobody m.zero_store es) (IsSerial m (first_state m) es) }
 {}
 
 /// Whether such a journal shows values as they are is told by whoever is live, and by the runs of those that wait.
 pub fn stores_are_told()
-    ensures { (m : Machine) (es : List Event) → KeepsLengths m → SeenLengths m es → IsWellFormed m (nothing_heard m) es →
-        Decides (stores_right m nobody m.zero_store es) (AtEachEntry (ShowsValuesAt m) m (nothing_heard m) es) }
+    ensures { (m : Machine) (es : List TimedEntry) → KeepsLengths m → SeenLengths m es → IsWellFormed m (first_state m) es →
+        Decides (stores_right m nobody m.zero_store es) (AtEachEntry (ShowsValuesAt m) m (first_state m) es) }
 {}

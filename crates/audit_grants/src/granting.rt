@@ -1,8 +1,8 @@
 //! The grant rule along a journal.
 
 ghost use Rattle.std.specs.Prelude.{◌≡◌, ◌<◌, length, IfOk};
-ghost use Rattle.mate_journal.specs.Grants.{start_of as started_by_entry};
-ghost use Rattle.mate_journal.specs.Journal.{journal_of, told_of};
+ghost use Rattle.mate_journal.specs.Grants.{started_number as started_by_entry};
+ghost use Rattle.mate_journal.specs.Journal.{journal_of, journal_entry};
 ghost use Rattle.mate_journal.specs.Log.{Log};
 ghost use Rattle.audit_finite.specs.Granting as told;
 ghost use Rattle.audit_finite.specs.Roll.{nobody};
@@ -18,7 +18,7 @@ use std::alloc::Global;
 
 /// The number of the invocation that the entry starts, 0 for none.
 fn start_of(entry: &Entry) -> u32
-    ensures { (l : Log) → result ≡ started_by_entry (told_of l entry.now) }
+    ensures { (l : Log) → result ≡ started_by_entry (journal_entry l entry.now) }
 {
     match entry {
         Entry::Start { inv } => *inv,
@@ -40,7 +40,7 @@ fn start_of(entry: &Entry) -> u32
 fn is_granted(trial: &Trial, roll: &ReadyRoll, place: usize, last: u32, entry: &Entry) -> bool
     requires { HasReadUpTo trial.now place roll.now }
     ensures { let l = trial.now.log.now in
-        result ≡ told.is_granted (conflict_of trial.now.desc.now) (roll_in l.images roll.now.roll) last (told_of l entry.now) }
+        result ≡ told.is_granted (conflict_of trial.now.desc.now) (roll_in l.images roll.now.roll) last (journal_entry l entry.now) }
 {
     let _place = place;
     match entry {

@@ -8,20 +8,20 @@ use Rattle.mate_num.specs.declared.call.End.{End}
 use Rattle.mate_num.specs.declared.call.End.TheVariants as end
 use Rattle.mate_num.specs.declared.id.HandlerId.{HandlerId}
 use Rattle.vm_desc.specs.declared.description.Description.{Description}
-use Rattle.mate_journal.specs.Journal.{Told, Posted, Dropped, Started, Asked, Answered, Ended, Installed, Reset, Seen, Void, Event, Reading, nothing_heard, heard_all, told_by, whole_run, journal_of, AtEachEntry}
+use Rattle.mate_journal.specs.Journal.{JournalEntry, Posted, Dropped, Started, Asked, Answered, Ended, Installed, Reset, Seen, Void, TimedEntry, NodeState, first_state, state_after_all, untimed, whole_run, journal_of, AtEachEntry}
 use Rattle.mate_journal.specs.Log.{Log}
 use Rattle.mate_journal.specs.Machine.{Machine}
 use Rattle.mate_journal.specs.Grants.{IsStart}
 use Rattle.mate_journal.specs.NodeReport.{IsNodeReport}
 use Rattle.mate_journal.specs.NodeRun.{IsNodeRun}
-use Rattle.mate_journal.specs.NodeScript.{Step, Install, Post, StepIn, Run, Answer, Show, ResetNode, Occasion, Installs, IsNotNewer, Answers, IsNotWaiting, Makes, HaveMade, RunEnd, Whole, Full, Cut, EndsRun, IsRunOf}
+use Rattle.mate_journal.specs.NodeScript.{Step, Install, Post, StepIn, Run, Answer, Show, ResetNode, Occasion, Installs, IsNotNewer, AnswersCall, IsNotWaiting, Makes, HaveMade, RunEnd, Whole, Full, Cut, EndsRun, IsRunOf}
 use Rattle.mate_journal.specs.Pace.{Pace, no_pace}
 use Rattle.mate_journal.specs.Turns.{Turn, IsTurn, entry_at, mark_of}
 use Rattle.mate_journal.specs.declared.program.Program.{Program}
 use Rattle.mate_journal.specs.declared.report.Report.{Report}
 use Rattle.journal_laws.proofs.Append.{AtEachEntry-append}
 use Rattle.node_programs.specs.Sources.{meaning_by}
-use Rattle.world_images.proofs.Agree.{NoInstall, NoneInstall, by_made, occasions-none, settles-none}
+use Rattle.world_install_laws.proofs.Agree.{NoInstall, NoneInstall, by_made, occasions-none, settles-none}
 use Rattle.audit_rules.specs.Laws.{InstallsProgram, machine_by}
 use Rattle.audit_rules.specs.Verdicts.{LogKeepsAll, IsVerdict}
 use Rattle.audit_verdict.specs.declared.law.Verdict.TheVariants.{Serial}
@@ -30,7 +30,7 @@ use Rattle.audit_laws.proofs.Told.{at_events, InstallsRight, none-right, install
 
 -- ---- entries that install nothing
 
-start-none : (t : Told) → IsStart t → NoInstall t
+start-none : (t : JournalEntry) → IsStart t → NoInstall t
 start-none (Started n) is = tt
 start-none (Posted n h c payload) is = tt
 start-none (Dropped h cause) is = tt
@@ -42,7 +42,7 @@ start-none Reset is = tt
 start-none (Seen store) is = tt
 start-none (Void cause) is = tt
 
-starts-none : (ts : List Told) → All IsStart ts → NoneInstall ts
+starts-none : (ts : List JournalEntry) → All IsStart ts → NoneInstall ts
 starts-none [] all = tt
 starts-none (t ∷ ts) all = (start-none t (All-head IsStart t ts all), starts-none ts (All-tail IsStart t ts all))
 
@@ -52,11 +52,11 @@ mark-none n (end.Fault kind) = tt
 mark-none n (end.Wants f args) = tt
 
 -- an occasion for one handler
-occasion-none : (m : Machine) (r : Reading) (h : HandlerId) (payload : ArrayVec ℤ) (told : List Told) → Occasion m r h payload told → NoneInstall told
+occasion-none : (m : Machine) (r : NodeState) (h : HandlerId) (payload : ArrayVec ℤ) (told : List JournalEntry) → Occasion m r h payload told → NoneInstall told
 occasion-none m r h payload told is =
     occasions-none m payload (h ∷ []) r no_pace told (record { front = told; rest = []; made = sym (append-nil told); by_first = is; by_second = refl })
 
-turn-none : (m : Machine) (r : Reading) (p : Pace) (instructions : ℕ) (t : Turn) → IsTurn m r p instructions t → NoneInstall t.told
+turn-none : (m : Machine) (r : NodeState) (p : Pace) (instructions : ℕ) (t : Turn) → IsTurn m r p instructions t → NoneInstall t.told
 turn-none m r p instructions t turn = elim (cases_lt (p.counts t.invocation + instructions) (mark_of m r t.invocation)) [
   | inl short ↦ by_made t.told [] (turn.short short) tt
   | inr reached ↦ (let a = turn.reached reached in by_made t.told _ a.told_is (mark-none t.invocation (whole_run m r t.invocation).end, starts-none a.starts a.are_starts))
@@ -64,7 +64,7 @@ turn-none m r p instructions t turn = elim (cases_lt (p.counts t.invocation + in
 
 -- ---- what a step tells
 
-step-right : (ps : List Program) (m : Machine) (r : Reading) (p : Pace) (step : Step) (told : List Told) (q : Pace) → IsInstallOf ps step → Makes m r p step told q → InstallsRight ps m r told
+step-right : (ps : List Program) (m : Machine) (r : NodeState) (p : Pace) (step : Step) (told : List JournalEntry) (q : Pace) → IsInstallOf ps step → Makes m r p step told q → InstallsRight ps m r told
 step-right ps m r p (Install x) told q is made = by made.0 where
   by : Installs m r p x told ⊎ IsNotNewer r x told → InstallsRight ps m r told
   by (inl i) = install-right ps m r p x told is i
@@ -74,7 +74,7 @@ step-right ps m r p (StepIn c n) told q is (inl t) = none-right ps m r told (tur
 step-right ps m r p (StepIn c n) told q is (inr x) = none-right ps m r told (by_made told _ x.0.made (tt, tt))
 step-right ps m r p Run told q is made = none-right ps m r told (settles-none m r p told q made)
 step-right ps m r p (Answer c value) told q is made = by made.0 where
-  by : Answers r c value told ⊎ IsNotWaiting r c told → InstallsRight ps m r told
+  by : AnswersCall r c value told ⊎ IsNotWaiting r c told → InstallsRight ps m r told
   by (inl a) = none-right ps m r told (by_made told _ a.made (tt, tt))
   by (inr n) = none-right ps m r told (by_made told _ n.made (tt, tt))
 step-right ps m r p Show told q is made = none-right ps m r told (by_made told _ made.0.made (tt, tt))
@@ -82,30 +82,30 @@ step-right ps m r p ResetNode told q is made = none-right ps m r told (by_made t
 
 -- ---- the run
 
-made-right : (ps : List Program) (m : Machine) (records n : ℕ) (r : Reading) (p : Pace) (steps : List Step) (es : List Event) (q : Pace) → InstallPrograms ps steps → HaveMade m records n r p steps es q
+made-right : (ps : List Program) (m : Machine) (records n : ℕ) (r : NodeState) (p : Pace) (steps : List Step) (es : List TimedEntry) (q : Pace) → InstallPrograms ps steps → HaveMade m records n r p steps es q
     → AtEachEntry (InstallsProgram ps) m r es
-made-right ps m records n r p [] es q install made = subst (λ (all : List Event). AtEachEntry (InstallsProgram ps) m r all) (sym made.0) tt
+made-right ps m records n r p [] es q install made = subst (λ (all : List TimedEntry). AtEachEntry (InstallsProgram ps) m r all) (sym made.0) tt
 made-right ps m records n r p (step ∷ steps) es q install made =
-    subst (λ (all : List Event). AtEachEntry (InstallsProgram ps) m r all) (sym made.4)
+    subst (λ (all : List TimedEntry). AtEachEntry (InstallsProgram ps) m r all) (sym made.4)
     (AtEachEntry-append (InstallsProgram ps) m r made.1 made.2
-    (at_events (InstallsProgram ps) m r made.1 (step-right ps m r p step (told_by made.1) made.3 install.0 made.6))
-    (made-right ps m (records + length made.1) (suc n) (heard_all m r made.1) made.3 steps made.2 q install.1 made.7))
+    (at_events (InstallsProgram ps) m r made.1 (step-right ps m r p step (untimed made.1) made.3 install.0 made.6))
+    (made-right ps m (records + length made.1) (suc n) (state_after_all m r made.1) made.3 steps made.2 q install.1 made.7))
 
 front-install : (ps : List Program) (done left : List Step) → InstallPrograms ps (done ++ left) → InstallPrograms ps done
 front-install ps [] left h = tt
 front-install ps (step ∷ done) left h = (h.0, front-install ps done left h.1)
 
-last-right : (ps : List Program) (m : Machine) (how : RunEnd) (records n : ℕ) (r : Reading) (p : Pace) (left : List Step) (es : List Event) → EndsRun m how records n r p left es → AtEachEntry (InstallsProgram ps) m r es
-last-right ps m Whole records n r p left es ends = at_events (InstallsProgram ps) m r es (none-right ps m r (told_by es) (by_made (told_by es) _ ends.1.made (tt, tt)))
-last-right ps m Full records n r p left es ends = subst (λ (all : List Event). AtEachEntry (InstallsProgram ps) m r all) (sym ends.2) tt
-last-right ps m Cut records n r p left es ends = subst (λ (all : List Event). AtEachEntry (InstallsProgram ps) m r all) (sym ends) tt
+last-right : (ps : List Program) (m : Machine) (how : RunEnd) (records n : ℕ) (r : NodeState) (p : Pace) (left : List Step) (es : List TimedEntry) → EndsRun m how records n r p left es → AtEachEntry (InstallsProgram ps) m r es
+last-right ps m Whole records n r p left es ends = at_events (InstallsProgram ps) m r es (none-right ps m r (untimed es) (by_made (untimed es) _ ends.1.made (tt, tt)))
+last-right ps m Full records n r p left es ends = subst (λ (all : List TimedEntry). AtEachEntry (InstallsProgram ps) m r all) (sym ends.2) tt
+last-right ps m Cut records n r p left es ends = subst (λ (all : List TimedEntry). AtEachEntry (InstallsProgram ps) m r all) (sym ends) tt
 
-run-right : (ps : List Program) (m : Machine) (how : RunEnd) (steps : List Step) (es : List Event) → InstallPrograms ps steps → IsRunOf m how steps es → AtEachEntry (InstallsProgram ps) m (nothing_heard m) es
+run-right : (ps : List Program) (m : Machine) (how : RunEnd) (steps : List Step) (es : List TimedEntry) → InstallPrograms ps steps → IsRunOf m how steps es → AtEachEntry (InstallsProgram ps) m (first_state m) es
 run-right ps m how steps es install run =
-    subst (λ (all : List Event). AtEachEntry (InstallsProgram ps) m (nothing_heard m) all) (sym run.events_are)
-    (AtEachEntry-append (InstallsProgram ps) m (nothing_heard m) run.front run.last
-    (made-right ps m 0 1 (nothing_heard m) no_pace run.done run.front run.pace (front-install ps run.done run.left (subst (InstallPrograms ps) run.steps_are install)) run.made)
-    (last-right ps m how (length run.front) (suc (length run.done)) (heard_all m (nothing_heard m) run.front) run.pace run.left run.last run.ends))
+    subst (λ (all : List TimedEntry). AtEachEntry (InstallsProgram ps) m (first_state m) all) (sym run.events_are)
+    (AtEachEntry-append (InstallsProgram ps) m (first_state m) run.front run.last
+    (made-right ps m 0 1 (first_state m) no_pace run.done run.front run.pace (front-install ps run.done run.left (subst (InstallPrograms ps) run.steps_are install)) run.made)
+    (last-right ps m how (length run.front) (suc (length run.done)) (state_after_all m (first_state m) run.front) run.pace run.left run.last run.ends))
 
 node-keeps : (d : Description) (ps : List Program) (how : RunEnd) (steps : List Step) (l : Log) → InstallPrograms ps steps → IsNodeRun (machine_by d ps) how steps l → LogKeepsAll d ps l
 node-keeps d ps how steps l install run =

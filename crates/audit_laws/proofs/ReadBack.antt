@@ -5,7 +5,7 @@ use Rattle.std.specs.List.{AllZip}
 use Rattle.arrayvec.specs.ArrayVec.{ArrayVec}
 use Rattle.mate_num.specs.declared.store.Store.{Store}
 use Rattle.vm_desc.specs.declared.description.Description.{Description}
-use Rattle.mate_journal.specs.Journal.{Event, journal_of}
+use Rattle.mate_journal.specs.Journal.{TimedEntry, journal_of}
 use Rattle.mate_journal.specs.Log.{Log, IsSameLog}
 use Rattle.mate_journal.specs.Ranges.{HasReportRanges}
 use Rattle.mate_journal.specs.declared.entry.Stamped.{Stamped}
@@ -25,7 +25,7 @@ use Rattle.audit_rules.proofs.ReportLemmas.{same-verdict}
 use Rattle.audit_laws.specs.Reading.{IsReadWith}
 
 -- the journal of a log's three lists
-abbrev told : List Stamped → List (ArrayVec ℕ) → List Store → List Event
+abbrev told : List Stamped → List (ArrayVec ℕ) → List Store → List TimedEntry
 told entries images stores = journal_of (record { entries = entries; images = images; stores = stores; spare = 0 })
 
 same-journal : (a b : Log) → IsSameLog a b → journal_of b ≡ journal_of a
@@ -40,7 +40,7 @@ pub same-journals : (xs bs : List Log) → AllZip IsSameLog xs bs → map journa
 same-journals [] [] same = refl
 same-journals [] (b ∷ bs) same = absurd same
 same-journals (a ∷ rest) [] same = absurd same
-same-journals (a ∷ rest) (b ∷ bs) same = ap (λ (es : List Event). es ∷ map journal_of bs) (same-journal a b same.0) ∙ ap (λ (js : List (List Event)). journal_of a ∷ js) (same-journals rest bs same.1)
+same-journals (a ∷ rest) (b ∷ bs) same = ap (λ (es : List TimedEntry). es ∷ map journal_of bs) (same-journal a b same.0) ∙ ap (λ (js : List (List TimedEntry)). journal_of a ∷ js) (same-journals rest bs same.1)
 
 pub read-back : (d : Description) (ps : List Program) (x r : Report) (v : Verdict) → IsSameReport x r → IsVerdict d ps r v → IsVerdict d ps x v
 read-back d ps x r v same is = same-verdict d ps r x v (same-journals x.nodes r.nodes same.nodes) is

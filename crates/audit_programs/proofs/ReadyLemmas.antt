@@ -12,16 +12,16 @@ use Rattle.mate_code.specs.CodeUses.{uses_of}
 use Rattle.mate_code.specs.Run.{Code}
 use Rattle.vm_desc.specs.Shapes.{shape_of}
 use Rattle.vm_desc.specs.declared.description.Description.{Description}
-use Rattle.mate_journal.specs.Journal.{Invocation, Reading, answers_of}
+use Rattle.mate_journal.specs.Journal.{Invocation, NodeState, answers_of}
 use Rattle.mate_journal.specs.Machine.{HeldProgram, Meaning}
 use Rattle.mate_journal.specs.declared.program.Program.{Program}
-use Rattle.node_invariant.specs.Meaning.{code_of}
+use Rattle.node_invariant.specs.Meaning.{image_code}
 use Rattle.node_programs.specs.Right.{AreRightPrograms}
 use Rattle.node_programs.specs.Sources.{meaning_by}
 use Rattle.node_programs.proofs.MeaningLemmas.{meaning_by-right}
 use Rattle.audit_finite.specs.Rerun.{run_on}
 use Rattle.audit_finite.specs.Shown.{HasLengthsOf}
-use Rattle.audit_runs.proofs.ConflictLemmas.{code-TellsConflicts}
+use Rattle.audit_run_laws.proofs.ConflictLemmas.{code-TellsConflicts}
 use Rattle.audit_rules.specs.Laws.{machine_by}
 use Rattle.audit_rules.specs.Tests.{conflict_of}
 use Rattle.audit_rules.proofs.RightLemmas.{lengths}
@@ -33,11 +33,11 @@ use Rattle.whole_runs.specs.declared.ready.ReadyProgram.{ReadyProgram}
 pub conflict-told : (d : Description) (p q : HeldProgram) (a b : ReadyProgram) (r : Bool) → IsReadyAs d p a → IsReadyAs d q b → Decides r (Conflicts (uses_of a.code.shape a.code.code) (uses_of b.code.shape b.code.code)) → r ≡ conflict_of d p q
 conflict-told d p q a b r of_p of_q told =
     let shape : Shape = shape_of d in
-    let uses_p : uses_of a.code.shape a.code.code ≡ uses_of shape (code_of shape p.image) = ap (λ (s : Shape). uses_of s a.code.code) of_p.code.shape ∙ ap (λ (c : Code). uses_of shape c) of_p.code.code in
-    let uses_q : uses_of b.code.shape b.code.code ≡ uses_of shape (code_of shape q.image) = ap (λ (s : Shape). uses_of s b.code.code) of_q.code.shape ∙ ap (λ (c : Code). uses_of shape c) of_q.code.code in
+    let uses_p : uses_of a.code.shape a.code.code ≡ uses_of shape (image_code shape p.image) = ap (λ (s : Shape). uses_of s a.code.code) of_p.code.shape ∙ ap (λ (c : Code). uses_of shape c) of_p.code.code in
+    let uses_q : uses_of b.code.shape b.code.code ≡ uses_of shape (image_code shape q.image) = ap (λ (s : Shape). uses_of s b.code.code) of_q.code.shape ∙ ap (λ (c : Code). uses_of shape c) of_q.code.code in
     let P : Uses → Type 0 = λ u. Decides r (Conflicts u (uses_of b.code.shape b.code.code)) in
-    let Q : Uses → Type 0 = λ u. Decides r (Conflicts (uses_of shape (code_of shape p.image)) u) in
-    same_from_decides r (conflict_of d p q) (subst Q uses_q (subst P uses_p told)) (code-TellsConflicts shape (λ h. code_of shape h.image) p q)
+    let Q : Uses → Type 0 = λ u. Decides r (Conflicts (uses_of shape (image_code shape p.image)) u) in
+    same_from_decides r (conflict_of d p q) (subst Q uses_q (subst P uses_p told)) (code-TellsConflicts shape (λ h. image_code shape h.image) p q)
 
 -- a run keeps them
 run_on-lengths : (d : Description) (ps : List Program) (store : Store) (i : Invocation) → AreRightPrograms d ps → HasLengthsOf (machine_by d ps) store → HasLengthsOf (machine_by d ps) (run_on (machine_by d ps) store i).store

@@ -5,7 +5,7 @@ use Rattle.std.proofs.lemmas.Bool.{and_parts}
 use Rattle.std.proofs.lemmas.Bool.Decides.{eqb_tells}
 use Rattle.std.proofs.lemmas.List.{get_or-map, get_or_default, get_or-set_same, get_or-set_other, length-map}
 use Rattle.mate_num.specs.declared.id.HandlerId.{HandlerId}
-use Rattle.mate_journal.specs.Journal.{Installed, Event, journal_of, told_of}
+use Rattle.mate_journal.specs.Journal.{Installed, TimedEntry, journal_of, journal_entry}
 use Rattle.mate_journal.specs.Log.{Log}
 use Rattle.mate_journal.specs.Machine.{HeldProgram}
 use Rattle.mate_journal.specs.declared.entry.Entry.{Entry}
@@ -40,18 +40,18 @@ pub follow-parts : (t : Trial) (place : ℕ) (x : told.Roll) → place < length 
     → (may_follow (machine_for t) x (told_at t place) ≡ true) × (follow_one_another (machine_for t) (rolled x (told_at t place)) (events_from t (place + 1)) ≡ true)
 follow-parts t place x within follow =
     and_parts (may_follow (machine_for t) x (told_at t place)) (follow_one_another (machine_for t) (rolled x (told_at t place)) (events_from t (place + 1)))
-    (ap (λ (es : List Event). follow_one_another (machine_for t) x es) (sym (events-next t place within)) ∙ follow)
+    (ap (λ (es : List TimedEntry). follow_one_another (machine_for t) x es) (sym (events-next t place within)) ∙ follow)
 
 pub images-parts : (t : Trial) (place : ℕ) (x : told.Roll) → place < length t.log.now.entries → images_right t.programs.now x (events_from t place) ≡ true
     → (installs_right t.programs.now x (told_at t place) ≡ true) × (images_right t.programs.now (rolled x (told_at t place)) (events_from t (place + 1)) ≡ true)
 images-parts t place x within images =
     and_parts (installs_right t.programs.now x (told_at t place)) (images_right t.programs.now (rolled x (told_at t place)) (events_from t (place + 1)))
-    (ap (λ (es : List Event). images_right t.programs.now x es) (sym (events-next t place within)) ∙ images)
+    (ap (λ (es : List TimedEntry). images_right t.programs.now x es) (sym (events-next t place within)) ∙ images)
 
 -- ---- what is installed
 
 -- an entry that installs nothing leaves what is installed
-pub installed-kept : (l : Log) (x : told.Roll) (e : Entry) (h : HandlerId) → ((g : HandlerId) (version image : ℕ) → e ≡ entry.Install g version image → ⊥) → (rolled x (told_of l e)).installed h ≡ x.installed h
+pub installed-kept : (l : Log) (x : told.Roll) (e : Entry) (h : HandlerId) → ((g : HandlerId) (version image : ℕ) → e ≡ entry.Install g version image → ⊥) → (rolled x (journal_entry l e)).installed h ≡ x.installed h
 installed-kept l x (entry.Post n g c payload) h other = refl
 installed-kept l x (entry.Dropped g cause) h other = refl
 installed-kept l x (entry.Start n) h other = refl
@@ -81,7 +81,7 @@ AreReady-installed d x p programs made below ready before h q is = elim (eqb_tel
 ]
 
 pub AreReady-kept : (d : Description) (l : Log) (x : told.Roll) (e : Entry) (programs : List (Option ReadyProgram)) → ((g : HandlerId) (version image : ℕ) → e ≡ entry.Install g version image → ⊥) → AreReady d x.installed programs
-    → AreReady d (rolled x (told_of l e)).installed programs
+    → AreReady d (rolled x (journal_entry l e)).installed programs
 AreReady-kept d l x e programs other before h p is = before h p (sym (installed-kept l x e h other) ∙ is)
 
 -- ---- the whole
@@ -125,8 +125,8 @@ seats-ready t place x read k d below =
 
 -- ---- the entry at a place
 
-pub entry-at : (t : Trial) (place : ℕ) (e : Stamped) → place < length t.log.now.entries → e ≡ slice_index_or t.log.now.entries place e → told_of t.log.now e.entry ≡ told_at t place
-entry-at t place e within is = ap (λ (s : Stamped). told_of t.log.now s.entry) (is ∙ get_or_default t.log.now.entries place e no_entry within)
+pub entry-at : (t : Trial) (place : ℕ) (e : Stamped) → place < length t.log.now.entries → e ≡ slice_index_or t.log.now.entries place e → journal_entry t.log.now e.entry ≡ told_at t place
+entry-at t place e within is = ap (λ (s : Stamped). journal_entry t.log.now s.entry) (is ∙ get_or_default t.log.now.entries place e no_entry within)
 
 pub in-range : (t : Trial) (place : ℕ) (e : Stamped) → IsTried t → place < length t.log.now.entries → e ≡ slice_index_or t.log.now.entries place e → IsEntryInRange t.desc.now e.entry
 in-range t place e tried within is = subst (λ (s : Stamped). IsEntryInRange t.desc.now s.entry) (sym is) (tried.tidy.in_range place e within)

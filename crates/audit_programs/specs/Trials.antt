@@ -1,7 +1,7 @@
 -- What a journal is tried against, and how far it was read.
 use Rattle.std.specs.Prelude.{◌≡◌, ◌≤◌, ℕ, true, List, length, map, drop, Option, Some, IsSomeAnd, slice_index_or}
 use Rattle.mate_num.specs.declared.id.HandlerId.{HandlerId}
-use Rattle.mate_journal.specs.Journal.{Told, Event, journal_of, told_of}
+use Rattle.mate_journal.specs.Journal.{JournalEntry, TimedEntry, journal_of, journal_entry}
 use Rattle.mate_journal.specs.Machine.{Machine, HeldProgram}
 use Rattle.mate_journal.specs.Tidy.{IsTidyLog}
 use Rattle.mate_journal.specs.declared.entry.Entry.TheVariants as entry
@@ -25,7 +25,7 @@ abbrev pub machine_for : Trial → Machine
 machine_for t = machine_by t.desc.now t.programs.now
 
 -- the events from a place in the log on
-abbrev pub events_from : Trial → ℕ → List Event
+abbrev pub events_from : Trial → ℕ → List TimedEntry
 events_from t place = map (event_of t.log.now) (drop place t.log.now.entries)
 
 -- an entry that stands for none
@@ -33,8 +33,8 @@ abbrev pub no_entry : Stamped
 no_entry = record { stamp = record { event = 0; time = 0 }; entry = entry.Reset }
 
 -- what the entry at a place tells
-abbrev pub told_at : Trial → ℕ → Told
-told_at t place = told_of t.log.now (slice_index_or t.log.now.entries place no_entry).entry
+abbrev pub told_at : Trial → ℕ → JournalEntry
+told_at t place = journal_entry t.log.now (slice_index_or t.log.now.entries place no_entry).entry
 
 -- the log is tidy and the programs are right; the journal keeps the laws before: its entries follow one another, and what is installed is
 -- one of the programs

@@ -61,7 +61,7 @@ pub struct ReadyRoll<'a> {
 impl<'a> ReadyRoll<'a> {
     ghost use Rattle.std.specs.Prelude.{◌≡◌, ◌+◌, ◌<◌, true, length, IfOk, IsTrue, OnOk};
     ghost use Rattle.mate_num.specs.Locks.{is_resource};
-    ghost use Rattle.mate_journal.specs.Journal.{told_of};
+    ghost use Rattle.mate_journal.specs.Journal.{journal_entry};
     ghost use Rattle.mate_journal.specs.Tidy.{IsEntryInRange};
     ghost use Rattle.journal_laws.specs.Growth.{IsNamedBelow};
     ghost use Rattle.audit_finite.specs.Roll.{nobody, rolled};
@@ -110,11 +110,11 @@ impl<'a> ReadyRoll<'a> {
         requires named { let l = trial.now.log.now in
             IsNamedBelow (length l.images) (length l.stores) entry.now }
         requires given { let l = trial.now.log.now in
-            installs_right trial.now.programs.now (roll_in l.images self.old.roll) (told_of l entry.now) ≡ true }
+            installs_right trial.now.programs.now (roll_in l.images self.old.roll) (journal_entry l entry.now) ≡ true }
         ensures roll { self.new.roll ≡ self.old.roll }
         ensures places { length self.new.ready.programs.items ≡ 8 }
         ensures ready { let l = trial.now.log.now in
-            AreReady trial.now.desc.now (rolled (roll_in l.images self.old.roll) (told_of l entry.now)).installed
+            AreReady trial.now.desc.now (rolled (roll_in l.images self.old.roll) (journal_entry l entry.now)).installed
             self.new.ready.programs.items }
     {
         let _place = place;

@@ -3,7 +3,7 @@
 ghost use Rattle.std.specs.Prelude.{◌≡◌, length, IfOk, IsTrue};
 ghost use Rattle.std.specs.List.{list_all};
 ghost use Rattle.mate_num.specs.Store.{zero_store as zeros};
-ghost use Rattle.mate_journal.specs.Journal.{journal_of, told_of};
+ghost use Rattle.mate_journal.specs.Journal.{journal_of, journal_entry};
 ghost use Rattle.audit_finite.specs.Rerun as told;
 ghost use Rattle.audit_finite.specs.Roll.{nobody};
 ghost use Rattle.audit_finite.specs.Shown.{HasLengthsOf};
@@ -92,9 +92,9 @@ fn run_at(
     ensures { let l = trial.now.log.now in
         let m = machine_for trial.now in
         let x = roll_in l.images roll.now.roll in
-        let test = told.runs_right m (conflict_of trial.now.desc.now) x store.old (told_of l entry.now) in
+        let test = told.runs_right m (conflict_of trial.now.desc.now) x store.old (journal_entry l entry.now) in
         IfOk result (λ right. (right ≡ test) × (IsTrue right
-        → (store.new ≡ told.serial_after m x store.old (told_of l entry.now)) × HasLengthsOf m store.new)) }
+        → (store.new ≡ told.serial_after m x store.old (journal_entry l entry.now)) × HasLengthsOf m store.new)) }
 {
     match entry {
         Entry::Halt { inv } => end_at(alloc, trial, roll, place, store, *inv, &End::Halt),

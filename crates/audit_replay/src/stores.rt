@@ -2,7 +2,7 @@
 
 ghost use Rattle.std.specs.Prelude.{◌≡◌, length, IfOk, OnOk};
 ghost use Rattle.std.specs.List.{All};
-ghost use Rattle.mate_journal.specs.Journal.{journal_of, told_of};
+ghost use Rattle.mate_journal.specs.Journal.{journal_of, journal_entry};
 ghost use Rattle.journal_laws.specs.Growth.{IsNamedBelow};
 ghost use Rattle.audit_finite.specs.Rerun.{serial_after, store_left};
 ghost use Rattle.audit_finite.specs.Roll.{nobody};
@@ -55,7 +55,7 @@ fn go_past(
     requires lengths { HasLengthsOf (machine_for trial.now) store.old }
     ensures { let l = trial.now.log.now in
         let m = machine_for trial.now in
-        OnOk result ((store.new ≡ serial_after m (roll_in l.images roll.now.roll) store.old (told_of l entry.now))
+        OnOk result ((store.new ≡ serial_after m (roll_in l.images roll.now.roll) store.old (journal_entry l entry.now))
         × HasLengthsOf m store.new) }
 {
     match entry {
@@ -88,7 +88,7 @@ fn shows_right(
     requires named { let l = trial.now.log.now in
         IsNamedBelow (length l.images) (length l.stores) entry.now }
     ensures { let l = trial.now.log.now in
-        IfOk result (λ b. b ≡ told.shows_right (machine_for trial.now) (roll_in l.images roll.now.roll) store.now (told_of l entry.now)) }
+        IfOk result (λ b. b ≡ told.shows_right (machine_for trial.now) (roll_in l.images roll.now.roll) store.now (journal_entry l entry.now)) }
 {
     match entry {
         Entry::Seen { store: number } => {

@@ -3,7 +3,7 @@
 ghost use Rattle.std.specs.Prelude.{◌≡◌, ◌==◌, suc, IfOk, length, List, ◌∷◌, [], ◌≤◌, ◌<◌};
 ghost use Rattle.vm_desc.specs.Contexts.{first_context};
 ghost use Rattle.mate_journal.specs.Described.{machine_of};
-ghost use Rattle.mate_journal.specs.Journal.{told_of, journal_of};
+ghost use Rattle.mate_journal.specs.Journal.{journal_entry, journal_of};
 ghost use Rattle.mate_journal.specs.Log.{Log};
 ghost use Rattle.mate_journal.specs.Machine.{Meaning};
 ghost use Rattle.mate_journal.specs.Tidy.{IsTidyLog};
@@ -74,7 +74,7 @@ fn may_follow(desc: &Description, roll: &Roll, entry: &Entry) -> bool
     requires few { length desc.now.handlers.items ≤ 8 }
     requires handler { HasHandlerBelow (length desc.now.handlers.items) entry.now }
     ensures { (l : Log) (meaning : Meaning)
-        → result ≡ told.may_follow (machine_of desc.now meaning) (roll_in l.images roll.now) (told_of l entry.now) }
+        → result ≡ told.may_follow (machine_of desc.now meaning) (roll_in l.images roll.now) (journal_entry l entry.now) }
 {
     match entry {
         Entry::Post {

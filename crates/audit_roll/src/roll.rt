@@ -1,7 +1,7 @@
 //! The roll.
 
 ghost use Rattle.std.specs.Prelude.{◌≡◌, ◌<◌, ◌++◌, ◌∷◌, [], length, filter, OnOk};
-ghost use Rattle.mate_journal.specs.Journal.{told_of};
+ghost use Rattle.mate_journal.specs.Journal.{journal_entry};
 ghost use Rattle.mate_journal.specs.Log.{Log};
 ghost use Rattle.audit_finite.specs.Roll as told;
 ghost use Rattle.audit_roll.specs.Views.{keeps_seat, HasHandlerBelow, roll_in};
@@ -49,7 +49,7 @@ impl Roll {
     /// What it is after one more entry.
     pub fn hear(&mut self, alloc: Global, entry: &Entry) -> Result<(), NoMemory>
         requires { HasHandlerBelow 8 entry.now }
-        ensures { (l : Log) → OnOk result (roll_in l.images self.new ≡ told.rolled (roll_in l.images self.old) (told_of l entry.now)) }
+        ensures { (l : Log) → OnOk result (roll_in l.images self.new ≡ told.rolled (roll_in l.images self.old) (journal_entry l entry.now)) }
     {
         match entry {
             Entry::Post {

@@ -7,7 +7,7 @@ use Rattle.std.proofs.lemmas.List.{length-map}
 use Rattle.std.proofs.lemmas.List.Elements.{All-head, All-tail}
 use Rattle.std.proofs.lemmas.Option.{slice_get-map}
 use Rattle.vm_desc.specs.declared.description.Description.{Description}
-use Rattle.mate_journal.specs.Journal.{Event, journal_of}
+use Rattle.mate_journal.specs.Journal.{TimedEntry, journal_of}
 use Rattle.mate_journal.specs.Log.{Log}
 use Rattle.mate_journal.specs.Tidy.{IsTidyLog}
 use Rattle.mate_journal.specs.declared.program.Program.{Program}
@@ -58,28 +58,28 @@ verdict-told d ps r right tidy =
 
 -- ---- by journals alone
 
-if-journal : (P : List Event → Type 0) (o : Option Log) → IfSome o (λ l. P (journal_of l)) → IfSome (option_map journal_of o) P
+if-journal : (P : List TimedEntry → Type 0) (o : Option Log) → IfSome o (λ l. P (journal_of l)) → IfSome (option_map journal_of o) P
 if-journal P None h = tt
 if-journal P (Some l) h = h
 
-journal-if : (P : List Event → Type 0) (o : Option Log) → IfSome (option_map journal_of o) P → IfSome o (λ l. P (journal_of l))
+journal-if : (P : List TimedEntry → Type 0) (o : Option Log) → IfSome (option_map journal_of o) P → IfSome o (λ l. P (journal_of l))
 journal-if P None h = tt
 journal-if P (Some l) h = h
 
-some-journal : (P : List Event → Type 0) (o : Option Log) → IsSomeAnd o (λ l. P (journal_of l)) → IsSomeAnd (option_map journal_of o) P
+some-journal : (P : List TimedEntry → Type 0) (o : Option Log) → IsSomeAnd o (λ l. P (journal_of l)) → IsSomeAnd (option_map journal_of o) P
 some-journal P None h = absurd h
 some-journal P (Some l) h = h
 
-journal-some : (P : List Event → Type 0) (o : Option Log) → IsSomeAnd (option_map journal_of o) P → IsSomeAnd o (λ l. P (journal_of l))
+journal-some : (P : List TimedEntry → Type 0) (o : Option Log) → IsSomeAnd (option_map journal_of o) P → IsSomeAnd o (λ l. P (journal_of l))
 journal-some P None h = absurd h
 journal-some P (Some l) h = h
 
 -- the journal at a place
 same-at : (r s : Report) (k : ℕ) → TellSameJournals r s → option_map journal_of (slice_get r.nodes k) ≡ option_map journal_of (slice_get s.nodes k)
-same-at r s k same = sym (slice_get-map journal_of r.nodes k) ∙ ap (λ (js : List (List Event)). slice_get js k) same ∙ slice_get-map journal_of s.nodes k
+same-at r s k same = sym (slice_get-map journal_of r.nodes k) ∙ ap (λ (js : List (List TimedEntry)). slice_get js k) same ∙ slice_get-map journal_of s.nodes k
 
 -- what a journal fails
-abbrev FailsFirst : Description → List Program → Law → List Event → Type 0
+abbrev FailsFirst : Description → List Program → Law → List TimedEntry → Type 0
 FailsFirst d ps law es = (KeepsLaw (machine_by d ps) ps es law → ⊥) × ((earlier : Law) → rank_of earlier < rank_of law → KeepsLaw (machine_by d ps) ps es earlier)
 
 fails-of : (d : Description) (ps : List Program) (law : Law) (o : Option Log) → IsSomeAnd o (λ l. LogFails d ps l law) → IsSomeAnd o (λ l. FailsFirst d ps law (journal_of l))
@@ -92,17 +92,17 @@ of-fails d ps law (Some l) h = record { fails = h.0; before = h.1 }
 
 keeps-too : (d : Description) (ps : List Program) (r s : Report) (n : ℕ) → TellSameJournals r s → NodesKeep d ps r n → NodesKeep d ps s n
 keeps-too d ps r s n same kept k low =
-    let P : List Event → Type 0 = λ es. (law : Law) → KeepsLaw (machine_by d ps) ps es law in
-    journal-if P (slice_get s.nodes k) (subst (λ (o : Option (List Event)). IfSome o P) (same-at r s k same) (if-journal P (slice_get r.nodes k) (kept k low)))
+    let P : List TimedEntry → Type 0 = λ es. (law : Law) → KeepsLaw (machine_by d ps) ps es law in
+    journal-if P (slice_get s.nodes k) (subst (λ (o : Option (List TimedEntry)). IfSome o P) (same-at r s k same) (if-journal P (slice_get r.nodes k) (kept k low)))
 
 fails-too : (d : Description) (ps : List Program) (r s : Report) (n : ℕ) (law : Law) → TellSameJournals r s → IsSomeAnd (slice_get r.nodes n) (λ l. LogFails d ps l law) → IsSomeAnd (slice_get s.nodes n) (λ l. LogFails d ps l law)
 fails-too d ps r s n law same fails =
     of-fails d ps law (slice_get s.nodes n)
     (journal-some (FailsFirst d ps law) (slice_get s.nodes n)
-    (subst (λ (o : Option (List Event)). IsSomeAnd o (FailsFirst d ps law)) (same-at r s n same) (some-journal (FailsFirst d ps law) (slice_get r.nodes n) (fails-of d ps law (slice_get r.nodes n) fails))))
+    (subst (λ (o : Option (List TimedEntry)). IsSomeAnd o (FailsFirst d ps law)) (same-at r s n same) (some-journal (FailsFirst d ps law) (slice_get r.nodes n) (fails-of d ps law (slice_get r.nodes n) fails))))
 
 same-length : (r s : Report) → TellSameJournals r s → length r.nodes ≡ length s.nodes
-same-length r s same = sym (length-map r.nodes journal_of) ∙ ap (λ (js : List (List Event)). length js) same ∙ length-map s.nodes journal_of
+same-length r s same = sym (length-map r.nodes journal_of) ∙ ap (λ (js : List (List TimedEntry)). length js) same ∙ length-map s.nodes journal_of
 
 pub same-verdict : (d : Description) (ps : List Program) (r s : Report) (v : Verdict) → TellSameJournals r s → IsVerdict d ps r v → IsVerdict d ps s v
 same-verdict d ps r s Serial same kept = subst (NodesKeep d ps s) (same-length r s same) (keeps-too d ps r s (length r.nodes) same kept)

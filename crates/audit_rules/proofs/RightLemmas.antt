@@ -10,7 +10,7 @@ use Rattle.vm_desc.specs.declared.description.Description.{Description}
 use Rattle.mate_journal.specs.Described.{machine_of}
 use Rattle.mate_journal.specs.Devices.{WritesWhatItAsks, AsksDevicesInOrder}
 use Rattle.mate_journal.specs.Grants.{GrantsInOrder}
-use Rattle.mate_journal.specs.Journal.{Event, nothing_heard, no_store, store_seen, told_of, journal_of, answers_of}
+use Rattle.mate_journal.specs.Journal.{TimedEntry, first_state, no_store, store_seen, journal_entry, journal_of, answers_of}
 use Rattle.mate_journal.specs.Log.{Log}
 use Rattle.mate_journal.specs.Machine.{Meaning}
 use Rattle.mate_journal.specs.Serial.{IsSerial}
@@ -23,7 +23,7 @@ use Rattle.mate_journal.specs.declared.program.Program.{Program}
 use Rattle.journal_laws.specs.Growth.{event_of, IsNamedBelow, AreNamedBelow}
 use Rattle.journal_laws.proofs.TidyLemmas.{NamesInLog-numbered}
 use Rattle.journal_laws.proofs.Devices.{devices-in-turn}
-use Rattle.node_invariant.specs.Meaning.{code_of, meaning_of}
+use Rattle.node_invariant.specs.Meaning.{image_code, meaning_of}
 use Rattle.node_invariant.proofs.AskLemmas.{writes-what_it_asks}
 use Rattle.node_programs.specs.Right.{AreRightPrograms}
 use Rattle.node_programs.specs.Sources.{meaning_by}
@@ -31,8 +31,8 @@ use Rattle.node_programs.proofs.MeaningLemmas.{meaning_by-right}
 use Rattle.audit_finite.specs.Granting.{TellsConflicts}
 use Rattle.audit_finite.specs.Replay.{GoesByParts}
 use Rattle.audit_finite.specs.Shown.{HasLengthsOf, KeepsLengths, SeenLengths}
-use Rattle.audit_runs.proofs.ConflictLemmas.{code-TellsConflicts}
-use Rattle.audit_runs.proofs.PartLemmas.{code-GoesByParts}
+use Rattle.audit_run_laws.proofs.ConflictLemmas.{code-TellsConflicts}
+use Rattle.audit_run_laws.proofs.PartLemmas.{code-GoesByParts}
 use Rattle.audit_rules.specs.Laws.{machine_by}
 use Rattle.audit_rules.specs.Tests.{conflict_of}
 
@@ -42,15 +42,15 @@ pub by_code : (d : Description) (ps : List Program) (P : Meaning → Type 0) →
 by_code d ps P right h = subst P (sym (meaning_by-right d ps right)) h
 
 pub parts : (d : Description) (ps : List Program) → AreRightPrograms d ps → GoesByParts (meaning_by d ps)
-parts d ps right = by_code d ps GoesByParts right (code-GoesByParts (shape_of d) (λ p. code_of (shape_of d) p.image))
+parts d ps right = by_code d ps GoesByParts right (code-GoesByParts (shape_of d) (λ p. image_code (shape_of d) p.image))
 
 pub conflicts : (d : Description) (ps : List Program) → AreRightPrograms d ps → TellsConflicts (machine_by d ps).meaning (conflict_of d)
-conflicts d ps right = by_code d ps (λ (meaning : Meaning). TellsConflicts meaning (conflict_of d)) right (code-TellsConflicts (shape_of d) (λ p. code_of (shape_of d) p.image))
+conflicts d ps right = by_code d ps (λ (meaning : Meaning). TellsConflicts meaning (conflict_of d)) right (code-TellsConflicts (shape_of d) (λ p. image_code (shape_of d) p.image))
 
 code-KeepsLengths : (d : Description) → KeepsLengths (machine_of d (meaning_of (shape_of d)))
 code-KeepsLengths d r n long =
     let i = r.invocations n in
-    let code = code_of (shape_of d) i.program.image in
+    let code = image_code (shape_of d) i.program.image in
     let same = after-AreAsLong (bound code d.turns) (shape_of d) code (begun_run r.serial i.payload (answers_of i) d.turns) in
     record { shared = same.shared ∙ long.shared; buffers = same.buffers ∙ long.buffers }
 
@@ -59,8 +59,8 @@ lengths d ps right = by_code d ps (λ (meaning : Meaning). KeepsLengths (machine
 
 -- ---- the order of calls to devices
 
-pub devices : (d : Description) (ps : List Program) (es : List Event) → AreRightPrograms d ps → IsWellFormed (machine_by d ps) (nothing_heard (machine_by d ps)) es → IsSerial (machine_by d ps) (nothing_heard (machine_by d ps)) es
-    → GrantsInOrder (machine_by d ps) (nothing_heard (machine_by d ps)) 0 es → AsksDevicesInOrder (machine_by d ps).device_of es
+pub devices : (d : Description) (ps : List Program) (es : List TimedEntry) → AreRightPrograms d ps → IsWellFormed (machine_by d ps) (first_state (machine_by d ps)) es → IsSerial (machine_by d ps) (first_state (machine_by d ps)) es
+    → GrantsInOrder (machine_by d ps) (first_state (machine_by d ps)) 0 es → AsksDevicesInOrder (machine_by d ps).device_of es
 devices d ps es right = devices-in-turn (machine_by d ps) es (machine_by d ps).device_of (by_code d ps (WritesWhatItAsks (machine_by d ps).device_of) right (writes-what_it_asks d))
 
 -- ---- stores that are seen
@@ -72,7 +72,7 @@ store_lengths d meaning s is = record {
   buffers = is.buffers ∙ sym (length-replicate (length d.buffers.items) _);
 }
 
-entry_lengths : (d : Description) (meaning : Meaning) (l : Log) (e : Entry) → All (IsStoreOf d) l.stores → IsNamedBelow (length l.images) (length l.stores) e → IfSome (store_seen (told_of l e)) (HasLengthsOf (machine_of d meaning))
+entry_lengths : (d : Description) (meaning : Meaning) (l : Log) (e : Entry) → All (IsStoreOf d) l.stores → IsNamedBelow (length l.images) (length l.stores) e → IfSome (store_seen (journal_entry l e)) (HasLengthsOf (machine_of d meaning))
 entry_lengths d meaning l (entry.Seen k) right named = store_lengths d meaning (slice_index_or l.stores k no_store) (right k no_store named)
 entry_lengths d meaning l (entry.Post n h c payload) right named = tt
 entry_lengths d meaning l (entry.Dropped h cause) right named = tt

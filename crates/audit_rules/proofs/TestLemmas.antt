@@ -5,7 +5,7 @@ use Rattle.std.specs.List.{list_any}
 use Rattle.std.proofs.lemmas.Bool.{cases_lt}
 use Rattle.std.proofs.lemmas.Bool.Decides.{not_from_Decides, Decides-and, Decides-ltb}
 use Rattle.vm_desc.specs.declared.description.Description.{Description}
-use Rattle.mate_journal.specs.Journal.{Told, Posted, Dropped, Started, Asked, Answered, Ended, Installed, Reset, Seen, Void, Event, Reading, nothing_heard, held, heard, journal_of, AtEachEntry}
+use Rattle.mate_journal.specs.Journal.{JournalEntry, Posted, Dropped, Started, Asked, Answered, Ended, Installed, Reset, Seen, Void, TimedEntry, NodeState, first_state, held, next_state, journal_of, AtEachEntry}
 use Rattle.mate_journal.specs.Log.{Log}
 use Rattle.mate_journal.specs.Machine.{HeldProgram, Machine}
 use Rattle.mate_journal.specs.Tidy.{IsTidyLog}
@@ -35,10 +35,10 @@ use Rattle.audit_rules.proofs.RightLemmas.{parts, conflicts, lengths, devices, s
 
 -- ---- what is installed
 
-held-is : (r : Reading) (x : Roll) (p : HeldProgram) → IsRoll r x → version_installed (x.installed p.handler) ≡ held r p.handler
+held-is : (r : NodeState) (x : Roll) (p : HeldProgram) → IsRoll r x → version_installed (x.installed p.handler) ≡ held r p.handler
 held-is r x p right = ap version_installed (right.installed p.handler)
 
-installs-Decides : (ps : List Program) (r : Reading) (x : Roll) (t : Told) → IsRoll r x → Decides (installs_right ps x t) (InstallsProgram ps r t)
+installs-Decides : (ps : List Program) (r : NodeState) (x : Roll) (t : JournalEntry) → IsRoll r x → Decides (installs_right ps x t) (InstallsProgram ps r t)
 installs-Decides ps r x (Installed p) right =
     Decides-and (list_any (is_held_as p) ps) (nat_lt (version_installed (x.installed p.handler)) p.version) (λ e. e, λ e. e)
     (subst (λ (k : ℕ). Decides (nat_lt (version_installed (x.installed p.handler)) p.version) (k < p.version)) (held-is r x p right) (Decides-ltb (version_installed (x.installed p.handler)) p.version))
@@ -52,11 +52,11 @@ installs-Decides ps r x Reset right = always tt
 installs-Decides ps r x (Seen store) right = always tt
 installs-Decides ps r x (Void cause) right = always tt
 
-images-Decides : (ps : List Program) (m : Machine) (r : Reading) (x : Roll) (es : List Event) → IsNumbered r → IsRoll r x → AtEachEntry (MayFollow m) m r es → Decides (images_right ps x es) (AtEachEntry (InstallsProgram ps) m r es)
+images-Decides : (ps : List Program) (m : Machine) (r : NodeState) (x : Roll) (es : List TimedEntry) → IsNumbered r → IsRoll r x → AtEachEntry (MayFollow m) m r es → Decides (images_right ps x es) (AtEachEntry (InstallsProgram ps) m r es)
 images-Decides ps m r x [] numbered right follow = always tt
 images-Decides ps m r x (e ∷ es) numbered right follow =
     Decides-and (installs_right ps x e.told) (images_right ps (rolled x e.told) es) (installs-Decides ps r x e.told right)
-    (images-Decides ps m (heard m r e.told) (rolled x e.told) es (numbered-step m r e.told follow.0 numbered) (IsRoll-step m r x e.told follow.0 numbered right) follow.1)
+    (images-Decides ps m (next_state m r e.told) (rolled x e.told) es (numbered-step m r e.told follow.0 numbered) (IsRoll-step m r x e.told follow.0 numbered right) follow.1)
 
 -- ---- the first that fails
 
@@ -90,7 +90,7 @@ Tells d ps l o = MatchOption o (LogKeepsAll d ps l) (LogFails d ps l)
 fails-at : (d : Description) (ps : List Program) (l : Log) (law : Law) → KeptBelow d ps l (rank_of law) → (LogKeeps d ps l law → ⊥) → LogFails d ps l law
 fails-at d ps l law kept fails = record { fails = fails; before = kept }
 
-follows-in : (d : Description) (ps : List Program) (l : Log) (n : ℕ) → KeptBelow d ps l (suc n) → IsWellFormed (machine_by d ps) (nothing_heard (machine_by d ps)) (journal_of l)
+follows-in : (d : Description) (ps : List Program) (l : Log) (n : ℕ) → KeptBelow d ps l (suc n) → IsWellFormed (machine_by d ps) (first_state (machine_by d ps)) (journal_of l)
 follows-in d ps l n kept = kept law.D7 (omega arith)
 
 -- ---- each test in its turn
@@ -133,9 +133,9 @@ module _ (d : Description) (ps : List Program) (l : Log) (right : AreRightProgra
       let tells = replay_told (machine_by d ps) (conflict_of d) (journal_of l) (parts d ps right) (conflicts d ps right) (follows-in d ps l 1 kept) in
       fails-at d ps l law.D8 kept (not_from_Decides (replays_right (machine_by d ps) (conflict_of d) nobody (machine_by d ps).zero_store (journal_of l)) tells is)
 
-  images_told : IsWellFormed (machine_by d ps) (nothing_heard (machine_by d ps)) (journal_of l) → Decides (images_right ps nobody (journal_of l)) (LogKeeps d ps l law.Image)
+  images_told : IsWellFormed (machine_by d ps) (first_state (machine_by d ps)) (journal_of l) → Decides (images_right ps nobody (journal_of l)) (LogKeeps d ps l law.Image)
   images_told follow =
-      images-Decides ps (machine_by d ps) (nothing_heard (machine_by d ps)) nobody (journal_of l) (nothing_heard-numbered (machine_by d ps)) (nobody-IsRoll (machine_by d ps)) follow.follow
+      images-Decides ps (machine_by d ps) (first_state (machine_by d ps)) nobody (journal_of l) (nothing_heard-numbered (machine_by d ps)) (nobody-IsRoll (machine_by d ps)) follow.follow
 
   by_images : (b : Bool) → images_right ps nobody (journal_of l) ≡ b → KeptBelow d ps l 1 → Tells d ps l (if b then from_replay d ps l else Some law.Image)
   by_images true is kept =

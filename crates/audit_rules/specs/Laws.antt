@@ -5,8 +5,8 @@ use Rattle.vm_desc.specs.declared.description.Description.{Description}
 use Rattle.mate_journal.specs.Described.{machine_of}
 use Rattle.mate_journal.specs.Devices.{AsksDevicesInOrder}
 use Rattle.mate_journal.specs.Grants.{GrantsInOrder}
-use Rattle.mate_journal.specs.Journal.{Told, Posted, Dropped, Started, Asked, Answered, Ended, Installed, Reset, Seen, Void, Event, Reading}
-use Rattle.mate_journal.specs.Journal.{nothing_heard, held, AtEachEntry}
+use Rattle.mate_journal.specs.Journal.{JournalEntry, Posted, Dropped, Started, Asked, Answered, Ended, Installed, Reset, Seen, Void, TimedEntry, NodeState}
+use Rattle.mate_journal.specs.Journal.{first_state, held, AtEachEntry}
 use Rattle.mate_journal.specs.Machine.{HeldProgram, Machine}
 use Rattle.mate_journal.specs.Serial.{IsSerial}
 use Rattle.mate_journal.specs.declared.program.Program.{Program}
@@ -21,7 +21,7 @@ abbrev pub IsOneOf : List Program → HeldProgram → Type 0
 IsOneOf ps h = IsTrue (list_any (is_held_as h) ps)
 
 -- what is installed is one of the programs, and newer than what was installed for its handler
-abbrev pub InstallsProgram : List Program → Reading → Told → Type 0
+abbrev pub InstallsProgram : List Program → NodeState → JournalEntry → Type 0
 InstallsProgram ps r (Installed p) = IsOneOf ps p × (held r p.handler < p.version)
 InstallsProgram ps r (Posted n h c payload) = Unit {0}
 InstallsProgram ps r (Dropped h cause) = Unit {0}
@@ -38,12 +38,12 @@ abbrev pub machine_by : Description → List Program → Machine
 machine_by d ps = machine_of d (meaning_by d ps)
 
 -- the journal keeps the law
-abbrev pub KeepsLaw : Machine → List Program → List Event → Law → Type 0
-KeepsLaw m ps es law.D7 = IsWellFormed m (nothing_heard m) es
-KeepsLaw m ps es law.Image = AtEachEntry (InstallsProgram ps) m (nothing_heard m) es
-KeepsLaw m ps es law.D8 = IsSerial m (nothing_heard m) es
-KeepsLaw m ps es law.D9 = AtEachEntry (ShowsValuesAt m) m (nothing_heard m) es
-KeepsLaw m ps es law.D10 = GrantsInOrder m (nothing_heard m) 0 es
+abbrev pub KeepsLaw : Machine → List Program → List TimedEntry → Law → Type 0
+KeepsLaw m ps es law.D7 = IsWellFormed m (first_state m) es
+KeepsLaw m ps es law.Image = AtEachEntry (InstallsProgram ps) m (first_state m) es
+KeepsLaw m ps es law.D8 = IsSerial m (first_state m) es
+KeepsLaw m ps es law.D9 = AtEachEntry (ShowsValuesAt m) m (first_state m) es
+KeepsLaw m ps es law.D10 = GrantsInOrder m (first_state m) 0 es
 KeepsLaw m ps es law.D11 = AsksDevicesInOrder m.device_of es
 
 -- the place of a law in their order

@@ -3,20 +3,20 @@ use Rattle.std.specs.Prelude.{ℕ, suc, ◌&&◌, nat_lt, Bool, true, List, [], 
 use Rattle.std.specs.List.{list_any}
 use Rattle.vm_desc.specs.Shapes.{shape_of}
 use Rattle.vm_desc.specs.declared.description.Description.{Description}
-use Rattle.mate_journal.specs.Journal.{Told, Posted, Dropped, Started, Asked, Answered, Ended, Installed, Reset, Seen, Void, Event}
+use Rattle.mate_journal.specs.Journal.{JournalEntry, Posted, Dropped, Started, Asked, Answered, Ended, Installed, Reset, Seen, Void, TimedEntry}
 use Rattle.mate_journal.specs.Journal.{journal_of}
 use Rattle.mate_journal.specs.Log.{Log}
 use Rattle.mate_journal.specs.Machine.{HeldProgram, Machine}
 use Rattle.mate_journal.specs.declared.program.Program.{Program}
 use Rattle.mate_journal.specs.declared.report.Report.{Report}
-use Rattle.node_invariant.specs.Meaning.{code_of}
+use Rattle.node_invariant.specs.Meaning.{image_code}
 use Rattle.node_programs.specs.Sources.{is_held_as}
 use Rattle.audit_finite.specs.Granting.{ConflictTest, grants_in_order}
 use Rattle.audit_finite.specs.Rerun.{replays_right}
 use Rattle.audit_finite.specs.Roll.{Roll, nobody, rolled}
 use Rattle.audit_finite.specs.Following.{entries_follow}
 use Rattle.audit_finite.specs.Shown.{stores_right}
-use Rattle.audit_runs.specs.CodeMeaning.{conflict_with}
+use Rattle.audit_run_laws.specs.CodeMeaning.{conflict_with}
 use Rattle.audit_rules.specs.Laws.{machine_by}
 use Rattle.audit_verdict.specs.declared.law.Law.{Law}
 use Rattle.audit_verdict.specs.declared.law.Law.TheVariants as law
@@ -28,7 +28,7 @@ abbrev pub version_installed : Option HeldProgram → ℕ
 version_installed None = 0
 version_installed (Some p) = p.version
 
-abbrev pub installs_right : List Program → Roll → Told → Bool
+abbrev pub installs_right : List Program → Roll → JournalEntry → Bool
 installs_right ps x (Installed p) = list_any (is_held_as p) ps && nat_lt (version_installed (x.installed p.handler)) p.version
 installs_right ps x (Posted n h c payload) = true
 installs_right ps x (Dropped h cause) = true
@@ -40,15 +40,15 @@ installs_right ps x Reset = true
 installs_right ps x (Seen store) = true
 installs_right ps x (Void cause) = true
 
-abbrev pub images_right : List Program → Roll → List Event → Bool
+abbrev pub images_right : List Program → Roll → List TimedEntry → Bool
 images_right ps x [] = true
 images_right ps x (e ∷ es) = installs_right ps x e.told && images_right ps (rolled x e.told) es
 
 -- programs conflict where the code of their images does
 abbrev pub conflict_of : Description → ConflictTest
-conflict_of d = conflict_with (shape_of d) (λ p. code_of (shape_of d) p.image)
+conflict_of d = conflict_with (shape_of d) (λ p. image_code (shape_of d) p.image)
 
-abbrev pub first_failed : Machine → ConflictTest → List Program → List Event → Option Law
+abbrev pub first_failed : Machine → ConflictTest → List Program → List TimedEntry → Option Law
 first_failed m conflict ps es =
     if entries_follow m es then
     (if images_right ps nobody es then

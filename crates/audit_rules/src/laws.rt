@@ -4,7 +4,7 @@ ghost use Rattle.std.specs.Prelude.{◌≡◌, ◌↔◌, List, MatchOption};
 ghost use Rattle.vm_desc.specs.declared.description.Description.{Description};
 ghost use Rattle.mate_journal.specs.Devices.{AsksDevicesInOrder};
 ghost use Rattle.mate_journal.specs.Grants.{GrantsInOrder};
-ghost use Rattle.mate_journal.specs.Journal.{Event, nothing_heard, journal_of};
+ghost use Rattle.mate_journal.specs.Journal.{TimedEntry, first_state, journal_of};
 ghost use Rattle.mate_journal.specs.Log.{Log};
 ghost use Rattle.mate_journal.specs.Serial.{IsSerial};
 ghost use Rattle.mate_journal.specs.Tidy.{IsTidyLog};
@@ -24,10 +24,10 @@ ghost use Rattle.audit_verdict.specs.declared.law.Verdict.TheVariants.{Serial};
 
 /// The order of calls to devices follows from the other laws: it is never the first to fail.
 pub fn devices_follow()
-    ensures { (d : Description) (ps : List Program) (es : List Event) → AreRightPrograms d ps →
-        IsWellFormed (machine_by d ps) (nothing_heard (machine_by d ps)) es
-        → IsSerial (machine_by d ps) (nothing_heard (machine_by d ps)) es
-        → GrantsInOrder (machine_by d ps) (nothing_heard (machine_by d ps)) 0 es →
+    ensures { (d : Description) (ps : List Program) (es : List TimedEntry) → AreRightPrograms d ps →
+        IsWellFormed (machine_by d ps) (first_state (machine_by d ps)) es
+        → IsSerial (machine_by d ps) (first_state (machine_by d ps)) es
+        → GrantsInOrder (machine_by d ps) (first_state (machine_by d ps)) 0 es →
         AsksDevicesInOrder (machine_by d ps).device_of es }
 {}
 

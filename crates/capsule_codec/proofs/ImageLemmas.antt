@@ -13,7 +13,7 @@ use Rattle.hex.specs.Hex.{IsBytes}
 use Rattle.vm_desc.specs.declared.description.Description.{Description}
 use Rattle.capsule_codec.specs.declared.capsule.Capsule.{Capsule}
 use Rattle.capsule_codec.specs.declared.decoding.CapsuleFault.{CapsuleFault}
-use Rattle.capsule_codec.specs.Image.{CapsuleParts, capsule_parts, magic, format_of, image_of, IsCapsule, IsOfMachine}
+use Rattle.capsule_codec.specs.Image.{CapsuleParts, capsule_parts, magic, format_of, capsule_image, IsCapsule, IsOfMachine}
 use Rattle.capsule_codec.specs.Reading.{format_in, handler_in, vm_id_in, version_field, size_in, is_format, is_size, capsule_in, GivesCapsule}
 
 is_format-format_of : (size : ℕ) → is_format (format_of size) ≡ true
@@ -26,25 +26,25 @@ made : (x : CapsuleParts) (vm_id version : ℕ) → vm_id ≡ x.vm_id → versio
     → ◌≡◌ {A = Result CapsuleParts CapsuleFault} (Ok (record { vm_id = vm_id; handler = x.handler; version = version; code = x.code })) (Ok x)
 made x vm_id version p q = rw (p, q) refl
 
-pub capsule_again : (d : Description) (x : CapsuleParts) → IsCapsule x → IsOfMachine d x → capsule_in d (image_of x) ≡ Ok x
+pub capsule_again : (d : Description) (x : CapsuleParts) → IsCapsule x → IsOfMachine d x → capsule_in d (capsule_image x) ≡ Ok x
 capsule_again d x fits right =
-    let long : ltb (length (image_of x)) 16 ≡ false = le-ltb _ _ (omega arith) in
+    let long : ltb (length (capsule_image x)) 16 ≡ false = le-ltb _ _ (omega arith) in
     let format : is_format (format_of (length x.code)) ≡ true = is_format-format_of (length x.code) in
-    let vm : vm_id_in (image_of x) ≡ x.vm_id = from_be_bytes-to_be_bytes_4 x.vm_id fits.vm_id in
-    let version : version_field (image_of x) ≡ x.version = from_be_bytes-to_be_bytes_4 x.version fits.version_high in
-    let size : size_in (image_of x) ≡ length x.code = from_be_bytes-to_be_bytes_2 (length x.code) (omega arith) in
-    let vm_same : eqb (vm_id_in (image_of x)) d.vm_id ≡ true = eq-eqb _ _ (vm ∙ right.vm_id) in
+    let vm : vm_id_in (capsule_image x) ≡ x.vm_id = from_be_bytes-to_be_bytes_4 x.vm_id fits.vm_id in
+    let version : version_field (capsule_image x) ≡ x.version = from_be_bytes-to_be_bytes_4 x.version fits.version_high in
+    let size : size_in (capsule_image x) ≡ length x.code = from_be_bytes-to_be_bytes_2 (length x.code) (omega arith) in
+    let vm_same : eqb (vm_id_in (capsule_image x)) d.vm_id ≡ true = eq-eqb _ _ (vm ∙ right.vm_id) in
     let handler : ltb x.handler (length d.handlers.items) ≡ true = lt-ltb _ _ right.handler in
-    let numbered : eqb (version_field (image_of x)) 0 ≡ false = ne_eqb _ _ (λ e. omega arith) in
-    let sized : is_size (format_of (length x.code)) (size_in (image_of x)) ≡ true = rw size (is_size-format_of (length x.code) fits.code_low fits.code_high) in
-    let whole : eqb (size_in (image_of x) + 16) (length (image_of x)) ≡ true = eq-eqb _ _ (omega arith) in
+    let numbered : eqb (version_field (capsule_image x)) 0 ≡ false = ne_eqb _ _ (λ e. omega arith) in
+    let sized : is_size (format_of (length x.code)) (size_in (capsule_image x)) ≡ true = rw size (is_size-format_of (length x.code) fits.code_low fits.code_high) in
+    let whole : eqb (size_in (capsule_image x) + 16) (length (capsule_image x)) ≡ true = eq-eqb _ _ (omega arith) in
     cond-false _ _ _ long
     ∙ cond-false _ _ _ (not_from_true _ format)
     ∙ cond-false _ _ _ (not_from_true _ vm_same)
     ∙ cond-false _ _ _ (not_from_true _ handler)
     ∙ cond-false _ _ _ numbered
     ∙ cond-false _ _ _ (not_from_true _ (and_from _ _ sized whole))
-    ∙ made x (vm_id_in (image_of x)) (version_field (image_of x)) vm version
+    ∙ made x (vm_id_in (capsule_image x)) (version_field (capsule_image x)) vm version
 
 -- ---- what decodes is its one image
 
@@ -116,7 +116,7 @@ size_low format size sized = grind (arith, nat_tests, and_parts)
 pub size_high : (format size : ℕ) → is_size format size ≡ true → size ≤ 1040
 size_high format size sized = grind (arith, nat_tests, and_parts)
 
-image_is : (d : Description) (bytes : List ℕ) (x : CapsuleParts) → IsBytes bytes → 16 ≤ length bytes → Told d bytes x → bytes ≡ image_of x
+image_is : (d : Description) (bytes : List ℕ) (x : CapsuleParts) → IsBytes bytes → 16 ≤ length bytes → Told d bytes x → bytes ≡ capsule_image x
 image_is d (b0 ∷ b1 ∷ b2 ∷ b3 ∷ b4 ∷ b5 ∷ b6 ∷ b7 ∷ b8 ∷ b9 ∷ b10 ∷ b11 ∷ b12 ∷ b13 ∷ b14 ∷ b15 ∷ code) x fits long t =
     let bytes : List ℕ = b0 ∷ b1 ∷ b2 ∷ b3 ∷ b4 ∷ b5 ∷ b6 ∷ b7 ∷ b8 ∷ b9 ∷ b10 ∷ b11 ∷ b12 ∷ b13 ∷ b14 ∷ b15 ∷ code in
     let size : size_in bytes ≡ length code = omega (arith, t.whole) in
@@ -126,12 +126,12 @@ image_is d (b0 ∷ b1 ∷ b2 ∷ b3 ∷ b4 ∷ b5 ∷ b6 ∷ b7 ∷ b8 ∷ b9 �
     let version : to_be_bytes w32 (version_field bytes) ≡ b10 ∷ b11 ∷ b12 ∷ b13 ∷ [] = be_bytes_4 (b10 ∷ b11 ∷ b12 ∷ b13 ∷ []) (version_field bytes) refl (part_fits 10 4 bytes fits) refl in
     let length_cells : to_be_bytes w16 (length code) ≡ b14 ∷ b15 ∷ [] = be_bytes_2 (b14 ∷ b15 ∷ []) (length code) refl (part_fits 14 2 bytes fits) (sym size) in
     let made : CapsuleParts = record { vm_id = vm_id_in bytes; handler = b5; version = version_field bytes; code = code } in
-    let P : CapsuleParts → Type 0 = λ x. bytes ≡ image_of x in
+    let P : CapsuleParts → Type 0 = λ x. bytes ≡ capsule_image x in
     let same : P made = cc in
     subst P t.read same
 image_is d _ x fits long t = absurd (omega arith)
 
-pub capsule_is : (d : Description) (bytes : List ℕ) (x : CapsuleParts) → IsBytes bytes → capsule_in d bytes ≡ Ok x → (bytes ≡ image_of x) × IsCapsule x × IsOfMachine d x
+pub capsule_is : (d : Description) (bytes : List ℕ) (x : CapsuleParts) → IsBytes bytes → capsule_in d bytes ≡ Ok x → (bytes ≡ capsule_image x) × IsCapsule x × IsOfMachine d x
 capsule_is d bytes x fits e =
     let t : Told d bytes x = told d bytes x e in
     let made : CapsuleParts = record { vm_id = vm_id_in bytes; handler = handler_in bytes; version = version_field bytes; code = drop 16 bytes } in
@@ -171,12 +171,12 @@ same_capsule a b e = same_at (capsule_parts a) (capsule_parts b) e a.numbered a.
 -- ---- of a result
 
 pub image_found : (d : Description) (bytes : List ℕ) (r : Result Capsule CapsuleFault) → IsBytes bytes → GivesCapsule r (capsule_in d bytes)
-    → IfOk r (λ c. (bytes ≡ image_of (capsule_parts c)) × IsOfMachine d (capsule_parts c))
+    → IfOk r (λ c. (bytes ≡ capsule_image (capsule_parts c)) × IsOfMachine d (capsule_parts c))
 image_found d bytes (Ok c) fits e = let h = capsule_is d bytes (capsule_parts c) fits e in (h.0, h.2)
 image_found d bytes (Err fault) fits e = tt
 
 pub only_capsule : (d : Description) (bytes : List ℕ) (r : Result Capsule CapsuleFault) (c : Capsule) → GivesCapsule r (capsule_in d bytes)
-    → IsCapsule (capsule_parts c) → IsOfMachine d (capsule_parts c) → bytes ≡ image_of (capsule_parts c) → r ≡ Ok c
+    → IsCapsule (capsule_parts c) → IsOfMachine d (capsule_parts c) → bytes ≡ capsule_image (capsule_parts c) → r ≡ Ok c
 only_capsule d bytes (Ok a) c e fits right same =
     let again : capsule_in d bytes ≡ Ok (capsule_parts c) = ap (capsule_in d) same ∙ capsule_again d (capsule_parts c) fits right in
     let parts : capsule_parts a ≡ capsule_parts c = cc (e, again) in

@@ -25,8 +25,8 @@ abbrev pub format_of : ℕ → ℕ
 format_of size = if nat_le size SHORT_CODE then 1 else 2
 
 -- the magic, the format, the handler, the machine, the version, the code's length, and the code
-abbrev pub image_of : CapsuleParts → List ℕ
-image_of c =
+abbrev pub capsule_image : CapsuleParts → List ℕ
+capsule_image c =
     magic
     ++ (format_of (length c.code) ∷ [])
     ++ (c.handler ∷ [])

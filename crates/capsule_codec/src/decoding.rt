@@ -2,7 +2,7 @@
 
 ghost use Rattle.std.specs.Prelude.{◌≡◌, ◌+◌, ◌≤◌, length, IfOk, Ok};
 ghost use Rattle.capsule_codec.specs.declared.capsule.Capsule.{Capsule};
-ghost use Rattle.capsule_codec.specs.Image.{capsule_parts, image_of, IsCapsule, IsOfMachine};
+ghost use Rattle.capsule_codec.specs.Image.{capsule_parts, capsule_image, IsCapsule, IsOfMachine};
 ghost use Rattle.capsule_codec.specs.Reading.{capsule_in, GivesCapsule, u16_at, u32_at, is_size};
 
 use crate::capsule::Capsule;
@@ -34,10 +34,10 @@ pub fn decode(desc: &Description, bytes: &[u8]) -> Result<Capsule, CapsuleFault>
     ensures value { GivesCapsule result (capsule_in desc.now bytes.now) }
 
     // The bytes are the capsule's one image.
-    ensures image { IfOk result (λ c. (bytes.now ≡ image_of (capsule_parts c)) × IsOfMachine desc.now (capsule_parts c)) }
+    ensures image { IfOk result (λ c. (bytes.now ≡ capsule_image (capsule_parts c)) × IsOfMachine desc.now (capsule_parts c)) }
     // The image of a capsule that is for the machine decodes to this capsule.
     ensures only { (c : Capsule) → IsCapsule (capsule_parts c) → IsOfMachine desc.now (capsule_parts c)
-        → bytes.now ≡ image_of (capsule_parts c) → result ≡ Ok c }
+        → bytes.now ≡ capsule_image (capsule_parts c) → result ≡ Ok c }
 {
     read(desc, bytes)
 }

@@ -3,7 +3,7 @@
 ghost use Rattle.std.specs.Prelude.{◌≡◌, ◌+◌, ◌≤◌, ◌++◌, length, Ok};
 ghost use Rattle.vm_desc.specs.declared.description.Description.{Description};
 ghost use Rattle.hex.specs.Hex.{IsBytes};
-ghost use Rattle.capsule_codec.specs.Image.{capsule_parts, image_of, format_of, IsCapsule, IsOfMachine};
+ghost use Rattle.capsule_codec.specs.Image.{capsule_parts, capsule_image, format_of, IsCapsule, IsOfMachine};
 ghost use Rattle.capsule_codec.specs.Reading.{capsule_in};
 
 use crate::capsule::Capsule;
@@ -17,7 +17,7 @@ pub(crate) const HEAD: usize = 16;
 
 /// The capsule's one image: the bytes in which it is stored and sent.
 pub fn encode(capsule: &Capsule) -> Image
-    ensures bytes { result.items ≡ image_of (capsule_parts capsule.now) }
+    ensures bytes { result.items ≡ capsule_image (capsule_parts capsule.now) }
     ensures fits { IsCapsule (capsule_parts capsule.now) }
 
     // A machine that it is for decodes it to this capsule.

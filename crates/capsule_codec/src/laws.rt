@@ -5,16 +5,16 @@ ghost use Rattle.std.specs.List.{concat};
 ghost use Rattle.mate_num.specs.declared.bounds.TheConstants.{SHORT_IMAGE};
 ghost use Rattle.hex.specs.Hex.{IsBytes};
 ghost use Rattle.vm_desc.specs.declared.description.Description.{Description};
-ghost use Rattle.capsule_codec.specs.Image.{CapsuleParts, image_of, IsCapsule, IsOfMachine};
+ghost use Rattle.capsule_codec.specs.Image.{CapsuleParts, capsule_image, IsCapsule, IsOfMachine};
 ghost use Rattle.capsule_codec.specs.Reading.{capsule_in};
 ghost use Rattle.capsule_codec.specs.Fragments.{piece_len, pieces_of, AreCut};
 
 /// A machine reads the image of one of its capsules as that capsule; and bytes that it reads as a
 /// capsule are this capsule's one image.
 pub fn one_image()
-    ensures again { (d : Description) (c : CapsuleParts) → IsCapsule c → IsOfMachine d c → capsule_in d (image_of c) ≡ Ok c }
+    ensures again { (d : Description) (c : CapsuleParts) → IsCapsule c → IsOfMachine d c → capsule_in d (capsule_image c) ≡ Ok c }
     ensures only { (d : Description) (bytes : List ℕ) (c : CapsuleParts) → IsBytes bytes → capsule_in d bytes ≡ Ok c
-        → (bytes ≡ image_of c) × IsCapsule c × IsOfMachine d c }
+        → (bytes ≡ capsule_image c) × IsCapsule c × IsOfMachine d c }
 {}
 
 /// The pieces of an image, put together in order, are the image. So a list of pieces is one image's at

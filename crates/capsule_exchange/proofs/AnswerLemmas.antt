@@ -14,11 +14,11 @@ use Rattle.arrayvec.specs.ArrayVec.{ArrayVec}
 use Rattle.mate_num.specs.declared.id.HandlerId.{HandlerId}
 use Rattle.packet_codec.specs.declared.packet.Packet.{Packet}
 use Rattle.packet_codec.specs.declared.packet.Packet.TheVariants.{Vector, Status, Fragment}
-use Rattle.packet_codec.specs.Packet.{IsRight}
+use Rattle.packet_codec.specs.Packet.{IsRightPacket}
 use Rattle.capsule_exchange.specs.declared.handler_state.HandlerState.{HandlerState}
 use Rattle.capsule_exchange.specs.Table.{table}
-use Rattle.capsule_exchange.specs.Happenings.{Happening, Hears, Sends, Part, held_version, held_versions, version_in, target_version, target_parts, collected_at, limit_of, places_of, gaps, whole, piece_bytes, collected_image, complete_version, mask_of, ask_for, asks_after, completed_by, IsOpen, is_marked, is_marked_slot, last_sent, next_place, slots_from, next_slot, fragment_of, fragment_for}
-use Rattle.capsule_exchange.specs.Knowledge.{Knowledge, form_of, state_after, knowledge, with_state, Learns, Judges}
+use Rattle.capsule_exchange.specs.Happenings.{Happening, Hears, Sends, TargetFragment, held_version, held_versions, version_in, target_version, target_parts, collected_at, limit_of, places_of, gaps, whole, piece_bytes, collected_image, complete_version, mask_of, ask_for, asks_after, completed_by, IsOpen, is_marked, is_marked_slot, last_sent, next_place, slots_from, next_slot, fragment_of, fragment_for}
+use Rattle.capsule_exchange.specs.Knowledge.{Knowledge, collected_form, state_after, knowledge, with_state, Learns, Judges}
 use Rattle.capsule_exchange.specs.Sound.{IsSoundState, AreSound}
 use Rattle.capsule_exchange.specs.Steps.{no_state, limit_in, places_in, image_held, complete_in, completes_in, ask_in, after_sending, state_at, aimed_each, asks_upto, is_marked_in, next_in, fragment_in}
 use Rattle.capsule_exchange.proofs.TableLemmas.{set_value, table_at, take-table}
@@ -45,11 +45,11 @@ vector_told old versions is n hs was = ap (λ (vs : List ℕ). Vector (record { 
 
 -- ---- what is collected
 
-limit_is : (parts : List Part) → limit_in (form_of parts) ≡ limit_of parts
+limit_is : (parts : List TargetFragment) → limit_in (collected_form parts) ≡ limit_of parts
 limit_is [] = refl
 limit_is (first ∷ parts) = refl
 
-limit_few : (parts : List Part) → IfSome (form_of parts) (λ form. form.count ≤ 22) → limit_of parts ≤ 22
+limit_few : (parts : List TargetFragment) → IfSome (collected_form parts) (λ form. form.count ≤ 22) → limit_of parts ≤ 22
 limit_few [] few = omega arith
 limit_few (first ∷ parts) few = few
 
@@ -184,8 +184,8 @@ lacks places open_ = elim (cases_eq (mask_of (gaps places)) 0) [
 still_open : (h : ℕ) (versions : ArrayVec ℕ) (before : List Happening) → collected_image h before ≡ None → collected_image h (Hears (Vector versions) ∷ before) ≡ None
 still_open h versions before open_ =
     elim (cases_Bool (is_newer h before (version_in h (Vector versions)))) [
-      | inl newer ↦ ap (λ (ps : List Part). whole (places_of ps)) (parts_newer h (Vector versions) before newer)
-      | inr older ↦ ap (λ (ps : List Part). whole (places_of ps)) (parts_same h (Vector versions) before older ∙ append-nil (target_parts h before)) ∙ open_
+      | inl newer ↦ ap (λ (ps : List TargetFragment). whole (places_of ps)) (parts_newer h (Vector versions) before newer)
+      | inr older ↦ ap (λ (ps : List TargetFragment). whole (places_of ps)) (parts_same h (Vector versions) before older ∙ append-nil (target_parts h before)) ∙ open_
     ]
 
 -- the target is a version where a greater one than the held was heard
@@ -202,7 +202,7 @@ some_target h versions before over =
     ]
 
 ask_right : (n h : ℕ) (versions : ArrayVec ℕ) (before : List Happening) → h < n → IsSoundState (state_after (Hears (Vector versions) ∷ before) h) → collected_image h before ≡ None
-    → ltb (held_version h before) (version_in h (Vector versions)) ≡ true → IsRight n (ask_for (Hears (Vector versions) ∷ before) h)
+    → ltb (held_version h before) (version_in h (Vector versions)) ≡ true → IsRightPacket n (ask_for (Hears (Vector versions) ∷ before) h)
 ask_right n h versions before within sound open_ over =
     let hs = Hears (Vector versions) ∷ before in
     let places = places_of (target_parts h hs) in
@@ -215,7 +215,7 @@ ask_right n h versions before within sound open_ over =
     }
 
 pub asks_right : (old new : Knowledge) (versions : ArrayVec ℕ) (asks : List Packet) → new ≡ record old { handlers = aimed_each versions.items old.handlers } → AreSound new.handlers
-    → asks ≡ asks_upto versions.items new.handlers (length new.handlers) → (n : ℕ) (before : List Happening) → old ≡ knowledge n before → IsOpen n before → All (IsRight n) asks
+    → asks ≡ asks_upto versions.items new.handlers (length new.handlers) → (n : ℕ) (before : List Happening) → old ≡ knowledge n before → IsOpen n before → All (IsRightPacket n) asks
 asks_right old new versions asks aimed sound is n before was open_ =
     let hs = Hears (Vector versions) ∷ before in
     let now = vector_learned old new versions aimed n before was in
@@ -225,10 +225,10 @@ asks_right old new versions asks aimed sound is n before was open_ =
     omega (arith, length-range_with_len 0 n)) in
     let passing = filter_passes over (range_with_len 0 n) in
     let inside = All-filter over (λ (h : ℕ). h < n) (range_with_len 0 n) within in
-    let all : All (IsRight n) (asks_after n (Vector versions) before) = All-map (IsRight n) (ask_for hs) (filter over (range_with_len 0 n)) (λ k d below.
+    let all : All (IsRightPacket n) (asks_after n (Vector versions) before) = All-map (IsRightPacket n) (ask_for hs) (filter over (range_with_len 0 n)) (λ k d below.
     let h = get_or (filter over (range_with_len 0 n)) k d in
     ask_right n h versions before (inside k d below) (sound_after new n hs h now sound (inside k d below)) (open_ h (inside k d below)) (passing k d below)) in
-    subst (All (IsRight n)) (sym (vector_asks old new versions asks aimed sound is n before was)) all
+    subst (All (IsRightPacket n)) (sym (vector_asks old new versions asks aimed sound is n before was)) all
 
 -- ---- what is owed
 

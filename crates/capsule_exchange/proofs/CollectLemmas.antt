@@ -11,8 +11,8 @@ use Rattle.arrayvec.specs.ArrayVec.{ArrayVec}
 use Rattle.packet_codec.specs.declared.packet.Packet.{Packet}
 use Rattle.packet_codec.specs.declared.packet.Packet.TheVariants.{Vector, Status, Fragment, App}
 use Rattle.capsule_exchange.specs.declared.handler_state.Form.{Form}
-use Rattle.capsule_exchange.specs.Happenings.{Happening, Hears, Part, held_version, heard_since, version_in, greatest, target_version, part_in, target_parts, is_alike, alike, collected_at}
-use Rattle.capsule_exchange.specs.Knowledge.{form_of}
+use Rattle.capsule_exchange.specs.Happenings.{Happening, Hears, TargetFragment, held_version, heard_since, version_in, greatest, target_version, part_in, target_parts, is_alike, alike, collected_at}
+use Rattle.capsule_exchange.specs.Knowledge.{collected_form}
 use Rattle.capsule_exchange.specs.Steps.{takes}
 use Rattle.capsule_exchange.proofs.TableLemmas.{greatest-append, greatest_step}
 
@@ -47,7 +47,7 @@ target_over h hs = over_or_none (held_version h hs) (map (version_in h) (heard_s
 -- ---- the fragments of the target
 
 -- a packet that tells of another version is no fragment of this one
-no_part_by : (own : Bool) (told version : ℕ) (part : Part) → (cond own told 0 ≡ version → ⊥) → cond (own && eqb told version) (Some part) None ≡ None
+no_part_by : (own : Bool) (told version : ℕ) (part : TargetFragment) → (cond own told 0 ≡ version → ⊥) → cond (own && eqb told version) (Some part) None ≡ None
 no_part_by true told version part other = rw (ne_eqb told version other) refl
 no_part_by false told version part other = refl
 
@@ -72,7 +72,7 @@ none_of_newer h limit version (p ∷ ps) over most =
     let first = no_part h version p (λ same. let low = below.0 in omega arith) in
     rw first (none_of_newer h limit version ps over below.1)
 
-abbrev part_next : ℕ → Packet → List Happening → Option Part
+abbrev part_next : ℕ → Packet → List Happening → Option TargetFragment
 part_next h p hs = part_in h (target_version h (Hears p ∷ hs)) p
 
 parts_push : (h version : ℕ) (ps : List Packet) (p : Packet) → filter_map (part_in h version) (ps ++ p ∷ []) ≡ filter_map (part_in h version) ps ++ cons_option (part_in h version p) []
@@ -97,17 +97,17 @@ parts_same h p hs newer =
 
 -- ---- what is collected with one more fragment
 
-abbrev pub form_in : Part → Form
+abbrev pub form_in : TargetFragment → Form
 form_in part = record { count = part.count; large = part.large }
 
-abbrev bytes_of : Part → ArrayVec ℕ
+abbrev bytes_of : TargetFragment → ArrayVec ℕ
 bytes_of part = part.bytes
 
-found_in_one : (i : ℕ) (b : Bool) (part : Part) → find (λ (q : Part). eqb q.index i) (cond b (part ∷ []) []) ≡ cond b (cond (eqb part.index i) (Some part) None) None
+found_in_one : (i : ℕ) (b : Bool) (part : TargetFragment) → find (λ (q : TargetFragment). eqb q.index i) (cond b (part ∷ []) []) ≡ cond b (cond (eqb part.index i) (Some part) None) None
 found_in_one i true part = refl
 found_in_one i false part = refl
 
-joins : (found : Option Part) (like same : Bool) (part : Part)
+joins : (found : Option TargetFragment) (like same : Bool) (part : TargetFragment)
     → option_map bytes_of (option_or found (cond like (cond same (Some part) None) None)) ≡ cond (like && (same && is_none (option_map bytes_of found))) (Some part.bytes) (option_map bytes_of found)
 joins (Some q) true true part = refl
 joins (Some q) true false part = refl
@@ -117,17 +117,17 @@ joins None true false part = refl
 joins None false same part = refl
 
 -- the fragment is the first with its index that goes with the first of all
-abbrev pub joins_parts : List Part → Part → ℕ → Bool
-joins_parts parts part i = takes (form_in part) (form_of parts) && (eqb part.index i && is_none (collected_at parts i))
+abbrev pub joins_parts : List TargetFragment → TargetFragment → ℕ → Bool
+joins_parts parts part i = takes (form_in part) (collected_form parts) && (eqb part.index i && is_none (collected_at parts i))
 
-pub collected_push : (parts : List Part) (part : Part) (i : ℕ) → collected_at (parts ++ part ∷ []) i ≡ cond (joins_parts parts part i) (Some part.bytes) (collected_at parts i)
+pub collected_push : (parts : List TargetFragment) (part : TargetFragment) (i : ℕ) → collected_at (parts ++ part ∷ []) i ≡ cond (joins_parts parts part i) (Some part.bytes) (collected_at parts i)
 collected_push [] part i = joins None true (eqb part.index i) part
 collected_push (first ∷ rest) part i =
-    let test = λ (q : Part). eqb q.index i in
+    let test = λ (q : TargetFragment). eqb q.index i in
     let like = is_alike first part in
     let all : alike (first ∷ (rest ++ part ∷ [])) ≡ (first ∷ filter (is_alike first) rest) ++ cond like (part ∷ []) [] =
-    ap (λ (qs : List Part). first ∷ qs) (filter-append (is_alike first) rest (part ∷ [])) in
-    ap (λ (qs : List Part). option_map bytes_of (find test qs)) all
+    ap (λ (qs : List TargetFragment). first ∷ qs) (filter-append (is_alike first) rest (part ∷ [])) in
+    ap (λ (qs : List TargetFragment). option_map bytes_of (find test qs)) all
     ∙ ap (option_map bytes_of) (find-append test (first ∷ filter (is_alike first) rest) (cond like (part ∷ []) []))
-    ∙ ap (λ (o : Option Part). option_map bytes_of (option_or (find test (first ∷ filter (is_alike first) rest)) o)) (found_in_one i like part)
+    ∙ ap (λ (o : Option TargetFragment). option_map bytes_of (option_or (find test (first ∷ filter (is_alike first) rest)) o)) (found_in_one i like part)
     ∙ joins (find test (first ∷ filter (is_alike first) rest)) like (eqb part.index i) part

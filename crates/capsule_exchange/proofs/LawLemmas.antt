@@ -19,24 +19,24 @@ use Rattle.capsule_codec.specs.Fragments.{count_of, piece_at, pieces_of}
 use Rattle.capsule_codec.proofs.PieceLemmas.{pieces_whole}
 use Rattle.packet_codec.specs.declared.packet.Packet.{Packet}
 use Rattle.packet_codec.specs.declared.packet.Packet.TheVariants.{Vector, Status, Fragment, App}
-use Rattle.capsule_exchange.specs.Happenings.{Happening, Part, heard_since, target_version, part_in, target_parts, is_alike, alike, collected_at, places_of, gaps, mask_of, piece_bytes, whole, collected_image}
-use Rattle.capsule_exchange.specs.Laws.{IsPutTogether, AreOf}
+use Rattle.capsule_exchange.specs.Happenings.{Happening, TargetFragment, heard_since, target_version, part_in, target_parts, is_alike, alike, collected_at, places_of, gaps, mask_of, piece_bytes, whole, collected_image}
+use Rattle.capsule_exchange.specs.Laws.{IsPutTogether, AreFragmentsOf}
 use Rattle.capsule_exchange.proofs.MaskLemmas.{mask_upto, mask_push}
 use Rattle.capsule_exchange.proofs.AnswerLemmas.{mask_high}
 
 -- ---- each fragment of the target was heard
 
-abbrev packet_of : ℕ → ℕ → Part → Packet
+abbrev packet_of : ℕ → ℕ → TargetFragment → Packet
 packet_of h version part = Fragment (record { 0 = h }) version part.index part.count part.large part.bytes
 
-abbrev WasHeard : ℕ → ℕ → List Packet → Part → Type 0
+abbrev WasHeard : ℕ → ℕ → List Packet → TargetFragment → Type 0
 WasHeard h version packets part = Contains packets (packet_of h version part)
 
 later : (p : Packet) (packets : List Packet) (q : Packet) → Contains packets q → Contains (p ∷ packets) q
 later p packets q (k, within, at) = (suc k, omega arith, at)
 
 -- a packet that is a fragment of this version is that fragment
-part_is : (h version : ℕ) (p : Packet) (part : Part) → part_in h version p ≡ Some part → p ≡ packet_of h version part
+part_is : (h version : ℕ) (p : Packet) (part : TargetFragment) → part_in h version p ≡ Some part → p ≡ packet_of h version part
 part_is h version (Vector versions) part is = absurd cc
 part_is h version (Status g told missing) part is = absurd cc
 part_is h version (App payload) part is = absurd cc
@@ -61,35 +61,35 @@ parts_heard h version (p ∷ packets) =
     let rest = All-weaker (WasHeard h version packets) (WasHeard h version (p ∷ packets)) (λ part. later p packets (packet_of h version part)) (filter_map (part_in h version) packets) (parts_heard h version packets) in
     by (part_in h version p) refl rest
   where
-    by : (o : Option Part) → part_in h version p ≡ o → All (WasHeard h version (p ∷ packets)) (filter_map (part_in h version) packets) → All (WasHeard h version (p ∷ packets)) (cons_option o (filter_map (part_in h version) packets))
+    by : (o : Option TargetFragment) → part_in h version p ≡ o → All (WasHeard h version (p ∷ packets)) (filter_map (part_in h version) packets) → All (WasHeard h version (p ∷ packets)) (cons_option o (filter_map (part_in h version) packets))
     by None is rest = rest
     by (Some part) is rest = All-cons (WasHeard h version (p ∷ packets)) part (filter_map (part_in h version) packets) (0, omega arith, part_is h version p part is) rest
 
 -- what a search finds passes, and has what all have
-found : (p : Part → Bool) (P : Part → Type 0) (parts : List Part) (part : Part) → All P parts → find p parts ≡ Some part → (p part ≡ true) × P part
+found : (p : TargetFragment → Bool) (P : TargetFragment → Type 0) (parts : List TargetFragment) (part : TargetFragment) → All P parts → find p parts ≡ Some part → (p part ≡ true) × P part
 found p P [] part all is = absurd cc
 found p P (q ∷ parts) part all is =
     elim (cases_Bool (p q)) [
       | inl passes ↦ (
           let one : Some q ≡ Some part = rw passes at is in
           let same : q ≡ part = cc in
-          subst (λ (r : Part). (p r ≡ true) × P r) same (passes, All-head P q parts all))
+          subst (λ (r : TargetFragment). (p r ≡ true) × P r) same (passes, All-head P q parts all))
       | inr fails ↦ found p P parts part (All-tail P q parts all) (rw fails at is)
     ]
 
 -- the first of the fragments, and those that go with it
-record IsLike (first part : Part) : Type 0 where
+record IsLike (first part : TargetFragment) : Type 0 where
   count_is : part.count ≡ first.count
   kind_is : part.large ≡ first.large
 
-all_like : (first : Part) (rest : List Part) → All (IsLike first) (alike (first ∷ rest))
+all_like : (first : TargetFragment) (rest : List TargetFragment) → All (IsLike first) (alike (first ∷ rest))
 all_like first rest = All-cons (IsLike first) first (filter (is_alike first) rest) (record { count_is = refl; kind_is = refl })
-    (All-weaker (λ (part : Part). is_alike first part ≡ true) (IsLike first) (λ part is.
+    (All-weaker (λ (part : TargetFragment). is_alike first part ≡ true) (IsLike first) (λ part is.
     let both = and_parts (eqb part.count first.count) (beq part.large first.large) is in
     record { count_is = eqb-true part.count first.count both.0; kind_is = (booleans_Decides part.large first.large).0 both.1 })
     (filter (is_alike first) rest) (filter_passes (is_alike first) rest))
 
-alike_heard : (h version : ℕ) (packets : List Packet) (parts : List Part) → All (WasHeard h version packets) parts → All (WasHeard h version packets) (alike parts)
+alike_heard : (h version : ℕ) (packets : List Packet) (parts : List TargetFragment) → All (WasHeard h version packets) parts → All (WasHeard h version packets) (alike parts)
 alike_heard h version packets [] all = All-nil (WasHeard h version packets)
 alike_heard h version packets (first ∷ rest) all =
     All-cons (WasHeard h version packets) first (filter (is_alike first) rest) (All-head (WasHeard h version packets) first rest all)
@@ -124,12 +124,12 @@ whole_is places made is =
     ]
 
 -- the piece at an index of a whole image is that of a fragment that was heard
-piece_heard : (h version : ℕ) (packets : List Packet) (first : Part) (rest : List Part) (i : ℕ) → All (WasHeard h version packets) (first ∷ rest)
-    → (o : Option Part) → find (λ (part : Part). eqb part.index i) (alike (first ∷ rest)) ≡ o → is_some (option_map (λ (part : Part). part.bytes) o) ≡ true
-    → Contains packets (Fragment (record { 0 = h }) version i first.count first.large (filled (option_map (λ (part : Part). part.bytes) o)))
+piece_heard : (h version : ℕ) (packets : List Packet) (first : TargetFragment) (rest : List TargetFragment) (i : ℕ) → All (WasHeard h version packets) (first ∷ rest)
+    → (o : Option TargetFragment) → find (λ (part : TargetFragment). eqb part.index i) (alike (first ∷ rest)) ≡ o → is_some (option_map (λ (part : TargetFragment). part.bytes) o) ≡ true
+    → Contains packets (Fragment (record { 0 = h }) version i first.count first.large (filled (option_map (λ (part : TargetFragment). part.bytes) o)))
 piece_heard h version packets first rest i all None is some = absurd cc
 piece_heard h version packets first rest i all (Some part) is some =
-    let test = λ (q : Part). eqb q.index i in
+    let test = λ (q : TargetFragment). eqb q.index i in
     let heard = found test (WasHeard h version packets) (alike (first ∷ rest)) part (alike_heard h version packets (first ∷ rest) all) is in
     let like = found test (IsLike first) (alike (first ∷ rest)) part (all_like first rest) is in
     let index_is : part.index ≡ i = eqb-true part.index i heard.0 in
@@ -138,7 +138,7 @@ piece_heard h version packets first rest i all (Some part) is some =
     let same : packet_of h version part ≡ Fragment (record { 0 = h }) version i first.count first.large part.bytes = cc in
     subst (Contains packets) same heard.1
 
-put_together : (h version : ℕ) (packets : List Packet) (first : Part) (rest : List Part) → All (WasHeard h version packets) (first ∷ rest) → list_all is_some (places_of (first ∷ rest)) ≡ true
+put_together : (h version : ℕ) (packets : List Packet) (first : TargetFragment) (rest : List TargetFragment) → All (WasHeard h version packets) (first ∷ rest) → list_all is_some (places_of (first ∷ rest)) ≡ true
     → (i : ℕ) → i < first.count → Contains packets (Fragment (record { 0 = h }) version i first.count first.large (get_or (map filled (places_of (first ∷ rest))) i no_piece))
 put_together h version packets first rest all there i within =
     let parts = first ∷ rest in
@@ -148,19 +148,19 @@ put_together h version packets first rest all there i within =
     let some : is_some (collected_at parts i) ≡ true = ap is_some (sym place) ∙ AllPass-from_list_all is_some places there i None (omega arith) in
     let piece : get_or (map filled places) i no_piece ≡ filled (collected_at parts i) = get_or-map filled places i None no_piece (omega arith) ∙ ap filled place in
     subst (λ (p : ArrayVec ℕ). Contains packets (Fragment (record { 0 = h }) version i first.count first.large p)) (sym piece)
-    (piece_heard h version packets first rest i all (find (λ (part : Part). eqb part.index i) (alike parts)) refl some)
+    (piece_heard h version packets first rest i all (find (λ (part : TargetFragment). eqb part.index i) (alike parts)) refl some)
 
 -- the fragments of the target begin with one, where its image is whole
-record HasFirst (parts : List Part) : Type 0 where
-  first : Part
-  rest : List Part
+record HasFirst (parts : List TargetFragment) : Type 0 where
+  first : TargetFragment
+  rest : List TargetFragment
   is : parts ≡ first ∷ rest
 
-has_first : (parts : List Part) → list_all is_some (places_of parts) ≡ true → HasFirst parts
+has_first : (parts : List TargetFragment) → list_all is_some (places_of parts) ≡ true → HasFirst parts
 has_first [] there = absurd cc
 has_first (first ∷ rest) there = record { first = first; rest = rest; is = refl }
 
-together_by : (h : ℕ) (hs : List Happening) (parts : List Part) (image : ArrayVec ℕ) → All (WasHeard h (target_version h hs) (heard_since h hs)) parts → whole (places_of parts) ≡ Some image → IsPutTogether h hs image.items
+together_by : (h : ℕ) (hs : List Happening) (parts : List TargetFragment) (image : ArrayVec ℕ) → All (WasHeard h (target_version h hs) (heard_since h hs)) parts → whole (places_of parts) ≡ Some image → IsPutTogether h hs image.items
 together_by h hs [] image all is = (let w = whole_is (places_of []) image is in let none : false ≡ true = w.all in absurd cc)
 together_by h hs (first ∷ rest) image all is =
     let places = places_of (first ∷ rest) in
@@ -177,7 +177,7 @@ together_by h hs (first ∷ rest) image all is =
 pub together : (h : ℕ) (hs : List Happening) (image : ArrayVec ℕ) → collected_image h hs ≡ Some image → IsPutTogether h hs image.items
 together h hs image is = together_by h hs (target_parts h hs) image (parts_heard h (target_version h hs) (heard_since h hs)) is
 
-image_by : (h version : ℕ) (packets : List Packet) (parts : List Part) (image : List ℕ) (made : ArrayVec ℕ) → All (WasHeard h version packets) parts → AreOf h version image packets → whole (places_of parts) ≡ Some made → made.items ≡ image
+image_by : (h version : ℕ) (packets : List Packet) (parts : List TargetFragment) (image : List ℕ) (made : ArrayVec ℕ) → All (WasHeard h version packets) parts → AreFragmentsOf h version image packets → whole (places_of parts) ≡ Some made → made.items ≡ image
 image_by h version packets [] image made all are is = (let w = whole_is (places_of []) made is in let none : false ≡ true = w.all in absurd cc)
 image_by h version packets (first ∷ rest) image made all are is =
     let places = places_of (first ∷ rest) in
@@ -191,7 +191,7 @@ image_by h version packets (first ∷ rest) image made all are is =
     ∙ (are i first.count first.large (get_or pieces i no_piece) (put_together h version packets first rest all w.all i (omega arith))).1) in
     w.made_is ∙ bytes_filled places ∙ sym (flat_map-map (λ (x : List ℕ). x) items pieces) ∙ sym (concat_is (map items pieces)) ∙ ap concat cut ∙ pieces_whole image
 
-pub one_image : (h : ℕ) (hs : List Happening) (image : List ℕ) (made : ArrayVec ℕ) → AreOf h (target_version h hs) image (heard_since h hs) → collected_image h hs ≡ Some made → made.items ≡ image
+pub one_image : (h : ℕ) (hs : List Happening) (image : List ℕ) (made : ArrayVec ℕ) → AreFragmentsOf h (target_version h hs) image (heard_since h hs) → collected_image h hs ≡ Some made → made.items ≡ image
 one_image h hs image made are is = image_by h (target_version h hs) (heard_since h hs) (target_parts h hs) image made (parts_heard h (target_version h hs) (heard_since h hs)) are is
 
 -- ---- the bits of a mask

@@ -11,7 +11,7 @@ use Rattle.std.proofs.lemmas.List.Elements.{All-same, All-set, All-get_or, All-m
 use Rattle.std.proofs.lemmas.List.FromFn.{length-range_with_len, get_or-range_with_len, length-map-range_with_len}
 use Rattle.arrayvec.specs.ArrayVec.{ArrayVec}
 use Rattle.capsule_codec.specs.Fragments.{count_of, piece_at}
-use Rattle.packet_codec.specs.Packet.{full_len, IsRight}
+use Rattle.packet_codec.specs.Packet.{full_len, IsRightPacket}
 use Rattle.capsule_exchange.specs.declared.handler_state.Form.{Form}
 use Rattle.capsule_exchange.specs.declared.handler_state.HandlerState.{HandlerState}
 use Rattle.capsule_exchange.specs.Table.{table}
@@ -166,7 +166,7 @@ piece_cut image i within =
           rw (short, large) (small_piece image i below))
     ]
 
-pub fragment_right : (n h version : ℕ) (image : List ℕ) (i : ℕ) → h < n → 1 ≤ version → count_of image ≤ 22 → i < count_of image → IsRight n (fragment_of h version image i)
+pub fragment_right : (n h version : ℕ) (image : List ℕ) (i : ℕ) → h < n → 1 ≤ version → count_of image ≤ 22 → i < count_of image → IsRightPacket n (fragment_of h version image i)
 fragment_right n h version image i handler some few within =
     let cut = piece_cut image i within in
     record { handler_high = handler; version_low = some; count_high = few; index_high = within; bytes_low = cut.low; bytes_high = cut.high; full = cut.full }

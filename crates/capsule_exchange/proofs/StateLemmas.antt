@@ -15,28 +15,28 @@ use Rattle.packet_codec.specs.declared.packet.Packet.TheVariants.{Vector, Status
 use Rattle.capsule_exchange.specs.declared.handler_state.Form.{Form}
 use Rattle.capsule_exchange.specs.declared.handler_state.HandlerState.{HandlerState}
 use Rattle.capsule_exchange.specs.Table.{table}
-use Rattle.capsule_exchange.specs.Happenings.{Happening, Hears, Sends, Installs, Forgets, Part, held_version, held_image, version_in, target_version, part_in, target_parts, collected_at, is_marked}
-use Rattle.capsule_exchange.specs.Knowledge.{form_of, state_after}
+use Rattle.capsule_exchange.specs.Happenings.{Happening, Hears, Sends, Installs, Forgets, TargetFragment, held_version, held_image, version_in, target_version, part_in, target_parts, collected_at, is_marked}
+use Rattle.capsule_exchange.specs.Knowledge.{collected_form, state_after}
 use Rattle.capsule_exchange.specs.Steps.{no_state, aimed, takes, kept, keeps, hears_fragment, marked, hears_status, after_sending, forgets, installs}
 use Rattle.capsule_exchange.proofs.TableLemmas.{same_table, set_table, table_at}
 use Rattle.capsule_exchange.proofs.CollectLemmas.{is_newer, target_next, target_over, parts_newer, parts_same, form_in, collected_push}
 
-abbrev pieces_in : List Part → List (Option (ArrayVec ℕ))
+abbrev pieces_in : List TargetFragment → List (Option (ArrayVec ℕ))
 pieces_in parts = table (collected_at parts)
 
 -- ---- one more fragment of the target
 
-abbrev joins_at : List Part → Part → Bool
-joins_at parts part = takes (form_in part) (form_of parts) && is_none (collected_at parts part.index)
+abbrev joins_at : List TargetFragment → TargetFragment → Bool
+joins_at parts part = takes (form_in part) (collected_form parts) && is_none (collected_at parts part.index)
 
-pieces_push : (parts : List Part) (part : Part) → part.index < 22 → pieces_in (parts ++ part ∷ []) ≡ cond (joins_at parts part) (set (pieces_in parts) part.index (Some part.bytes)) (pieces_in parts)
+pieces_push : (parts : List TargetFragment) (part : TargetFragment) → part.index < 22 → pieces_in (parts ++ part ∷ []) ≡ cond (joins_at parts part) (set (pieces_in parts) part.index (Some part.bytes)) (pieces_in parts)
 pieces_push parts part within =
     let before = collected_at parts in
     let after = collected_at (parts ++ part ∷ []) in
     let here : eqb part.index part.index ≡ true = eq-eqb _ _ refl in
     let other = λ (k : ℕ) (differs : k ≡ part.index → ⊥).
     (let off : eqb part.index k ≡ false = ne_eqb _ _ (λ same. differs (sym same)) in
-    let e : before k ≡ after k = sym (collected_push parts part k ∙ rw off (let t = takes (form_in part) (form_of parts) in stays t (Some part.bytes) (before k))) in e) in
+    let e : before k ≡ after k = sym (collected_push parts part k ∙ rw off (let t = takes (form_in part) (collected_form parts) in stays t (Some part.bytes) (before k))) in e) in
     elim (cases_Bool (joins_at parts part)) [
       | inl taken ↦ (
           let value : after part.index ≡ Some part.bytes = collected_push parts part part.index ∙ rw (here, taken) refl in
@@ -60,7 +60,7 @@ same_forms c d a b same =
     let kinds = (booleans_Decides a b).0 both.1 in
     cc
 
-form_push : (parts : List Part) (part : Part) → form_of (parts ++ part ∷ []) ≡ cond (joins_at parts part) (Some (form_in part)) (form_of parts)
+form_push : (parts : List TargetFragment) (part : TargetFragment) → collected_form (parts ++ part ∷ []) ≡ cond (joins_at parts part) (Some (form_in part)) (collected_form parts)
 form_push [] part = refl
 form_push (first ∷ rest) part =
     elim (cases_Bool (joins_at (first ∷ rest) part)) [
@@ -69,28 +69,28 @@ form_push (first ∷ rest) part =
     ]
 
 -- the state with these fragments of this target
-abbrev collecting : HandlerState → ℕ → List Part → HandlerState
-collecting s target parts = record s { target = target; form = form_of parts; pieces = pieces_in parts }
+abbrev collecting : HandlerState → ℕ → List TargetFragment → HandlerState
+collecting s target parts = record s { target = target; form = collected_form parts; pieces = pieces_in parts }
 
 chosen : (b : Bool) (s : HandlerState) (f g : Option Form) (x y : List (Option (ArrayVec ℕ)))
     → cond b (record s { form = f; pieces = x }) (record s { form = g; pieces = y }) ≡ record s { form = cond b f g; pieces = cond b x y }
 chosen true s f g x y = refl
 chosen false s f g x y = refl
 
-kept_is : (s : HandlerState) (target : ℕ) (parts : List Part) (part : Part) → part.index < 22
+kept_is : (s : HandlerState) (target : ℕ) (parts : List TargetFragment) (part : TargetFragment) → part.index < 22
     → kept part.index (form_in part) part.bytes (collecting s target parts) ≡ collecting s target (parts ++ part ∷ [])
 kept_is s target parts part within =
     let before = collecting s target parts in
     let read : get_or (pieces_in parts) part.index None ≡ collected_at parts part.index = table_at (collected_at parts) part.index None within in
     let taken = joins_at parts part in
-    ap (λ (place : Option (ArrayVec ℕ)). cond (takes (form_in part) (form_of parts) && is_none place) (record before { form = Some (form_in part); pieces = set (pieces_in parts) part.index (Some part.bytes) }) before) read
-    ∙ chosen taken before (Some (form_in part)) (form_of parts) (set (pieces_in parts) part.index (Some part.bytes)) (pieces_in parts)
+    ap (λ (place : Option (ArrayVec ℕ)). cond (takes (form_in part) (collected_form parts) && is_none place) (record before { form = Some (form_in part); pieces = set (pieces_in parts) part.index (Some part.bytes) }) before) read
+    ∙ chosen taken before (Some (form_in part)) (collected_form parts) (set (pieces_in parts) part.index (Some part.bytes)) (pieces_in parts)
     ∙ ap (λ (f : Option Form). record before { form = f; pieces = cond taken (set (pieces_in parts) part.index (Some part.bytes)) (pieces_in parts) }) (sym (form_push parts part))
-    ∙ ap (λ (ps : List (Option (ArrayVec ℕ))). record before { form = form_of (parts ++ part ∷ []); pieces = ps }) (sym (pieces_push parts part within))
+    ∙ ap (λ (ps : List (Option (ArrayVec ℕ))). record before { form = collected_form (parts ++ part ∷ []); pieces = ps }) (sym (pieces_push parts part within))
 
 -- ---- a version is heard of
 
-abbrev parts_before : ℕ → List Happening → Bool → List Part
+abbrev parts_before : ℕ → List Happening → Bool → List TargetFragment
 parts_before h hs newer = cond newer [] (target_parts h hs)
 
 parts_next : (h : ℕ) (p : Packet) (hs : List Happening)
@@ -123,7 +123,7 @@ without_part h p hs none =
     let version = version_in h p in
     let newer = is_newer h hs version in
     let parts : target_parts h (Hears p ∷ hs) ≡ parts_before h hs newer =
-    parts_next h p hs ∙ ap (λ (o : Option Part). parts_before h hs newer ++ cons_option o []) (none (cond newer version (target_version h hs))) ∙ append-nil (parts_before h hs newer) in
+    parts_next h p hs ∙ ap (λ (o : Option TargetFragment). parts_before h hs newer ++ cons_option o []) (none (cond newer version (target_version h hs))) ∙ append-nil (parts_before h hs newer) in
     ap (λ (t : ℕ). collecting (state_after hs h) t (target_parts h (Hears p ∷ hs))) (target_next h p hs)
     ∙ ap (collecting (state_after hs h) (cond newer version (target_version h hs))) parts
     ∙ sym (aimed_is h hs version)
@@ -178,7 +178,7 @@ status_state g version missing hs =
     ]
 
 -- a fragment of this version, once the version was heard of
-joined : (h version : ℕ) (part : Part) (hs : List Happening) → 1 ≤ version → part.index < 22 → (newer : Bool) → is_newer h hs version ≡ newer
+joined : (h version : ℕ) (part : TargetFragment) (hs : List Happening) → 1 ≤ version → part.index < 22 → (newer : Bool) → is_newer h hs version ≡ newer
     → collecting (state_after hs h) (cond newer version (target_version h hs)) (parts_before h hs newer ++ cons_option (cond (eqb version (cond newer version (target_version h hs))) (Some part) None) [])
     ≡ keeps version part.index (form_in part) part.bytes (collecting (state_after hs h) (cond newer version (target_version h hs)) (parts_before h hs newer))
 joined h version part hs some within true is =
@@ -219,7 +219,7 @@ fragment_state g version index count large bytes hs some within =
     ap (λ (t : ℕ). collecting s t (target_parts h (Hears p ∷ hs))) (target_next h p hs ∙ ap (λ (v : ℕ). cond (is_newer h hs v) v (target_version h hs)) told)
     ∙ ap (collecting s target) (parts_next h p hs ∙ ap (λ (v : ℕ). parts_before h hs (is_newer h hs v) ++ cons_option (part_in h (cond (is_newer h hs v) v (target_version h hs)) p) []) told) in
     next
-    ∙ ap (λ (o : Option Part). collecting s target (parts_before h hs newer ++ cons_option o [])) (ap (λ (b : Bool). cond (b && eqb version target) (Some part) None) own)
+    ∙ ap (λ (o : Option TargetFragment). collecting s target (parts_before h hs newer ++ cons_option o [])) (ap (λ (b : Bool). cond (b && eqb version target) (Some part) None) own)
     ∙ joined h version part hs some within newer refl
     ∙ ap (keeps version index (form_in part) bytes) (sym (aimed_is h hs version))
 

@@ -66,14 +66,14 @@ abbrev pub target_version : ℕ → List Happening → ℕ
 target_version h hs = greatest (filter (nat_lt (held_version h hs)) (map (version_in h) (heard_since h hs)))
 
 -- a fragment of the handler's target
-pub record Part : Type 0 where
+pub record TargetFragment : Type 0 where
   pub index : ℕ
   pub count : ℕ
   pub large : Bool
   pub bytes : ArrayVec ℕ
 
 -- the packet as a fragment of this version of the handler, none where it is no such fragment
-abbrev pub part_in : ℕ → ℕ → Packet → Option Part
+abbrev pub part_in : ℕ → ℕ → Packet → Option TargetFragment
 part_in h target (Vector versions) = None
 part_in h target (Status g version missing) = None
 part_in h target (Fragment g version index count large bytes) =
@@ -81,28 +81,28 @@ part_in h target (Fragment g version index count large bytes) =
 part_in h target (App payload) = None
 
 -- the fragments of the target that were heard since, in order
-abbrev pub target_parts : ℕ → List Happening → List Part
+abbrev pub target_parts : ℕ → List Happening → List TargetFragment
 target_parts h hs = filter_map (part_in h (target_version h hs)) (heard_since h hs)
 
 -- those that have the count and the kind of the first of them
-abbrev pub is_alike : Part → Part → Bool
+abbrev pub is_alike : TargetFragment → TargetFragment → Bool
 is_alike first part = part.count == first.count && beq part.large first.large
 
-abbrev pub alike : List Part → List Part
+abbrev pub alike : List TargetFragment → List TargetFragment
 alike [] = []
 alike (first ∷ parts) = first ∷ filter (is_alike first) parts
 
 -- what is collected at an index: of several fragments with this index, the earliest
-abbrev pub collected_at : List Part → ℕ → Option (ArrayVec ℕ)
+abbrev pub collected_at : List TargetFragment → ℕ → Option (ArrayVec ℕ)
 collected_at parts i = option_map (λ part. part.bytes) (find (λ part. part.index == i) (alike parts))
 
 -- how many fragments the target has: the count of the first, and as many as an image can have while none was heard
-abbrev pub limit_of : List Part → ℕ
+abbrev pub limit_of : List TargetFragment → ℕ
 limit_of [] = 22
 limit_of (first ∷ parts) = first.count
 
 -- what is collected at each index of the target
-abbrev pub places_of : List Part → List (Option (ArrayVec ℕ))
+abbrev pub places_of : List TargetFragment → List (Option (ArrayVec ℕ))
 places_of parts = map (collected_at parts) (range_with_len 0 (limit_of parts))
 
 -- the indices at which nothing is collected

@@ -7,13 +7,13 @@ use Rattle.mate_num.specs.declared.id.HandlerId.{HandlerId}
 use Rattle.capsule_exchange.specs.declared.handler_state.Form.{Form}
 use Rattle.capsule_exchange.specs.declared.handler_state.HandlerState.{HandlerState}
 use Rattle.capsule_exchange.specs.Table.{table}
-use Rattle.capsule_exchange.specs.Happenings.{Happening, Sends, Part, held_version, held_image, held_versions, target_version, target_parts, collected_at, is_marked, last_sent}
+use Rattle.capsule_exchange.specs.Happenings.{Happening, Sends, TargetFragment, held_version, held_image, held_versions, target_version, target_parts, collected_at, is_marked, last_sent}
 use Rattle.capsule_exchange.specs.Steps.{state_at}
 
 -- the count and the kind of the fragments that are collected
-abbrev pub form_of : List Part → Option Form
-form_of [] = None
-form_of (first ∷ parts) = Some (record { count = first.count; large = first.large })
+abbrev pub collected_form : List TargetFragment → Option Form
+collected_form [] = None
+collected_form (first ∷ parts) = Some (record { count = first.count; large = first.large })
 
 -- what is known of the handler h
 abbrev pub state_after : List Happening → ℕ → HandlerState
@@ -21,7 +21,7 @@ state_after hs h = record {
   held = held_version h hs;
   image = record { items = held_image h hs };
   target = target_version h hs;
-  form = form_of (target_parts h hs);
+  form = collected_form (target_parts h hs);
   pieces = table (collected_at (target_parts h hs));
   marks = table (λ i. is_marked h i hs);
 }

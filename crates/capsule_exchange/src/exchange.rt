@@ -4,7 +4,7 @@ ghost use Rattle.std.specs.Prelude.{◌≡◌, ◌*◌, ◌/◌, ◌%◌, ◌<�
 ghost use Rattle.std.specs.List.{list_any};
 ghost use Rattle.std.specs.Option.{option_map};
 ghost use Rattle.packet_codec.specs.declared.packet.Packet.TheVariants.{Vector};
-ghost use Rattle.packet_codec.specs.Packet.{IsRight};
+ghost use Rattle.packet_codec.specs.Packet.{IsRightPacket};
 ghost use Rattle.capsule_exchange.specs.Happenings.{Hears, Installs, Forgets, asks_after, completed_by, held_version, held_versions, collected_image, IsOpen, is_marked_slot, slots_from, next_slot, fragment_for};
 ghost use Rattle.capsule_exchange.specs.Knowledge.{knowledge, held_of, with_state, Whatever, Learns, Judges, with_sent};
 ghost use Rattle.capsule_exchange.specs.Sound.{AreSound};
@@ -103,7 +103,7 @@ impl Exchange {
     /// asks for of the held version. `asks` gets the packets that the node sends at once: one Status for each handler
     /// of which a Vector has a greater version than the held one.
     pub fn hear(&mut self, packet: &Packet, asks: &mut ArrayVec<Packet, 8>) -> Heard
-        requires right { IsRight (length self.old.handlers) packet.now }
+        requires right { IsRightPacket (length self.old.handlers) packet.now }
         requires empty { asks.old.items ≡ [] }
         ensures learned { Learns self.old (Hears packet.now) self.new }
         ensures handlers { length self.new.handlers ≡ length self.old.handlers }
@@ -112,7 +112,7 @@ impl Exchange {
         ensures complete { Whatever self.old (λ n before. result.complete ≡ completed_by packet.now before) }
 
         // What is asked for is right, unless an image that is complete was not installed.
-        ensures right { Whatever self.old (λ n before. IsOpen n before → All (IsRight n) asks.new.items) }
+        ensures right { Whatever self.old (λ n before. IsOpen n before → All (IsRightPacket n) asks.new.items) }
     {
         match packet {
             Packet::Vector { versions } => Heard {
@@ -202,7 +202,7 @@ impl Exchange {
     /// The versions that the node holds.
     pub fn vector(&self) -> Packet
         ensures value { Whatever self.now (λ n hs. result ≡ Vector (record { items = held_versions n hs })) }
-        ensures right { IsRight (length self.now.handlers) result }
+        ensures right { IsRightPacket (length self.now.handlers) result }
     {
         Packet::Vector {
             versions: held_versions(self.handlers.as_slice()),
@@ -223,7 +223,7 @@ impl Exchange {
         ensures packet { Whatever self.old (λ n before. result ≡ option_map (fragment_for before) (next_slot n before)) }
         ensures handlers { length self.new.handlers ≡ length self.old.handlers }
         ensures none { Whatever self.old (λ n before. is_some result ≡ list_any (is_marked_slot before) (slots_from n 0)) }
-        ensures right { IfSome result (IsRight (length self.old.handlers)) }
+        ensures right { IfSome result (IsRightPacket (length self.old.handlers)) }
     {
         let slot = next_slot(self.handlers.as_slice(), self.last)?;
         Some(self.send(slot))
@@ -235,7 +235,7 @@ impl Exchange {
         requires marked { IsTrue (is_marked_in self.old.handlers slot) }
         ensures state { self.new ≡ record (with_state self.old (slot / 22) (after_sending (slot % 22) (state_at self.old.handlers (slot / 22)))) { last = Some slot } }
         ensures packet { result ≡ fragment_in self.old.handlers slot }
-        ensures right { IsRight (length self.old.handlers) result }
+        ensures right { IsRightPacket (length self.old.handlers) result }
     {
         let handler = slot / 22;
         let index = slot % 22;

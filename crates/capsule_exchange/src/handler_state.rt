@@ -1,7 +1,7 @@
 //! What a node holds of one handler, what it collects of a newer version, and which fragments it owes.
 
 ghost use Rattle.std.specs.Prelude.{◌≡◌, ℕ, ◌<◌, ◌≤◌, length, IfSome};
-ghost use Rattle.packet_codec.specs.Packet.{IsRight};
+ghost use Rattle.packet_codec.specs.Packet.{IsRightPacket};
 ghost use Rattle.capsule_codec.specs.Fragments.{count_of};
 ghost use Rattle.capsule_exchange.specs.Happenings.{fragment_of};
 ghost use Rattle.capsule_exchange.specs.Steps.{no_state, aimed, takes, kept, hears_fragment, marked, hears_status, after_sending, installs, forgets, places_in, image_held, complete_in, ask_in};
@@ -184,7 +184,7 @@ impl HandlerState {
     pub(crate) fn fragment(&self, handler: HandlerId, index: u8) -> Packet
         requires { index < count_of self.now.image.items }
         ensures value { result ≡ fragment_of handler.0 self.now.held self.now.image.items index }
-        ensures right { (n : ℕ) → handler.0 < n → 1 ≤ self.now.held → IsRight n result }
+        ensures right { (n : ℕ) → handler.0 < n → 1 ≤ self.now.held → IsRightPacket n result }
     {
         let Some(bytes) = fragment(&self.image, index) else {
             unreachable!()

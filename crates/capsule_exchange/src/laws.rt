@@ -4,13 +4,13 @@ ghost use Rattle.std.specs.Prelude.{◌≡◌, ◌↔◌, ℕ, ◌<◌, ◌≤�
 ghost use Rattle.std.specs.Int.{bit_at};
 ghost use Rattle.arrayvec.specs.ArrayVec.{ArrayVec};
 ghost use Rattle.capsule_exchange.specs.Happenings.{Happening, heard_since, target_version, collected_image, gaps, mask_of};
-ghost use Rattle.capsule_exchange.specs.Laws.{IsPutTogether, AreOf};
+ghost use Rattle.capsule_exchange.specs.Laws.{IsPutTogether, AreFragmentsOf};
 
 /// A complete image is made of the fragments of one version of its handler, of one count and one kind, all
 /// of them heard since. Where all that was heard of this version is of one image, it is that image.
 pub fn fragments_go_together()
     ensures together { (h : ℕ) (hs : List Happening) (image : ArrayVec ℕ) → collected_image h hs ≡ Some image → IsPutTogether h hs image.items }
-    ensures image { (h : ℕ) (hs : List Happening) (image : List ℕ) (made : ArrayVec ℕ) → AreOf h (target_version h hs) image (heard_since h hs)
+    ensures image { (h : ℕ) (hs : List Happening) (image : List ℕ) (made : ArrayVec ℕ) → AreFragmentsOf h (target_version h hs) image (heard_since h hs)
         → collected_image h hs ≡ Some made → made.items ≡ image }
 {}
 

@@ -14,13 +14,13 @@ use Rattle.slip_gateway.specs.declared.frames.Frame.{Frame}
 use Rattle.slip_gateway.specs.declared.frames.Frame.TheVariants.{Whole, TooLong, BadEscape}
 use Rattle.vm_desc.specs.Shapes.{shape_of}
 use Rattle.vm_desc.specs.declared.description.Description.{Description}
-use Rattle.capsule_feed.specs.Answers.{Held, if_newer, fault_of, verified_answer, decoded_answer, answer_to, held_after, answers_from}
+use Rattle.capsule_feed.specs.Answers.{Held, if_newer, verify_fault, verified_answer, decoded_answer, answer_to, held_after, answers_from}
 use Rattle.capsule_feed.specs.Reading.{held_behind}
 use Rattle.capsule_feed.specs.declared.answer.Answer.{Answer}
 use Rattle.capsule_feed.specs.declared.answer.Answer.TheVariants.{Installed, NotNewer, NoCapsule, BadCode, Long, Broken}
 
 -- the verifier's fault of its own refusal
-pub fault_of-refusal_of : (why : VerifyFault) → fault_of (refusal_of why) ≡ why
+pub fault_of-refusal_of : (why : VerifyFault) → verify_fault (refusal_of why) ≡ why
 fault_of-refusal_of (fault.Decode place) = refl
 fault_of-refusal_of (fault.BadTarget place) = refl
 fault_of-refusal_of (fault.BackJump place) = refl

@@ -28,20 +28,20 @@ abbrev pub if_newer : Held → CapsuleParts → Answer
 if_newer held c = if nat_lt (held c.handler) c.version then Installed (record { 0 = c.handler }) c.version else NotNewer (held c.handler)
 
 -- the refusal of code, as the verifier tells it
-abbrev pub fault_of : Refusal → VerifyFault
-fault_of (Decode place) = fault.Decode place
-fault_of (BadTarget place) = fault.BadTarget place
-fault_of (BackJump place) = fault.BackJump place
-fault_of (Underflow place) = fault.Underflow place
-fault_of (Overflow place) = fault.Overflow place
-fault_of (DepthDiffers place) = fault.DepthDiffers place
-fault_of (BadIndex place) = fault.BadIndex place
-fault_of NoHalt = fault.NoHalt
-fault_of (TooLong len) = fault.TooLong len
+abbrev pub verify_fault : Refusal → VerifyFault
+verify_fault (Decode place) = fault.Decode place
+verify_fault (BadTarget place) = fault.BadTarget place
+verify_fault (BackJump place) = fault.BackJump place
+verify_fault (Underflow place) = fault.Underflow place
+verify_fault (Overflow place) = fault.Overflow place
+verify_fault (DepthDiffers place) = fault.DepthDiffers place
+verify_fault (BadIndex place) = fault.BadIndex place
+verify_fault NoHalt = fault.NoHalt
+verify_fault (TooLong len) = fault.TooLong len
 
 abbrev pub verified_answer : Held → CapsuleParts → Result (Code × Marks) Refusal → Answer
 verified_answer held c (Ok code) = if_newer held c
-verified_answer held c (Err why) = BadCode (fault_of why)
+verified_answer held c (Err why) = BadCode (verify_fault why)
 
 abbrev pub decoded_answer : Description → Held → Result CapsuleParts CapsuleFault → Answer
 decoded_answer d held (Ok c) = verified_answer held c (bytes_verification (shape_of d) c.code)

@@ -4,7 +4,7 @@ ghost use Rattle.std.specs.Prelude.{◌≡◌, ◌+◌, ◌≤◌, IsTrue, Some}
 ghost use Rattle.mate_code.specs.Instr.{size_of};
 ghost use Rattle.mate_code.specs.Run.{fetch};
 ghost use Rattle.mate_code.specs.Table.{table_of};
-ghost use Rattle.mate_code.specs.Verification.{is_start, IsRight};
+ghost use Rattle.mate_code.specs.Verification.{is_start, IsRightInstr};
 ghost use Rattle.code_verifier.specs.Faults.{refusal_of};
 ghost use Rattle.code_verifier.specs.Verified.{depth_of, IsVerifiedCode, KeepsFitting, Verifies};
 
@@ -67,7 +67,7 @@ impl Verified {
         ensures within { place + size_of result.now ≤ CODE_MAX }
 
         // Its names are in range, its operands are there, and it goes on at an instruction.
-        ensures right { IsRight self.now.shape self.now.code (depth_of self.now) place result.now }
+        ensures right { IsRightInstr self.now.shape self.now.code (depth_of self.now) place result.now }
         // What fits the code goes on fitting it.
         ensures fits { KeepsFitting self.now place result.now }
     {

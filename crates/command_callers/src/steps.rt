@@ -4,7 +4,7 @@ ghost use Rattle.std.specs.Prelude.{◌≡◌, ◌≢◌, ◌<◌, ◌≤◌, �
 ghost use Rattle.vm_desc.specs.Limits.{Parts};
 ghost use Rattle.vm_desc.specs.Shapes.{shape_of};
 ghost use Rattle.vm_reader.specs.Text.{description_of};
-ghost use Rattle.ts_syntax.specs.Checked.{tree_of, shape_of as shape_of_script};
+ghost use Rattle.ts_syntax.specs.Checked.{tree_of, checked_shape as shape_of_script};
 ghost use Rattle.ts_checker.specs.Accepted.{IsAccepted};
 ghost use Rattle.command_line.specs.Commands.{builtin_word};
 ghost use Rattle.mate_refusals.specs.declared.cause.Cause.TheVariants.{Unread as UnreadCause};

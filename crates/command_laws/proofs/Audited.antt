@@ -14,7 +14,7 @@ use Rattle.audit_rules.specs.Verdicts.{IsVerdict}
 use Rattle.audit_rules.proofs.VerdictLemmas.{one-verdict}
 use Rattle.audit_verdict.specs.declared.law.Law.{Law}
 use Rattle.audit_verdict.specs.declared.law.Verdict.TheVariants as verdict
-use Rattle.command_laws.specs.Texts.{IsTextOf, IsRunText, run_end}
+use Rattle.command_laws.specs.Texts.{IsOutputText, IsRunText, run_end}
 use Rattle.command_laws.proofs.OneAudit.{named_agree, verdict_same}
 use Rattle.mate_cli.specs.Audit.{report_of_file, serial, audit_of, audit_by, audit}
 use Rattle.mate_cli.specs.Node.{node}
@@ -45,12 +45,12 @@ use Rattle.run_steps.specs.Running.{IsReportOf}
 use Rattle.script_programs.specs.Programs.{script_programs}
 use Rattle.script_programs.specs.SamePrograms.{SamePrograms}
 use Rattle.script_programs.specs.Scripts.{script}
-use Rattle.script_reader.specs.Lines.{lines, words_of, is_skipped}
+use Rattle.script_reader.specs.Lines.{lines, split_words, is_skipped}
 use Rattle.script_reader.specs.NodeScript.{node_script_in, after_line, a_line, behind, behind_others, when_said, nothing_yet, Progress}
 use Rattle.script_reader.specs.declared.fault.ScriptFault.{ScriptFault}
 use Rattle.script_reader.specs.declared.fault.ScriptFault.TheVariants as script_fault
 use Rattle.script_reader.specs.Script.{script_from, numbered}
-use Rattle.script_reader.specs.Words.{Taken, Reading, and_then, ◌>>=◌, give, found, is_printable, nothing_more, a_number}
+use Rattle.script_reader.specs.Words.{TakenWords, WordReading, and_then, ◌>>=◌, give, found, is_printable, nothing_more, a_number}
 use Rattle.script_reader.specs.Steps.{NodeScript}
 use Rattle.script_reader.specs.declared.fault.Cause.{Cause}
 use Rattle.script_reader.specs.declared.fault.Cause.TheVariants.{Word, Range}
@@ -104,7 +104,7 @@ module _ (d : Description) where
 
   by-lines : (number : ℕ) (p : Progress) (ls : List (List ℕ)) (s : NodeScript) → NodeLines number p ls ≡ Ok s → are_of_world ls ≡ false
   by-lines number p [] s is = refl
-  by-lines number p (line ∷ more) s is = by-words number p more s (words_of line) (λ q h. by-lines (number + 1) q more s h) is
+  by-lines number p (line ∷ more) s is = by-words number p more s (split_words line) (λ q h. by-lines (number + 1) q more s h) is
 
   node-is : (bytes : List ℕ) (s : NodeScript) → node_script_in d bytes ≡ Ok s → is_of_world bytes ≡ false
   unfolding node_script_in
@@ -115,7 +115,7 @@ module _ (d : Description) where
   WorldLines number p ls = script_from (after_world_line d) (λ number p. world_at_end p.stage number p) number p ls
 
   -- its first line begins with `nodes`
-  others-refused : (p : WorldProgress) (st : Stage) (v : List ℕ) (words : List (List ℕ)) (next : WorldSaid → Reading WorldSaid) (printable : Bool) → st ≡ stage.Nodes → bytes_eq v (codes "nodes") ≡ false
+  others-refused : (p : WorldProgress) (st : Stage) (v : List ℕ) (words : List (List ℕ)) (next : WorldSaid → WordReading WorldSaid) (printable : Bool) → st ≡ stage.Nodes → bytes_eq v (codes "nodes") ≡ false
       → and_then (λ verb. behind_verb d p st verb >>= next) (found (if printable then Ok v else Err Word) words) ≡ Err Word
   unfolding some_nodes
   others-refused p st v words next false at other = refl
@@ -135,7 +135,7 @@ module _ (d : Description) where
   world-line number p more w v words false at rest is =
       not-false (bytes_eq v (codes "nodes"))
       (λ other. let bad : ◌≡◌ {A = Result World ScriptFault} (Err (script_fault.BadLine number Word)) (Ok w) =
-      subst (λ (x : Result (Taken WorldSaid) Cause). numbered number (λ q. WorldLines (number + 1) q more) (when_told p x) ≡ Ok w) (line-refused p v words at other) is in
+      subst (λ (x : Result (TakenWords WorldSaid) Cause). numbered number (λ q. WorldLines (number + 1) q more) (when_told p x) ≡ Ok w) (line-refused p v words at other) is in
       cc)
 
   world-words : (number : ℕ) (p : WorldProgress) (more : List (List ℕ)) (w : World) (ws : List (List ℕ)) → p.stage ≡ stage.Nodes
@@ -151,7 +151,7 @@ module _ (d : Description) where
 
   world-lines : (number : ℕ) (p : WorldProgress) (ls : List (List ℕ)) (w : World) → p.stage ≡ stage.Nodes → WorldLines number p ls ≡ Ok w → are_of_world ls ≡ true
   world-lines number p [] w at is = absurd (ends-missing p.stage number p w at is)
-  world-lines number p (line ∷ more) w at is = world-words number p more w (words_of line) at (λ q stands h. world-lines (number + 1) q more w stands h) is
+  world-lines number p (line ∷ more) w at is = world-words number p more w (split_words line) at (λ q stands h. world-lines (number + 1) q more w stands h) is
 
   world-is : (bytes : List ℕ) (w : World) → world_script_in d bytes ≡ Ok w → is_of_world bytes ≡ true
   unfolding world_script_in
@@ -239,10 +239,10 @@ named-world names d fold name w ps (goes_on bytes held is) given =
     goes_on bytes held (subst (λ (of_world : Bool). programs_by of_world (steady names) d fold bytes.items (Ok ps)) (sym (world-is d bytes.items w is)) (goes_on w is given))
 named-world names d fold name w ps (stops why step e) given = absurd (ok-err w why e)
 
-pub node-found : (names : Names) (fold : Bool) (vm name report : List ℕ) (o : Output) (full : Bool) (bs : List ℕ) (answer : Result Output Refusal) → node (steady names) fold false vm name (Ok o) → IsTextOf full o bs
+pub node-found : (names : Names) (fold : Bool) (vm name report : List ℕ) (o : Output) (full : Bool) (bs : List ℕ) (answer : Result Output Refusal) → node (steady names) fold false vm name (Ok o) → IsOutputText full o bs
     → names report ≡ Some bs → length bs ≤ 1048576 → audit (steady names) fold vm name report answer → writes (codes "serial\n") answer
 node-found names fold vm name report o full bs answer (goes_on d machine_is (goes_on s script_is (goes_on ps given out))) is holds small audits =
-    let t : IsRunText d (IsReportOf d s ps) (run_end full) bs = subst (λ (x : Output). IsTextOf full x bs) out is in
+    let t : IsRunText d (IsReportOf d s ps) (run_end full) bs = subst (λ (x : Output). IsOutputText full x bs) out is in
     let r : Report = t.report in
     let of : IsReportOf d s ps (run_end full) r = t.ended in
     let serially : IsVerdict d ps r verdict.Serial = node-serial d ps (steps_of s ps) (run_end full) r (script-installs d s ps of.right) of.report in
@@ -253,10 +253,10 @@ node-found names fold vm name report o full bs answer (goes_on d machine_is (goe
 node-found names fold vm name report o full bs answer (goes_on d machine_is (stops why step e)) is holds small audits = absurd (ok-err o why e)
 node-found names fold vm name report o full bs answer (stops why step e) is holds small audits = absurd (ok-err o why e)
 
-pub world-found : (names : Names) (fold : Bool) (vm name report : List ℕ) (o : Output) (full : Bool) (bs : List ℕ) (answer : Result Output Refusal) → sim (steady names) fold false vm name (Ok o) → IsTextOf full o bs
+pub world-found : (names : Names) (fold : Bool) (vm name report : List ℕ) (o : Output) (full : Bool) (bs : List ℕ) (answer : Result Output Refusal) → sim (steady names) fold false vm name (Ok o) → IsOutputText full o bs
     → names report ≡ Some bs → length bs ≤ 1048576 → audit (steady names) fold vm name report answer → writes (codes "serial\n") answer
 world-found names fold vm name report o full bs answer (goes_on d machine_is (goes_on w world_is (goes_on ps given out))) is holds small audits =
-    let t : IsRunText d (IsReportOfWorld d w ps) (run_end full) bs = subst (λ (x : Output). IsTextOf full x bs) out is in
+    let t : IsRunText d (IsReportOfWorld d w ps) (run_end full) bs = subst (λ (x : Output). IsOutputText full x bs) out is in
     let r : Report = t.report in
     let of : IsReportOfWorld d w ps (run_end full) r = t.ended in
     let serially : IsVerdict d ps r verdict.Serial = world-serial d w ps (run_end full) r of.right of.run in

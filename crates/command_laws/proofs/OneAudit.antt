@@ -21,7 +21,7 @@ use Rattle.mate_documents.specs.Outputs.{writes}
 use Rattle.mate_documents.specs.declared.output.Output.{Output}
 use Rattle.mate_files.specs.Files.{Names}
 use Rattle.mate_journal.specs.Described.{machine_of}
-use Rattle.mate_journal.specs.Journal.{Told, Posted, Dropped, Started, Asked, Answered, Ended, Installed, Reset, Seen, Void, Event, Reading, nothing_heard, journal_of}
+use Rattle.mate_journal.specs.Journal.{JournalEntry, Posted, Dropped, Started, Asked, Answered, Ended, Installed, Reset, Seen, Void, TimedEntry, NodeState, first_state, journal_of}
 use Rattle.mate_journal.specs.Log.{Log}
 use Rattle.mate_journal.specs.Machine.{HeldProgram, Meaning}
 use Rattle.mate_journal.specs.declared.program.Program.{Program}
@@ -68,7 +68,7 @@ named_agree names d fold name = then_agrees SameBytes SamePrograms _ _ _ _ (file
 
 report_in_agrees : (d : Description) (bytes : List ℕ) → AnswersAgree TellSameJournals (report_in d bytes) (report_in d bytes)
 report_in_agrees d bytes = judged_agrees TellSameJournals _ _ _ one not same where
-  journals : List Line → LastLine → List (List Event)
+  journals : List Line → LastLine → List (List TimedEntry)
   journals ls e = map journal_of (report_of ls e).nodes
 
   one : (a b : Report) → AreOfReport d bytes a → AreOfReport d bytes b → TellSameJournals a b
@@ -109,7 +109,7 @@ turned : (d : Description) (ps qs : List Program) → CantBeToldApart d ps qs �
 turned d ps qs same = record { meaning = sym same.meaning; held = λ h. sym (same.held h) }
 
 module _ (d : Description) (ps qs : List Program) (same : CantBeToldApart d ps qs) where
-  installs-too : (r : Reading) (t : Told) → InstallsProgram ps r t → InstallsProgram qs r t
+  installs-too : (r : NodeState) (t : JournalEntry) → InstallsProgram ps r t → InstallsProgram qs r t
   installs-too r (Installed p) is = (subst IsTrue (same.held p) is.0, is.1)
   installs-too r (Posted n h c payload) is = tt
   installs-too r (Dropped h cause) is = tt
@@ -121,12 +121,12 @@ module _ (d : Description) (ps qs : List Program) (same : CantBeToldApart d ps q
   installs-too r (Seen store) is = tt
   installs-too r (Void cause) is = tt
 
-  by-meaning : (law : Law) (es : List Event) → KeepsLaw (machine_by d ps) ps es law → KeepsLaw (machine_by d qs) ps es law
+  by-meaning : (law : Law) (es : List TimedEntry) → KeepsLaw (machine_by d ps) ps es law → KeepsLaw (machine_by d qs) ps es law
   by-meaning law es keeps = subst (λ (m : Meaning). KeepsLaw (machine_of d m) ps es law) same.meaning keeps
 
-  law-too : (law : Law) (es : List Event) → KeepsLaw (machine_by d qs) ps es law → KeepsLaw (machine_by d qs) qs es law
+  law-too : (law : Law) (es : List TimedEntry) → KeepsLaw (machine_by d qs) ps es law → KeepsLaw (machine_by d qs) qs es law
   law-too law.D7 es keeps = keeps
-  law-too law.Image es keeps = weaker (InstallsProgram ps) (InstallsProgram qs) (machine_by d qs) (nothing_heard (machine_by d qs)) es installs-too keeps
+  law-too law.Image es keeps = weaker (InstallsProgram ps) (InstallsProgram qs) (machine_by d qs) (first_state (machine_by d qs)) es installs-too keeps
   law-too law.D8 es keeps = keeps
   law-too law.D9 es keeps = keeps
   law-too law.D10 es keeps = keeps

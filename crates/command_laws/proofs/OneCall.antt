@@ -3,7 +3,7 @@ use Rattle.std.proofs.Common.{◌≡◌, ℕ, Bool, true, false, not, inl, inr, 
 use Rattle.command_line.specs.Commands.{Task, Node, Sim, Gen, Table, Compile, Check, Expand, Feed, Audit}
 use Rattle.command_laws.specs.Completed.{IsUnhindered, Completes, whole, full, wanting}
 use Rattle.command_laws.specs.SameText.{SameText}
-use Rattle.command_laws.specs.Texts.{run_end, IsTextOf, IsRunText}
+use Rattle.command_laws.specs.Texts.{run_end, IsOutputText, IsRunText}
 use Rattle.command_laws.proofs.OneAudit.{audit_agrees}
 use Rattle.command_laws.proofs.OneCommand.{table_agrees, compile_agrees, check_agrees, expand_agrees, feed_agrees, task_agrees}
 use Rattle.command_laws.proofs.OneNode.{node_agrees}
@@ -56,19 +56,19 @@ told s t r code (inl x) wants = subst (λ (y : Refusal). code ≡ status_of y) w
 told s t r code (inr x) wants = x.0
 
 module _ (names : Names) (words : List (List ℕ)) (s t : Sinks) (code : Status) (quiet : Rose s.out_faults t.out_faults → ⊥) where
-  text_completes : (o : Output) (bs : List ℕ) (all : Bool) → Owes (steady names) words (Ok o) → ((how : Bool) → all ≡ not how → IsTextOf how o bs) → IsTextWritten bs all s t code → Completes names words s t code
+  text_completes : (o : Output) (bs : List ℕ) (all : Bool) → Owes (steady names) words (Ok o) → ((how : Bool) → all ≡ not how → IsOutputText how o bs) → IsTextWritten bs all s t code → Completes names words s t code
   text_completes o bs all owes texts (ends.done is_all sent same is) = whole o owes bs (texts false is_all) sent same is
   text_completes o bs all owes texts (ends.full is_cut sent tells) = full o owes bs (texts true is_cut) sent tells
   text_completes o bs all owes texts (ends.failed part rose tells) = absurd (quiet rose)
   text_completes o bs all owes texts (ends.wanting part tells) = wanting (told s t NoMemory code tells refl)
 
   -- a document tells of no run that a full log ended
-  document_text_of : (x : Document) (how : Bool) → true ≡ not how → IsTextOf how (output.Document x) (document_text x)
+  document_text_of : (x : Document) (how : Bool) → true ≡ not how → IsOutputText how (output.Document x) (document_text x)
   document_text_of x false is = (refl, refl)
   document_text_of x true is = absurd (let e : true ≡ false = is in cc)
 
   -- of a run, whose texts these are
-  run_completes : (d : Description) (Is : OfRun) (o : Output) → Owes (steady names) words (Ok o) → ((how : Bool) (bs : List ℕ) → IsRunText d Is (run_end how) bs → IsTextOf how o bs)
+  run_completes : (d : Description) (Is : OfRun) (o : Output) → Owes (steady names) words (Ok o) → ((how : Bool) (bs : List ℕ) → IsRunText d Is (run_end how) bs → IsOutputText how o bs)
       → IsRunWritten d Is s t code → Completes names words s t code
   run_completes d Is o owes texts (ends.whole r report sent same is) = whole o owes _ (texts false _ (record { report = r; ended = report; text_is = refl })) sent same is
   run_completes d Is o owes texts (ends.stopped r report sent tells) = full o owes _ (texts true _ (record { report = r; ended = report; text_is = refl })) sent tells

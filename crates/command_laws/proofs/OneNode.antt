@@ -1,9 +1,9 @@
 -- The command `node` has one answer.
 use Rattle.std.proofs.Common.{◌≡◌, ℕ, Bool, List, Result, refl, sym, subst}
-use Rattle.command_laws.specs.SameText.{SameText, IsSameRun}
+use Rattle.command_laws.specs.SameText.{SameText, IsSameNodeRun}
 use Rattle.command_laws.proofs.OneOutput.{output_agrees}
-use Rattle.journal_answers.specs.Ending.{EndsByItself}
-use Rattle.journal_answers.proofs.OneText.{brief-once}
+use Rattle.journal_once_laws.specs.Ending.{EndsByItself}
+use Rattle.journal_once_laws.proofs.OneText.{brief-once}
 use Rattle.mate_cli.specs.Node.{node, run_output}
 use Rattle.mate_documents.specs.declared.output.Output.{Output}
 use Rattle.mate_documents.specs.declared.output.Output.TheVariants as output
@@ -40,7 +40,7 @@ module _ (d : Description) (s : NodeScript) (ps qs : List Program) (same : SameP
   brief_once how how' r r' itself itself' is is' =
       brief-once d (meaning_by d ps) (steps_of s ps) how how' r r' itself itself' is.report (by-same d s ps qs how' r' same is')
 
-  run_same : IsSameRun d d s s ps qs
+  run_same : IsSameNodeRun d d s s ps qs
   run_same = record { machine = refl; steps = steps-same s ps qs same; meaning = meaning-same d ps qs same }
 
   outputs_agree : (short : Bool) → AnswersAgree SameText (run_output short d s ps) (run_output short d s qs)

@@ -1,7 +1,7 @@
 -- What is written of a run has one answer, where its reports have one summary.
 use Rattle.std.proofs.Common.{◌≡◌, inl, inr, Bool, true, false, sym, ◌∙◌, subst}
 use Rattle.command_laws.specs.SameText.{SameText}
-use Rattle.journal_answers.specs.Ending.{EndsByItself}
+use Rattle.journal_once_laws.specs.Ending.{EndsByItself}
 use Rattle.mate_cli.specs.Runs.{output_of, IsBrief}
 use Rattle.mate_documents.specs.declared.output.Output.{Output}
 use Rattle.mate_documents.specs.declared.output.Output.TheVariants as output

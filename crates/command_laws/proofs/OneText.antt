@@ -1,9 +1,9 @@
 -- Outputs that are the same have one text.
 use Rattle.std.proofs.Common.{◌≡◌, ℕ, Bool, true, false, List, sym, ◌∙◌, ap, subst}
-use Rattle.command_laws.specs.SameText.{SameText, IsSameRun, IsSameWorld}
-use Rattle.command_laws.specs.Texts.{run_end, IsRunText, IsTextOf}
-use Rattle.journal_answers.specs.Ending.{EndsByItself}
-use Rattle.journal_answers.proofs.OneText.{text-once}
+use Rattle.command_laws.specs.SameText.{SameText, IsSameNodeRun, IsSameWorld}
+use Rattle.command_laws.specs.Texts.{run_end, IsRunText, IsOutputText}
+use Rattle.journal_once_laws.specs.Ending.{EndsByItself}
+use Rattle.journal_once_laws.proofs.OneText.{text-once}
 use Rattle.mate_documents.specs.declared.output.Output.{Output}
 use Rattle.mate_documents.specs.declared.output.Output.TheVariants as output
 use Rattle.mate_journal.specs.Machine.{Meaning}
@@ -22,7 +22,7 @@ use Rattle.world_rules.specs.Report.{IsWorldReport}
 use Rattle.world_rules.specs.World.{World as Rules}
 use Rattle.world_script.specs.World.{IsRightWorld}
 use Rattle.world_script.specs.declared.world.World.{World}
-use Rattle.world_states.specs.SourceWorld.{source_world}
+use Rattle.world_state_laws.specs.SourceWorld.{source_world}
 use Rattle.world_sim.specs.Promise.{IsReportOfWorld}
 
 pub itself : (full : Bool) → EndsByItself (run_end full)
@@ -36,7 +36,7 @@ moved-report d d' m m' steps steps' how r machine meaning same is =
     subst (λ (x : Description). IsNodeReport x m steps how r) (sym machine)
     (subst (λ (x : Meaning). IsNodeReport d' x steps how r) (sym meaning) (subst (λ (x : List Step). IsNodeReport d' m' x how r) (sym same) is))
 
-run-once : (d d' : Description) (s s' : NodeScript) (ps ps' : List Program) → IsSameRun d d' s s' ps ps' → (full full' : Bool) (bs bs' : List ℕ) → IsRunText d (IsReportOf d s ps) (run_end full) bs
+run-once : (d d' : Description) (s s' : NodeScript) (ps ps' : List Program) → IsSameNodeRun d d' s s' ps ps' → (full full' : Bool) (bs bs' : List ℕ) → IsRunText d (IsReportOf d s ps) (run_end full) bs
     → IsRunText d' (IsReportOf d' s' ps') (run_end full') bs' → bs ≡ bs'
 run-once d d' s s' ps ps' same full full' bs bs' is is' =
     let other = moved-report d d' (meaning_by d ps) (meaning_by d' ps') (steps_of s ps) (steps_of s' ps') (run_end full') is'.report same.machine same.meaning same.steps is'.ended.report in
@@ -56,7 +56,7 @@ world-once law d d' w w' ps ps' same full full' bs bs' is is' =
     ∙ (law d w ps is.ended.right.world (run_end full) (run_end full') is.report is'.report (itself full) (itself full') is.ended.run other).0.text
     ∙ ap (λ (x : Description). text x is'.report) same.machine ∙ sym is'.text_is
 
-pub one-text : WorldsHaveOneReport → (o o' : Output) → SameText o o' → (full full' : Bool) (bs bs' : List ℕ) → IsTextOf full o bs → IsTextOf full' o' bs' → bs ≡ bs'
+pub one-text : WorldsHaveOneReport → (o o' : Output) → SameText o o' → (full full' : Bool) (bs bs' : List ℕ) → IsOutputText full o bs → IsOutputText full' o' bs' → bs ≡ bs'
 one-text law (output.Document x) (output.Document y) same full full' bs bs' is is' = is.1 ∙ same ∙ sym is'.1
 one-text law (output.Document x) (output.Summary d s) same full full' bs bs' is is' = absurd same
 one-text law (output.Summary d s) (output.Summary d' s') same full full' bs bs' is is' = is.1 ∙ same ∙ sym is'.1

@@ -7,7 +7,7 @@ use Rattle.command_laws.specs.SameText.{SameText, IsSameWorld}
 use Rattle.command_laws.proofs.OneOutput.{output_agrees}
 use Rattle.command_laws.proofs.OneText.{WorldsHaveOneReport}
 use Rattle.world_maker.specs.Source.{source_of}
-use Rattle.journal_answers.specs.Ending.{EndsByItself}
+use Rattle.journal_once_laws.specs.Ending.{EndsByItself}
 use Rattle.mate_cli.specs.Worlds.{world_output, sim, run_of_number, made_run}
 use Rattle.mate_documents.specs.declared.output.Output.{Output}
 use Rattle.mate_documents.specs.declared.output.Output.TheVariants as output
@@ -44,7 +44,7 @@ use Rattle.world_rules.specs.World.{world_of}
 use Rattle.world_rules.specs.World.{World as Rules}
 use Rattle.world_script.specs.declared.world.World.{World}
 use Rattle.world_sim.specs.Promise.{IsReportOfWorld}
-use Rattle.world_states.specs.SourceWorld.{source_world}
+use Rattle.world_state_laws.specs.SourceWorld.{source_world}
 
 -- ---- the run
 

@@ -10,10 +10,10 @@ use Rattle.report_summary.specs.Summary.{summary_text}
 use Rattle.script_reader.specs.Steps.{NodeScript}
 use Rattle.vm_desc.specs.declared.description.Description.{Description}
 use Rattle.world_script.specs.declared.world.World.{World}
-use Rattle.world_states.specs.SourceWorld.{source_world}
+use Rattle.world_state_laws.specs.SourceWorld.{source_world}
 
 -- the same steps, on the same machine, with programs that mean the same
-pub record IsSameRun (d d' : Description) (script script' : NodeScript) (ps ps' : List Program) : Type 0 where
+pub record IsSameNodeRun (d d' : Description) (script script' : NodeScript) (ps ps' : List Program) : Type 0 where
   pub machine : d ≡ d'
   pub steps : steps_of script ps ≡ steps_of script' ps'
   pub meaning : meaning_by d ps ≡ meaning_by d' ps'
@@ -28,6 +28,6 @@ pub record IsSameWorld (d d' : Description) (w w' : World) (ps ps' : List Progra
 abbrev pub SameText : Output → Output → Type 0
 SameText (output.Document x) (output.Document y) = document_text x ≡ document_text y
 SameText (output.Summary d s) (output.Summary d' s') = summary_text d s ≡ summary_text d' s'
-SameText (output.Run d script ps) (output.Run d' script' ps') = IsSameRun d d' script script' ps ps'
+SameText (output.Run d script ps) (output.Run d' script' ps') = IsSameNodeRun d d' script script' ps ps'
 SameText (output.World d w ps) (output.World d' w' ps') = IsSameWorld d d' w w' ps ps'
 SameText _ _ = ⊥

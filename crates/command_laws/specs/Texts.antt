@@ -24,8 +24,8 @@ pub record IsRunText (d : Description) (Is : OfRun) (how : RunEnd) (bs : List �
   pub text_is : bs ≡ text d report
 
 -- a text of an output, which tells whether a full log ended the run
-abbrev pub IsTextOf : (full : Bool) → Output → List ℕ → Type 0
-IsTextOf full (output.Document x) bs = (full ≡ false) × (bs ≡ document_text x)
-IsTextOf full (output.Summary d s) bs = (s.whole ≡ not full) × (bs ≡ summary_text d s)
-IsTextOf full (output.Run d script ps) bs = IsRunText d (IsReportOf d script ps) (run_end full) bs
-IsTextOf full (output.World d w ps) bs = IsRunText d (IsReportOfWorld d w ps) (run_end full) bs
+abbrev pub IsOutputText : (full : Bool) → Output → List ℕ → Type 0
+IsOutputText full (output.Document x) bs = (full ≡ false) × (bs ≡ document_text x)
+IsOutputText full (output.Summary d s) bs = (s.whole ≡ not full) × (bs ≡ summary_text d s)
+IsOutputText full (output.Run d script ps) bs = IsRunText d (IsReportOf d script ps) (run_end full) bs
+IsOutputText full (output.World d w ps) bs = IsRunText d (IsReportOfWorld d w ps) (run_end full) bs

@@ -16,7 +16,7 @@ ghost use Rattle.mate_cli.specs.Worlds.{made_run, sim};
 ghost use Rattle.mate_steps.specs.OneAnswer.{AnswersAgree, steady};
 ghost use Rattle.mate_steps.specs.Parts.{Folder};
 ghost use Rattle.command_laws.specs.SameText.{SameText};
-ghost use Rattle.command_laws.specs.Texts.{IsTextOf};
+ghost use Rattle.command_laws.specs.Texts.{IsOutputText};
 ghost use Rattle.mate_documents.specs.Table.{opcode_table};
 
 use world_once_laws::script_has_one_report;
@@ -91,7 +91,7 @@ pub fn words_have_one_answer()
 
 /// Outputs that are the same have one text: all reports of one run that ended by itself have.
 pub fn same_outputs_have_one_text()
-    ensures { (o o' : Output) → SameText o o' → (full full' : Bool) (bs bs' : List ℕ) → IsTextOf full o bs → IsTextOf full' o' bs'
+    ensures { (o o' : Output) → SameText o o' → (full full' : Bool) (bs bs' : List ℕ) → IsOutputText full o bs → IsOutputText full' o' bs'
         → bs ≡ bs' }
 {
     script_has_one_report();

@@ -9,8 +9,8 @@ use Rattle.cut_laws.proofs.NodeFronts.{same-text}
 use Rattle.cut_laws.proofs.TextLemmas.{LogGoesOn, GoesOnBehind, lines-begin, begins-then, begins-text}
 use Rattle.journal_laws.proofs.GoesOnLemmas.{GoesOn-journal}
 use Rattle.mate_num.specs.declared.call.Stamp.{Stamp}
-use Rattle.mate_journal.specs.Journal.{Told, journal_of}
-use Rattle.mate_journal.specs.Journal.{Event as Entered}
+use Rattle.mate_journal.specs.Journal.{JournalEntry, journal_of}
+use Rattle.mate_journal.specs.Journal.{TimedEntry as Entered}
 use Rattle.mate_journal.specs.Log.{Log}
 use Rattle.mate_journal.specs.NodeScript.{RunEnd, Whole, Full, Cut}
 use Rattle.mate_journal.specs.declared.air.Aired.{Aired}
@@ -26,7 +26,7 @@ use Rattle.world_rules.specs.Report.{IsLogOf, IsWorldReport}
 use Rattle.world_rules.specs.Run.{HaveCome, stamp_of, journal, airs}
 use Rattle.world_rules.specs.State.{Moment}
 use Rattle.world_rules.specs.World.{World}
-use Rattle.world_text.proofs.Bounds.{stamped-all, journal-upto, airs-upto, airs-new, airs-more, entries-of, entries-new, all-named}
+use Rattle.world_text_laws.proofs.Bounds.{stamped-all, journal-upto, airs-upto, airs-new, airs-more, entries-of, entries-new, all-named}
 
 -- ---- the events
 
@@ -51,9 +51,9 @@ record JournalOn (w : World) (k : ℕ) (ms ns : List Moment) : Type 0 where
   is : journal w k ns ≡ journal w k ms ++ more
   later : All (λ (e : Entered). length ms < e.stamp.event) more
 
-told-of : (n : ℕ) (told : Bool) (at : Stamp) (ts : List Told) → n < at.event → All (λ (e : Entered). n < e.stamp.event) (if told then map (λ t. record { stamp = at; told = t }) ts else [])
+told-of : (n : ℕ) (told : Bool) (at : Stamp) (ts : List JournalEntry) → n < at.event → All (λ (e : Entered). n < e.stamp.event) (if told then map (λ t. record { stamp = at; told = t }) ts else [])
 told-of n true at ts low =
-    All-weaker (λ (e : Entered). e.stamp.event ≡ at.event) (λ (e : Entered). n < e.stamp.event) (λ e same. omega (arith, low, same)) (map (λ (t : Told). record { stamp = at; told = t }) ts) (stamped-all at ts)
+    All-weaker (λ (e : Entered). e.stamp.event ≡ at.event) (λ (e : Entered). n < e.stamp.event) (λ e same. omega (arith, low, same)) (map (λ (t : JournalEntry). record { stamp = at; told = t }) ts) (stamped-all at ts)
 told-of n false at ts low = All-nil (λ (e : Entered). n < e.stamp.event)
 
 journal-on : (w : World) (k : ℕ) (ms later : List Moment) → JournalOn w k ms (later ++ ms)
@@ -125,7 +125,7 @@ module _ (w : World) (nodes : EventsAreOfNodes w) (r r' : Report) (stopped : IsW
       b.journal.journal_is ∙ ap (λ (es : List Entered). es ++ last) more.is ∙ append_assoc (journal w k ms) more.more last ∙ ap (λ (es : List Entered). es ++ (more.more ++ last)) (sym old) in
       let at : Stamp = record { event = suc (length ns); time = w.until } in
       let seen : All (λ (e : Entered). N < e.stamp.event) last =
-      All-same (λ (e : Entered). N < e.stamp.event) last (map (λ (t : Told). record { stamp = at; told = t }) b.journal.ends.told) b.journal.ends.stamped (told-of N true at b.journal.ends.told (omega (arith, long))) in
+      All-same (λ (e : Entered). N < e.stamp.event) last (map (λ (t : JournalEntry). record { stamp = at; told = t }) b.journal.ends.told) b.journal.ends.stamped (told-of N true at b.journal.ends.told (omega (arith, long))) in
       record {
         goes_on = GoesOn-journal x y (more.more ++ last) a.tidy.numbered b.tidy.numbered is;
         named = all-named x a.tidy.numbered;

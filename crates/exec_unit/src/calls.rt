@@ -5,7 +5,7 @@ ghost use Rattle.mate_code.specs.Effect.{args_of};
 ghost use Rattle.mate_code.specs.Run.{fetch};
 ghost use Rattle.mate_code.specs.declared.instr.Instr.TheVariants as instrs;
 ghost use Rattle.mate_num.specs.declared.store.Store.{Store};
-ghost use Rattle.code_verifier.specs.Verified.{Fits};
+ghost use Rattle.code_verifier.specs.Verified.{IsAtVerified};
 ghost use Rattle.exec_unit.specs.Follows.{DoesIn, Does};
 ghost use Rattle.exec_unit.specs.Machine.{private_in};
 ghost use Rattle.exec_unit.specs.Step.{HasLengths, IsStep};
@@ -25,7 +25,7 @@ pub fn ask(
     heap: &Heap,
     fun: FunId,
 ) -> StepEnd
-    requires fits { Fits code.now (private_in registers.old memory.old) }
+    requires fits { IsAtVerified code.now (private_in registers.old memory.old) }
     requires lengths { HasLengths code.now.shape heap.now }
     requires asks { fetch code.now.code registers.old.place ≡ Some (instrs.Fun fun) }
     ensures step { IsStep code.now (private_in registers.old memory.old) heap.now result (private_in registers.new memory.new) heap.now }
@@ -46,7 +46,7 @@ pub fn send(
     fun: FunId,
     buffer: BufId,
 ) -> StepEnd
-    requires fits { Fits code.now (private_in registers.old memory.old) }
+    requires fits { IsAtVerified code.now (private_in registers.old memory.old) }
     requires lengths { HasLengths code.now.shape heap.now }
     requires sends { fetch code.now.code registers.old.place ≡ Some (instrs.FunBuf fun buffer) }
     ensures step { IsStep code.now (private_in registers.old memory.old) heap.now result (private_in registers.new memory.new) heap.now }

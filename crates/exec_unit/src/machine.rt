@@ -1,7 +1,7 @@
 //! The machine: what an invocation of a handler has of its own.
 
 ghost use Rattle.std.specs.Prelude.{◌≡◌, ◌≤◌, length, reverse};
-ghost use Rattle.code_verifier.specs.Verified.{VerifiedCode, IsVerifiedCode, Fits};
+ghost use Rattle.code_verifier.specs.Verified.{VerifiedCode, IsVerifiedCode, IsAtVerified};
 
 use crate::registers::{Memory, Registers};
 use mate_num::Payload;
@@ -34,7 +34,7 @@ impl Machine {
     #[tactic(auto, unfolding(crate::specs::Machine::private_in))]
     pub fn new(turns: u32, msg: Payload) -> Machine
         ensures value { result ≡ begun turns msg.items }
-        ensures fits { (v : VerifiedCode) → IsVerifiedCode v → Fits v result }
+        ensures fits { (v : VerifiedCode) → IsVerifiedCode v → IsAtVerified v result }
     {
         Machine {
             registers: Registers {

@@ -2,7 +2,7 @@
 
 ghost use Rattle.std.specs.Prelude.{◌≡◌};
 ghost use Rattle.mate_code.specs.Effect.{push};
-ghost use Rattle.code_verifier.specs.Verified.{Fits};
+ghost use Rattle.code_verifier.specs.Verified.{IsAtVerified};
 ghost use Rattle.exec_unit.specs.Machine.{private_in};
 ghost use Rattle.exec_unit.specs.Step.{HasLengths, IsStep, ComesTo, Waits};
 
@@ -23,7 +23,7 @@ pub(crate) fn advance(
     memory: &mut Memory,
     heap: &mut Heap,
 ) -> Act
-    requires fits { Fits code.now (private_in registers.old memory.old) }
+    requires fits { IsAtVerified code.now (private_in registers.old memory.old) }
     requires lengths { HasLengths code.now.shape heap.old }
     ensures { ComesTo result code.now (private_in registers.old memory.old) heap.old (private_in registers.new memory.new) heap.new }
 {
@@ -39,7 +39,7 @@ fn execute(
     memory: &mut Memory,
     heap: &mut Heap,
 ) -> StepEnd
-    requires fits { Fits code.now (private_in registers.old memory.old) }
+    requires fits { IsAtVerified code.now (private_in registers.old memory.old) }
     requires lengths { HasLengths code.now.shape heap.old }
     ensures { IsStep code.now (private_in registers.old memory.old) heap.old result (private_in registers.new memory.new) heap.new }
 {
@@ -56,7 +56,7 @@ fn execute(
 /// After `Next` the machine fits the code again; after an `Ask` it waits in the code, for `resume`. After
 /// `Halt` and `Fault` nothing more is to be done with it.
 pub fn step(code: &Verified, machine: &mut Machine, heap: &mut Heap) -> StepEnd
-    requires fits { Fits code.now machine.old }
+    requires fits { IsAtVerified code.now machine.old }
     requires lengths { HasLengths code.now.shape heap.old }
     ensures { IsStep code.now machine.old heap.old result machine.new heap.new }
 {
@@ -67,7 +67,7 @@ pub fn step(code: &Verified, machine: &mut Machine, heap: &mut Heap) -> StepEnd
 pub fn resume(code: &Verified, machine: &mut Machine, value: i16)
     requires { Waits code.now machine.old }
     ensures pushed { machine.new ≡ push value machine.old }
-    ensures fits { Fits code.now machine.new }
+    ensures fits { IsAtVerified code.now machine.new }
 {
     let _ = code;
     machine.registers.has_depth(&machine.memory);

@@ -3,8 +3,8 @@ use Rattle.std.proofs.Common.{◌≡◌, ℕ, suc, ◌==◌, nat_lt, nat_le, Boo
 use Rattle.std.specs.Prelude.{bytes_eq, ok_or}
 use Rattle.std.specs.Result.{result_ok}
 use Rattle.mate_num.specs.declared.id.FunId.{FunId}
-use Rattle.vm_desc.specs.Limits.{args_of}
-use Rattle.vm_desc.specs.Shapes.{is_send}
+use Rattle.vm_desc.specs.Limits.{function_args}
+use Rattle.vm_desc.specs.Shapes.{sends_buffer}
 use Rattle.vm_desc.specs.declared.description.Description.{Description}
 use Rattle.vm_desc.specs.declared.function.FunKind.{FunKind}
 use Rattle.ts_syntax.specs.declared.script.Decl.{Decl}
@@ -84,9 +84,9 @@ sent_bare n place (tree_then e (tree_then d es)) = refl
 called_bare : (n : ScriptNames) (place : ℕ) (f : FunId × FunKind) (es : Trees) (args args' : Result Arguments CheckFault) → Same args args'
     → Same (called_function n place f es args) (called_function n 0 f (bare_trees es) args')
 called_bare n place f es args args' same =
-    either (is_send f.1) _ _ _ _ (next (sent n place es) (sent n 0 (bare_trees es)) _ _ (sent_bare n place es) (λ p. refl))
-    (next (unless_refused (tree_count es == args_of f.1) (Arity place)) (unless_refused (tree_count (bare_trees es) == args_of f.1) (Arity 0)) _ _
-    (tested (tree_count es == args_of f.1) (Arity place) (Arity 0) ∙ ap (λ k. result_ok (unless_refused (k == args_of f.1) (Arity 0))) (sym (count_bare es)))
+    either (sends_buffer f.1) _ _ _ _ (next (sent n place es) (sent n 0 (bare_trees es)) _ _ (sent_bare n place es) (λ p. refl))
+    (next (unless_refused (tree_count es == function_args f.1) (Arity place)) (unless_refused (tree_count (bare_trees es) == function_args f.1) (Arity 0)) _ _
+    (tested (tree_count es == function_args f.1) (Arity place) (Arity 0) ∙ ap (λ k. result_ok (unless_refused (k == function_args f.1) (Arity 0))) (sym (count_bare es)))
     (λ u. next args args' _ _ same (λ checked. refl)))
 
 call_bare : (n : ScriptNames) (allowed : Bool) (w : Word) (es : Trees) (args args' : Result Arguments CheckFault) → Same args args'

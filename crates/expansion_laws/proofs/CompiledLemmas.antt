@@ -2,7 +2,7 @@
 use Rattle.std.proofs.Common.{ℕ, Bool, List, Ok, ◌∙◌, ap, subst}
 use Rattle.vm_desc.specs.Shapes.{shape_of}
 use Rattle.vm_desc.specs.declared.description.Description.{Description}
-use Rattle.ts_syntax.specs.Seen.{source_of}
+use Rattle.ts_syntax.specs.Seen.{source_seen}
 use Rattle.ts_syntax.specs.Statement.{Block}
 use Rattle.ts_syntax.specs.declared.script.Script.{Script}
 use Rattle.ts_printer.specs.Line.{script_line}
@@ -11,7 +11,7 @@ use Rattle.ts_meaning.specs.Translation.{code_of}
 use Rattle.proc_names.specs.Named.{written_of}
 use Rattle.proc_names.specs.declared.named.PScript.{PScript}
 use Rattle.proc_expansion.specs.Answer.{IsExpansion}
-use Rattle.proc_meaning.specs.FrameLaw.{RunsWithFrames}
+use Rattle.proc_laws.specs.FrameLaw.{RunsWithFrames}
 use Rattle.ts_procs.specs.Reading.{IsProcedureText}
 use Rattle.mate_steps.specs.Expansions.{expanded_bytes}
 use Rattle.mate_steps.specs.SourceCode.{compiled_tree, IsCompiledOf, MeansTree}
@@ -45,7 +45,7 @@ compiled_of machine fold to text c (stops r refused is) = cc
 pub compiles_as_source : ((bytes : List ℕ) (script : PScript) → IsProcedureText bytes (written_of script) → TextMeansIt (written_of script)) → CompilesAsSource
 compiles_as_source law machine fold from to bytes plain c expands compiles =
     let e : IsExpanded bytes plain = expanded_of from bytes plain expands in
-    let t : IsCompiledTree machine fold (script_line (source_of plain)) c = compiled_of machine fold to (script_line (source_of plain)) c compiles in
+    let t : IsCompiledTree machine fold (script_line (source_seen plain)) c = compiled_of machine fold to (script_line (source_seen plain)) c compiles in
     let accepted : IsAccepted machine (expansion_text (written_of e.script)) t.tree =
     subst (λ (bs : List ℕ). IsAccepted machine bs t.tree) (ap script_line e.expands.is) t.accepted in
     let means : MeansTree (shape_of machine) fold t.tree = means-tree (shape_of machine) fold t.tree c t.compiled in

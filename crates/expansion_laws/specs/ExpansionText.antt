@@ -10,7 +10,7 @@ use Rattle.ts_lexer.specs.Printed.{IsTextButPlaces}
 use Rattle.ts_checker.specs.Accepted.{IsAccepted}
 use Rattle.ts_checker.specs.Checks.{checked_source}
 use Rattle.proc_expansion.specs.Expansion.{expansion}
-use Rattle.proc_meaning.specs.FrameLaw.{RunsWithFrames}
+use Rattle.proc_laws.specs.FrameLaw.{RunsWithFrames}
 
 -- the text of the expansion
 abbrev pub expansion_text : ProcedureSource → List ℕ

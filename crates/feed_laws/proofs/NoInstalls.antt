@@ -6,12 +6,12 @@ use Rattle.std.proofs.lemmas.Bool.{cases_Bool}
 use Rattle.arrayvec.specs.ArrayVec.{ArrayVec}
 use Rattle.mate_num.specs.declared.id.HandlerId.{HandlerId}
 use Rattle.mate_journal.specs.Grants.{IsStart}
-use Rattle.mate_journal.specs.Journal.{Reading, Told, Posted, Dropped, Started, Asked, Answered, Ended, Installed, Reset, Seen, Void, heard, heard_told}
+use Rattle.mate_journal.specs.Journal.{NodeState, JournalEntry, Posted, Dropped, Started, Asked, Answered, Ended, Installed, Reset, Seen, Void, next_state, state_after_entries}
 use Rattle.mate_journal.specs.Machine.{Machine, HeldProgram}
 use Rattle.mate_journal.specs.NodeScript.{Occasion, Installs}
 use Rattle.mate_journal.specs.Pace.{Pace}
 
-abbrev pub NoInstall : Told → Type 0
+abbrev pub NoInstall : JournalEntry → Type 0
 NoInstall (Posted n h c payload) = Unit {0}
 NoInstall (Dropped h cause) = Unit {0}
 NoInstall (Started n) = Unit {0}
@@ -23,11 +23,11 @@ NoInstall Reset = Unit {0}
 NoInstall (Seen store) = Unit {0}
 NoInstall (Void cause) = Unit {0}
 
-abbrev pub NoneInstall : List Told → Type 0
+abbrev pub NoneInstall : List JournalEntry → Type 0
 NoneInstall [] = Unit {0}
 NoneInstall (t ∷ told) = NoInstall t × NoneInstall told
 
-same-one : (m : Machine) (r : Reading) (t : Told) → NoInstall t → (heard m r t).installed ≡ r.installed
+same-one : (m : Machine) (r : NodeState) (t : JournalEntry) → NoInstall t → (next_state m r t).installed ≡ r.installed
 same-one m r (Posted n h c payload) a = refl
 same-one m r (Dropped h cause) a = refl
 same-one m r (Started n) a = refl
@@ -39,11 +39,11 @@ same-one m r Reset a = refl
 same-one m r (Seen store) a = refl
 same-one m r (Void cause) a = refl
 
-pub same-all : (m : Machine) (r : Reading) (told : List Told) → NoneInstall told → (heard_told m r told).installed ≡ r.installed
+pub same-all : (m : Machine) (r : NodeState) (told : List JournalEntry) → NoneInstall told → (state_after_entries m r told).installed ≡ r.installed
 same-all m r [] a = refl
-same-all m r (t ∷ told) a = same-all m (heard m r t) told a.1 ∙ same-one m r t a.0
+same-all m r (t ∷ told) a = same-all m (next_state m r t) told a.1 ∙ same-one m r t a.0
 
-start-none : (t : Told) → IsStart t → NoInstall t
+start-none : (t : JournalEntry) → IsStart t → NoInstall t
 start-none (Posted n h c payload) a = tt
 start-none (Dropped h cause) a = tt
 start-none (Started n) a = tt
@@ -55,20 +55,20 @@ start-none Reset a = tt
 start-none (Seen store) a = tt
 start-none (Void cause) a = tt
 
-starts-none : (told : List Told) → All IsStart told → NoneInstall told
+starts-none : (told : List JournalEntry) → All IsStart told → NoneInstall told
 starts-none [] all = tt
 starts-none (t ∷ told) all = (start-none t (All-head IsStart t told all), starts-none told (All-tail IsStart t told all))
 
-by_made : (xs ys : List Told) → xs ≡ ys → NoneInstall ys → NoneInstall xs
+by_made : (xs ys : List JournalEntry) → xs ≡ ys → NoneInstall ys → NoneInstall xs
 by_made xs ys is none = subst NoneInstall (sym is) none
 
-occasion-none : (m : Machine) (r : Reading) (h : HandlerId) (payload : ArrayVec ℤ) (told : List Told) → Occasion m r h payload told → NoneInstall told
+occasion-none : (m : Machine) (r : NodeState) (h : HandlerId) (payload : ArrayVec ℤ) (told : List JournalEntry) → Occasion m r h payload told → NoneInstall told
 occasion-none m r h payload told (inl a) = by_made told _ a.made (tt, tt)
 occasion-none m r h payload told (inr (inl a)) = by_made told _ a.made (tt, tt)
 occasion-none m r h payload told (inr (inr a)) = by_made told _ a.made (tt, starts-none a.starts a.are_starts)
 
-pub installs-rest : (m : Machine) (r : Reading) (q : Pace) (p : HeldProgram) (told : List Told) → (is : Installs m r q p told) → NoneInstall is.rest
+pub installs-rest : (m : Machine) (r : NodeState) (q : Pace) (p : HeldProgram) (told : List JournalEntry) → (is : Installs m r q p told) → NoneInstall is.rest
 installs-rest m r q p told is = elim (cases_Bool (m.runs_once p.handler)) [
-  | inl once ↦ occasion-none m (heard m r (Installed p)) p.handler (record { items = [] }) is.rest (is.once once)
+  | inl once ↦ occasion-none m (next_state m r (Installed p)) p.handler (record { items = [] }) is.rest (is.once once)
   | inr never ↦ by_made is.rest [] (is.else never) tt
 ]

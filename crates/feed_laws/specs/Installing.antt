@@ -2,7 +2,7 @@
 use Rattle.std.specs.Prelude.{◌≡◌, ℕ, List, [], ◌∷◌}
 use Rattle.arrayvec.specs.ArrayVec.{ArrayVec}
 use Rattle.vm_desc.specs.declared.description.Description.{Description}
-use Rattle.mate_journal.specs.Journal.{Reading, Told, held, heard_told}
+use Rattle.mate_journal.specs.Journal.{NodeState, JournalEntry, held, state_after_entries}
 use Rattle.mate_journal.specs.Pace.{Pace}
 use Rattle.node_invariant.specs.Meaning.{machine_in}
 use Rattle.node_calls.specs.Installing.{Refuses, InstallsBytes, capsule_handler}
@@ -15,27 +15,27 @@ use Rattle.capsule_feed.specs.declared.answer.Answer.{Answer}
 use Rattle.capsule_feed.specs.declared.answer.Answer.TheVariants.{Installed, NotNewer, NoCapsule, BadCode, Long, Broken}
 
 -- the versions that a node holds that heard this
-abbrev pub held_in : Reading → Held
+abbrev pub held_in : NodeState → Held
 held_in r = λ h. held r (record { 0 = h })
 
 -- a refusal of `install` as an answer
-abbrev pub answer_of : InstallFault → Answer
-answer_of (Capsule why) = NoCapsule why
-answer_of (Code why) = BadCode why
-answer_of (NoNewer version) = NotNewer version
+abbrev pub frame_answer : InstallFault → Answer
+frame_answer (Capsule why) = NoCapsule why
+frame_answer (Code why) = BadCode why
+frame_answer (NoNewer version) = NotNewer version
 
 -- what a node that heard r answers to a frame, and what it heard then
-pub data IsAnswered (d : Description) (r : Reading) (f : Frame) (a : Answer) (after : Reading) : Type 0 where
-  installs : (image : ArrayVec ℕ) (p : Pace) (told : List Told) (i : InstallsBytes d r image.items p told) → f ≡ frame.Whole image
-      → a ≡ Installed (capsule_handler i.capsule) i.capsule.version → after ≡ heard_told (machine_in d) r told → IsAnswered d r f a after
-  refuses : (image : ArrayVec ℕ) (why : InstallFault) → Refuses d r image.items why → f ≡ frame.Whole image → a ≡ answer_of why
-      → after ≡ r → IsAnswered d r f a after
-  long : f ≡ frame.TooLong → a ≡ Long → after ≡ r → IsAnswered d r f a after
-  broken : f ≡ frame.BadEscape → a ≡ Broken → after ≡ r → IsAnswered d r f a after
+pub data IsFrameAnswer (d : Description) (r : NodeState) (f : Frame) (a : Answer) (after : NodeState) : Type 0 where
+  installs : (image : ArrayVec ℕ) (p : Pace) (told : List JournalEntry) (i : InstallsBytes d r image.items p told) → f ≡ frame.Whole image
+      → a ≡ Installed (capsule_handler i.capsule) i.capsule.version → after ≡ state_after_entries (machine_in d) r told → IsFrameAnswer d r f a after
+  refuses : (image : ArrayVec ℕ) (why : InstallFault) → Refuses d r image.items why → f ≡ frame.Whole image → a ≡ frame_answer why
+      → after ≡ r → IsFrameAnswer d r f a after
+  long : f ≡ frame.TooLong → a ≡ Long → after ≡ r → IsFrameAnswer d r f a after
+  broken : f ≡ frame.BadEscape → a ≡ Broken → after ≡ r → IsFrameAnswer d r f a after
 
 -- the answers to frames, one after another
-abbrev pub AreAnswered : Description → Reading → List Frame → List Answer → Type 0
+abbrev pub AreAnswered : Description → NodeState → List Frame → List Answer → Type 0
 AreAnswered d r [] told = told ≡ []
 AreAnswered d r (f ∷ fs) told =
-    (a : Answer) × (others : List Answer) × (after : Reading) × (told ≡ a ∷ others) × IsAnswered d r f a after
+    (a : Answer) × (others : List Answer) × (after : NodeState) × (told ≡ a ∷ others) × IsFrameAnswer d r f a after
     × AreAnswered d after fs others

@@ -2,7 +2,7 @@
 
 ghost use Rattle.std.specs.Prelude.{◌≡◌, ℕ, List};
 ghost use Rattle.vm_desc.specs.declared.description.Description.{Description};
-ghost use Rattle.mate_journal.specs.Journal.{nothing_heard};
+ghost use Rattle.mate_journal.specs.Journal.{first_state};
 ghost use Rattle.node_invariant.specs.Meaning.{machine_in};
 ghost use Rattle.slip_gateway.specs.Stream.{frames};
 ghost use Rattle.capsule_feed.specs.Answers.{answers_to};
@@ -11,6 +11,6 @@ ghost use Rattle.feed_laws.specs.Installing.{AreAnswered};
 
 /// What the calls of a new node's `install` answer to the frames of a stream, one after another, are the stream's answers.
 pub fn answers_are_of_install()
-    ensures { (d : Description) (bytes : List ℕ) (told : List Answer) → AreAnswered d (nothing_heard (machine_in d)) (frames bytes) told
+    ensures { (d : Description) (bytes : List ℕ) (told : List Answer) → AreAnswered d (first_state (machine_in d)) (frames bytes) told
         → told ≡ answers_to d bytes }
 {}

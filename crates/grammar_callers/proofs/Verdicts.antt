@@ -4,7 +4,7 @@ use Rattle.std.specs.Prelude.{MatchResult}
 use Rattle.ts_syntax.specs.Cut.{token}
 use Rattle.ts_syntax.specs.Faults.{Spells, StopsIn, IsUnexpected}
 use Rattle.ts_syntax.specs.Script.{BeginsScriptIn}
-use Rattle.ts_syntax.specs.Seen.{source_of}
+use Rattle.ts_syntax.specs.Seen.{source_seen}
 use Rattle.ts_syntax.specs.Tree.{Source}
 use Rattle.ts_syntax.specs.declared.dialect.Dialect.TheVariants.{Plain}
 use Rattle.ts_syntax.specs.declared.script.Script.{Script}
@@ -42,8 +42,8 @@ stops_deep : (p q : ℕ) → stops_at p ≡ deep_at q → ⊥
 stops_deep p q e = cc
 
 -- the script that the tokens spell, but for want of memory
-pub only_script : OneVerdict → (tokens : List Token) (len : ℕ) (s : Source) (result : Result Script SourceFault) → Spells tokens s → Answers tokens len result → MatchResult result (λ script. source_of script ≡ s) (λ why. why ≡ fault.NoMemory)
-only_script one tokens len s (Ok script) spells so = spelled_same (source_of script) s (one tokens len (spelled (source_of script)) (spelled s) so spells)
+pub only_script : OneVerdict → (tokens : List Token) (len : ℕ) (s : Source) (result : Result Script SourceFault) → Spells tokens s → Answers tokens len result → MatchResult result (λ script. source_seen script ≡ s) (λ why. why ≡ fault.NoMemory)
+only_script one tokens len s (Ok script) spells so = spelled_same (source_seen script) s (one tokens len (spelled (source_seen script)) (spelled s) so spells)
 only_script one tokens len s (Err (fault.BadByte place)) spells so = absurd so
 only_script one tokens len s (Err (fault.BigLiteral place)) spells so = absurd so
 only_script one tokens len s (Err (fault.Unexpected place)) spells so = absurd (spelled_stops s place (one tokens len (spelled s) (stops_at place) spells so))
@@ -52,7 +52,7 @@ only_script one tokens len s (Err fault.NoMemory) spells so = refl
 
 -- the token that doesn't fit, but for want of memory
 pub only_unexpected : OneVerdict → (tokens : List Token) (len place : ℕ) (result : Result Script SourceFault) → IsUnexpected tokens len place → Answers tokens len result → MatchResult result (λ _. ⊥) (λ why. (why ≡ fault.Unexpected place) ⊎ (why ≡ fault.NoMemory))
-only_unexpected one tokens len place (Ok script) stops so = spelled_stops (source_of script) place (one tokens len (spelled (source_of script)) (stops_at place) so stops)
+only_unexpected one tokens len place (Ok script) stops so = spelled_stops (source_seen script) place (one tokens len (spelled (source_seen script)) (stops_at place) so stops)
 only_unexpected one tokens len place (Err (fault.BadByte p)) stops so = absurd so
 only_unexpected one tokens len place (Err (fault.BigLiteral p)) stops so = absurd so
 only_unexpected one tokens len place (Err (fault.Unexpected p)) stops so = inl (let e : p ≡ place = stops_same p place (one tokens len (stops_at p) (stops_at place) so stops) in cc)

@@ -2,7 +2,7 @@
 
 ghost use Rattle.std.specs.Prelude.{◌≡◌, ◌⊎◌, [], ◌∷◌, true, false, MatchResult};
 ghost use Rattle.ts_syntax.specs.Cut.{token};
-ghost use Rattle.ts_syntax.specs.Seen.{source_of};
+ghost use Rattle.ts_syntax.specs.Seen.{source_seen};
 ghost use Rattle.ts_syntax.specs.declared.token.TokenKind.TheVariants as kind;
 ghost use Rattle.ts_parser.specs.declared.fault.SourceFault.TheVariants.{Unexpected, NoMemory};
 ghost use Rattle.grammar_callers.specs.Sources.{stepping, loop_by_three};
@@ -14,7 +14,7 @@ use ts_syntax::{Script, Tokens};
 
 pub fn a_minus_before_a_step_is_kept(alloc: Global, tokens: &Tokens) -> Result<Script, SourceFault>
     requires { tokens.now ≡ stepping (token kind.Minus 20 21 ∷ []) }
-    ensures { MatchResult result (λ script. source_of script ≡ loop_by_three true) (λ fault. fault ≡ NoMemory) }
+    ensures { MatchResult result (λ script. source_seen script ≡ loop_by_three true) (λ fault. fault ≡ NoMemory) }
 {
     verdict_law();
     parse(alloc, tokens, 29)
@@ -25,7 +25,7 @@ pub fn a_step_stands_where_its_literal_begins(
     tokens: &Tokens,
 ) -> Result<Script, SourceFault>
     requires { tokens.now ≡ stepping [] }
-    ensures { MatchResult result (λ script. source_of script ≡ loop_by_three false) (λ fault. fault ≡ NoMemory) }
+    ensures { MatchResult result (λ script. source_seen script ≡ loop_by_three false) (λ fault. fault ≡ NoMemory) }
 {
     verdict_law();
     parse(alloc, tokens, 29)

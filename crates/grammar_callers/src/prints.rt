@@ -2,7 +2,7 @@
 
 ghost use Rattle.std.specs.Prelude.{◌≡◌, [], codes};
 ghost use Rattle.mate_files.specs.Sink.{Puts};
-ghost use Rattle.ts_syntax.specs.Seen.{source_of};
+ghost use Rattle.ts_syntax.specs.Seen.{source_seen};
 ghost use Rattle.grammar_callers.specs.Sources.{subtracting};
 
 use mate_files::{Sink, SinkFault};
@@ -10,7 +10,7 @@ use ts_printer::print;
 use ts_syntax::Script;
 
 pub fn a_difference_has_a_minus<S: Sink>(script: &Script, out: &mut S) -> Result<(), SinkFault>
-    requires { source_of script.now ≡ subtracting }
+    requires { source_seen script.now ≡ subtracting }
     ensures { Puts (S.written out.old) (S.faults out.old) (S.written out.new) (S.faults out.new) result (codes "x = 3 - 1 ;") }
 {
     print(script, out)

@@ -10,11 +10,11 @@ use Rattle.mate_num.specs.declared.id.HandlerId.{HandlerId}
 use Rattle.mate_num.specs.declared.store.Store.{Store}
 use Rattle.mate_journal.specs.Log.{Log, IsSameLog, IsEmpty}
 use Rattle.mate_journal.specs.Machine.{Machine}
-use Rattle.mate_journal.specs.Journal.{Told, Posted, Dropped, Started, Asked, Answered, Ended, Installed, Reset, Seen, Void, Event, told_of, journal_of, Reading, heard, heard_all, AtEachEntry, AtEachPlace}
+use Rattle.mate_journal.specs.Journal.{JournalEntry, Posted, Dropped, Started, Asked, Answered, Ended, Installed, Reset, Seen, Void, TimedEntry, journal_entry, journal_of, NodeState, next_state, state_after_all, AtEachEntry, AtEachPlace}
 use Rattle.mate_journal.specs.WellFormed.{MayFollow, NotBefore, IsInTime, StampsRise, IsWellFormed}
 use Rattle.mate_journal.specs.Serial.{EndsAsRun, RunsSoFar, IsSerial}
 use Rattle.mate_journal.specs.Stores.{ShowsStore, SeenBeforeEras, ShowsStores, is_seen, IsSeenBefore}
-use Rattle.mate_journal.specs.Grants.{AllHeldBack, IsGranted, start_of, GrantsInOrder}
+use Rattle.mate_journal.specs.Grants.{AllHeldBack, IsGranted, started_number, GrantsInOrder}
 pub use Rattle.mate_journal.proofs.JournalLemmas.{heard_all-append}
 use Rattle.journal_laws.specs.Growth.{event_of, IsNamedBelow, AreNamedBelow, NamesInLog, IsPushed, AddsImage, AddsStore, last_stamp, FollowsLast, last_start, last_is_seen, BeforeEachEntry, GrantsBefore}
 use Rattle.mate_journal.specs.declared.entry.Entry.{Entry}
@@ -23,69 +23,69 @@ use Rattle.mate_journal.specs.declared.entry.Stamped.{Stamped}
 
 -- ---- what was heard
 
-pub heard_all-push : (m : Machine) (r : Reading) (es : List Event) (e : Event) → heard_all m r (es ++ e ∷ []) ≡ heard m (heard_all m r es) e.told
+pub heard_all-push : (m : Machine) (r : NodeState) (es : List TimedEntry) (e : TimedEntry) → state_after_all m r (es ++ e ∷ []) ≡ next_state m (state_after_all m r es) e.told
 heard_all-push m r es e = heard_all-append m r es (e ∷ [])
 
 -- ---- a rule for each entry
 
-pub AtEachEntry-append : (Rule : Reading → Told → Type 0) (m : Machine) (r : Reading) (es fs : List Event)
-    → AtEachEntry Rule m r es → AtEachEntry Rule m (heard_all m r es) fs → AtEachEntry Rule m r (es ++ fs)
+pub AtEachEntry-append : (Rule : NodeState → JournalEntry → Type 0) (m : Machine) (r : NodeState) (es fs : List TimedEntry)
+    → AtEachEntry Rule m r es → AtEachEntry Rule m (state_after_all m r es) fs → AtEachEntry Rule m r (es ++ fs)
 AtEachEntry-append Rule m r [] fs first then = then
-AtEachEntry-append Rule m r (e ∷ es) fs first then = (first.0, AtEachEntry-append Rule m (heard m r e.told) es fs first.1 then)
+AtEachEntry-append Rule m r (e ∷ es) fs first then = (first.0, AtEachEntry-append Rule m (next_state m r e.told) es fs first.1 then)
 
-pub AtEachEntry-push : (Rule : Reading → Told → Type 0) (m : Machine) (r : Reading) (es : List Event) (e : Event)
-    → AtEachEntry Rule m r es → Rule (heard_all m r es) e.told → AtEachEntry Rule m r (es ++ e ∷ [])
+pub AtEachEntry-push : (Rule : NodeState → JournalEntry → Type 0) (m : Machine) (r : NodeState) (es : List TimedEntry) (e : TimedEntry)
+    → AtEachEntry Rule m r es → Rule (state_after_all m r es) e.told → AtEachEntry Rule m r (es ++ e ∷ [])
 AtEachEntry-push Rule m r es e first last = AtEachEntry-append Rule m r es (e ∷ []) first (last, tt)
 
-pub AtEachEntry-front : (Rule : Reading → Told → Type 0) (m : Machine) (r : Reading) (es fs : List Event) → AtEachEntry Rule m r (es ++ fs) → AtEachEntry Rule m r es
+pub AtEachEntry-front : (Rule : NodeState → JournalEntry → Type 0) (m : Machine) (r : NodeState) (es fs : List TimedEntry) → AtEachEntry Rule m r (es ++ fs) → AtEachEntry Rule m r es
 AtEachEntry-front Rule m r [] fs all = tt
-AtEachEntry-front Rule m r (e ∷ es) fs all = (all.0, AtEachEntry-front Rule m (heard m r e.told) es fs all.1)
+AtEachEntry-front Rule m r (e ∷ es) fs all = (all.0, AtEachEntry-front Rule m (next_state m r e.told) es fs all.1)
 
-pub AtEachEntry-back : (Rule : Reading → Told → Type 0) (m : Machine) (r : Reading) (es fs : List Event) → AtEachEntry Rule m r (es ++ fs) → AtEachEntry Rule m (heard_all m r es) fs
+pub AtEachEntry-back : (Rule : NodeState → JournalEntry → Type 0) (m : Machine) (r : NodeState) (es fs : List TimedEntry) → AtEachEntry Rule m r (es ++ fs) → AtEachEntry Rule m (state_after_all m r es) fs
 AtEachEntry-back Rule m r [] fs all = all
-AtEachEntry-back Rule m r (e ∷ es) fs all = AtEachEntry-back Rule m (heard m r e.told) es fs all.1
+AtEachEntry-back Rule m r (e ∷ es) fs all = AtEachEntry-back Rule m (next_state m r e.told) es fs all.1
 
 -- ---- a fact at each place
 
-pub AtEachPlace-last : (Fact : Reading → Type 0) (m : Machine) (r : Reading) (es : List Event) → AtEachPlace Fact m r es → Fact (heard_all m r es)
+pub AtEachPlace-last : (Fact : NodeState → Type 0) (m : Machine) (r : NodeState) (es : List TimedEntry) → AtEachPlace Fact m r es → Fact (state_after_all m r es)
 AtEachPlace-last Fact m r [] all = all
-AtEachPlace-last Fact m r (e ∷ es) all = AtEachPlace-last Fact m (heard m r e.told) es all.1
+AtEachPlace-last Fact m r (e ∷ es) all = AtEachPlace-last Fact m (next_state m r e.told) es all.1
 
-pub AtEachPlace-before : (Fact : Reading → Type 0) (m : Machine) (r : Reading) (es : List Event) → AtEachPlace Fact m r es → BeforeEachEntry Fact m r es
+pub AtEachPlace-before : (Fact : NodeState → Type 0) (m : Machine) (r : NodeState) (es : List TimedEntry) → AtEachPlace Fact m r es → BeforeEachEntry Fact m r es
 AtEachPlace-before Fact m r [] all = tt
-AtEachPlace-before Fact m r (e ∷ es) all = (all.0, AtEachPlace-before Fact m (heard m r e.told) es all.1)
+AtEachPlace-before Fact m r (e ∷ es) all = (all.0, AtEachPlace-before Fact m (next_state m r e.told) es all.1)
 
-pub AtEachPlace-join : (Fact : Reading → Type 0) (m : Machine) (r : Reading) (es : List Event) → BeforeEachEntry Fact m r es → Fact (heard_all m r es) → AtEachPlace Fact m r es
+pub AtEachPlace-join : (Fact : NodeState → Type 0) (m : Machine) (r : NodeState) (es : List TimedEntry) → BeforeEachEntry Fact m r es → Fact (state_after_all m r es) → AtEachPlace Fact m r es
 AtEachPlace-join Fact m r [] before last = last
-AtEachPlace-join Fact m r (e ∷ es) before last = (before.0, AtEachPlace-join Fact m (heard m r e.told) es before.1 last)
+AtEachPlace-join Fact m r (e ∷ es) before last = (before.0, AtEachPlace-join Fact m (next_state m r e.told) es before.1 last)
 
-pub AtEachPlace-append : (Fact : Reading → Type 0) (m : Machine) (r : Reading) (es fs : List Event)
-    → AtEachPlace Fact m r es → AtEachPlace Fact m (heard_all m r es) fs → AtEachPlace Fact m r (es ++ fs)
+pub AtEachPlace-append : (Fact : NodeState → Type 0) (m : Machine) (r : NodeState) (es fs : List TimedEntry)
+    → AtEachPlace Fact m r es → AtEachPlace Fact m (state_after_all m r es) fs → AtEachPlace Fact m r (es ++ fs)
 AtEachPlace-append Fact m r [] fs first then = then
-AtEachPlace-append Fact m r (e ∷ es) fs first then = (first.0, AtEachPlace-append Fact m (heard m r e.told) es fs first.1 then)
+AtEachPlace-append Fact m r (e ∷ es) fs first then = (first.0, AtEachPlace-append Fact m (next_state m r e.told) es fs first.1 then)
 
-pub AtEachPlace-push : (Fact : Reading → Type 0) (m : Machine) (r : Reading) (es : List Event) (e : Event)
-    → AtEachPlace Fact m r es → Fact (heard m (heard_all m r es) e.told) → AtEachPlace Fact m r (es ++ e ∷ [])
+pub AtEachPlace-push : (Fact : NodeState → Type 0) (m : Machine) (r : NodeState) (es : List TimedEntry) (e : TimedEntry)
+    → AtEachPlace Fact m r es → Fact (next_state m (state_after_all m r es) e.told) → AtEachPlace Fact m r (es ++ e ∷ [])
 AtEachPlace-push Fact m r es e first last = AtEachPlace-append Fact m r es (e ∷ []) first (AtEachPlace-last Fact m r es first, last)
 
-pub AtEachPlace-back : (Fact : Reading → Type 0) (m : Machine) (r : Reading) (es fs : List Event) → AtEachPlace Fact m r (es ++ fs) → AtEachPlace Fact m (heard_all m r es) fs
+pub AtEachPlace-back : (Fact : NodeState → Type 0) (m : Machine) (r : NodeState) (es fs : List TimedEntry) → AtEachPlace Fact m r (es ++ fs) → AtEachPlace Fact m (state_after_all m r es) fs
 AtEachPlace-back Fact m r [] fs all = all
-AtEachPlace-back Fact m r (e ∷ es) fs all = AtEachPlace-back Fact m (heard m r e.told) es fs all.1
+AtEachPlace-back Fact m r (e ∷ es) fs all = AtEachPlace-back Fact m (next_state m r e.told) es fs all.1
 
 -- ---- stamps
 
-pub IsInTime-append : (before : Stamp) (es fs : List Event) → IsInTime before es → IsInTime (last_stamp before es) fs → IsInTime before (es ++ fs)
+pub IsInTime-append : (before : Stamp) (es fs : List TimedEntry) → IsInTime before es → IsInTime (last_stamp before es) fs → IsInTime before (es ++ fs)
 IsInTime-append before [] fs first then = then
 IsInTime-append before (e ∷ es) fs first then = (first.0, IsInTime-append e.stamp es fs first.1 then)
 
-pub IsInTime-push : (before : Stamp) (es : List Event) (e : Event) → IsInTime before es → NotBefore (last_stamp before es) e.stamp → IsInTime before (es ++ e ∷ [])
+pub IsInTime-push : (before : Stamp) (es : List TimedEntry) (e : TimedEntry) → IsInTime before es → NotBefore (last_stamp before es) e.stamp → IsInTime before (es ++ e ∷ [])
 IsInTime-push before es e first last = IsInTime-append before es (e ∷ []) first (last, tt)
 
-pub last_stamp-append : (before : Stamp) (es fs : List Event) → last_stamp before (es ++ fs) ≡ last_stamp (last_stamp before es) fs
+pub last_stamp-append : (before : Stamp) (es fs : List TimedEntry) → last_stamp before (es ++ fs) ≡ last_stamp (last_stamp before es) fs
 last_stamp-append before [] fs = refl
 last_stamp-append before (e ∷ es) fs = last_stamp-append e.stamp es fs
 
-pub last_stamp-push : (before : Stamp) (es : List Event) (e : Event) → last_stamp before (es ++ e ∷ []) ≡ e.stamp
+pub last_stamp-push : (before : Stamp) (es : List TimedEntry) (e : TimedEntry) → last_stamp before (es ++ e ∷ []) ≡ e.stamp
 last_stamp-push before es e = last_stamp-append before es (e ∷ [])
 
 -- before any stamp there is event 0 at time 0
@@ -95,30 +95,30 @@ start = record { event = 0; time = 0 }
 pub NotBefore-same : (at : Stamp) → NotBefore at at
 NotBefore-same at = record { event = omega arith; time = omega arith; same = λ _. refl }
 
-pub StampsRise-push : (es : List Event) (e : Event) → StampsRise es → FollowsLast es e.stamp → StampsRise (es ++ e ∷ [])
+pub StampsRise-push : (es : List TimedEntry) (e : TimedEntry) → StampsRise es → FollowsLast es e.stamp → StampsRise (es ++ e ∷ [])
 StampsRise-push [] e rise last = tt
 StampsRise-push (x ∷ es) e rise last = IsInTime-push x.stamp es e rise last
 
 -- the last one's own stamp may come again
-pub FollowsLast-push : (es : List Event) (e : Event) → FollowsLast (es ++ e ∷ []) e.stamp
+pub FollowsLast-push : (es : List TimedEntry) (e : TimedEntry) → FollowsLast (es ++ e ∷ []) e.stamp
 FollowsLast-push [] e = NotBefore-same e.stamp
 FollowsLast-push (x ∷ es) e =
     let P : Stamp → Type 0 = λ last. NotBefore last e.stamp in
     subst P (sym (last_stamp-push x.stamp es e)) (NotBefore-same e.stamp)
 
-pub FollowsLast-from : (es : List Event) (at : Stamp) → NotBefore (last_stamp start es) at → FollowsLast es at
+pub FollowsLast-from : (es : List TimedEntry) (at : Stamp) → NotBefore (last_stamp start es) at → FollowsLast es at
 FollowsLast-from [] at last = tt
 FollowsLast-from (e ∷ es) at last = last
 
 -- one that may come after whatever another may come after
-pub FollowsLast-later : (es : List Event) (a b : Stamp) → ((last : Stamp) → NotBefore last a → NotBefore last b) → FollowsLast es a → FollowsLast es b
+pub FollowsLast-later : (es : List TimedEntry) (a b : Stamp) → ((last : Stamp) → NotBefore last a → NotBefore last b) → FollowsLast es a → FollowsLast es b
 FollowsLast-later [] a b later last = tt
 FollowsLast-later (e ∷ es) a b later last = later (last_stamp e.stamp es) last
 
 -- ---- stores seen before eras
 
 -- one entry in front
-SeenBeforeEras-cons : (seen : Bool) (stamp : Stamp) (told : Told) (es : List Event) → IsSeenBefore seen told → SeenBeforeEras (is_seen told) es
+SeenBeforeEras-cons : (seen : Bool) (stamp : Stamp) (told : JournalEntry) (es : List TimedEntry) → IsSeenBefore seen told → SeenBeforeEras (is_seen told) es
     → SeenBeforeEras seen (record { stamp = stamp; told = told } ∷ es)
 SeenBeforeEras-cons seen stamp (Posted n h c payload) es here then = (tt, then)
 SeenBeforeEras-cons seen stamp (Dropped h cause) es here then = (tt, then)
@@ -131,7 +131,7 @@ SeenBeforeEras-cons seen stamp Reset es here then = (here, then)
 SeenBeforeEras-cons seen stamp (Seen store) es here then = (tt, then)
 SeenBeforeEras-cons seen stamp (Void cause) es here then = (tt, then)
 
-SeenBeforeEras-first : (seen : Bool) (stamp : Stamp) (told : Told) (es : List Event)
+SeenBeforeEras-first : (seen : Bool) (stamp : Stamp) (told : JournalEntry) (es : List TimedEntry)
     → SeenBeforeEras seen (record { stamp = stamp; told = told } ∷ es) → IsSeenBefore seen told × SeenBeforeEras (is_seen told) es
 SeenBeforeEras-first seen stamp (Posted n h c payload) es all = (tt, all.1)
 SeenBeforeEras-first seen stamp (Dropped h cause) es all = (tt, all.1)
@@ -144,86 +144,86 @@ SeenBeforeEras-first seen stamp Reset es all = (all.0, all.1)
 SeenBeforeEras-first seen stamp (Seen store) es all = (tt, all.1)
 SeenBeforeEras-first seen stamp (Void cause) es all = (tt, all.1)
 
-pub SeenBeforeEras-append : (seen : Bool) (es fs : List Event) → SeenBeforeEras seen es → SeenBeforeEras (last_is_seen seen es) fs → SeenBeforeEras seen (es ++ fs)
+pub SeenBeforeEras-append : (seen : Bool) (es fs : List TimedEntry) → SeenBeforeEras seen es → SeenBeforeEras (last_is_seen seen es) fs → SeenBeforeEras seen (es ++ fs)
 SeenBeforeEras-append seen [] fs first then = then
 SeenBeforeEras-append seen (e ∷ es) fs first then =
     let parts = SeenBeforeEras-first seen e.stamp e.told es first in
     SeenBeforeEras-cons seen e.stamp e.told (es ++ fs) parts.0 (SeenBeforeEras-append (is_seen e.told) es fs parts.1 then)
 
-pub SeenBeforeEras-push : (seen : Bool) (es : List Event) (e : Event) → SeenBeforeEras seen es → IsSeenBefore (last_is_seen seen es) e.told → SeenBeforeEras seen (es ++ e ∷ [])
+pub SeenBeforeEras-push : (seen : Bool) (es : List TimedEntry) (e : TimedEntry) → SeenBeforeEras seen es → IsSeenBefore (last_is_seen seen es) e.told → SeenBeforeEras seen (es ++ e ∷ [])
 SeenBeforeEras-push seen es e first last =
     SeenBeforeEras-append seen es (e ∷ []) first (SeenBeforeEras-cons (last_is_seen seen es) e.stamp e.told [] last tt)
 
-pub last_is_seen-append : (seen : Bool) (es fs : List Event) → last_is_seen seen (es ++ fs) ≡ last_is_seen (last_is_seen seen es) fs
+pub last_is_seen-append : (seen : Bool) (es fs : List TimedEntry) → last_is_seen seen (es ++ fs) ≡ last_is_seen (last_is_seen seen es) fs
 last_is_seen-append seen [] fs = refl
 last_is_seen-append seen (e ∷ es) fs = last_is_seen-append (is_seen e.told) es fs
 
-pub last_is_seen-push : (seen : Bool) (es : List Event) (e : Event) → last_is_seen seen (es ++ e ∷ []) ≡ is_seen e.told
+pub last_is_seen-push : (seen : Bool) (es : List TimedEntry) (e : TimedEntry) → last_is_seen seen (es ++ e ∷ []) ≡ is_seen e.told
 last_is_seen-push seen es e = last_is_seen-append seen es (e ∷ [])
 
 -- ---- grants
 
-pub GrantsBefore-append : (m : Machine) (r : Reading) (last : ℕ) (es fs : List Event)
-    → GrantsBefore m r last es → GrantsBefore m (heard_all m r es) (last_start last es) fs → GrantsBefore m r last (es ++ fs)
+pub GrantsBefore-append : (m : Machine) (r : NodeState) (last : ℕ) (es fs : List TimedEntry)
+    → GrantsBefore m r last es → GrantsBefore m (state_after_all m r es) (last_start last es) fs → GrantsBefore m r last (es ++ fs)
 GrantsBefore-append m r last [] fs first then = then
-GrantsBefore-append m r last (e ∷ es) fs first then = (first.0, GrantsBefore-append m (heard m r e.told) (start_of e.told) es fs first.1 then)
+GrantsBefore-append m r last (e ∷ es) fs first then = (first.0, GrantsBefore-append m (next_state m r e.told) (started_number e.told) es fs first.1 then)
 
-pub GrantsBefore-push : (m : Machine) (r : Reading) (last : ℕ) (es : List Event) (e : Event)
-    → GrantsBefore m r last es → IsGranted m (heard_all m r es) (last_start last es) e.told → GrantsBefore m r last (es ++ e ∷ [])
+pub GrantsBefore-push : (m : Machine) (r : NodeState) (last : ℕ) (es : List TimedEntry) (e : TimedEntry)
+    → GrantsBefore m r last es → IsGranted m (state_after_all m r es) (last_start last es) e.told → GrantsBefore m r last (es ++ e ∷ [])
 GrantsBefore-push m r last es e first here = GrantsBefore-append m r last es (e ∷ []) first (here, tt)
 
 -- the rule along a journal is the rule before each entry, and at the end
-pub GrantsInOrder-join : (m : Machine) (r : Reading) (last : ℕ) (es : List Event) → GrantsBefore m r last es → AllHeldBack m (heard_all m r es) → GrantsInOrder m r last es
+pub GrantsInOrder-join : (m : Machine) (r : NodeState) (last : ℕ) (es : List TimedEntry) → GrantsBefore m r last es → AllHeldBack m (state_after_all m r es) → GrantsInOrder m r last es
 GrantsInOrder-join m r last [] before held = held
-GrantsInOrder-join m r last (e ∷ es) before held = (before.0, GrantsInOrder-join m (heard m r e.told) (start_of e.told) es before.1 held)
+GrantsInOrder-join m r last (e ∷ es) before held = (before.0, GrantsInOrder-join m (next_state m r e.told) (started_number e.told) es before.1 held)
 
-pub GrantsInOrder-before : (m : Machine) (r : Reading) (last : ℕ) (es : List Event) → GrantsInOrder m r last es → GrantsBefore m r last es
+pub GrantsInOrder-before : (m : Machine) (r : NodeState) (last : ℕ) (es : List TimedEntry) → GrantsInOrder m r last es → GrantsBefore m r last es
 GrantsInOrder-before m r last [] all = tt
-GrantsInOrder-before m r last (e ∷ es) all = (all.0, GrantsInOrder-before m (heard m r e.told) (start_of e.told) es all.1)
+GrantsInOrder-before m r last (e ∷ es) all = (all.0, GrantsInOrder-before m (next_state m r e.told) (started_number e.told) es all.1)
 
-pub GrantsInOrder-last : (m : Machine) (r : Reading) (last : ℕ) (es : List Event) → GrantsInOrder m r last es → AllHeldBack m (heard_all m r es)
+pub GrantsInOrder-last : (m : Machine) (r : NodeState) (last : ℕ) (es : List TimedEntry) → GrantsInOrder m r last es → AllHeldBack m (state_after_all m r es)
 GrantsInOrder-last m r last [] all = all
-GrantsInOrder-last m r last (e ∷ es) all = GrantsInOrder-last m (heard m r e.told) (start_of e.told) es all.1
+GrantsInOrder-last m r last (e ∷ es) all = GrantsInOrder-last m (next_state m r e.told) (started_number e.told) es all.1
 
-pub GrantsBefore-front : (m : Machine) (r : Reading) (last : ℕ) (es fs : List Event) → GrantsBefore m r last (es ++ fs) → GrantsBefore m r last es
+pub GrantsBefore-front : (m : Machine) (r : NodeState) (last : ℕ) (es fs : List TimedEntry) → GrantsBefore m r last (es ++ fs) → GrantsBefore m r last es
 GrantsBefore-front m r last [] fs all = tt
-GrantsBefore-front m r last (e ∷ es) fs all = (all.0, GrantsBefore-front m (heard m r e.told) (start_of e.told) es fs all.1)
+GrantsBefore-front m r last (e ∷ es) fs all = (all.0, GrantsBefore-front m (next_state m r e.told) (started_number e.told) es fs all.1)
 
-pub GrantsBefore-back : (m : Machine) (r : Reading) (last : ℕ) (es fs : List Event) → GrantsBefore m r last (es ++ fs) → GrantsBefore m (heard_all m r es) (last_start last es) fs
+pub GrantsBefore-back : (m : Machine) (r : NodeState) (last : ℕ) (es fs : List TimedEntry) → GrantsBefore m r last (es ++ fs) → GrantsBefore m (state_after_all m r es) (last_start last es) fs
 GrantsBefore-back m r last [] fs all = all
-GrantsBefore-back m r last (e ∷ es) fs all = GrantsBefore-back m (heard m r e.told) (start_of e.told) es fs all.1
+GrantsBefore-back m r last (e ∷ es) fs all = GrantsBefore-back m (next_state m r e.told) (started_number e.told) es fs all.1
 
-pub last_start-append : (last : ℕ) (es fs : List Event) → last_start last (es ++ fs) ≡ last_start (last_start last es) fs
+pub last_start-append : (last : ℕ) (es fs : List TimedEntry) → last_start last (es ++ fs) ≡ last_start (last_start last es) fs
 last_start-append last [] fs = refl
-last_start-append last (e ∷ es) fs = last_start-append (start_of e.told) es fs
+last_start-append last (e ∷ es) fs = last_start-append (started_number e.told) es fs
 
-pub last_start-push : (last : ℕ) (es : List Event) (e : Event) → last_start last (es ++ e ∷ []) ≡ start_of e.told
+pub last_start-push : (last : ℕ) (es : List TimedEntry) (e : TimedEntry) → last_start last (es ++ e ∷ []) ≡ started_number e.told
 last_start-push last es e = last_start-append last es (e ∷ [])
 
 -- ---- whole journals
 
-pub IsWellFormed-push : (m : Machine) (r : Reading) (es : List Event) (e : Event)
-    → IsWellFormed m r es → FollowsLast es e.stamp → MayFollow m (heard_all m r es) e.told → IsWellFormed m r (es ++ e ∷ [])
+pub IsWellFormed-push : (m : Machine) (r : NodeState) (es : List TimedEntry) (e : TimedEntry)
+    → IsWellFormed m r es → FollowsLast es e.stamp → MayFollow m (state_after_all m r es) e.told → IsWellFormed m r (es ++ e ∷ [])
 IsWellFormed-push m r es e right time follows = record {
   in_time = StampsRise-push es e right.in_time time;
   follow = AtEachEntry-push (MayFollow m) m r es e right.follow follows;
 }
 
-pub IsSerial-push : (m : Machine) (r : Reading) (es : List Event) (e : Event)
-    → IsSerial m r es → EndsAsRun m (heard_all m r es) e.told → RunsSoFar m (heard m (heard_all m r es) e.told) → IsSerial m r (es ++ e ∷ [])
+pub IsSerial-push : (m : Machine) (r : NodeState) (es : List TimedEntry) (e : TimedEntry)
+    → IsSerial m r es → EndsAsRun m (state_after_all m r es) e.told → RunsSoFar m (next_state m (state_after_all m r es) e.told) → IsSerial m r (es ++ e ∷ [])
 IsSerial-push m r es e serial ends runs = record {
   ends = AtEachEntry-push (EndsAsRun m) m r es e serial.ends ends;
   so_far = AtEachPlace-push (RunsSoFar m) m r es e serial.so_far runs;
 }
 
-pub IsSerial-append : (m : Machine) (r : Reading) (es fs : List Event) → IsSerial m r es → IsSerial m (heard_all m r es) fs → IsSerial m r (es ++ fs)
+pub IsSerial-append : (m : Machine) (r : NodeState) (es fs : List TimedEntry) → IsSerial m r es → IsSerial m (state_after_all m r es) fs → IsSerial m r (es ++ fs)
 IsSerial-append m r es fs first then = record {
   ends = AtEachEntry-append (EndsAsRun m) m r es fs first.ends then.ends;
   so_far = AtEachPlace-append (RunsSoFar m) m r es fs first.so_far then.so_far;
 }
 
-pub ShowsStores-push : (m : Machine) (r : Reading) (es : List Event) (e : Event)
-    → ShowsStores m r es → ShowsStore m (heard_all m r es) e.told → IsSeenBefore (last_is_seen false es) e.told → ShowsStores m r (es ++ e ∷ [])
+pub ShowsStores-push : (m : Machine) (r : NodeState) (es : List TimedEntry) (e : TimedEntry)
+    → ShowsStores m r es → ShowsStore m (state_after_all m r es) e.told → IsSeenBefore (last_is_seen false es) e.told → ShowsStores m r (es ++ e ∷ [])
 ShowsStores-push m r es e shows shown before = record {
   shown = AtEachEntry-push (ShowsStore m) m r es e shows.shown shown;
   before_eras = SeenBeforeEras-push false es e shows.before_eras before;
@@ -231,7 +231,7 @@ ShowsStores-push m r es e shows shown before = record {
 
 -- ---- the journal of a log
 
-abbrev events_of : Log → List Stamped → List Event
+abbrev events_of : Log → List Stamped → List TimedEntry
 events_of l entries = map (λ s. event_of l s) entries
 
 -- the images and stores of a log stand in front of those of another
@@ -244,7 +244,7 @@ record IsLonger (l after : Log) : Type 0 where
 at_longer : {A : Type 0} (xs ys more : List A) (d : A) (n : ℕ) → ys ≡ xs ++ more → n < length xs → slice_index_or ys n d ≡ slice_index_or xs n d
 at_longer {A} xs ys more d n is below = subst (λ (zs : List A). slice_index_or zs n d ≡ slice_index_or xs n d) (sym is) (get_or-append xs more d n below)
 
-told_of-longer : (l after : Log) (e : Entry) → IsLonger l after → IsNamedBelow (length l.images) (length l.stores) e → told_of after e ≡ told_of l e
+told_of-longer : (l after : Log) (e : Entry) → IsLonger l after → IsNamedBelow (length l.images) (length l.stores) e → journal_entry after e ≡ journal_entry l e
 told_of-longer l after (entry.Post n h c payload) longer named = refl
 told_of-longer l after (entry.Dropped h cause) longer named = refl
 told_of-longer l after (entry.Start n) longer named = refl
@@ -263,11 +263,11 @@ told_of-longer l after (entry.Void cause) longer named = refl
 events_of-longer : (l after : Log) (entries : List Stamped) → IsLonger l after → AreNamedBelow (length l.images) (length l.stores) entries → events_of after entries ≡ events_of l entries
 events_of-longer l after [] longer named = refl
 events_of-longer l after (s ∷ entries) longer named =
-    ap (λ (told : Told). record { stamp = s.stamp; told = told } ∷ events_of after entries) (told_of-longer l after s.entry longer named.0)
-    ∙ ap (λ (es : List Event). event_of l s ∷ es) (events_of-longer l after entries longer named.1)
+    ap (λ (told : JournalEntry). record { stamp = s.stamp; told = told } ∷ events_of after entries) (told_of-longer l after s.entry longer named.0)
+    ∙ ap (λ (es : List TimedEntry). event_of l s ∷ es) (events_of-longer l after entries longer named.1)
 
 -- a log that has the same images and stores tells the same of each entry
-told_of-same : (l after : Log) (e : Entry) → after.images ≡ l.images → after.stores ≡ l.stores → told_of after e ≡ told_of l e
+told_of-same : (l after : Log) (e : Entry) → after.images ≡ l.images → after.stores ≡ l.stores → journal_entry after e ≡ journal_entry l e
 told_of-same l after (entry.Post n h c payload) images stores = refl
 told_of-same l after (entry.Dropped h cause) images stores = refl
 told_of-same l after (entry.Start n) images stores = refl
@@ -285,8 +285,8 @@ told_of-same l after (entry.Void cause) images stores = refl
 events_of-same : (l after : Log) (entries : List Stamped) → after.images ≡ l.images → after.stores ≡ l.stores → events_of after entries ≡ events_of l entries
 events_of-same l after [] images stores = refl
 events_of-same l after (s ∷ entries) images stores =
-    ap (λ (told : Told). record { stamp = s.stamp; told = told } ∷ events_of after entries) (told_of-same l after s.entry images stores)
-    ∙ ap (λ (es : List Event). event_of l s ∷ es) (events_of-same l after entries images stores)
+    ap (λ (told : JournalEntry). record { stamp = s.stamp; told = told } ∷ events_of after entries) (told_of-same l after s.entry images stores)
+    ∙ ap (λ (es : List TimedEntry). event_of l s ∷ es) (events_of-same l after entries images stores)
 
 -- one more entry tells one more event
 pub journal_of-push : (l : Log) (s : Stamped) (after : Log) → IsPushed l s after → journal_of after ≡ journal_of l ++ event_of l s ∷ []

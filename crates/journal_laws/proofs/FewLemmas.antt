@@ -10,12 +10,12 @@ use Rattle.mate_num.specs.declared.call.End.{End}
 use Rattle.mate_num.specs.declared.call.End.TheVariants as end
 use Rattle.mate_num.specs.declared.id.HandlerId.{HandlerId}
 use Rattle.mate_journal.specs.Machine.{Machine, HeldProgram}
-use Rattle.mate_journal.specs.Journal.{Told, Posted, Dropped, Started, Asked, Answered, Ended, Installed, Reset, Seen, Void, Event, Phase, Unposted, Queued, Ready, Waiting, Over, is_live, Invocation, Reading, nothing_heard, heard, heard_all, heard_told, told_by, whole_run, AtEachEntry}
+use Rattle.mate_journal.specs.Journal.{JournalEntry, Posted, Dropped, Started, Asked, Answered, Ended, Installed, Reset, Seen, Void, TimedEntry, Phase, Unposted, Queued, Ready, Waiting, Over, is_live, Invocation, NodeState, first_state, next_state, state_after_all, state_after_entries, untimed, whole_run, AtEachEntry}
 use Rattle.mate_journal.specs.WellFormed.{MayFollow}
 use Rattle.mate_journal.specs.Grants.{IsStart}
 use Rattle.mate_journal.specs.Pace.{Pace, no_pace}
 use Rattle.mate_journal.specs.Turns.{entry_at, Turn, IsTurn, mark_of, after_turn, AreTurns, told_in}
-use Rattle.mate_journal.specs.NodeScript.{Step, Install, Post, StepIn, Run, Answer, Show, ResetNode, Occasion, Installs, IsNotNewer, Answers, IsNotWaiting, Makes, HaveMade}
+use Rattle.mate_journal.specs.NodeScript.{Step, Install, Post, StepIn, Run, Answer, Show, ResetNode, Occasion, Installs, IsNotNewer, AnswersCall, IsNotWaiting, Makes, HaveMade}
 use Rattle.mate_journal.specs.declared.report.TheConstants.{RECORDS_MAX}
 use Rattle.mate_journal.proofs.JournalLemmas.{told_by-append}
 use Rattle.journal_laws.proofs.Moves.{Moves, Joins, started-Moves, asked-Moves, answered-Moves, ended-Moves, posted-Joins}
@@ -23,21 +23,21 @@ use Rattle.journal_laws.proofs.Apart.{IsNumbered, live_posted, numbered-step, no
 
 -- ---- entries from outside
 
-abbrev from_outside : Told → ℕ
+abbrev from_outside : JournalEntry → ℕ
 from_outside (Started n) = 0
 from_outside (Asked n f args) = 0
 from_outside (Ended n how) = 0
 from_outside _ = 1
 
-abbrev outside : List Told → ℕ
+abbrev outside : List JournalEntry → ℕ
 outside [] = 0
 outside (t ∷ ts) = from_outside t + outside ts
 
-outside-append : (ts more : List Told) → outside (ts ++ more) ≡ outside ts + outside more
+outside-append : (ts more : List JournalEntry) → outside (ts ++ more) ≡ outside ts + outside more
 outside-append [] more = omega arith
 outside-append (t ∷ ts) more = let h = outside-append ts more in omega (arith, h)
 
-one-at_most : (t : Told) → from_outside t ≤ 1
+one-at_most : (t : JournalEntry) → from_outside t ≤ 1
 one-at_most (Started n) = omega arith
 one-at_most (Asked n f args) = omega arith
 one-at_most (Ended n how) = omega arith
@@ -49,7 +49,7 @@ one-at_most Reset = omega arith
 one-at_most (Seen store) = omega arith
 one-at_most (Void cause) = omega arith
 
-outside-all : (es : List Event) → outside (told_by es) ≤ length es
+outside-all : (es : List TimedEntry) → outside (untimed es) ≤ length es
 outside-all [] = omega arith
 outside-all (e ∷ es) = let h = outside-all es in let one = one-at_most e.told in omega (arith, h, one)
 
@@ -89,14 +89,14 @@ total-moved f g (suc n) k below others = elim (eqb_tells n k) [ inl t ↦ here t
   there : n ≢ k → total g n + f k ≡ total f n + g k → total g (suc n) + f k ≡ total f (suc n) + g k
   there other h = let last = others n other in omega (arith, h, last)
 
-abbrev pub left_at : Reading → ℕ → ℕ
+abbrev pub left_at : NodeState → ℕ → ℕ
 left_at r n = entries_left (r.invocations n).phase
 
-abbrev owing : Reading → ℕ
+abbrev owing : NodeState → ℕ
 owing r = total (left_at r) (suc r.posts)
 
 -- an invocation moves
-owing-moves : (r s : Reading) (n : ℕ) (phase was : Phase) → Moves r s n phase → (r.invocations n).phase ≡ was → n ≤ r.posts → owing s + entries_left was ≡ owing r + entries_left phase
+owing-moves : (r s : NodeState) (n : ℕ) (phase was : Phase) → Moves r s n phase → (r.invocations n).phase ≡ was → n ≤ r.posts → owing s + entries_left was ≡ owing r + entries_left phase
 owing-moves r s n phase was moves is posted =
     let moved = total-moved (left_at r) (left_at s) (suc r.posts) n (omega (arith, posted)) (λ j other. ap (λ (i : Invocation). entries_left i.phase) (moves.others j other)) in
     let before : left_at r n ≡ entries_left was = ap entries_left is in
@@ -105,7 +105,7 @@ owing-moves r s n phase was moves is posted =
     omega (arith, moved, before, after, posts)
 
 -- one is posted
-owing-joins : (r s : Reading) (n : ℕ) → Joins r s n → n ≡ suc r.posts → owing s ≡ owing r + 2
+owing-joins : (r s : NodeState) (n : ℕ) → Joins r s n → n ≡ suc r.posts → owing s ≡ owing r + 2
 owing-joins r s n joins next =
     let same = total-same (left_at r) (left_at s) (suc r.posts) (λ j below. ap (λ (i : Invocation). entries_left i.phase) (joins.others j (λ e. omega (arith, below, next, e)))) in
     let here : left_at s n ≡ 2 = ap entries_left joins.here in
@@ -120,38 +120,38 @@ cut-entries_left Ready = omega arith
 cut-entries_left (Waiting f args) = omega arith
 cut-entries_left Over = omega arith
 
-live : (r : Reading) (n : ℕ) (phase : Phase) → IsNumbered r → (r.invocations n).phase ≡ phase → is_live phase ≡ true → n ≤ r.posts
+live : (r : NodeState) (n : ℕ) (phase : Phase) → IsNumbered r → (r.invocations n).phase ≡ phase → is_live phase ≡ true → n ≤ r.posts
 live r n phase numbered is lives = live_posted r n numbered (ap is_live is ∙ lives)
 
-owing-step : (m : Machine) (r : Reading) (t : Told) → MayFollow m r t → IsNumbered r → 1 + owing (heard m r t) ≤ 3 * from_outside t + owing r
-owing-step m r (Posted n h c payload) follows numbered = let e = owing-joins r (heard m r (Posted n h c payload)) n (posted-Joins m r n h c payload) follows.0 in omega (arith, e)
+owing-step : (m : Machine) (r : NodeState) (t : JournalEntry) → MayFollow m r t → IsNumbered r → 1 + owing (next_state m r t) ≤ 3 * from_outside t + owing r
+owing-step m r (Posted n h c payload) follows numbered = let e = owing-joins r (next_state m r (Posted n h c payload)) n (posted-Joins m r n h c payload) follows.0 in omega (arith, e)
 owing-step m r (Dropped h cause) follows numbered = omega arith
 owing-step m r (Started n) follows numbered =
-    let e = owing-moves r (heard m r (Started n)) n Ready Queued (started-Moves m r n) follows (live r n Queued numbered follows refl) in omega (arith, e)
+    let e = owing-moves r (next_state m r (Started n)) n Ready Queued (started-Moves m r n) follows (live r n Queued numbered follows refl) in omega (arith, e)
 owing-step m r (Asked n f args) follows numbered =
-    let e = owing-moves r (heard m r (Asked n f args)) n (Waiting f args) Ready (asked-Moves m r n f args) follows (live r n Ready numbered follows refl) in omega (arith, e)
+    let e = owing-moves r (next_state m r (Asked n f args)) n (Waiting f args) Ready (asked-Moves m r n f args) follows (live r n Ready numbered follows refl) in omega (arith, e)
 owing-step m r (Answered n value) follows numbered =
-    let e = owing-moves r (heard m r (Answered n value)) n Ready (Waiting follows.fun follows.args) (answered-Moves m r n value) follows.waits (live r n (Waiting follows.fun follows.args) numbered follows.waits refl) in omega (arith, e)
+    let e = owing-moves r (next_state m r (Answered n value)) n Ready (Waiting follows.fun follows.args) (answered-Moves m r n value) follows.waits (live r n (Waiting follows.fun follows.args) numbered follows.waits refl) in omega (arith, e)
 owing-step m r (Ended n how) follows numbered =
-    let e = owing-moves r (heard m r (Ended n how)) n Over Ready (ended-Moves m r n how) follows.0 (live r n Ready numbered follows.0 refl) in omega (arith, e)
-owing-step m r (Installed p) follows numbered = let e = total-below (left_at r) (left_at (heard m r (Installed p))) (suc r.posts) (λ k. cut-entries_left (r.invocations k).phase) in omega (arith, e)
-owing-step m r Reset follows numbered = let e = total-below (left_at r) (left_at (heard m r Reset)) (suc r.posts) (λ k. cut-entries_left (r.invocations k).phase) in omega (arith, e)
+    let e = owing-moves r (next_state m r (Ended n how)) n Over Ready (ended-Moves m r n how) follows.0 (live r n Ready numbered follows.0 refl) in omega (arith, e)
+owing-step m r (Installed p) follows numbered = let e = total-below (left_at r) (left_at (next_state m r (Installed p))) (suc r.posts) (λ k. cut-entries_left (r.invocations k).phase) in omega (arith, e)
+owing-step m r Reset follows numbered = let e = total-below (left_at r) (left_at (next_state m r Reset)) (suc r.posts) (λ k. cut-entries_left (r.invocations k).phase) in omega (arith, e)
 owing-step m r (Seen store) follows numbered = omega arith
 owing-step m r (Void cause) follows numbered = omega arith
 
 -- each entry from outside is followed by two others at most
-owing-all : (m : Machine) (r : Reading) (es : List Event) → AtEachEntry (MayFollow m) m r es → IsNumbered r → length es ≤ 3 * outside (told_by es) + owing r
+owing-all : (m : Machine) (r : NodeState) (es : List TimedEntry) → AtEachEntry (MayFollow m) m r es → IsNumbered r → length es ≤ 3 * outside (untimed es) + owing r
 owing-all m r [] follow numbered = omega arith
 owing-all m r (e ∷ es) follow numbered =
-    let h = owing-all m (heard m r e.told) es follow.1 (numbered-step m r e.told follow.0 numbered) in
+    let h = owing-all m (next_state m r e.told) es follow.1 (numbered-step m r e.told follow.0 numbered) in
     let one = owing-step m r e.told follow.0 numbered in omega (arith, h, one)
 
 -- ---- what a step brings from outside
 
-starts-inside : (ts : List Told) → All IsStart ts → outside ts ≡ 0
+starts-inside : (ts : List JournalEntry) → All IsStart ts → outside ts ≡ 0
 starts-inside [] all = refl
 starts-inside (t ∷ ts) all = let h = starts-inside ts (All-tail IsStart t ts all) in let one = by t (All-head IsStart t ts all) in omega (arith, h, one) where
-  by : (t : Told) → IsStart t → from_outside t ≡ 0
+  by : (t : JournalEntry) → IsStart t → from_outside t ≡ 0
   by (Started n) is = refl
   by (Posted n h c payload) is = absurd is
   by (Dropped h cause) is = absurd is
@@ -168,30 +168,30 @@ entry-inside n end.Halt = refl
 entry-inside n (end.Fault kind) = refl
 entry-inside n (end.Wants f args) = refl
 
-turn-inside : (m : Machine) (r : Reading) (p : Pace) (instructions : ℕ) (t : Turn) → IsTurn m r p instructions t → outside t.told ≡ 0
+turn-inside : (m : Machine) (r : NodeState) (p : Pace) (instructions : ℕ) (t : Turn) → IsTurn m r p instructions t → outside t.told ≡ 0
 turn-inside m r p instructions t turn = elim (cases_lt (p.counts t.invocation + instructions) (mark_of m r t.invocation)) [
   | inl short ↦ ap outside (turn.short short)
   | inr reached ↦ (let a = turn.reached reached in let starts = starts-inside a.starts a.are_starts in ap outside a.told_is ∙ (let one = entry-inside t.invocation (whole_run m r t.invocation).end in omega (arith, one, starts)))
 ]
 
-turns-inside : (m : Machine) (r : Reading) (p : Pace) (ts : List Turn) → AreTurns m r p ts → outside (told_in ts) ≡ 0
+turns-inside : (m : Machine) (r : NodeState) (p : Pace) (ts : List Turn) → AreTurns m r p ts → outside (told_in ts) ≡ 0
 turns-inside m r p [] turns = refl
 turns-inside m r p (t ∷ ts) turns =
     let one = turn-inside m r p m.quantum t turns.1 in
-    let rest = turns-inside m (heard_told m r t.told) (after_turn m r p t) ts turns.2 in
+    let rest = turns-inside m (state_after_entries m r t.told) (after_turn m r p t) ts turns.2 in
     let sum = outside-append t.told (told_in ts) in omega (arith, one, rest, sum)
 
-occasion-one : (m : Machine) (r : Reading) (h : HandlerId) (payload : ArrayVec ℤ) (told : List Told) → Occasion m r h payload told → outside told ≤ 1
+occasion-one : (m : Machine) (r : NodeState) (h : HandlerId) (payload : ArrayVec ℤ) (told : List JournalEntry) → Occasion m r h payload told → outside told ≤ 1
 occasion-one m r h payload told (inl x) = let e = ap outside x.made in omega (arith, e)
 occasion-one m r h payload told (inr (inl x)) = let e = ap outside x.made in omega (arith, e)
 occasion-one m r h payload told (inr (inr x)) = let e = ap outside x.made in let starts = starts-inside x.starts x.are_starts in omega (arith, e, starts)
 
-install-few : (m : Machine) (r : Reading) (x : HeldProgram) (rest : List Told) (b : Bool) → m.runs_once x.handler ≡ b → (IsTrue (m.runs_once x.handler) → Occasion m (heard m r (Installed x)) x.handler (record { items = [] }) rest)
+install-few : (m : Machine) (r : NodeState) (x : HeldProgram) (rest : List JournalEntry) (b : Bool) → m.runs_once x.handler ≡ b → (IsTrue (m.runs_once x.handler) → Occasion m (next_state m r (Installed x)) x.handler (record { items = [] }) rest)
     → ((m.runs_once x.handler ≡ false) → rest ≡ []) → outside rest ≤ 1
-install-few m r x rest true is once else_ = occasion-one m (heard m r (Installed x)) x.handler (record { items = [] }) rest (once is)
+install-few m r x rest true is once else_ = occasion-one m (next_state m r (Installed x)) x.handler (record { items = [] }) rest (once is)
 install-few m r x rest false is once else_ = let e = ap outside (else_ is) in omega (arith, e)
 
-makes-few : (m : Machine) (r : Reading) (p : Pace) (step : Step) (told : List Told) (q : Pace) → Makes m r p step told q → outside told ≤ 3
+makes-few : (m : Machine) (r : NodeState) (p : Pace) (step : Step) (told : List JournalEntry) (q : Pace) → Makes m r p step told q → outside told ≤ 3
 makes-few m r p (Install x) told q made = by made.0 where
   by : Installs m r p x told ⊎ IsNotNewer r x told → outside told ≤ 3
   by (inl i) = let rest = install-few m r x i.rest (m.runs_once x.handler) refl i.once i.else in let e = ap outside i.made in omega (arith, e, rest)
@@ -201,7 +201,7 @@ makes-few m r p (StepIn c n) told q (inl t) = let e = turn-inside m r p n (recor
 makes-few m r p (StepIn c n) told q (inr x) = let e = ap outside x.0.made in omega (arith, e)
 makes-few m r p Run told q made = let e = turns-inside m r p made.turns made.are_turns in let is = ap outside made.made in omega (arith, e, is)
 makes-few m r p (Answer c value) told q made = by made.0 where
-  by : Answers r c value told ⊎ IsNotWaiting r c told → outside told ≤ 3
+  by : AnswersCall r c value told ⊎ IsNotWaiting r c told → outside told ≤ 3
   by (inl a) = let e = ap outside a.made in omega (arith, e)
   by (inr n) = let e = ap outside n.made in omega (arith, e)
 makes-few m r p Show told q made = let e = ap outside made.0.made in omega (arith, e)
@@ -210,27 +210,27 @@ makes-few m r p ResetNode told q made = let e = ap outside made.0.made in omega 
 -- ---- the run
 
 -- the last event that was begun brings three at most
-made-few : (m : Machine) (records n : ℕ) (r : Reading) (p : Pace) (steps : List Step) (es : List Event) (q : Pace) → HaveMade m records n r p steps es q
-    → (outside (told_by es) ≡ 0) ⊎ (records + outside (told_by es) < RECORDS_MAX + 3)
-made-few m records n r p [] es q made = inl (ap (λ (xs : List Event). outside (told_by xs)) made.0)
+made-few : (m : Machine) (records n : ℕ) (r : NodeState) (p : Pace) (steps : List Step) (es : List TimedEntry) (q : Pace) → HaveMade m records n r p steps es q
+    → (outside (untimed es) ≡ 0) ⊎ (records + outside (untimed es) < RECORDS_MAX + 3)
+made-few m records n r p [] es q made = inl (ap (λ (xs : List TimedEntry). outside (untimed xs)) made.0)
 made-few m records n r p (step ∷ steps) es q made =
-    by (made-few m (records + length made.1) (suc n) (heard_all m r made.1) made.3 steps made.2 q made.7) where
-      sum : outside (told_by es) ≡ outside (told_by made.1) + outside (told_by made.2)
-      sum = ap (λ (xs : List Event). outside (told_by xs)) made.4 ∙ ap outside (told_by-append made.1 made.2) ∙ outside-append (told_by made.1) (told_by made.2)
+    by (made-few m (records + length made.1) (suc n) (state_after_all m r made.1) made.3 steps made.2 q made.7) where
+      sum : outside (untimed es) ≡ outside (untimed made.1) + outside (untimed made.2)
+      sum = ap (λ (xs : List TimedEntry). outside (untimed xs)) made.4 ∙ ap outside (told_by-append made.1 made.2) ∙ outside-append (untimed made.1) (untimed made.2)
 
-      here : outside (told_by made.1) ≤ 3
-      here = makes-few m r p step (told_by made.1) made.3 made.6
+      here : outside (untimed made.1) ≤ 3
+      here = makes-few m r p step (untimed made.1) made.3 made.6
 
-      by : (outside (told_by made.2) ≡ 0) ⊎ (records + length made.1 + outside (told_by made.2) < RECORDS_MAX + 3) → (outside (told_by es) ≡ 0) ⊎ (records + outside (told_by es) < RECORDS_MAX + 3)
+      by : (outside (untimed made.2) ≡ 0) ⊎ (records + length made.1 + outside (untimed made.2) < RECORDS_MAX + 3) → (outside (untimed es) ≡ 0) ⊎ (records + outside (untimed es) < RECORDS_MAX + 3)
       by (inl none) = let room = made.0 in let few = here in let all = sum in inr (omega (arith, none, room, few, all))
       by (inr few) = let long = outside-all made.1 in let all = sum in inr (omega (arith, few, long, all))
 
 -- a run's log is far from a position's end
-pub run-few : (m : Machine) (steps : List Step) (es : List Event) (q : Pace) → HaveMade m 0 1 (nothing_heard m) no_pace steps es q → AtEachEntry (MayFollow m) m (nothing_heard m) es
+pub run-few : (m : Machine) (steps : List Step) (es : List TimedEntry) (q : Pace) → HaveMade m 0 1 (first_state m) no_pace steps es q → AtEachEntry (MayFollow m) m (first_state m) es
     → length es ≤ 3 * (RECORDS_MAX + 3)
 run-few m steps es q made follow =
-    let all = owing-all m (nothing_heard m) es follow (record { numbered = (nothing_heard-orderly m).numbered }) in
-    by (made-few m 0 1 (nothing_heard m) no_pace steps es q made) all where
-      by : (outside (told_by es) ≡ 0) ⊎ (0 + outside (told_by es) < RECORDS_MAX + 3) → length es ≤ 3 * outside (told_by es) + owing (nothing_heard m) → length es ≤ 3 * (RECORDS_MAX + 3)
+    let all = owing-all m (first_state m) es follow (record { numbered = (nothing_heard-orderly m).numbered }) in
+    by (made-few m 0 1 (first_state m) no_pace steps es q made) all where
+      by : (outside (untimed es) ≡ 0) ⊎ (0 + outside (untimed es) < RECORDS_MAX + 3) → length es ≤ 3 * outside (untimed es) + owing (first_state m) → length es ≤ 3 * (RECORDS_MAX + 3)
       by (inl none) all = omega (arith, none, all)
       by (inr few) all = omega (arith, few, all)

@@ -7,7 +7,7 @@ use Rattle.mate_num.specs.declared.call.End.TheVariants as end
 use Rattle.mate_num.specs.declared.call.Stamp.{Stamp}
 use Rattle.mate_num.specs.declared.store.Store.{Store}
 use Rattle.mate_journal.specs.Log.{Log, GoesOn}
-use Rattle.mate_journal.specs.Journal.{Told, Posted, Dropped, Started, Asked, Answered, Ended, Installed, Reset, Seen, Void, Event, told_of, journal_of, no_image, no_store, store_seen}
+use Rattle.mate_journal.specs.Journal.{JournalEntry, Posted, Dropped, Started, Asked, Answered, Ended, Installed, Reset, Seen, Void, TimedEntry, journal_entry, journal_of, no_image, no_store, store_seen}
 use Rattle.mate_journal.specs.Tidy.{image_named, store_named, names_in, below, NumbersInOrder}
 use Rattle.mate_journal.specs.declared.entry.Entry.{Entry}
 use Rattle.mate_journal.specs.declared.entry.Entry.TheVariants as entry
@@ -16,14 +16,14 @@ use Rattle.journal_laws.specs.Growth.{event_of}
 
 -- ---- the images and stores that are told
 
-abbrev image_told : Told → Option (ArrayVec ℕ)
+abbrev image_told : JournalEntry → Option (ArrayVec ℕ)
 image_told (Installed p) = Some p.image
 image_told _ = None
 
-abbrev all_told : {A : Type 0} → (Told → Option A) → List Event → List A
+abbrev all_told : {A : Type 0} → (JournalEntry → Option A) → List TimedEntry → List A
 all_told told es = flat_map (λ e. option_to_list (told e.told)) es
 
-all_told-append : {A : Type 0} (told : Told → Option A) (es more : List Event) → all_told told (es ++ more) ≡ all_told told es ++ all_told told more
+all_told-append : {A : Type 0} (told : JournalEntry → Option A) (es more : List TimedEntry) → all_told told (es ++ more) ≡ all_told told es ++ all_told told more
 all_told-append told [] more = refl
 all_told-append told (e ∷ es) more =
     ap (λ xs. option_to_list (told e.told) ++ xs) (all_told-append told es more)
@@ -46,7 +46,7 @@ items-below xs d (suc n) le =
       take-next (x ∷ xs) d (suc n) le = ap (λ ys. x ∷ ys) (take-next xs d n (omega (arith, le)))
 
 -- an entry tells what it names
-image-of : (l : Log) (e : Entry) → option_to_list (image_told (told_of l e)) ≡ map (λ k. slice_index_or l.images k no_image) (option_to_list (image_named e))
+image-of : (l : Log) (e : Entry) → option_to_list (image_told (journal_entry l e)) ≡ map (λ k. slice_index_or l.images k no_image) (option_to_list (image_named e))
 image-of l (entry.Install h version image) = refl
 image-of l (entry.Post n h c payload) = refl
 image-of l (entry.Dropped h cause) = refl
@@ -59,7 +59,7 @@ image-of l entry.Reset = refl
 image-of l (entry.Seen store) = refl
 image-of l (entry.Void cause) = refl
 
-store-of : (l : Log) (e : Entry) → option_to_list (store_seen (told_of l e)) ≡ map (λ k. slice_index_or l.stores k no_store) (option_to_list (store_named e))
+store-of : (l : Log) (e : Entry) → option_to_list (store_seen (journal_entry l e)) ≡ map (λ k. slice_index_or l.stores k no_store) (option_to_list (store_named e))
 store-of l (entry.Install h version image) = refl
 store-of l (entry.Post n h c payload) = refl
 store-of l (entry.Dropped h cause) = refl
@@ -72,8 +72,8 @@ store-of l entry.Reset = refl
 store-of l (entry.Seen store) = refl
 store-of l (entry.Void cause) = refl
 
-told-named : {A : Type 0} (l : Log) (told : Told → Option A) (named : Entry → Option ℕ) (xs : List A) (d : A)
-    → ((e : Entry) → option_to_list (told (told_of l e)) ≡ map (λ k. slice_index_or xs k d) (option_to_list (named e)))
+told-named : {A : Type 0} (l : Log) (told : JournalEntry → Option A) (named : Entry → Option ℕ) (xs : List A) (d : A)
+    → ((e : Entry) → option_to_list (told (journal_entry l e)) ≡ map (λ k. slice_index_or xs k d) (option_to_list (named e)))
     → (es : List Stamped) → all_told told (map (event_of l) es) ≡ map (λ k. slice_index_or xs k d) (names_in named es)
 told-named l told named xs d each [] = refl
 told-named l told named xs d each (e ∷ es) =
@@ -82,8 +82,8 @@ told-named l told named xs d each (e ∷ es) =
     ∙ sym (map-append (λ k. slice_index_or xs k d) (option_to_list (named e.entry)) (names_in named es))
 
 -- all that is named in order is told
-told-all : {A : Type 0} (l : Log) (told : Told → Option A) (named : Entry → Option ℕ) (xs : List A) (d : A)
-    → ((e : Entry) → option_to_list (told (told_of l e)) ≡ map (λ k. slice_index_or xs k d) (option_to_list (named e)))
+told-all : {A : Type 0} (l : Log) (told : JournalEntry → Option A) (named : Entry → Option ℕ) (xs : List A) (d : A)
+    → ((e : Entry) → option_to_list (told (journal_entry l e)) ≡ map (λ k. slice_index_or xs k d) (option_to_list (named e)))
     → names_in named l.entries ≡ below (length xs) → all_told told (journal_of l) ≡ xs
 told-all l told named xs d each in_order =
     told-named l told named xs d each l.entries ∙ ap (map (λ k. slice_index_or xs k d)) in_order ∙ items-below xs d (length xs) (omega arith) ∙ take_all (length xs) xs (omega arith)
@@ -91,7 +91,7 @@ told-all l told named xs d each in_order =
 -- ---- the entries
 
 -- the entry that tells this, with the image or the store that it names
-abbrev entry_with : Option ℕ → Option ℕ → Told → Entry
+abbrev entry_with : Option ℕ → Option ℕ → JournalEntry → Entry
 entry_with image store (Posted n h c payload) = entry.Post n h c payload
 entry_with image store (Dropped h cause) = entry.Dropped h cause
 entry_with image store (Started n) = entry.Start n
@@ -107,7 +107,7 @@ entry_with image (Some store) (Seen s) = entry.Seen store
 entry_with image None (Seen s) = entry.Reset
 entry_with image store (Void cause) = entry.Void cause
 
-entry-told : (l : Log) (e : Entry) → entry_with (image_named e) (store_named e) (told_of l e) ≡ e
+entry-told : (l : Log) (e : Entry) → entry_with (image_named e) (store_named e) (journal_entry l e) ≡ e
 entry-told l (entry.Install h version image) = refl
 entry-told l (entry.Post n h c payload) = refl
 entry-told l (entry.Dropped h cause) = refl
@@ -135,7 +135,7 @@ same-next (Some i) (Some j) is js both begins =
     let tail : js ≡ is ++ begins.rest = ap (λ (xs : List ℕ). drop 1 xs) begins.is in
     (ap Some (sym head), record { rest = begins.rest; is = tail })
 
-names-image : (l : Log) (e : Entry) → is_some (image_named e) ≡ is_some (image_told (told_of l e))
+names-image : (l : Log) (e : Entry) → is_some (image_named e) ≡ is_some (image_told (journal_entry l e))
 names-image l (entry.Install h version image) = refl
 names-image l (entry.Post n h c payload) = refl
 names-image l (entry.Dropped h cause) = refl
@@ -148,7 +148,7 @@ names-image l entry.Reset = refl
 names-image l (entry.Seen store) = refl
 names-image l (entry.Void cause) = refl
 
-names-store : (l : Log) (e : Entry) → is_some (store_named e) ≡ is_some (store_seen (told_of l e))
+names-store : (l : Log) (e : Entry) → is_some (store_named e) ≡ is_some (store_seen (journal_entry l e))
 names-store l (entry.Install h version image) = refl
 names-store l (entry.Post n h c payload) = refl
 names-store l (entry.Dropped h cause) = refl
@@ -162,23 +162,23 @@ names-store l (entry.Seen store) = refl
 names-store l (entry.Void cause) = refl
 
 -- the entries of the first log begin those of the second
-entries-begin : (a b : Log) (es fs : List Stamped) (more : List Event) → map (event_of b) fs ≡ map (event_of a) es ++ more
+entries-begin : (a b : Log) (es fs : List Stamped) (more : List TimedEntry) → map (event_of b) fs ≡ map (event_of a) es ++ more
     → Begins (names_in image_named es) (names_in image_named fs) → Begins (names_in store_named es) (names_in store_named fs) → (rest : List Stamped) × (fs ≡ es ++ rest)
 entries-begin a b [] fs more is images stores = (fs, refl)
 entries-begin a b (e ∷ es) [] more is images stores = cc
 entries-begin a b (e ∷ es) (f ∷ fs) more is images stores =
-    let head : event_of b f ≡ event_of a e = ap (λ (xs : List Event). slice_index_or xs 0 (event_of a e)) is in
-    let tail : map (event_of b) fs ≡ map (event_of a) es ++ more = ap (λ (xs : List Event). drop 1 xs) is in
-    let told : told_of b f.entry ≡ told_of a e.entry = ap (λ (x : Event). x.told) head in
-    let stamp : f.stamp ≡ e.stamp = ap (λ (x : Event). x.stamp) head in
+    let head : event_of b f ≡ event_of a e = ap (λ (xs : List TimedEntry). slice_index_or xs 0 (event_of a e)) is in
+    let tail : map (event_of b) fs ≡ map (event_of a) es ++ more = ap (λ (xs : List TimedEntry). drop 1 xs) is in
+    let told : journal_entry b f.entry ≡ journal_entry a e.entry = ap (λ (x : TimedEntry). x.told) head in
+    let stamp : f.stamp ≡ e.stamp = ap (λ (x : TimedEntry). x.stamp) head in
     let image = same-next (image_named e.entry) (image_named f.entry) (names_in image_named es) (names_in image_named fs)
-    (names-image a e.entry ∙ ap (λ (t : Told). is_some (image_told t)) (sym told) ∙ sym (names-image b f.entry)) images in
+    (names-image a e.entry ∙ ap (λ (t : JournalEntry). is_some (image_told t)) (sym told) ∙ sym (names-image b f.entry)) images in
     let store = same-next (store_named e.entry) (store_named f.entry) (names_in store_named es) (names_in store_named fs)
-    (names-store a e.entry ∙ ap (λ (t : Told). is_some (store_seen t)) (sym told) ∙ sym (names-store b f.entry)) stores in
+    (names-store a e.entry ∙ ap (λ (t : JournalEntry). is_some (store_seen t)) (sym told) ∙ sym (names-store b f.entry)) stores in
     let same : f.entry ≡ e.entry =
-    sym (entry-told b f.entry) ∙ ap (λ (o : Option ℕ). entry_with o (store_named f.entry) (told_of b f.entry)) (sym image.0)
-    ∙ ap (λ (o : Option ℕ). entry_with (image_named e.entry) o (told_of b f.entry)) (sym store.0)
-    ∙ ap (λ (t : Told). entry_with (image_named e.entry) (store_named e.entry) t) told ∙ entry-told a e.entry in
+    sym (entry-told b f.entry) ∙ ap (λ (o : Option ℕ). entry_with o (store_named f.entry) (journal_entry b f.entry)) (sym image.0)
+    ∙ ap (λ (o : Option ℕ). entry_with (image_named e.entry) o (journal_entry b f.entry)) (sym store.0)
+    ∙ ap (λ (t : JournalEntry). entry_with (image_named e.entry) (store_named e.entry) t) told ∙ entry-told a e.entry in
     let stamped : f ≡ e = ap (λ (s : Stamp). let x : Stamped = record { stamp = s; entry = f.entry } in x) stamp ∙ ap (λ (y : Entry). let x : Stamped = record { stamp = e.stamp; entry = y } in x) same in
     let later = entries-begin a b es fs more tail image.1 store.1 in
     (later.0, ap (λ (ys : List Stamped). f ∷ ys) later.1 ∙ ap (λ (x : Stamped). x ∷ (es ++ later.0)) stamped)
@@ -200,7 +200,7 @@ names-begin {A} named es fs xs ys more a b is =
     record { rest = h.rest; is = b ∙ ap below long ∙ h.is ∙ ap (λ (ns : List ℕ). ns ++ h.rest) (sym a) }
 
 -- where the journal goes on, the log does
-pub GoesOn-journal : (a b : Log) (more : List Event) → NumbersInOrder a → NumbersInOrder b → journal_of b ≡ journal_of a ++ more → GoesOn a b
+pub GoesOn-journal : (a b : Log) (more : List TimedEntry) → NumbersInOrder a → NumbersInOrder b → journal_of b ≡ journal_of a ++ more → GoesOn a b
 GoesOn-journal a b more na nb is =
     let images : b.images ≡ a.images ++ all_told image_told more =
     sym (told-all b image_told image_named b.images no_image (image-of b) nb.images) ∙ ap (all_told image_told) is ∙ all_told-append image_told (journal_of a) more

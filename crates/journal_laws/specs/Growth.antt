@@ -5,9 +5,9 @@ use Rattle.mate_num.specs.declared.call.Stamp.{Stamp}
 use Rattle.mate_num.specs.declared.store.Store.{Store}
 use Rattle.mate_journal.specs.Log.{Log}
 use Rattle.mate_journal.specs.Machine.{Machine}
-use Rattle.mate_journal.specs.Journal.{Event, told_of, Reading, heard, AtEachEntry}
+use Rattle.mate_journal.specs.Journal.{TimedEntry, journal_entry, NodeState, next_state, AtEachEntry}
 use Rattle.mate_journal.specs.WellFormed.{NotBefore}
-use Rattle.mate_journal.specs.Grants.{IsGranted, start_of}
+use Rattle.mate_journal.specs.Grants.{IsGranted, started_number}
 use Rattle.mate_journal.specs.Stores.{is_seen}
 use Rattle.mate_journal.specs.declared.entry.Entry.{Entry}
 use Rattle.mate_journal.specs.declared.entry.Entry.TheVariants as entry
@@ -16,8 +16,8 @@ use Rattle.mate_journal.specs.declared.entry.Stamped.{Stamped}
 -- ---- the log
 
 -- an entry of a log tells this event
-abbrev pub event_of : Log → Stamped → Event
-event_of l s = record { stamp = s.stamp; told = told_of l s.entry }
+abbrev pub event_of : Log → Stamped → TimedEntry
+event_of l s = record { stamp = s.stamp; told = journal_entry l s.entry }
 
 -- the image or the store that an entry names is one of so many
 abbrev pub IsNamedBelow : ℕ → ℕ → Entry → Type 0
@@ -54,32 +54,32 @@ pub record AddsStore (l : Log) (store : Store) (after : Log) : Type 0 where
 -- ---- what was told last
 
 -- the stamp of the last event, `before` if there is none
-abbrev pub last_stamp : Stamp → List Event → Stamp
+abbrev pub last_stamp : Stamp → List TimedEntry → Stamp
 last_stamp before [] = before
 last_stamp before (e ∷ es) = last_stamp e.stamp es
 
 -- the stamp may come after the journal's last event: any may, if it has none
-abbrev pub FollowsLast : List Event → Stamp → Type 0
+abbrev pub FollowsLast : List TimedEntry → Stamp → Type 0
 FollowsLast [] at = Unit {0}
 FollowsLast (e ∷ es) at = NotBefore (last_stamp e.stamp es) at
 
 -- the number of the invocation that the last event starts, 0 where it starts none, `before` where there is no event
-abbrev pub last_start : ℕ → List Event → ℕ
+abbrev pub last_start : ℕ → List TimedEntry → ℕ
 last_start before [] = before
-last_start before (e ∷ es) = last_start (start_of e.told) es
+last_start before (e ∷ es) = last_start (started_number e.told) es
 
 -- the last event shows a store, `before` where there is no event
-abbrev pub last_is_seen : Bool → List Event → Bool
+abbrev pub last_is_seen : Bool → List TimedEntry → Bool
 last_is_seen before [] = before
 last_is_seen before (e ∷ es) = last_is_seen (is_seen e.told) es
 
 -- ---- the rules of the entries, without what holds at the end
 
 -- a fact before each entry
-abbrev pub BeforeEachEntry : (Reading → Type 0) → Machine → Reading → List Event → Type 0
+abbrev pub BeforeEachEntry : (NodeState → Type 0) → Machine → NodeState → List TimedEntry → Type 0
 BeforeEachEntry Fact m r es = AtEachEntry (λ r told. Fact r) m r es
 
 -- the grant rule before each entry
-abbrev pub GrantsBefore : Machine → Reading → ℕ → List Event → Type 0
+abbrev pub GrantsBefore : Machine → NodeState → ℕ → List TimedEntry → Type 0
 GrantsBefore m r last [] = Unit {0}
-GrantsBefore m r last (e ∷ es) = IsGranted m r last e.told × GrantsBefore m (heard m r e.told) (start_of e.told) es
+GrantsBefore m r last (e ∷ es) = IsGranted m r last e.told × GrantsBefore m (next_state m r e.told) (started_number e.told) es

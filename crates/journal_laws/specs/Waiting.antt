@@ -5,49 +5,49 @@ use Rattle.mate_num.specs.declared.id.ContextId.{ContextId}
 use Rattle.mate_num.specs.declared.id.FunId.{FunId}
 use Rattle.mate_num.specs.declared.id.HandlerId.{HandlerId}
 use Rattle.mate_journal.specs.Machine.{Machine, IsContextOf}
-use Rattle.mate_journal.specs.Journal.{Told, Asked, Answered, Event, Reading, nothing_heard, heard, heard_told, heard_all, begins_era}
+use Rattle.mate_journal.specs.Journal.{JournalEntry, Asked, Answered, TimedEntry, NodeState, first_state, next_state, state_after_entries, state_after_all, begins_era}
 use Rattle.mate_journal.specs.Pace.{Pace}
 use Rattle.mate_journal.specs.Turns.{Settles}
 use Rattle.mate_journal.specs.WellFormed.{IsWaiting, MayFollow, IsWellFormed}
 
 -- of two invocations that wait, each has a context of its own
-abbrev pub WaitApart : Reading → Type 0
+abbrev pub WaitApart : NodeState → Type 0
 WaitApart r = (a b : ℕ) → IsWaiting r a → IsWaiting r b → (r.invocations a).context ≡ (r.invocations b).context → a ≡ b
 
 -- the invocation waits in a context of a machine
-pub record WaitsWithin (r : Reading) (n : ℕ) : Type 0 where
+pub record WaitsWithin (r : NodeState) (n : ℕ) : Type 0 where
   pub waits : IsWaiting r n
   pub small : (r.invocations n).context.0 < CONTEXTS_MAX
 
 -- whatever waits does so in a context of a machine
-abbrev pub WaitSmall : Reading → Type 0
+abbrev pub WaitSmall : NodeState → Type 0
 WaitSmall r = (n : ℕ) → IsWaiting r n → (r.invocations n).context.0 < CONTEXTS_MAX
 
 -- the call that an entry tells, by its invocation and its function
-abbrev pub asked_of : Told → Option (ℕ × FunId)
+abbrev pub asked_of : JournalEntry → Option (ℕ × FunId)
 asked_of (Asked n f args) = Some (n, f)
 asked_of _ = None
 
 -- what the entries call waits for its answers
-abbrev pub IsAwaitedBy : Reading → Option (ℕ × FunId) → Type 0
+abbrev pub IsAwaitedBy : NodeState → Option (ℕ × FunId) → Type 0
 IsAwaitedBy r None = Unit {0}
 IsAwaitedBy r (Some a) = WaitsWithin r a.0
 
-abbrev pub AreAwaited : Reading → List Told → Type 0
+abbrev pub AreAwaited : NodeState → List JournalEntry → Type 0
 AreAwaited r [] = Unit {0}
 AreAwaited r (t ∷ told) = IsAwaitedBy r (asked_of t) × AreAwaited r told
 
 -- each of the entries may follow what was heard before it
-abbrev pub AreFollowing : Machine → Reading → List Told → Type 0
+abbrev pub AreFollowing : Machine → NodeState → List JournalEntry → Type 0
 AreFollowing m r [] = Unit {0}
-AreFollowing m r (t ∷ told) = MayFollow m r t × AreFollowing m (heard m r t) told
+AreFollowing m r (t ∷ told) = MayFollow m r t × AreFollowing m (next_state m r t) told
 
 -- the entry ends the invocation's wait: it answers it, or begins an era
-abbrev pub ends_wait : ℕ → Told → Bool
+abbrev pub ends_wait : ℕ → JournalEntry → Bool
 ends_wait n (Answered k value) = k == n
 ends_wait n t = begins_era t
 
-abbrev pub NoneEndsWait : ℕ → List Told → Type 0
+abbrev pub NoneEndsWait : ℕ → List JournalEntry → Type 0
 NoneEndsWait n [] = Unit {0}
 NoneEndsWait n (t ∷ told) = (ends_wait n t ≡ false) × NoneEndsWait n told
 
@@ -59,32 +59,32 @@ HasFewContexts m = (h : HandlerId) (c : ContextId) → IsContextOf m h c → c.0
 
 -- in a well-formed journal those that wait do so apart
 abbrev pub JournalsWaitApart : Machine → Type 0
-JournalsWaitApart m = (es : List Event) → IsWellFormed m (nothing_heard m) es → WaitApart (heard_all m (nothing_heard m) es)
+JournalsWaitApart m = (es : List TimedEntry) → IsWellFormed m (first_state m) es → WaitApart (state_after_all m (first_state m) es)
 
 -- and in contexts of the machine, where it has few
 abbrev pub JournalsWaitSmall : Machine → Type 0
-JournalsWaitSmall m = HasFewContexts m → (es : List Event) → IsWellFormed m (nothing_heard m) es
-    → WaitSmall (heard_all m (nothing_heard m) es)
+JournalsWaitSmall m = HasFewContexts m → (es : List TimedEntry) → IsWellFormed m (first_state m) es
+    → WaitSmall (state_after_all m (first_state m) es)
 
 -- behind a well-formed journal an invocation that waits stays as it is until an entry ends its wait
 abbrev pub WaitingGoesOn : Machine → Type 0
-WaitingGoesOn m = (es : List Event) (told : List Told) (n : ℕ) → IsWellFormed m (nothing_heard m) es →
-    let r = heard_all m (nothing_heard m) es in
-    AreFollowing m r told → IsWaiting r n → NoneEndsWait n told → (heard_told m r told).invocations n ≡ r.invocations n
+WaitingGoesOn m = (es : List TimedEntry) (told : List JournalEntry) (n : ℕ) → IsWellFormed m (first_state m) es →
+    let r = state_after_all m (first_state m) es in
+    AreFollowing m r told → IsWaiting r n → NoneEndsWait n told → (state_after_entries m r told).invocations n ≡ r.invocations n
 
 -- an invocation that waits goes on waiting, in its context, while turns settle
 abbrev pub SettlingLeavesWaiting : Machine → Type 0
-SettlingLeavesWaiting m = (r : Reading) (p : Pace) (told : List Told) (q : Pace) (n : ℕ) → Settles m r p told q
+SettlingLeavesWaiting m = (r : NodeState) (p : Pace) (told : List JournalEntry) (q : Pace) (n : ℕ) → Settles m r p told q
     → AreFollowing m r told → IsWaiting r n
-    → IsWaiting (heard_told m r told) n × (((heard_told m r told).invocations n).context ≡ (r.invocations n).context)
+    → IsWaiting (state_after_entries m r told) n × (((state_after_entries m r told).invocations n).context ≡ (r.invocations n).context)
 
 -- what calls while turns settle waits at their end
 abbrev pub SettlingAwaits : Machine → Type 0
-SettlingAwaits m = (r : Reading) (p : Pace) (told : List Told) (q : Pace) → Settles m r p told q → AreFollowing m r told
-    → WaitSmall (heard_told m r told) → AreAwaited (heard_told m r told) told
+SettlingAwaits m = (r : NodeState) (p : Pace) (told : List JournalEntry) (q : Pace) → Settles m r p told q → AreFollowing m r told
+    → WaitSmall (state_after_entries m r told) → AreAwaited (state_after_entries m r told) told
 
 -- behind a well-formed journal, of a machine with few contexts, turns tell at most two entries for each context while they settle
 abbrev pub SettlingTellsFew : Machine → Type 0
-SettlingTellsFew m = HasFewContexts m → (es : List Event) → IsWellFormed m (nothing_heard m) es →
-    let r = heard_all m (nothing_heard m) es in
-    (p : Pace) (told : List Told) (q : Pace) → Settles m r p told q → AreFollowing m r told → length told ≤ 32
+SettlingTellsFew m = HasFewContexts m → (es : List TimedEntry) → IsWellFormed m (first_state m) es →
+    let r = state_after_all m (first_state m) es in
+    (p : Pace) (told : List JournalEntry) (q : Pace) → Settles m r p told q → AreFollowing m r told → length told ≤ 32

@@ -2,7 +2,7 @@
 
 ghost use Rattle.std.specs.Prelude.{◌≡◌, [], ◌∷◌, negsuc, codes, IfOk, IsOkAnd, IsErrAnd, Ok, Err, None, Some, true};
 ghost use Rattle.ts_syntax.specs.Checked.{tree_of};
-ghost use Rattle.ts_syntax.specs.Seen.{source_of};
+ghost use Rattle.ts_syntax.specs.Seen.{source_seen};
 ghost use Rattle.ts_syntax.specs.Tree.{no_acts, act_then, clear, number};
 ghost use Rattle.ts_checker.specs.Answer.{GivesChecked};
 ghost use Rattle.ts_scope.specs.Names.{names_before};
@@ -22,7 +22,7 @@ pub fn an_undeclared_name_is_refused(
     script: &Script,
     word: &Word,
 ) -> Result<Checked, CheckFault>
-    requires { source_of script.now ≡ record { decls = []; body = act_then (clear word.now) no_acts } }
+    requires { source_seen script.now ≡ record { decls = []; body = act_then (clear word.now) no_acts } }
     ensures { IfOk result (λ _. ⊥) }
 {
     check(alloc, desc, script)
@@ -34,7 +34,7 @@ pub fn a_missing_argument_is_refused(
     script: &Script,
 ) -> Result<Checked, CheckFault>
     requires functions { desc.now.functions.items ≡ actuator (codes "f") 1 ∷ [] }
-    requires script { source_of script.now ≡ calling_f }
+    requires script { source_seen script.now ≡ calling_f }
     ensures { GivesChecked tree_of result (Err (CheckFault.Arity 0)) }
 {
     check(alloc, desc, script)
@@ -46,7 +46,7 @@ pub fn a_call_in_a_limit_is_refused(
     script: &Script,
 ) -> Result<Checked, CheckFault>
     requires functions { desc.now.functions.items ≡ actuator (codes "f") 0 ∷ [] }
-    requires script { source_of script.now ≡ for_x f_in_the_limit None }
+    requires script { source_seen script.now ≡ for_x f_in_the_limit None }
     ensures { GivesChecked tree_of result (Err (CheckFault.Kind 24)) }
 {
     check(alloc, desc, script)
@@ -57,7 +57,7 @@ pub fn a_step_keeps_its_sign(
     desc: &Description,
     script: &Script,
 ) -> Result<Checked, CheckFault>
-    requires { source_of script.now ≡ for_x (number 0) (Some record { minus = true; size = 1; place = 32 }) }
+    requires { source_seen script.now ≡ for_x (number 0) (Some record { minus = true; size = 1; place = 32 }) }
     ensures { GivesChecked tree_of result (Ok (with_step (CVar.Private 0) (negsuc 0))) }
 {
     check(alloc, desc, script)

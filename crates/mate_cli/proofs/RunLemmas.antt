@@ -5,7 +5,7 @@ use Rattle.mate_files.specs.declared.sink.SinkFault.{SinkFault}
 use Rattle.mate_files.specs.declared.sink.SinkFault.TheVariants.{Failed, NoMemory as OutOfMemory}
 use Rattle.mate_cli.specs.Ends.{Sinks, IsTextWritten, done, full, failed, wanting, IsRunWritten, whole, stopped, unwritten, cut, TellsEnd}
 use Rattle.mate_refusals.specs.declared.status.Status.{Status}
-use Rattle.run_writing.specs.Writing.{OfRun, WritesRun, ended_by}
+use Rattle.run_writing.specs.Writing.{OfRun, WritesRun, write_ended}
 use Rattle.run_writing.specs.declared.write_fault.WriteFault.{WriteFault}
 use Rattle.run_writing.specs.declared.write_fault.WriteFault.TheVariants.{LogFull, NoMemory, Sink}
 use Rattle.vm_desc.specs.declared.description.Description.{Description}
@@ -19,7 +19,7 @@ run-written d Is s t (Err Sink) status w tells = unwritten w.report w.gives.0 w.
 
 -- a text that tells of a whole run, or of one that a full log ended
 text-told : (bs : List ℕ) (all : Bool) (s t : Sinks) (put : Result (Unit {0}) SinkFault) (status : Status) → Puts s.out s.out_faults t.out t.out_faults put bs
-    → TellsEnd (ended_by all put) s.err s.err_faults t.err t.err_faults status → IsTextWritten bs all s t status
+    → TellsEnd (write_ended all put) s.err s.err_faults t.err t.err_faults status → IsTextWritten bs all s t status
 text-told bs true s t (Ok put) status p tells = done refl p.writes tells.0 tells.1
 text-told bs false s t (Ok put) status p tells = full refl p.writes tells
 text-told bs true s t (Err Failed) status p tells = failed p.short p.cause tells
@@ -27,7 +27,7 @@ text-told bs false s t (Err Failed) status p tells = failed p.short p.cause tell
 text-told bs true s t (Err OutOfMemory) status p tells = wanting p.writes tells
 text-told bs false s t (Err OutOfMemory) status p tells = wanting p.writes tells
 
-pub text-written : (bs : List ℕ) (all : Bool) (s t : Sinks) (put : Result (Unit {0}) SinkFault) (ended : Result (Unit {0}) WriteFault) (status : Status) → Puts s.out s.out_faults t.out t.out_faults put bs → ended ≡ ended_by all put
+pub text-written : (bs : List ℕ) (all : Bool) (s t : Sinks) (put : Result (Unit {0}) SinkFault) (ended : Result (Unit {0}) WriteFault) (status : Status) → Puts s.out s.out_faults t.out t.out_faults put bs → ended ≡ write_ended all put
     → TellsEnd ended s.err s.err_faults t.err t.err_faults status → IsTextWritten bs all s t status
 text-written bs all s t put ended status p is tells =
     text-told bs all s t put status p (subst (λ (r : Result (Unit {0}) WriteFault). TellsEnd r s.err s.err_faults t.err t.err_faults status) is tells)

@@ -9,7 +9,7 @@ use Rattle.mate_code.specs.declared.flow.Flow.TheVariants.{Next, Ends, Branches,
 use Rattle.mate_code.specs.declared.flow.Flow.{Flow}
 use Rattle.mate_code.specs.Instr.{size_of}
 use Rattle.mate_code.specs.Run.{Code, fetch, size_of_code}
-use Rattle.mate_code.specs.Verification.{Refusal, DepthDiffers, BadIndex, BadTarget, BackJump, Underflow, Overflow, DepthMark, Blank, Depth, Clash, Marks, given, depth_in, depth_at, is_clash, mark, first_marks, depth_after, is_start, has_target, has_direction, has_back_depth, demand, refusal_at, marks_after, instr_marks, unless, pass, is_end, halts, if_halts, AreFrom, IsVerified, IsPlace, Flows, IsRight, IsSoundCode}
+use Rattle.mate_code.specs.Verification.{Refusal, DepthDiffers, BadIndex, BadTarget, BackJump, Underflow, Overflow, DepthMark, Blank, Depth, Clash, Marks, given, depth_in, depth_at, is_clash, mark, first_marks, depth_after, is_start, has_target, has_direction, has_back_depth, demand, refusal_at, marks_after, instr_marks, unless, pass, is_end, halts, if_halts, AreFrom, IsVerified, IsPlace, Flows, IsRightInstr, IsSoundCode}
 
 -- ---- code from a place on
 
@@ -274,7 +274,7 @@ module _ (shape : Shape) (code : Code) (final : Marks) where
         let first : p.0 ≡ at = is.from.0 in
         (record { start = target; depth_is = ap depth_in (before t (omega arith)) ∙ eqb-true (depth_at marks t) d back }, le)
 
-    right_first : (marks : Marks) → pass shape code marks (p ∷ rest) ≡ Ok final → IsRight shape code (depth_at final) p.0 p.1
+    right_first : (marks : Marks) → pass shape code marks (p ∷ rest) ≡ Ok final → IsRightInstr shape code (depth_at final) p.0 p.1
     right_first marks e =
         let h = pass-Head shape code marks p rest final e in
         let first : p.0 ≡ at = is.from.0 in
@@ -297,17 +297,17 @@ module _ (shape : Shape) (code : Code) (final : Marks) where
           flow = subst F (sym next) (subst G (sym after) at_d);
         }
 
-  right_each : (at : ℕ) (marks : Marks) (rest : Code) → IsRest at rest → pass shape code marks rest ≡ Ok final → (place : ℕ) (i : Instr) → fetch rest place ≡ Some i → IsRight shape code (depth_at final) place i
+  right_each : (at : ℕ) (marks : Marks) (rest : Code) → IsRest at rest → pass shape code marks rest ≡ Ok final → (place : ℕ) (i : Instr) → fetch rest place ≡ Some i → IsRightInstr shape code (depth_at final) place i
   right_each at marks [] is e place i found = cc
   right_each at marks (p ∷ rest) is e place i found =
       let h = pass-Head shape code marks p rest final e in
       by (p.0 == place) refl found (λ later. right_each (at + size_of p.1) (instr_marks shape p.0 p.1 marks) rest (next_rest at p rest is) h.tail place i later) where
-        by : (b : Bool) → (p.0 == place) ≡ b → (if b then Some p.1 else fetch rest place) ≡ Some i → (fetch rest place ≡ Some i → IsRight shape code (depth_at final) place i) → IsRight shape code (depth_at final) place i
+        by : (b : Bool) → (p.0 == place) ≡ b → (if b then Some p.1 else fetch rest place) ≡ Some i → (fetch rest place ≡ Some i → IsRightInstr shape code (depth_at final) place i) → IsRightInstr shape code (depth_at final) place i
         by true same found later =
             let here : p.0 ≡ place = eqb-true p.0 place same in
             let it : p.1 ≡ i = cc in
-            let P : ℕ → Type 0 = λ k. IsRight shape code (depth_at final) k i in
-            let Q : Instr → Type 0 = λ j. IsRight shape code (depth_at final) p.0 j in
+            let P : ℕ → Type 0 = λ k. IsRightInstr shape code (depth_at final) k i in
+            let Q : Instr → Type 0 = λ j. IsRightInstr shape code (depth_at final) p.0 j in
             subst P here (subst Q it (right_first at p rest is marks e))
         by false same found later = later found
 

@@ -6,7 +6,7 @@ use Rattle.std.specs.Fmt.{signed_decimal}
 use Rattle.mate_code.specs.declared.kind.OperandForm.{OperandForm}
 use Rattle.mate_code.specs.declared.kind.OperandForm.TheVariants.{Absent, Byte, Word, SignedWord}
 use Rattle.mate_code.specs.declared.instr.Instr.{Instr}
-use Rattle.mate_code.specs.Kind.{form_of, name_of}
+use Rattle.mate_code.specs.Kind.{form_of, kind_name}
 use Rattle.mate_code.specs.Instr.{kind_of, operand_of}
 
 -- an operand behind a space, in decimal; a word with a sign as a signed number
@@ -19,7 +19,7 @@ operand_text SignedWord n = codes " " ++ signed_decimal (cast_signed w16 n)
 -- the line of an instruction at its place
 abbrev pub line : List (List ℕ) → ℕ × Instr → List ℕ
 line functions pair =
-    decimal pair.0 ++ codes " " ++ name_of functions (kind_of pair.1) ++ operand_text (form_of (kind_of pair.1)) (operand_of pair.1)
+    decimal pair.0 ++ codes " " ++ kind_name functions (kind_of pair.1) ++ operand_text (form_of (kind_of pair.1)) (operand_of pair.1)
     ++ codes "\n"
 
 -- the lines of instructions, one after another

@@ -177,7 +177,7 @@ Flows code depth place next n (Returns target) = IsPlace code depth target n × 
 
 -- what verification tells of the instruction at a place: its names are in range, its operands are there, what it
 -- pushes has room, and it goes on at an instruction of the depth that it leaves
-pub record IsRight (shape : Shape) (code : Code) (depth : ℕ → ℕ) (place : ℕ) (i : Instr) : Type 0 where
+pub record IsRightInstr (shape : Shape) (code : Code) (depth : ℕ → ℕ) (place : ℕ) (i : Instr) : Type 0 where
   pub names : IsTrue (is_in_range shape i)
   pub operands : pops_of shape i ≤ depth place
   pub room : depth_after shape i (depth place) ≤ STACK_MAX
@@ -186,7 +186,7 @@ pub record IsRight (shape : Shape) (code : Code) (depth : ℕ → ℕ) (place : 
 -- what verification tells of the code: it begins with depth 0, each instruction is right, and all stand below its size
 pub record IsSoundCode (shape : Shape) (code : Code) (depth : ℕ → ℕ) : Type 0 where
   pub begins : IsPlace code depth 0 0
-  pub each : (place : ℕ) (i : Instr) → fetch code place ≡ Some i → IsRight shape code depth place i
+  pub each : (place : ℕ) (i : Instr) → fetch code place ≡ Some i → IsRightInstr shape code depth place i
 
 -- an invocation fits verified code: it is at an instruction, and its stack is as deep as verification says there
 pub record IsFitting (code : Code) (depth : ℕ → ℕ) (p : Private) : Type 0 where

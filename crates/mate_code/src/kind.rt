@@ -1,7 +1,7 @@
 //! The kinds of instructions, in the order of their opcodes, and what stands after each opcode.
 
 ghost use Rattle.std.specs.Prelude.{◌≡◌, ◌<◌, length, IsSome, slice_get};
-ghost use Rattle.mate_code.specs.Kind.{form_of, width_of, name_of, IsKindNamed};
+ghost use Rattle.mate_code.specs.Kind.{form_of, width_of, kind_name, IsKindNamed};
 
 use crate::row::Opcode;
 use mate_num::{FunId, Name};
@@ -86,7 +86,7 @@ impl Kind {
     /// The kind's name; a function's is its own, in `functions`.
     pub fn name(self, functions: &[Name]) -> &str
         requires { IsKindNamed functions.now self }
-        ensures { result.now ≡ name_of functions.now self }
+        ensures { result.now ≡ kind_name functions.now self }
     {
         let row = self.row();
         match row.opcode {

@@ -4,7 +4,7 @@ use Rattle.arrayvec.specs.ArrayVec.{ArrayVec}
 use Rattle.hex.specs.Hex.{encode_lower}
 use Rattle.mate_num.specs.declared.id.HandlerId.{HandlerId}
 use Rattle.vm_desc.specs.declared.description.Description.{Description}
-use Rattle.capsule_codec.specs.Image.{image_of}
+use Rattle.capsule_codec.specs.Image.{capsule_image}
 use Rattle.mate_refusals.specs.declared.refusal.Refusal.{Refusal}
 use Rattle.mate_documents.specs.Outputs.{writes}
 use Rattle.mate_steps.specs.Parts.{Folder, machine, handler}
@@ -14,7 +14,7 @@ use Rattle.mate_documents.specs.declared.output.Output.{Output}
 
 -- the image of the capsule with the machine's number, in hexadecimal digits, and a line feed
 abbrev pub capsule_hex : Description → HandlerId → ℕ → ArrayVec ℕ → List ℕ
-capsule_hex d h version code = encode_lower (image_of (record { vm_id = d.vm_id; handler = h.0; version = version; code = code.items }))
+capsule_hex d h version code = encode_lower (capsule_image (record { vm_id = d.vm_id; handler = h.0; version = version; code = code.items }))
     ++ codes "\n"
 
 -- the image of a source's capsule for a machine

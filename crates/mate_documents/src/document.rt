@@ -4,7 +4,7 @@ ghost use Rattle.std.specs.Prelude.{◌++◌, codes};
 ghost use Rattle.hex.specs.Hex.{encode_lower};
 ghost use Rattle.mate_documents.specs.Documents.{script_line};
 ghost use Rattle.mate_files.specs.Sink.{Puts};
-ghost use Rattle.ts_syntax.specs.Seen.{source_of};
+ghost use Rattle.ts_syntax.specs.Seen.{source_seen};
 
 use crate::boxed_machine::BoxedMachine;
 use capsule_feed::write_answers;
@@ -70,7 +70,7 @@ fn write_image<S: Sink>(image: &Image, out: &mut S) -> Result<(), SinkFault>
 /// Writes the tokens of a script, and a line feed.
 fn write_script<S: Sink>(script: &Script, out: &mut S) -> Result<(), SinkFault>
     ensures { Puts (S.written out.old) (S.faults out.old) (S.written out.new) (S.faults out.new) result
-        (script_line (source_of script.now)) }
+        (script_line (source_seen script.now)) }
 {
     match print(script, out) {
         Ok(()) => end_line(out),

@@ -12,7 +12,7 @@ use Rattle.mate_num.specs.declared.id.ContextId.{ContextId}
 use Rattle.mate_num.specs.declared.store.Store.{Store}
 use Rattle.mate_journal.specs.Machine.{Machine, HeldProgram, IsContextOf}
 use Rattle.mate_num.specs.declared.outcome.Outcome.{Outcome}
-use Rattle.mate_journal.specs.Journal.{Phase, Ready, Waiting, Over, told_by, Told, Posted, Started, Asked, Ended, Installed, Seen, Event, Reading, nothing_heard, heard, is_started, Queued, changed, Invocation}
+use Rattle.mate_journal.specs.Journal.{Phase, Ready, Waiting, Over, untimed, JournalEntry, Posted, Started, Asked, Ended, Installed, Seen, TimedEntry, NodeState, first_state, next_state, is_started, Queued, changed, Invocation}
 use Rattle.mate_journal.specs.WellFormed.{IsWellFormed, Closes, NotBefore}
 use Rattle.mate_journal.specs.Serial.{IsSerial, RunsSoFar}
 use Rattle.mate_journal.specs.Stores.{ShowsStores, IsShown}
@@ -36,7 +36,7 @@ first = record { 0 = 0 }
 abbrev pub for_main : ℕ → ArrayVec ℕ → HeldProgram
 for_main version image = record { handler = main; version = version; image = image }
 
-abbrev pub at : ℕ → Told → Event
+abbrev pub at : ℕ → JournalEntry → TimedEntry
 at k told = record { stamp = record { event = k; time = 0 }; told = told }
 
 -- the run of the program at the beginning of an era
@@ -44,7 +44,7 @@ abbrev pub first_run : Machine → HeldProgram → Outcome
 first_run m p = m.meaning.run p m.zero_store empty [] m.turns
 
 -- the journal: the program is installed, an event is posted to its handler, and the invocation runs to its end
-abbrev pub one_run : Machine → HeldProgram → List Event
+abbrev pub one_run : Machine → HeldProgram → List TimedEntry
 one_run m p =
     at 1 (Seen m.zero_store) ∷ at 1 (Installed p) ∷ at 2 (Posted 1 main first empty) ∷ at 2 (Started 1)
     ∷ at 3 (Ended 1 (first_run m p).end) ∷ at 4 (Seen (first_run m p).store) ∷ []
@@ -84,13 +84,13 @@ in_order : (a b : ℕ) → a ≤ b → NotBefore (record { event = a; time = 0 }
 in_order a b h = record { event = h; time = omega arith; same = λ _. refl }
 
 -- what a part tells, the whole tells
-TellsAt-before : (es back : List Event) (q : ℕ) (t : Told) → TellsAt es q t → TellsAt (es ++ back) q t
+TellsAt-before : (es back : List TimedEntry) (q : ℕ) (t : JournalEntry) → TellsAt es q t → TellsAt (es ++ back) q t
 TellsAt-before [] back q t tells = absurd tells
 TellsAt-before (e ∷ es) back zero t tells = tells
 TellsAt-before (e ∷ es) back (suc q) t tells = TellsAt-before es back q t tells
 
-TellsAt-behind : (front es : List Event) (q : ℕ) (t : Told) → TellsAt es q t → TellsAt (front ++ es) (length front + q) t
-TellsAt-behind [] es q t tells = let same : length {A = Event} [] + q ≡ q = omega arith in subst (λ (i : ℕ). TellsAt es i t) (sym same) tells
+TellsAt-behind : (front es : List TimedEntry) (q : ℕ) (t : JournalEntry) → TellsAt es q t → TellsAt (front ++ es) (length front + q) t
+TellsAt-behind [] es q t tells = let same : length {A = TimedEntry} [] + q ≡ q = omega arith in subst (λ (i : ℕ). TellsAt es i t) (sym same) tells
 TellsAt-behind (e ∷ front) es q t tells =
     let next : length (e ∷ front) + q ≡ suc (length front + q) = omega arith in
     subst (λ (i : ℕ). TellsAt (e ∷ (front ++ es)) i t) (sym next) (TellsAt-behind front es q t tells)
@@ -100,17 +100,17 @@ module _ (m : Machine) (version : ℕ) (image : ArrayVec ℕ) where
   p = for_main version image
 
   -- what was heard after the install, the post, the start and the end
-  abbrev installed : Reading
-  installed = heard m (nothing_heard m) (Installed p)
+  abbrev installed : NodeState
+  installed = next_state m (first_state m) (Installed p)
 
-  abbrev posted : Reading
-  posted = heard m installed (Posted 1 main first empty)
+  abbrev posted : NodeState
+  posted = next_state m installed (Posted 1 main first empty)
 
-  abbrev started : Reading
-  started = heard m posted (Started 1)
+  abbrev started : NodeState
+  started = next_state m posted (Started 1)
 
-  abbrev ended : Reading
-  ended = heard m started (Ended 1 (first_run m p).end)
+  abbrev ended : NodeState
+  ended = next_state m started (Ended 1 (first_run m p).end)
 
   -- the invocation, once posted, started and ended
   abbrev one : Phase → Invocation
@@ -142,28 +142,28 @@ module _ (m : Machine) (version : ℕ) (image : ArrayVec ℕ) where
   NotQueued k i = i.phase ≡ Queued → ⊥
 
   -- where no invocation is started, none has run so far
-  quiet : (r : Reading) → ((k : ℕ) → is_started (r.invocations k).phase ≡ false) → RunsSoFar m r
+  quiet : (r : NodeState) → ((k : ℕ) → is_started (r.invocations k).phase ≡ false) → RunsSoFar m r
   quiet r q = record {
     calls = λ n s. absurd (untrue (is_started (r.invocations n).phase) s (q n));
     wants = λ n f args w. absurd (untrue (is_started (r.invocations n).phase) (ap is_started w) (q n));
   }
 
-  none_queued : (r : Reading) → ((k : ℕ) → (r.invocations k).phase ≡ Queued → ⊥) → AllHeldBack m r
+  none_queued : (r : NodeState) → ((k : ℕ) → (r.invocations k).phase ≡ Queued → ⊥) → AllHeldBack m r
   none_queued r q = λ n e. absurd (q n e)
 
-  pub one_run-well_formed : RunsToEnd m p → IsWellFormed m (nothing_heard m) (one_run m p)
+  pub one_run-well_formed : RunsToEnd m p → IsWellFormed m (first_state m) (one_run m p)
   one_run-well_formed h = record {
     in_time = (in_order 1 1 (lit≤ tt), (in_order 1 2 (lit≤ tt), (in_order 2 2 (lit≤ tt), (in_order 2 3 (lit≤ tt), (in_order 3 4 (lit≤ tt), tt)))));
     follow = (tt, (tt, ((refl, refl, h.context, λ n live same. untrue false live refl), (refl, ((refl, h.closes), (tt, tt))))));
   }
 
-  pub one_run-serial : RunsToEnd m p → IsSerial m (nothing_heard m) (one_run m p)
+  pub one_run-serial : RunsToEnd m p → IsSerial m (first_state m) (one_run m p)
   one_run-serial h = record {
     ends = (tt, (tt, (tt, (tt, ((refl, h.calls), (tt, tt))))));
     so_far = (
-      quiet (nothing_heard m) (λ k. refl),
+      quiet (first_state m) (λ k. refl),
       (
-        quiet (nothing_heard m) (λ k. refl),
+        quiet (first_state m) (λ k. refl),
         (
           quiet installed (λ k. refl),
           (quiet posted (each_posted IsQuiet refl (λ k _. refl)), (running, (over, over))),
@@ -183,12 +183,12 @@ module _ (m : Machine) (version : ℕ) (image : ArrayVec ℕ) where
     over : RunsSoFar m ended
     over = quiet ended (each_ended IsQuiet refl (λ k _. refl))
 
-  pub one_run-stores : RunsToEnd m p → ShowsStores m (nothing_heard m) (one_run m p)
+  pub one_run-stores : RunsToEnd m p → ShowsStores m (first_state m) (one_run m p)
   one_run-stores h = record {
     shown = (at_start, (tt, (tt, (tt, (tt, (at_end, tt))))));
     before_eras = (tt, (refl, (tt, (tt, (tt, (tt, tt))))));
   } where
-    at_start : IsShown m (nothing_heard m) m.zero_store
+    at_start : IsShown m (first_state m) m.zero_store
     at_start = record { variables = refl; buffers = refl; unwritten = λ r _. refl; waiting = λ r n w waits. absurd (untrue false w.started refl) }
 
     at_end : IsShown m ended (first_run m p).store
@@ -199,11 +199,11 @@ module _ (m : Machine) (version : ℕ) (image : ArrayVec ℕ) where
       waiting = λ r n w waits. absurd (untrue (is_started (ended.invocations n).phase) w.started (each_ended IsQuiet refl (λ k _. refl) n));
     }
 
-  pub one_run-grants : RunsToEnd m p → GrantsInOrder m (nothing_heard m) 0 (one_run m p)
+  pub one_run-grants : RunsToEnd m p → GrantsInOrder m (first_state m) 0 (one_run m p)
   one_run-grants h = (
-    none_queued (nothing_heard m) (λ k e. cc),
+    none_queued (first_state m) (λ k e. cc),
     (
-      none_queued (nothing_heard m) (λ k e. cc),
+      none_queued (first_state m) (λ k e. cc),
       (
         none_queued installed (λ k e. cc),
         ((may_start, lit< tt), (none_queued started (each_started NotQueued (λ e. cc) (λ k _ e. cc)), (after, after))),
@@ -235,7 +235,7 @@ module _ (m : Machine) (version : ℕ) (image : ArrayVec ℕ) where
   one_run-devices device_of front era back d is one_era = record { ended = λ j k q q' _ _ asks _. absurd (no_asks j q asks) } where
     no_asks : (n q : ℕ) → AsksAt device_of d era n q → ⊥
     no_asks n q asks = no_call (first_run m p).end n (length front + q) asks.fun asks.args
-        (subst (λ (es : List Event). TellsAt es (length front + q) (Asked n asks.fun asks.args)) (sym is) (TellsAt-behind front (era ++ back) q (Asked n asks.fun asks.args) (TellsAt-before era back q (Asked n asks.fun asks.args) asks.tells)))
+        (subst (λ (es : List TimedEntry). TellsAt es (length front + q) (Asked n asks.fun asks.args)) (sym is) (TellsAt-behind front (era ++ back) q (Asked n asks.fun asks.args) (TellsAt-before era back q (Asked n asks.fun asks.args) asks.tells)))
 
   pub one_run-events : RunsToEnd m p → IsRunOf m Whole (one_script p) (one_run m p)
   one_run-events h = record {
@@ -249,19 +249,19 @@ module _ (m : Machine) (version : ℕ) (image : ArrayVec ℕ) where
     made = from_install;
     ends = (refl, record { seen = (first_run m p).store; shown = none_ready ended (each_ended IsQuiet refl (λ k _. refl)); made = refl }, alone 4 (Seen (first_run m p).store));
   } where
-    running : List Event
+    running : List TimedEntry
     running = at 3 (Ended 1 (first_run m p).end) ∷ []
 
-    posting : List Event
+    posting : List TimedEntry
     posting = at 2 (Posted 1 main first empty) ∷ at 2 (Started 1) ∷ running
 
-    of_event : (n : ℕ) (a b : Told) → AreOfEvent n (at n a ∷ at n b ∷ [])
-    of_event n a b = All-from_recursion (λ (e : Event). e.stamp ≡ record { event = n; time = 0 }) (at n a ∷ at n b ∷ []) (refl, (refl, tt))
+    of_event : (n : ℕ) (a b : JournalEntry) → AreOfEvent n (at n a ∷ at n b ∷ [])
+    of_event n a b = All-from_recursion (λ (e : TimedEntry). e.stamp ≡ record { event = n; time = 0 }) (at n a ∷ at n b ∷ []) (refl, (refl, tt))
 
-    alone : (n : ℕ) (a : Told) → AreOfEvent n (at n a ∷ [])
-    alone n a = All-from_recursion (λ (e : Event). e.stamp ≡ record { event = n; time = 0 }) (at n a ∷ []) (refl, tt)
+    alone : (n : ℕ) (a : JournalEntry) → AreOfEvent n (at n a ∷ [])
+    alone n a = All-from_recursion (λ (e : TimedEntry). e.stamp ≡ record { event = n; time = 0 }) (at n a ∷ []) (refl, tt)
 
-    none_ready : (r : Reading) → ((n : ℕ) → is_started (r.invocations n).phase ≡ false) → {pace : Pace} {seen : Store} → ShowsReady m r pace seen
+    none_ready : (r : NodeState) → ((n : ℕ) → is_started (r.invocations n).phase ≡ false) → {pace : Pace} {seen : Store} → ShowsReady m r pace seen
     none_ready r quiet = record { ready = λ at n w ready. absurd (untrue (is_started (r.invocations n).phase) w.started (quiet n)) }
 
     pace_started : Pace
@@ -270,18 +270,18 @@ module _ (m : Machine) (version : ℕ) (image : ArrayVec ℕ) where
     turn : Turn
     turn = record { invocation = 1; told = Ended 1 (first_run m p).end ∷ [] }
 
-    installs : Installs m (nothing_heard m) no_pace p (told_by (at 1 (Seen m.zero_store) ∷ at 1 (Installed p) ∷ []))
+    installs : Installs m (first_state m) no_pace p (untimed (at 1 (Seen m.zero_store) ∷ at 1 (Installed p) ∷ []))
     installs = record {
       seen = m.zero_store;
       rest = [];
-      shown = none_ready (nothing_heard m) (λ n. refl);
+      shown = none_ready (first_state m) (λ n. refl);
       newer = h.version;
       made = refl;
       once = λ once. absurd (untrue (m.runs_once main) once h.not_once);
       else = λ _. refl;
     }
 
-    posts : Posts m installed main empty (told_by (at 2 (Posted 1 main first empty) ∷ at 2 (Started 1) ∷ []))
+    posts : Posts m installed main empty (untimed (at 2 (Posted 1 main first empty) ∷ at 2 (Started 1) ∷ []))
     posts = record {
       context = first;
       starts = Started 1 ∷ [];
@@ -300,10 +300,10 @@ module _ (m : Machine) (version : ℕ) (image : ArrayVec ℕ) where
     is_turn = record {
       ready = refl;
       short = λ few. absurd (omega (arith, few, h.quick));
-      reached = λ _. record { starts = []; are_starts = All-from_recursion IsStart [] tt; told_is = ap (λ (t : Told). t ∷ []) (closing (first_run m p).end h.closes) };
+      reached = λ _. record { starts = []; are_starts = All-from_recursion IsStart [] tt; told_is = ap (λ (t : JournalEntry). t ∷ []) (closing (first_run m p).end h.closes) };
     }
 
-    settles : Settles m started pace_started (told_by running) (after_step m started (gives_way pace_started 1) m.quantum turn)
+    settles : Settles m started pace_started (untimed running) (after_step m started (gives_way pace_started 1) m.quantum turn)
     settles = record {
       turns = turn ∷ [];
       are_turns = (([], refl), is_turn, tt);
@@ -328,7 +328,7 @@ module _ (m : Machine) (version : ℕ) (image : ArrayVec ℕ) where
       from_run,
     )
 
-    from_install : HaveMade m 0 1 (nothing_heard m) no_pace (one_script p) (at 1 (Seen m.zero_store) ∷ at 1 (Installed p) ∷ posting) (after_step m started (gives_way pace_started 1) m.quantum turn)
+    from_install : HaveMade m 0 1 (first_state m) no_pace (one_script p) (at 1 (Seen m.zero_store) ∷ at 1 (Installed p) ∷ posting) (after_step m started (gives_way pace_started 1) m.quantum turn)
     from_install = (
       lit< tt,
       at 1 (Seen m.zero_store) ∷ at 1 (Installed p) ∷ [],

@@ -18,47 +18,47 @@ use Rattle.mate_journal.specs.declared.entry.Entry.{Entry}
 use Rattle.mate_journal.specs.declared.entry.Entry.TheVariants as entry
 
 -- what an entry tells, with the image or the store that it names
-pub data Told : Type 0 where
-  Posted : (n : ℕ) (handler : HandlerId) (context : ContextId) (payload : ArrayVec ℤ) → Told
-  Dropped : (handler : HandlerId) (cause : DropCause) → Told
-  Started : (n : ℕ) → Told
-  Asked : (n : ℕ) (fun : FunId) (args : ArrayVec ℤ) → Told
-  Answered : (n : ℕ) (value : ℤ) → Told
-  Ended : (n : ℕ) (how : End) → Told
-  Installed : (program : HeldProgram) → Told
-  Reset : Told
-  Seen : (store : Store) → Told
-  Void : (cause : VoidCause) → Told
+pub data JournalEntry : Type 0 where
+  Posted : (n : ℕ) (handler : HandlerId) (context : ContextId) (payload : ArrayVec ℤ) → JournalEntry
+  Dropped : (handler : HandlerId) (cause : DropCause) → JournalEntry
+  Started : (n : ℕ) → JournalEntry
+  Asked : (n : ℕ) (fun : FunId) (args : ArrayVec ℤ) → JournalEntry
+  Answered : (n : ℕ) (value : ℤ) → JournalEntry
+  Ended : (n : ℕ) (how : End) → JournalEntry
+  Installed : (program : HeldProgram) → JournalEntry
+  Reset : JournalEntry
+  Seen : (store : Store) → JournalEntry
+  Void : (cause : VoidCause) → JournalEntry
 
 -- the invocation that an entry starts, if any
-abbrev pub started_by : Told → Option ℕ
+abbrev pub started_by : JournalEntry → Option ℕ
 started_by (Started n) = Some n
 started_by _ = None
 
 -- the invocation that an entry ends, and how, if any
-abbrev pub ended_by : Told → Option (ℕ × End)
+abbrev pub ended_by : JournalEntry → Option (ℕ × End)
 ended_by (Ended n how) = Some (n, how)
 ended_by _ = None
 
 -- the store that an entry shows, if any
-abbrev pub store_seen : Told → Option Store
+abbrev pub store_seen : JournalEntry → Option Store
 store_seen (Seen store) = Some store
 store_seen _ = None
 
 -- the entry begins an era
-abbrev pub begins_era : Told → Bool
+abbrev pub begins_era : JournalEntry → Bool
 begins_era (Installed p) = true
 begins_era Reset = true
 begins_era _ = false
 
 -- something told, and when
-pub record Event : Type 0 where
+pub record TimedEntry : Type 0 where
   pub stamp : Stamp
-  pub told : Told
+  pub told : JournalEntry
 
 -- what a list of events tells
-abbrev pub told_by : List Event → List Told
-told_by es = map (λ e. e.told) es
+abbrev pub untimed : List TimedEntry → List JournalEntry
+untimed es = map (λ e. e.told) es
 
 abbrev pub no_image : ArrayVec ℕ
 no_image = record { items = [] }
@@ -66,23 +66,23 @@ no_image = record { items = [] }
 abbrev pub no_store : Store
 no_store = record { shared = record { items = [] }; buffers = record { items = [] } }
 
-abbrev pub told_of : Log → Entry → Told
-told_of l (entry.Post n h c payload) = Posted n h c payload
-told_of l (entry.Dropped h cause) = Dropped h cause
-told_of l (entry.Start n) = Started n
-told_of l (entry.Ask n f args) = Asked n f args
-told_of l (entry.Answer n value) = Answered n value
-told_of l (entry.Halt n) = Ended n end.Halt
-told_of l (entry.Fault n kind) = Ended n (end.Fault kind)
-told_of l (entry.Install h version image) =
+abbrev pub journal_entry : Log → Entry → JournalEntry
+journal_entry l (entry.Post n h c payload) = Posted n h c payload
+journal_entry l (entry.Dropped h cause) = Dropped h cause
+journal_entry l (entry.Start n) = Started n
+journal_entry l (entry.Ask n f args) = Asked n f args
+journal_entry l (entry.Answer n value) = Answered n value
+journal_entry l (entry.Halt n) = Ended n end.Halt
+journal_entry l (entry.Fault n kind) = Ended n (end.Fault kind)
+journal_entry l (entry.Install h version image) =
     Installed (record { handler = h; version = version; image = slice_index_or l.images image no_image })
-told_of l entry.Reset = Reset
-told_of l (entry.Seen store) = Seen (slice_index_or l.stores store no_store)
-told_of l (entry.Void cause) = Void cause
+journal_entry l entry.Reset = Reset
+journal_entry l (entry.Seen store) = Seen (slice_index_or l.stores store no_store)
+journal_entry l (entry.Void cause) = Void cause
 
 -- the journal of a log
-abbrev pub journal_of : Log → List Event
-journal_of l = map (λ e. record { stamp = e.stamp; told = told_of l e.entry }) l.entries
+abbrev pub journal_of : Log → List TimedEntry
+journal_of l = map (λ e. record { stamp = e.stamp; told = journal_entry l e.entry }) l.entries
 
 -- where an invocation stands: not yet posted, queued for its locks, ready to run, waiting for an answer, or over
 pub data Phase : Type 0 where
@@ -118,7 +118,7 @@ pub record Invocation : Type 0 where
 
 -- what was heard up to a place: the serial store, how many invocations were posted, what is installed for
 -- each handler, and each invocation by its number
-pub record Reading : Type 0 where
+pub record NodeState : Type 0 where
   pub serial : Store
   pub posts : ℕ
   pub installed : HandlerId → Option HeldProgram
@@ -132,11 +132,11 @@ abbrev unposted : Invocation
 unposted = record { handler = record { 0 = 0 }; context = record { 0 = 0 }; program = no_program; payload = record { items = [] }; calls = []; phase = Unposted }
 
 -- before anything was heard
-abbrev pub nothing_heard : Machine → Reading
-nothing_heard m = record { serial = m.zero_store; posts = 0; installed = λ _. None; invocations = λ _. unposted }
+abbrev pub first_state : Machine → NodeState
+first_state m = record { serial = m.zero_store; posts = 0; installed = λ _. None; invocations = λ _. unposted }
 
 -- the version that the node holds of a handler, 0 for none
-abbrev pub held : Reading → HandlerId → ℕ
+abbrev pub held : NodeState → HandlerId → ℕ
 held r h = version_of (r.installed h) where
   version_of : Option HeldProgram → ℕ
   version_of None = 0
@@ -155,11 +155,11 @@ abbrev pub answers_of : Invocation → List ℤ
 answers_of i = map (λ (call : Call). call.result) i.calls
 
 -- what an invocation's program gives on the serial store, with the answers that it got
-abbrev pub on_serial : {A : Type 0} → (HeldProgram → Store → ArrayVec ℤ → List ℤ → ℕ → A) → Machine → Reading → ℕ → A
+abbrev pub on_serial : {A : Type 0} → (HeldProgram → Store → ArrayVec ℤ → List ℤ → ℕ → A) → Machine → NodeState → ℕ → A
 on_serial f m r n = let i = r.invocations n in f i.program r.serial i.payload (answers_of i) m.turns
 
 -- the whole run of an invocation
-abbrev pub whole_run : Machine → Reading → ℕ → Outcome
+abbrev pub whole_run : Machine → NodeState → ℕ → Outcome
 whole_run m = on_serial m.meaning.run m
 
 -- the calls of an invocation, with the one that it waits in and its answer
@@ -171,52 +171,52 @@ answered (Waiting f args) value calls = calls ++ record { fun = f; args = args; 
 answered Over value calls = calls
 
 -- an invocation after an era's end: a live one is cut
-abbrev pub cut : Invocation → Invocation
-cut i = in_phase (if is_live i.phase then Over else i.phase) i
+abbrev pub cut_at_era : Invocation → Invocation
+cut_at_era i = in_phase (if is_live i.phase then Over else i.phase) i
 
 -- what is heard with one more entry
-abbrev pub heard : Machine → Reading → Told → Reading
-heard m r (Posted n h c payload) =
+abbrev pub next_state : Machine → NodeState → JournalEntry → NodeState
+next_state m r (Posted n h c payload) =
     record r {
       posts = n;
       invocations = changed r.invocations n
           (record { handler = h; context = c; program = unwrap_or (r.installed h) no_program; payload = payload; calls = []; phase = Queued });
     }
-heard m r (Dropped h cause) = r
-heard m r (Started n) = record r { invocations = changed r.invocations n (in_phase Ready (r.invocations n)) }
-heard m r (Asked n f args) = record r { invocations = changed r.invocations n (in_phase (Waiting f args) (r.invocations n)) }
-heard m r (Answered n value) =
+next_state m r (Dropped h cause) = r
+next_state m r (Started n) = record r { invocations = changed r.invocations n (in_phase Ready (r.invocations n)) }
+next_state m r (Asked n f args) = record r { invocations = changed r.invocations n (in_phase (Waiting f args) (r.invocations n)) }
+next_state m r (Answered n value) =
     let i = r.invocations n in
     record r { invocations = changed r.invocations n (record i { calls = answered i.phase value i.calls; phase = Ready }) }
-heard m r (Ended n how) =
+next_state m r (Ended n how) =
     record r { serial = (whole_run m r n).store; invocations = changed r.invocations n (in_phase Over (r.invocations n)) }
-heard m r (Installed p) =
+next_state m r (Installed p) =
     record {
       serial = m.zero_store;
       posts = r.posts;
       installed = λ h. if h.0 == p.handler.0 then Some p else r.installed h;
-      invocations = λ n. cut (r.invocations n);
+      invocations = λ n. cut_at_era (r.invocations n);
     }
-heard m r Reset = record r { serial = m.zero_store; invocations = λ n. cut (r.invocations n) }
-heard m r (Seen store) = r
-heard m r (Void cause) = r
+next_state m r Reset = record r { serial = m.zero_store; invocations = λ n. cut_at_era (r.invocations n) }
+next_state m r (Seen store) = r
+next_state m r (Void cause) = r
 
 -- what is heard with a list of entries
-abbrev pub heard_all : Machine → Reading → List Event → Reading
-heard_all m r [] = r
-heard_all m r (e ∷ es) = heard_all m (heard m r e.told) es
+abbrev pub state_after_all : Machine → NodeState → List TimedEntry → NodeState
+state_after_all m r [] = r
+state_after_all m r (e ∷ es) = state_after_all m (next_state m r e.told) es
 
 -- the same of what a list of entries tells
-abbrev pub heard_told : Machine → Reading → List Told → Reading
-heard_told m r [] = r
-heard_told m r (t ∷ ts) = heard_told m (heard m r t) ts
+abbrev pub state_after_entries : Machine → NodeState → List JournalEntry → NodeState
+state_after_entries m r [] = r
+state_after_entries m r (t ∷ ts) = state_after_entries m (next_state m r t) ts
 
 -- a rule for each entry, at what was heard before it
-abbrev pub AtEachEntry : (Reading → Told → Type 0) → Machine → Reading → List Event → Type 0
+abbrev pub AtEachEntry : (NodeState → JournalEntry → Type 0) → Machine → NodeState → List TimedEntry → Type 0
 AtEachEntry Rule m r [] = Unit {0}
-AtEachEntry Rule m r (e ∷ es) = Rule r e.told × AtEachEntry Rule m (heard m r e.told) es
+AtEachEntry Rule m r (e ∷ es) = Rule r e.told × AtEachEntry Rule m (next_state m r e.told) es
 
 -- a fact at each place of the journal, and at its end
-abbrev pub AtEachPlace : (Reading → Type 0) → Machine → Reading → List Event → Type 0
+abbrev pub AtEachPlace : (NodeState → Type 0) → Machine → NodeState → List TimedEntry → Type 0
 AtEachPlace Fact m r [] = Fact r
-AtEachPlace Fact m r (e ∷ es) = Fact r × AtEachPlace Fact m (heard m r e.told) es
+AtEachPlace Fact m r (e ∷ es) = Fact r × AtEachPlace Fact m (next_state m r e.told) es

@@ -8,7 +8,7 @@ use Rattle.mate_journal.specs.declared.report.TheConstants.{RECORDS_MAX}
 use Rattle.mate_journal.specs.declared.entry.DropCause.TheVariants as drop
 use Rattle.mate_journal.specs.declared.entry.VoidCause.TheVariants as void
 use Rattle.mate_journal.specs.Machine.{Machine, HeldProgram, IsContextOf}
-use Rattle.mate_journal.specs.Journal.{Told, Posted, Dropped, Answered, Installed, Reset, Seen, Void, Event, Ready, Reading, nothing_heard, held, heard, heard_all, told_by}
+use Rattle.mate_journal.specs.Journal.{JournalEntry, Posted, Dropped, Answered, Installed, Reset, Seen, Void, TimedEntry, Ready, NodeState, first_state, held, next_state, state_after_all, untimed}
 use Rattle.mate_journal.specs.WellFormed.{IsIdle, IsBusy, IsWaiting}
 use Rattle.mate_journal.specs.Grants.{IsStart}
 use Rattle.mate_journal.specs.Pace.{Pace, no_pace, paced_all}
@@ -29,120 +29,120 @@ abbrev pub records_max : ℕ
 records_max = RECORDS_MAX
 
 -- c is the handler's lowest context that no live invocation has
-pub record IsFirstIdle (m : Machine) (r : Reading) (h : HandlerId) (c : ContextId) : Type 0 where
+pub record IsFirstIdle (m : Machine) (r : NodeState) (h : HandlerId) (c : ContextId) : Type 0 where
   pub context : IsContextOf m h c
   pub idle : IsIdle r c
   pub lowest : (k : ContextId) → IsContextOf m h k → k.0 < c.0 → IsBusy r k
 
 -- an event for the handler that nothing is installed for
-pub record DropsNoCode (r : Reading) (h : HandlerId) (entries : List Told) : Type 0 where
+pub record DropsNoCode (r : NodeState) (h : HandlerId) (entries : List JournalEntry) : Type 0 where
   pub no_code : IsNone (r.installed h)
   pub made : entries ≡ Dropped h drop.NoCode ∷ []
 
 -- an event for the handler while each of its contexts has a live invocation
-pub record DropsAllBusy (m : Machine) (r : Reading) (h : HandlerId) (entries : List Told) : Type 0 where
+pub record DropsAllBusy (m : Machine) (r : NodeState) (h : HandlerId) (entries : List JournalEntry) : Type 0 where
   pub code : IsSome (r.installed h)
   pub busy : (c : ContextId) → IsContextOf m h c → IsBusy r c
   pub made : entries ≡ Dropped h drop.AllBusy ∷ []
 
 -- an event for the handler that becomes an invocation in its first idle context; starts may follow
-pub record Posts (m : Machine) (r : Reading) (h : HandlerId) (payload : ArrayVec ℤ) (entries : List Told) : Type 0 where
+pub record Posts (m : Machine) (r : NodeState) (h : HandlerId) (payload : ArrayVec ℤ) (entries : List JournalEntry) : Type 0 where
   pub context : ContextId
-  pub starts : List Told
+  pub starts : List JournalEntry
   pub code : IsSome (r.installed h)
   pub first_idle : IsFirstIdle m r h context
   pub are_starts : All IsStart starts
   pub made : entries ≡ Posted (suc r.posts) h context payload ∷ starts
 
 -- what an occasion for a post makes: one Post or one Dropped
-abbrev pub Occasion : Machine → Reading → HandlerId → ArrayVec ℤ → List Told → Type 0
+abbrev pub Occasion : Machine → NodeState → HandlerId → ArrayVec ℤ → List JournalEntry → Type 0
 Occasion m r h payload entries = DropsNoCode r h entries ⊎ DropsAllBusy m r h entries ⊎ Posts m r h payload entries
 
 -- a newer capsule is installed; a handler that runs once is then posted with an empty payload
-pub record Installs (m : Machine) (r : Reading) (p : Pace) (x : HeldProgram) (entries : List Told) : Type 0 where
+pub record Installs (m : Machine) (r : NodeState) (p : Pace) (x : HeldProgram) (entries : List JournalEntry) : Type 0 where
   pub seen : Store
-  pub rest : List Told
+  pub rest : List JournalEntry
   pub shown : ShowsReady m r p seen
   pub newer : held r x.handler < x.version
   pub made : entries ≡ Seen seen ∷ Installed x ∷ rest
-  pub once : IsTrue (m.runs_once x.handler) → Occasion m (heard m r (Installed x)) x.handler (record { items = [] }) rest
+  pub once : IsTrue (m.runs_once x.handler) → Occasion m (next_state m r (Installed x)) x.handler (record { items = [] }) rest
   pub else : (m.runs_once x.handler ≡ false) → rest ≡ []
 
 -- an older one, or the same, is not
-pub record IsNotNewer (r : Reading) (x : HeldProgram) (entries : List Told) : Type 0 where
+pub record IsNotNewer (r : NodeState) (x : HeldProgram) (entries : List JournalEntry) : Type 0 where
   pub older : x.version ≤ held r x.handler
   pub made : entries ≡ Void (void.NotNewer (held r x.handler)) ∷ []
 
 -- a ready invocation is in the context
-pub record IsReadyIn (r : Reading) (c : ContextId) : Type 0 where
+pub record IsReadyIn (r : NodeState) (c : ContextId) : Type 0 where
   pub invocation : ℕ
   pub ready : (r.invocations invocation).phase ≡ Ready
   pub context : (r.invocations invocation).context ≡ c
 
 -- the ready invocation in the context has one turn of so many instructions
-pub record TurnsIn (m : Machine) (r : Reading) (p : Pace) (c : ContextId) (instructions : ℕ) (entries : List Told) (q : Pace) : Type 0 where
+pub record TurnsIn (m : Machine) (r : NodeState) (p : Pace) (c : ContextId) (instructions : ℕ) (entries : List JournalEntry) (q : Pace) : Type 0 where
   pub invocation : ℕ
   pub context : (r.invocations invocation).context ≡ c
   pub turn : IsTurn m r p instructions record { invocation = invocation; told = entries }
   pub then : q ≡ after_step m r p instructions record { invocation = invocation; told = entries }
 
-pub record IsNotReady (r : Reading) (c : ContextId) (entries : List Told) : Type 0 where
+pub record IsNotReady (r : NodeState) (c : ContextId) (entries : List JournalEntry) : Type 0 where
   pub none : IsReadyIn r c → ⊥
   pub made : entries ≡ Void void.NotReady ∷ []
 
 -- the waiting invocation in the context is answered
-pub record Answers (r : Reading) (c : ContextId) (value : ℤ) (entries : List Told) : Type 0 where
+pub record AnswersCall (r : NodeState) (c : ContextId) (value : ℤ) (entries : List JournalEntry) : Type 0 where
   pub invocation : ℕ
   pub waits : IsWaiting r invocation
   pub context : (r.invocations invocation).context ≡ c
   pub made : entries ≡ Answered invocation value ∷ []
 
-pub record IsNotWaiting (r : Reading) (c : ContextId) (entries : List Told) : Type 0 where
+pub record IsNotWaiting (r : NodeState) (c : ContextId) (entries : List JournalEntry) : Type 0 where
   pub none : (n : ℕ) → IsWaiting r n → (r.invocations n).context ≡ c → ⊥
   pub made : entries ≡ Void void.NotWaiting ∷ []
 
 -- the store is seen, and nothing else
-pub record ShowsOnce (m : Machine) (r : Reading) (p : Pace) (entries : List Told) : Type 0 where
+pub record ShowsOnce (m : Machine) (r : NodeState) (p : Pace) (entries : List JournalEntry) : Type 0 where
   pub seen : Store
   pub shown : ShowsReady m r p seen
   pub made : entries ≡ Seen seen ∷ []
 
-pub record Resets (m : Machine) (r : Reading) (p : Pace) (entries : List Told) : Type 0 where
+pub record Resets (m : Machine) (r : NodeState) (p : Pace) (entries : List JournalEntry) : Type 0 where
   pub seen : Store
   pub shown : ShowsReady m r p seen
   pub made : entries ≡ Seen seen ∷ Reset ∷ []
 
 -- the entries change the pace one by one: no instruction is executed
-abbrev pub IsPacedBy : Pace → List Told → Pace → Type 0
+abbrev pub IsPacedBy : Pace → List JournalEntry → Pace → Type 0
 IsPacedBy p told q = q ≡ paced_all p told
 
 -- what a step tells, at what was heard before it and the pace before it, and the pace after it
-abbrev pub Makes : Machine → Reading → Pace → Step → List Told → Pace → Type 0
+abbrev pub Makes : Machine → NodeState → Pace → Step → List JournalEntry → Pace → Type 0
 Makes m r p (Install x) told q = (Installs m r p x told ⊎ IsNotNewer r x told) × IsPacedBy p told q
 Makes m r p (Post h payload) told q = Occasion m r h payload told × IsPacedBy p told q
 Makes m r p (StepIn c n) told q = TurnsIn m r p c n told q ⊎ (IsNotReady r c told × IsPacedBy p told q)
 Makes m r p Run told q = Settles m r p told q
-Makes m r p (Answer c value) told q = (Answers r c value told ⊎ IsNotWaiting r c told) × IsPacedBy p told q
+Makes m r p (Answer c value) told q = (AnswersCall r c value told ⊎ IsNotWaiting r c told) × IsPacedBy p told q
 Makes m r p Show told q = ShowsOnce m r p told × IsPacedBy p told q
 Makes m r p ResetNode told q = Resets m r p told × IsPacedBy p told q
 
 -- all of one event, at time 0
-abbrev pub AreOfEvent : ℕ → List Event → Type 0
-AreOfEvent n es = All (λ (e : Event). e.stamp ≡ record { event = n; time = 0 }) es
+abbrev pub AreOfEvent : ℕ → List TimedEntry → Type 0
+AreOfEvent n es = All (λ (e : TimedEntry). e.stamp ≡ record { event = n; time = 0 }) es
 
 -- These steps made these events, one event each, and the pace after them is q. `records` stood before the first of them,
 -- which is event n. An event is begun only where fewer than 1,000,000 records stand before it.
-abbrev pub HaveMade : Machine → ℕ → ℕ → Reading → Pace → List Step → List Event → Pace → Type 0
+abbrev pub HaveMade : Machine → ℕ → ℕ → NodeState → Pace → List Step → List TimedEntry → Pace → Type 0
 HaveMade m records n r p [] es q = (es ≡ []) × (q ≡ p)
 HaveMade m records n r p (step ∷ steps) es q =
     (records < records_max)
-    × (front : List Event)
-    × (rest : List Event)
+    × (front : List TimedEntry)
+    × (rest : List TimedEntry)
     × (then : Pace)
     × (es ≡ front ++ rest)
     × AreOfEvent n front
-    × Makes m r p step (told_by front) then
-    × HaveMade m (records + length front) (suc n) (heard_all m r front) then steps rest q
+    × Makes m r p step (untimed front) then
+    × HaveMade m (records + length front) (suc n) (state_after_all m r front) then steps rest q
 
 -- how a run ends: it is whole, its log is full, or it was cut from outside after a step
 pub data RunEnd : Type 0 where
@@ -152,19 +152,19 @@ pub data RunEnd : Type 0 where
 
 -- the last events, where these steps are left before event n: a whole run has none left, and ends with the store seen
 -- under the next number; a full one stops before a step, where 1,000,000 records stand or more
-abbrev pub EndsRun : Machine → RunEnd → ℕ → ℕ → Reading → Pace → List Step → List Event → Type 0
-EndsRun m Whole records n r p left es = (left ≡ []) × ShowsOnce m r p (told_by es) × AreOfEvent n es
+abbrev pub EndsRun : Machine → RunEnd → ℕ → ℕ → NodeState → Pace → List Step → List TimedEntry → Type 0
+EndsRun m Whole records n r p left es = (left ≡ []) × ShowsOnce m r p (untimed es) × AreOfEvent n es
 EndsRun m Full records n r p left es = (left ≢ []) × (records_max ≤ records) × (es ≡ [])
 EndsRun m Cut records n r p left es = es ≡ []
 
 -- the k-th step is event k, at time 0: the steps that were done made the events in front, and the run ends so
-pub record IsRunOf (m : Machine) (how : RunEnd) (steps : List Step) (es : List Event) : Type 0 where
+pub record IsRunOf (m : Machine) (how : RunEnd) (steps : List Step) (es : List TimedEntry) : Type 0 where
   pub done : List Step
   pub left : List Step
-  pub front : List Event
-  pub last : List Event
+  pub front : List TimedEntry
+  pub last : List TimedEntry
   pub pace : Pace
   pub steps_are : steps ≡ done ++ left
   pub events_are : es ≡ front ++ last
-  pub made : HaveMade m 0 1 (nothing_heard m) no_pace done front pace
-  pub ends : EndsRun m how (length front) (suc (length done)) (heard_all m (nothing_heard m) front) pace left last
+  pub made : HaveMade m 0 1 (first_state m) no_pace done front pace
+  pub ends : EndsRun m how (length front) (suc (length done)) (state_after_all m (first_state m) front) pace left last

@@ -1,6 +1,6 @@
 -- The pace of a node: whose turn it is, and how many instructions each invocation executed.
 use Rattle.std.specs.Prelude.{◌==◌, ℕ, not, List, [], ◌∷◌, ◌++◌, filter}
-use Rattle.mate_journal.specs.Journal.{Told, Started, Asked, Answered, Ended, Installed, Reset, changed}
+use Rattle.mate_journal.specs.Journal.{JournalEntry, Started, Asked, Answered, Ended, Installed, Reset, changed}
 
 -- the ready invocations, the one that is longest without a turn first; and how many instructions each executed since
 -- its start
@@ -17,7 +17,7 @@ abbrev pub others : List ℕ → ℕ → List ℕ
 others line n = filter (λ k. not (n == k)) line
 
 -- whoever starts or is answered goes last; whoever asks or ends leaves; an era's end empties the line
-abbrev pub paced : Pace → Told → Pace
+abbrev pub paced : Pace → JournalEntry → Pace
 paced p (Started n) = record { line = p.line ++ n ∷ []; counts = changed p.counts n 0 }
 paced p (Asked n f args) = record p { line = others p.line n }
 paced p (Answered n value) = record p { line = p.line ++ n ∷ [] }
@@ -26,7 +26,7 @@ paced p (Installed x) = record p { line = [] }
 paced p Reset = record p { line = [] }
 paced p _ = p
 
-abbrev pub paced_all : Pace → List Told → Pace
+abbrev pub paced_all : Pace → List JournalEntry → Pace
 paced_all p [] = p
 paced_all p (t ∷ ts) = paced_all (paced p t) ts
 

@@ -4,19 +4,19 @@ use Rattle.arrayvec.specs.ArrayVec.{ArrayVec}
 use Rattle.mate_num.specs.declared.call.End.TheVariants as end
 use Rattle.mate_num.specs.declared.id.FunId.{FunId}
 use Rattle.mate_journal.specs.Machine.{Machine}
-use Rattle.mate_journal.specs.Journal.{Told, ended_by, Event, Waiting, is_started, Reading, whole_run, AtEachEntry, AtEachPlace}
+use Rattle.mate_journal.specs.Journal.{JournalEntry, ended_by, TimedEntry, Waiting, is_started, NodeState, whole_run, AtEachEntry, AtEachPlace}
 
 -- where an invocation ends, its whole run on the serial store ends so, with the calls that were recorded.
 -- (The store that the run leaves is the next serial store.)
-abbrev pub EndsAsRun : Machine → Reading → Told → Type 0
+abbrev pub EndsAsRun : Machine → NodeState → JournalEntry → Type 0
 EndsAsRun m r told = IfSome (ended_by told) (λ e. ((whole_run m r e.0).end ≡ e.1) × ((whole_run m r e.0).calls ≡ (r.invocations e.0).calls))
 
 -- the whole run of each started live invocation gives exactly the calls that it made so far, and where it waits,
 -- the run wants that call's answer
-pub record RunsSoFar (m : Machine) (r : Reading) : Type 0 where
+pub record RunsSoFar (m : Machine) (r : NodeState) : Type 0 where
   pub calls : (n : ℕ) → IsTrue (is_started (r.invocations n).phase) → (whole_run m r n).calls ≡ (r.invocations n).calls
   pub wants : (n : ℕ) (f : FunId) (args : ArrayVec ℤ) → (r.invocations n).phase ≡ Waiting f args → (whole_run m r n).end ≡ end.Wants f args
 
-pub record IsSerial (m : Machine) (r : Reading) (es : List Event) : Type 0 where
+pub record IsSerial (m : Machine) (r : NodeState) (es : List TimedEntry) : Type 0 where
   pub ends : AtEachEntry (EndsAsRun m) m r es
   pub so_far : AtEachPlace (RunsSoFar m) m r es

@@ -5,7 +5,7 @@ use Rattle.mate_num.specs.declared.resource.Resource.TheVariants.{Shared, Buffer
 use Rattle.mate_num.specs.declared.store.Store.{Store}
 use Rattle.mate_journal.specs.Machine.{Machine}
 use Rattle.mate_journal.specs.WellFormed.{IsWaiting}
-use Rattle.mate_journal.specs.Journal.{Told, store_seen, begins_era, Event, is_started, Reading, whole_run, AtEachEntry}
+use Rattle.mate_journal.specs.Journal.{JournalEntry, store_seen, begins_era, TimedEntry, is_started, NodeState, whole_run, AtEachEntry}
 
 -- what a store has at a resource: a variable's one value, or a buffer's values
 abbrev pub values_at : Store → Resource → List ℤ
@@ -14,35 +14,35 @@ values_at s (Buffer b) = (slice_index_or s.buffers.items b.0 (record { items = [
 values_at s (Device d) = []
 
 -- the invocation is started and live, and its program writes the resource
-pub record Writes (m : Machine) (r : Reading) (n : ℕ) (at : Resource) : Type 0 where
+pub record WritesResource (m : Machine) (r : NodeState) (n : ℕ) (at : Resource) : Type 0 where
   pub started : IsTrue (is_started (r.invocations n).phase)
   pub writes : IsTrue ((m.meaning.uses (r.invocations n).program).writes at)
 
 -- A store that is seen has every variable and buffer. What no started live invocation writes has the serial
 -- store's value; what a waiting one writes has the value in the store of its run, up to the call that it waits in.
 -- (Of what a ready one writes the journal alone tells nothing.)
-pub record IsShown (m : Machine) (r : Reading) (seen : Store) : Type 0 where
+pub record IsShown (m : Machine) (r : NodeState) (seen : Store) : Type 0 where
   pub variables : length seen.shared.items ≡ length m.zero_store.shared.items
   pub buffers : length seen.buffers.items ≡ length m.zero_store.buffers.items
-  pub unwritten : (at : Resource) → ((n : ℕ) → Writes m r n at → ⊥) → values_at seen at ≡ values_at r.serial at
-  pub waiting : (at : Resource) (n : ℕ) → Writes m r n at → IsWaiting r n → values_at seen at ≡ values_at (whole_run m r n).store at
+  pub unwritten : (at : Resource) → ((n : ℕ) → WritesResource m r n at → ⊥) → values_at seen at ≡ values_at r.serial at
+  pub waiting : (at : Resource) (n : ℕ) → WritesResource m r n at → IsWaiting r n → values_at seen at ≡ values_at (whole_run m r n).store at
 
-abbrev pub ShowsStore : Machine → Reading → Told → Type 0
+abbrev pub ShowsStore : Machine → NodeState → JournalEntry → Type 0
 ShowsStore m r told = IfSome (store_seen told) (IsShown m r)
 
 -- the entry shows a store
-abbrev pub is_seen : Told → Bool
+abbrev pub is_seen : JournalEntry → Bool
 is_seen told = is_some (store_seen told)
 
 -- directly before an entry that begins an era a store was seen; `seen` says whether one was
-abbrev pub IsSeenBefore : Bool → Told → Type 0
+abbrev pub IsSeenBefore : Bool → JournalEntry → Type 0
 IsSeenBefore seen told = MatchBool (begins_era told) (seen ≡ true) ⊤
 
 -- a store is seen directly before each install and each reset; `just_seen` says that the last entry was one
-abbrev pub SeenBeforeEras : Bool → List Event → Type 0
+abbrev pub SeenBeforeEras : Bool → List TimedEntry → Type 0
 SeenBeforeEras just_seen [] = Unit {0}
 SeenBeforeEras just_seen (e ∷ es) = IsSeenBefore just_seen e.told × SeenBeforeEras (is_seen e.told) es
 
-pub record ShowsStores (m : Machine) (r : Reading) (es : List Event) : Type 0 where
+pub record ShowsStores (m : Machine) (r : NodeState) (es : List TimedEntry) : Type 0 where
   pub shown : AtEachEntry (ShowsStore m) m r es
   pub before_eras : SeenBeforeEras false es

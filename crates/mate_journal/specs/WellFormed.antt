@@ -7,20 +7,20 @@ use Rattle.mate_num.specs.declared.call.Stamp.{Stamp}
 use Rattle.mate_num.specs.declared.id.ContextId.{ContextId}
 use Rattle.mate_num.specs.declared.id.FunId.{FunId}
 use Rattle.mate_journal.specs.Machine.{Machine, IsContextOf}
-use Rattle.mate_journal.specs.Journal.{Told, Posted, Dropped, Started, Asked, Answered, Ended, Installed, Reset, Seen, Void, Event, Queued, Ready, Waiting, is_live, Reading, AtEachEntry}
+use Rattle.mate_journal.specs.Journal.{JournalEntry, Posted, Dropped, Started, Asked, Answered, Ended, Installed, Reset, Seen, Void, TimedEntry, Queued, Ready, Waiting, is_live, NodeState, AtEachEntry}
 
 -- no live invocation has the context
-abbrev pub IsIdle : Reading → ContextId → Type 0
+abbrev pub IsIdle : NodeState → ContextId → Type 0
 IsIdle r c = (n : ℕ) → IsTrue (is_live (r.invocations n).phase) → (r.invocations n).context ≡ c → ⊥
 
 -- a live invocation has the context
-pub record IsBusy (r : Reading) (c : ContextId) : Type 0 where
+pub record IsBusy (r : NodeState) (c : ContextId) : Type 0 where
   pub invocation : ℕ
   pub live : IsTrue (is_live (r.invocations invocation).phase)
   pub context : (r.invocations invocation).context ≡ c
 
 -- the invocation waits for the answer to a call
-pub record IsWaiting (r : Reading) (n : ℕ) : Type 0 where
+pub record IsWaiting (r : NodeState) (n : ℕ) : Type 0 where
   pub fun : FunId
   pub args : ArrayVec ℤ
   pub waits : (r.invocations n).phase ≡ Waiting fun args
@@ -34,7 +34,7 @@ Closes (end.Wants fun args) = ⊥
 -- Posts are numbered from 1, go to a handler for which something is installed, and take a context of it that no
 -- live invocation has. A queued invocation starts once; a started one asks, is answered, and so on in turn; it
 -- ends while it isn't waiting. After its end, or its era's, nothing more is told of an invocation.
-abbrev pub MayFollow : Machine → Reading → Told → Type 0
+abbrev pub MayFollow : Machine → NodeState → JournalEntry → Type 0
 MayFollow m r (Posted n h c payload) = (n ≡ suc r.posts) × IsSome (r.installed h) × IsContextOf m h c × IsIdle r c
 MayFollow m r (Dropped h cause) = Unit {0}
 MayFollow m r (Started n) = (r.invocations n).phase ≡ Queued
@@ -53,15 +53,15 @@ pub record NotBefore (old new : Stamp) : Type 0 where
   pub same : old.event ≡ new.event → old.time ≡ new.time
 
 -- stamps never fall along events that follow one of this stamp
-abbrev pub IsInTime : Stamp → List Event → Type 0
+abbrev pub IsInTime : Stamp → List TimedEntry → Type 0
 IsInTime last [] = Unit {0}
 IsInTime last (e ∷ es) = NotBefore last e.stamp × IsInTime e.stamp es
 
 -- stamps never fall along the journal, whatever its first one is
-abbrev pub StampsRise : List Event → Type 0
+abbrev pub StampsRise : List TimedEntry → Type 0
 StampsRise [] = Unit {0}
 StampsRise (e ∷ es) = IsInTime e.stamp es
 
-pub record IsWellFormed (m : Machine) (r : Reading) (es : List Event) : Type 0 where
+pub record IsWellFormed (m : Machine) (r : NodeState) (es : List TimedEntry) : Type 0 where
   pub in_time : StampsRise es
   pub follow : AtEachEntry (MayFollow m) m r es

@@ -4,14 +4,14 @@ use Rattle.std.specs.Result.{IsErrAnd}
 use Rattle.vm_desc.specs.declared.description.Description.{Description}
 use Rattle.ts_syntax.specs.Cut.{cut}
 use Rattle.ts_syntax.specs.Faults.{Spells}
-use Rattle.ts_syntax.specs.Seen.{source_of}
+use Rattle.ts_syntax.specs.Seen.{source_seen}
 use Rattle.ts_syntax.specs.Statement.{Block}
 use Rattle.ts_syntax.specs.Tree.{Source}
 use Rattle.ts_syntax.specs.declared.checked.Checked.{Checked}
 use Rattle.ts_syntax.specs.declared.script.Script.{Script}
 use Rattle.ts_syntax.specs.declared.token.Token.{Token}
-use Rattle.ts_parser.specs.Cutting.{Cuts}
-use Rattle.ts_parser.specs.Reading.{Reads, cuts, fails}
+use Rattle.ts_parser.specs.Cutting.{CutsScript}
+use Rattle.ts_parser.specs.Reading.{ReadsScript, cuts, fails}
 use Rattle.ts_parser.specs.Verdict.{Answers}
 use Rattle.ts_parser.specs.declared.fault.SourceFault.{SourceFault}
 use Rattle.ts_parser.specs.declared.fault.SourceFault.TheVariants as fault
@@ -29,10 +29,10 @@ handed_on : (d : Description) (bytes : List ℕ) (f : SourceFault) → IsMisspel
 handed_on d bytes f h (Ok c) i = absurd i
 handed_on d bytes f h (Err r) i = subst (IsRefused d bytes) (sym i) h
 
-bytes_refused : (d : Description) (bytes : List ℕ) (f : SourceFault) → Cuts bytes (Err f) → (r : Result Checked SourceRefusal) → IsErrAnd r (λ x. x ≡ Spelling f) → TellsAcceptance d bytes r
+bytes_refused : (d : Description) (bytes : List ℕ) (f : SourceFault) → CutsScript bytes (Err f) → (r : Result Checked SourceRefusal) → IsErrAnd r (λ x. x ≡ Spelling f) → TellsAcceptance d bytes r
 bytes_refused d bytes f h = handed_on d bytes f (told f h)
   where
-    told : (f : SourceFault) → Cuts bytes (Err f) → IsMisspelt d bytes f
+    told : (f : SourceFault) → CutsScript bytes (Err f) → IsMisspelt d bytes f
     told (fault.BadByte place) h = h
     told (fault.BigLiteral place) h = h
     told (fault.Unexpected place) h = absurd h
@@ -50,20 +50,20 @@ tokens_refused d bytes tokens f is_cut h = handed_on d bytes f (told f h)
     told (fault.TooDeep place) h = record { tokens = tokens; cuts = is_cut; deep = h }
     told fault.NoMemory h = tt
 
-pub text_refused : (d : Description) (bytes : List ℕ) (f : SourceFault) → Reads bytes (Err f) → (r : Result Checked SourceRefusal) → IsErrAnd r (λ x. x ≡ Spelling f) → TellsAcceptance d bytes r
+pub text_refused : (d : Description) (bytes : List ℕ) (f : SourceFault) → ReadsScript bytes (Err f) → (r : Result Checked SourceRefusal) → IsErrAnd r (λ x. x ≡ Spelling f) → TellsAcceptance d bytes r
 text_refused d bytes f (cuts tokens c a) r i = tokens_refused d bytes tokens f c a r i
 text_refused d bytes f (fails g h e) r i =
-    let is : g ≡ f = cc in bytes_refused d bytes f (subst (λ z. Cuts bytes (Err z)) is h) r i
+    let is : g ≡ f = cc in bytes_refused d bytes f (subst (λ z. CutsScript bytes (Err z)) is h) r i
 
 -- the script of the text passes the checks, or is refused by them
-pub script_accepted : (d : Description) (bytes : List ℕ) (s : Script) (tree : Block) → Reads bytes (Ok s) → checked_source d (source_of s) ≡ Ok tree → IsAccepted d bytes tree
-script_accepted d bytes s tree (cuts tokens c a) checks = record { tokens = tokens; source = source_of s; cuts = c; spells = a; checks = checks }
+pub script_accepted : (d : Description) (bytes : List ℕ) (s : Script) (tree : Block) → ReadsScript bytes (Ok s) → checked_source d (source_seen s) ≡ Ok tree → IsAccepted d bytes tree
+script_accepted d bytes s tree (cuts tokens c a) checks = record { tokens = tokens; source = source_seen s; cuts = c; spells = a; checks = checks }
 script_accepted d bytes s tree (fails f h e) checks = cc
 
 of_source : (d : Description) (bytes : List ℕ) (tokens : List Token) (s : Source) (f : CheckFault) → cut bytes ≡ Ok tokens → Spells tokens s → RefusesScript f (checked_source d s) → IsUnmeant d bytes f
 of_source d bytes tokens s check.NoMemory is_cut spells h = tt
 of_source d bytes tokens s f is_cut spells h = record { tokens = tokens; source = s; cuts = is_cut; spells = spells; checks = h }
 
-pub script_refused : (d : Description) (bytes : List ℕ) (s : Script) (f : CheckFault) → Reads bytes (Ok s) → RefusesScript f (checked_source d (source_of s)) → IsUnmeant d bytes f
-script_refused d bytes s f (cuts tokens c a) h = of_source d bytes tokens (source_of s) f c a h
+pub script_refused : (d : Description) (bytes : List ℕ) (s : Script) (f : CheckFault) → ReadsScript bytes (Ok s) → RefusesScript f (checked_source d (source_seen s)) → IsUnmeant d bytes f
+script_refused d bytes s f (cuts tokens c a) h = of_source d bytes tokens (source_seen s) f c a h
 script_refused d bytes s f (fails g h e) r = cc

@@ -6,7 +6,7 @@ use Rattle.mate_num.specs.declared.lock_set.LockSet.{LockSet}
 use Rattle.mate_num.specs.declared.shape.Shape.{Shape}
 use Rattle.mate_code.specs.BytesVerification.{bytes_verification}
 use Rattle.ts_syntax.specs.Statement.{Block}
-use Rattle.ts_meaning.specs.Uses.{uses_of}
+use Rattle.ts_meaning.specs.Uses.{script_uses}
 use Rattle.ts_meaning.specs.Translation.{code_of}
 use Rattle.ts_meaning.proofs.UsesLemmas.{UsesAsItsScript-script_code}
 use Rattle.ts_compiler.specs.Compiled.{AreAccepted}
@@ -32,5 +32,5 @@ code shape tree bytes v are is =
     subst (λ (bs : List ℕ). bytes_verification shape bs ≡ Ok (v.code, marks_of v)) is.bytes_are a in
     first_same v.code (code_of tree) (marks_of v) are.0 (bytes_verification shape bytes.items) b are.1
 
-pub locks : (shape : Shape) (tree : Block) (set : LockSet) → AreLocksOf shape (code_of tree) set → IsSameUses (held_uses set) (uses_of shape tree)
+pub locks : (shape : Shape) (tree : Block) (set : LockSet) → AreLocksOf shape (code_of tree) set → IsSameUses (held_uses set) (script_uses shape tree)
 locks shape tree set are = subst (λ (u : Uses). IsSameUses (held_uses set) u) (UsesAsItsScript-script_code shape tree) are

@@ -6,9 +6,9 @@ use Rattle.proc_names.specs.Named.{written_of}
 use Rattle.proc_names.specs.declared.fault.ProcFault.{ProcFault}
 use Rattle.proc_names.specs.declared.fault.ProcFault.TheVariants.{BadByte, BigLiteral, Unexpected, TooDeep, NoProc, Params, Again, Reserved, TooLarge, TooNested, NoMemory}
 use Rattle.proc_names.specs.declared.named.PScript.{PScript}
-use Rattle.ts_procs.specs.Reading.{Reads}
+use Rattle.ts_procs.specs.Reading.{ReadsProcedures}
 use Rattle.ts_procs.proofs.ReadingLemmas.{one_script, one_refusal, not_both}
-use Rattle.ts_syntax.specs.Seen.{source_of}
+use Rattle.ts_syntax.specs.Seen.{source_seen}
 use Rattle.ts_syntax.specs.Tree.{ProcedureSource}
 use Rattle.ts_syntax.specs.declared.script.Script.{Script}
 use Rattle.mate_files.specs.Files.{Names}
@@ -24,14 +24,14 @@ abbrev pub SameProcedures : PScript → PScript → Type 0
 SameProcedures a b = written_of a ≡ written_of b
 
 abbrev pub SameScript : Script → Script → Type 0
-SameScript a b = source_of a ≡ source_of b
+SameScript a b = source_seen a ≡ source_seen b
 
 procedures_agree : (name bytes : List ℕ) → AnswersAgree SameProcedures (script_with_procedures name bytes) (script_with_procedures name bytes)
 procedures_agree name bytes = judged_agrees SameProcedures _ _ _ (one_script bytes) not same where
-  not : (a : PScript) (e : ExpansionCause) → Reads bytes (Ok a) → Reads bytes (Err (expansion_fault e)) → ⊥
+  not : (a : PScript) (e : ExpansionCause) → ReadsProcedures bytes (Ok a) → ReadsProcedures bytes (Err (expansion_fault e)) → ⊥
   not a e p q = not_both bytes a (expansion_fault e) p q (expansion_fault-told e)
 
-  same : (e h : ExpansionCause) → Reads bytes (Err (expansion_fault e)) → Reads bytes (Err (expansion_fault h)) → e ≡ h
+  same : (e h : ExpansionCause) → ReadsProcedures bytes (Err (expansion_fault e)) → ReadsProcedures bytes (Err (expansion_fault h)) → e ≡ h
   same e h p q = expansion_fault-once e h (one_refusal bytes (expansion_fault e) (expansion_fault h) p q (expansion_fault-told e) (expansion_fault-told h))
 
 -- ---- expansions
@@ -69,7 +69,7 @@ expanded_agrees name source = judged_agrees SameScript _ _ _ one not same where
   why : (e : ExpansionCause) → Expands source (Err (expansion_fault e)) → Unexpanded source (expansion_fault e)
   why e p = unexpanded source (expansion_fault e) p (expansion_fault-told e)
 
-  one : (a b : Script) → Expands source (Ok a) → Expands source (Ok b) → source_of a ≡ source_of b
+  one : (a b : Script) → Expands source (Ok a) → Expands source (Ok b) → source_seen a ≡ source_seen b
   one a b p q = p.is ∙ sym q.is
 
   not : (a : Script) (e : ExpansionCause) → Expands source (Ok a) → Expands source (Err (expansion_fault e)) → ⊥

@@ -4,7 +4,7 @@ use Rattle.std.specs.Prelude.{◌≡◌, ℕ, List, Option, Some, None, Result, 
 use Rattle.std.specs.declared.alloc.Global.{Global}
 use Rattle.std.specs.declared.boxed.Box.{Box}
 use Rattle.arrayvec.specs.ArrayVec.{ArrayVec}
-use Rattle.capsule_codec.specs.Image.{CapsuleParts, capsule_parts, image_of, IsOfMachine}
+use Rattle.capsule_codec.specs.Image.{CapsuleParts, capsule_parts, capsule_image, IsOfMachine}
 use Rattle.capsule_codec.specs.Reading.{capsule_in}
 use Rattle.capsule_codec.specs.HexText.{image_in}
 use Rattle.capsule_codec.specs.declared.capsule.Capsule.{Capsule}
@@ -32,7 +32,7 @@ pub record SpellsCapsule (d : Description) (text : List ℕ) (c : CapsuleParts) 
   pub image : ArrayVec ℕ
   pub spelled : image_in text ≡ Ok image
   pub decoded : capsule_in d image.items ≡ Ok c
-  pub image_is : image.items ≡ image_of c
+  pub image_is : image.items ≡ capsule_image c
 
 -- the text spells a capsule of the machine, and the verifier takes its code
 pub record SpellsVerified (d : Description) (text : List ℕ) (c : CapsuleParts) (v : VerifiedCode) : Type 0 where

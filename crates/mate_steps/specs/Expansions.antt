@@ -4,7 +4,7 @@ use Rattle.proc_expansion.specs.Answer.{Expands}
 use Rattle.proc_names.specs.Named.{written_of}
 use Rattle.proc_names.specs.declared.fault.ProcFault.{ProcFault}
 use Rattle.proc_names.specs.declared.named.PScript.{PScript}
-use Rattle.ts_procs.specs.Reading.{Reads}
+use Rattle.ts_procs.specs.Reading.{ReadsProcedures}
 use Rattle.ts_syntax.specs.Tree.{ProcedureSource}
 use Rattle.ts_syntax.specs.declared.script.Script.{Script}
 use Rattle.mate_refusals.specs.ExpansionCauses.{expansion_fault}
@@ -23,7 +23,7 @@ RefusesExpansion name fault r = ((why : ExpansionCause) × (fault ≡ expansion_
 -- the script with procedures that the bytes of the source `name` spell
 abbrev pub script_with_procedures : List ℕ → List ℕ → Result PScript Refusal → Type 0
 script_with_procedures name bytes =
-    judged (λ s. Reads bytes (Ok s)) (λ why. Reads bytes (Err (expansion_fault why))) (λ why. InFile name (cause.Expansion why))
+    judged (λ s. ReadsProcedures bytes (Ok s)) (λ why. ReadsProcedures bytes (Err (expansion_fault why))) (λ why. InFile name (cause.Expansion why))
 
 -- the plain script that it stands for
 abbrev pub expanded_script : List ℕ → ProcedureSource → Result Script Refusal → Type 0

@@ -3,7 +3,7 @@
 ghost use Rattle.std.specs.Prelude.{◌≡◌, ◌≤◌, length, IfOk};
 ghost use Rattle.mate_files.specs.declared.files.TheConstants.{FILE_MAX};
 ghost use Rattle.vm_desc.specs.Shapes.{shape_of as shape_of_machine};
-ghost use Rattle.ts_syntax.specs.Checked.{shape_of};
+ghost use Rattle.ts_syntax.specs.Checked.{checked_shape};
 ghost use Rattle.mate_steps.specs.Answers.{TellsAcceptance};
 
 use crate::refusal::SourceRefusal;
@@ -19,7 +19,7 @@ use vm_desc::Description;
 pub fn accept(alloc: Global, desc: &Description, bytes: &[u8]) -> Result<Checked, SourceRefusal>
     requires { length bytes.now ≤ FILE_MAX }
     ensures tells { TellsAcceptance desc.now bytes.now result }
-    ensures shape { IfOk result (λ script. shape_of script ≡ shape_of_machine desc.now) }
+    ensures shape { IfOk result (λ script. checked_shape script ≡ shape_of_machine desc.now) }
 {
     let script = read(alloc, bytes)?;
     match check(alloc, desc, &script) {

@@ -1,7 +1,7 @@
 //! From an accepted script to its code.
 
 ghost use Rattle.std.specs.Prelude.{◌≡◌, ◌≤◌, true, false, length, IfOk};
-ghost use Rattle.ts_syntax.specs.Checked.{tree_of, shape_of as shape_of_script};
+ghost use Rattle.ts_syntax.specs.Checked.{tree_of, checked_shape as shape_of_script};
 ghost use Rattle.vm_desc.specs.Shapes.{shape_of};
 ghost use Rattle.mate_steps.specs.SourceCode.{GivesCode};
 

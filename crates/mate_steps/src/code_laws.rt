@@ -6,7 +6,7 @@ ghost use Rattle.mate_num.specs.Uses.{IsSameUses};
 ghost use Rattle.mate_num.specs.declared.lock_set.LockSet.{LockSet as LockSetValue};
 ghost use Rattle.mate_num.specs.declared.shape.Shape.{Shape};
 ghost use Rattle.ts_syntax.specs.Statement.{Block};
-ghost use Rattle.ts_meaning.specs.Uses.{uses_of};
+ghost use Rattle.ts_meaning.specs.Uses.{script_uses};
 ghost use Rattle.ts_meaning.specs.Translation.{code_of};
 ghost use Rattle.ts_compiler.specs.Compiled.{AreAccepted};
 ghost use Rattle.code_verifier.specs.Verified.{VerifiedCode, Verifies};
@@ -26,7 +26,7 @@ pub fn compiled_code_is_verified()
 /// The locks of a tree's code hold as read exactly what the tree reads, and as written exactly what it writes.
 pub fn locks_of_compiled_code()
     ensures { (shape : Shape) (tree : Block) (set : LockSetValue) → AreLocksOf shape (code_of tree) set
-        → IsSameUses (held_uses set) (uses_of shape tree) }
+        → IsSameUses (held_uses set) (script_uses shape tree) }
 {}
 
 /// The code of a compiled script runs as the accepted tree does, and uses nothing more.

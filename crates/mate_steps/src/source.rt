@@ -2,7 +2,7 @@
 
 ghost use Rattle.std.specs.Prelude.{◌≡◌, ◌≤◌, length, IfOk};
 ghost use Rattle.mate_files.specs.declared.files.TheConstants.{FILE_MAX};
-ghost use Rattle.ts_syntax.specs.Checked.{tree_of, shape_of as shape_of_script};
+ghost use Rattle.ts_syntax.specs.Checked.{tree_of, checked_shape as shape_of_script};
 ghost use Rattle.vm_desc.specs.Shapes.{shape_of};
 ghost use Rattle.mate_steps.specs.Parts.{ReadsFiles};
 ghost use Rattle.mate_steps.specs.Sources.{source, compiled_bytes, accepted, compiled, tree_in};

@@ -13,8 +13,8 @@ abbrev pub names_of : MemFiles → Names
 names_of files name = option_map (λ bytes. bytes.items) (get_by_text files.names name)
 
 -- the bytes of each name, which are always told
-abbrev pub told_of : MemFiles → Option Names
-told_of files = Some (names_of files)
+abbrev pub files_told : MemFiles → Option Names
+files_told files = Some (names_of files)
 
 -- the numbers of the reads that are to fail, from 1
 abbrev pub failing_of : MemFiles → List ℕ
@@ -25,8 +25,8 @@ abbrev pub calls_of : MemFiles → ℕ
 calls_of files = files.calls
 
 -- how many reads failed, or met too large a file
-abbrev pub faults_of : MemFiles → ℕ
-faults_of files = files.faults
+abbrev pub read_faults : MemFiles → ℕ
+read_faults files = files.faults
 
 -- whether no read is to fail
 abbrev pub is_steady : MemFiles → Bool
@@ -53,4 +53,4 @@ KeepsNames old new = (name : List ℕ) → new name ≡ old name
 pub record KeepsCounts (old new : MemFiles) : Type 0 where
   pub failing : failing_of new ≡ failing_of old
   pub calls : calls_of new ≡ calls_of old
-  pub faults : faults_of new ≡ faults_of old
+  pub faults : read_faults new ≡ read_faults old

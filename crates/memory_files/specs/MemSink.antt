@@ -8,8 +8,8 @@ abbrev pub bytes_of : MemSink → List ℕ
 bytes_of sink = sink.bytes.items
 
 -- the bytes that were written, which are always told
-abbrev pub told_of : MemSink → Option (List ℕ)
-told_of sink = Some (bytes_of sink)
+abbrev pub sink_told : MemSink → Option (List ℕ)
+sink_told sink = Some (bytes_of sink)
 
 -- the numbers of the writes that are to fail, from 1
 abbrev pub failing_of : MemSink → List ℕ
@@ -20,8 +20,8 @@ abbrev pub calls_of : MemSink → ℕ
 calls_of sink = sink.calls
 
 -- how many writes failed
-abbrev pub faults_of : MemSink → ℕ
-faults_of sink = sink.faults
+abbrev pub write_faults : MemSink → ℕ
+write_faults sink = sink.faults
 
 -- how many writes were made after one more of these bytes; one of no bytes isn't counted
 abbrev pub writes_made : ℕ → List ℕ → ℕ

@@ -20,14 +20,14 @@ pub struct MemFiles {
 
 impl MemFiles {
     ghost use Rattle.std.specs.Prelude.{◌≡◌, ◌++◌, ◌∷◌, [], ℕ, List, None, IsOkUnless, OnOk, OnErr};
-    ghost use Rattle.memory_files.specs.MemFiles.{names_of, failing_of, calls_of, faults_of, SetsName, KeepsNames, KeepsCounts};
+    ghost use Rattle.memory_files.specs.MemFiles.{names_of, failing_of, calls_of, read_faults, SetsName, KeepsNames, KeepsCounts};
 
     /// No file and no failing call.
     pub fn new(alloc: Global) -> MemFiles
         ensures names { (name : List ℕ) → names_of result name ≡ None }
         ensures failing { failing_of result ≡ [] }
         ensures calls { calls_of result ≡ 0 }
-        ensures faults { faults_of result ≡ 0 }
+        ensures faults { read_faults result ≡ 0 }
     {
         MemFiles {
             alloc,
@@ -69,7 +69,7 @@ impl MemFiles {
         ensures err { OnErr result (failing_of self.new ≡ failing_of self.old) }
         ensures names { KeepsNames (names_of self.old) (names_of self.new) }
         ensures calls { calls_of self.new ≡ calls_of self.old }
-        ensures faults { faults_of self.new ≡ faults_of self.old }
+        ensures faults { read_faults self.new ≡ read_faults self.old }
     {
         match self.failing.push(call) {
             Ok(()) => Ok(()),
@@ -83,11 +83,11 @@ impl Files for MemFiles {
     ghost use Rattle.mate_files.specs.Counts.{one_more};
     ghost use Rattle.std.proofs.Common.{rules};
     ghost use Rattle.mate_files.specs.Files.{ReadGives, faults_after};
-    ghost use Rattle.memory_files.specs.MemFiles.{names_of, told_of, failing_of, calls_of, faults_of, is_steady, IsListed, IsTooLong};
+    ghost use Rattle.memory_files.specs.MemFiles.{names_of, files_told, failing_of, calls_of, read_faults, is_steady, IsListed, IsTooLong};
 
-    ghost contents = { told_of };
+    ghost contents = { files_told };
 
-    ghost faults = { faults_of };
+    ghost faults = { read_faults };
 
     ghost steady = { is_steady };
 
@@ -97,11 +97,11 @@ impl Files for MemFiles {
     /// comes exactly at a name with more than `FILE_MAX` bytes.
     fn read(&mut self, name: &str) -> Result<Vec<u8>, FilesFault>
         // What every `Files` promises.
-        ensures gives { ReadGives (told_of self.old) (is_steady self.old) name.now
-            (faults_of self.old) (faults_of self.new) result }
-        ensures same { told_of self.new ≡ told_of self.old }
+        ensures gives { ReadGives (files_told self.old) (is_steady self.old) name.now
+            (read_faults self.old) (read_faults self.new) result }
+        ensures same { files_told self.new ≡ files_told self.old }
         ensures steady { is_steady self.new ≡ is_steady self.old }
-        ensures later { faults_of self.old ≤ faults_of self.new }
+        ensures later { read_faults self.old ≤ read_faults self.new }
 
         // What these do besides.
         ensures failed { IsErrOf result FilesFault.Failed
@@ -110,7 +110,7 @@ impl Files for MemFiles {
             ↔ ((¬ IsListed self.old) × IsTooLong self.old name.now len) }
         ensures failing { failing_of self.new ≡ failing_of self.old }
         ensures calls { calls_of self.new ≡ one_more (calls_of self.old) }
-        ensures faults { faults_of self.new ≡ faults_after (faults_of self.old) result }
+        ensures faults { read_faults self.new ≡ faults_after (read_faults self.old) result }
     {
         self.calls = self.calls.saturating_add(1);
         if self.failing.contains(&self.calls) {

@@ -18,14 +18,14 @@ pub struct MemSink {
 
 impl MemSink {
     ghost use Rattle.std.specs.Prelude.{◌≡◌, ◌++◌, ◌∷◌, [], IsOkUnless, OnOk, OnErr};
-    ghost use Rattle.memory_files.specs.MemSink.{bytes_of, failing_of, calls_of, faults_of};
+    ghost use Rattle.memory_files.specs.MemSink.{bytes_of, failing_of, calls_of, write_faults};
 
     /// No byte and no failing call.
     pub fn new(alloc: Global) -> MemSink
         ensures bytes { bytes_of result ≡ [] }
         ensures failing { failing_of result ≡ [] }
         ensures calls { calls_of result ≡ 0 }
-        ensures faults { faults_of result ≡ 0 }
+        ensures faults { write_faults result ≡ 0 }
     {
         MemSink {
             bytes: Vec::new(alloc),
@@ -44,7 +44,7 @@ impl MemSink {
         ensures err { OnErr result (failing_of self.new ≡ failing_of self.old) }
         ensures bytes { bytes_of self.new ≡ bytes_of self.old }
         ensures calls { calls_of self.new ≡ calls_of self.old }
-        ensures faults { faults_of self.new ≡ faults_of self.old }
+        ensures faults { write_faults self.new ≡ write_faults self.old }
     {
         match self.failing.push(call) {
             Ok(()) => Ok(()),
@@ -63,28 +63,28 @@ impl MemSink {
 impl Sink for MemSink {
     ghost use Rattle.std.specs.Prelude.{◌≡◌, ◌↔◌, ◌≤◌, IsErrOf, OnErr};
     ghost use Rattle.mate_files.specs.Sink.{Writes, StopsShort, HasCause, faults_after};
-    ghost use Rattle.memory_files.specs.MemSink.{bytes_of, told_of, failing_of, calls_of, writes_made, faults_of, IsToFail};
+    ghost use Rattle.memory_files.specs.MemSink.{bytes_of, sink_told, failing_of, calls_of, writes_made, write_faults, IsToFail};
 
-    ghost written = { told_of };
+    ghost written = { sink_told };
 
-    ghost faults = { faults_of };
+    ghost faults = { write_faults };
 
     /// Appends `bytes`, or nothing where it is refused.
     ///
     /// `Failed` comes exactly at a listed call. No bytes are no call, and are never refused.
     fn put(&mut self, bytes: &[u8]) -> Result<(), SinkFault>
         // What every `Sink` promises.
-        ensures writes { Writes (told_of self.old) (told_of self.new) result bytes.now }
-        ensures short { StopsShort (told_of self.old) (told_of self.new) result bytes.now }
-        ensures cause { HasCause (faults_of self.old) (faults_of self.new) result }
-        ensures later { faults_of self.old ≤ faults_of self.new }
+        ensures writes { Writes (sink_told self.old) (sink_told self.new) result bytes.now }
+        ensures short { StopsShort (sink_told self.old) (sink_told self.new) result bytes.now }
+        ensures cause { HasCause (write_faults self.old) (write_faults self.new) result }
+        ensures later { write_faults self.old ≤ write_faults self.new }
 
         // What this does besides.
         ensures failed { IsErrOf result SinkFault.Failed ↔ IsToFail self.old bytes.now }
         ensures err { OnErr result (bytes_of self.new ≡ bytes_of self.old) }
         ensures failing { failing_of self.new ≡ failing_of self.old }
         ensures calls { calls_of self.new ≡ writes_made (calls_of self.old) bytes.now }
-        ensures faults { faults_of self.new ≡ faults_after (faults_of self.old) result }
+        ensures faults { write_faults self.new ≡ faults_after (write_faults self.old) result }
     {
         if bytes.is_empty() {
             return Ok(());

@@ -12,7 +12,7 @@ use Rattle.exec_unit.specs.Step.{own_after}
 use Rattle.vm_desc.specs.declared.description.Description.{Description}
 use Rattle.mate_journal.specs.declared.entry.Entry.{Entry}
 use Rattle.mate_journal.specs.Log.{Log}
-use Rattle.mate_journal.specs.Journal.{Told, is_live, is_started, Reading, whole_run, changed, heard}
+use Rattle.mate_journal.specs.Journal.{JournalEntry, is_live, is_started, NodeState, whole_run, changed, next_state}
 use Rattle.mate_journal.specs.Grants.{AllHeldBack}
 use Rattle.node_contexts.specs.declared.seat.Seat.{Seat}
 use Rattle.node_contexts.specs.declared.contexts.Contexts.{Contexts}
@@ -165,26 +165,26 @@ module _ (d : Description) (old mid : Parts) (c : ContextId) (b : ℕ) (rests : 
 
   module _ (k ran : ℕ) (few : b < k) (ran_is : ran ≡ b + 1) (contexts after : Contexts) (heap : Store) (log : OpenView) (at_ : Stamp) (how : StepEnd) (ex : Executes (held_at mid.handlers.programs) mid.contexts mid.heap c how contexts heap) (e : End)
       (status : (own_after how ex.now.machine (going_in ((reading d mid.log.all).invocations t.inv) t)).status ≡ Over e) (counts : (own_after how ex.now.machine (going_in ((reading d mid.log.all).invocations t.inv) t)).count ≡ t.count + 1)
-      (told : Told) (a : At) (becomes : Becomes mid.contexts after c a) (ring : after.ring ≡ without mid.contexts.ring c) (here : (u : Seat) → a.seat ≡ Some u → u ≡ ex.now)
+      (told : JournalEntry) (a : At) (becomes : Becomes mid.contexts after c a) (ring : after.ring ≡ without mid.contexts.ring c) (here : (u : Seat) → a.seat ≡ Some u → u ≡ ex.now)
       (owed-here : owed a ≡ 0) (start-here : may_start a ≡ 0) (left-here : left (most d) a ≡ 0)
       (paced-is : (p : Pace) → paced p told ≡ record p { line = others p.line t.inv }) (told-is : told ≡ entry_at t.inv e)
-      (kept : (j : ℕ) → j ≢ t.inv → (heard (machine_in d) (reading d mid.log.all) told).invocations j ≡ (reading d mid.log.all).invocations j)
+      (kept : (j : ℕ) → j ≢ t.inv → (next_state (machine_in d) (reading d mid.log.all) told).invocations j ≡ (reading d mid.log.all).invocations j)
       (entry_ : Entry) (continues : Continues d mid (record mid { contexts = after; heap = heap; log = log }) mid.log.all at_ entry_ told) (room : mid.log.all.spare ≤ log.all.spare + 1)
       (order-new : KeepsOrder d (record mid { contexts = after; heap = heap; log = log })) where
     abbrev pub new : Parts
     new = record mid { contexts = after; heap = heap; log = log }
 
-    abbrev q : Reading
+    abbrev q : NodeState
     q = reading d old.log.all
 
     becomes-old : Becomes old.contexts after c a
     becomes-old = record { here = becomes.here; others = λ j other. becomes.others j other ∙ g.becomes.others j other }
 
-    heard-mid : reading d log.all ≡ heard (machine_in d) (reading d mid.log.all) told
+    heard-mid : reading d log.all ≡ next_state (machine_in d) (reading d mid.log.all) told
     heard-mid = heard-by d mid new mid.log.all at_ entry_ told g.order continues room
 
-    heard-old : reading d log.all ≡ heard (machine_in d) (reading d old.log.all) told
-    heard-old = let P : Log → Type 0 = λ l. reading d log.all ≡ heard (machine_in d) (reading d l) told in subst P all-same heard-mid
+    heard-old : reading d log.all ≡ next_state (machine_in d) (reading d old.log.all) told
+    heard-old = let P : Log → Type 0 = λ l. reading d log.all ≡ next_state (machine_in d) (reading d l) told in subst P all-same heard-mid
 
     mark-old : mark_of (machine_in d) (reading d old.log.all) s.inv ≡ s.count + b + 1
     mark-old =
@@ -202,7 +202,7 @@ module _ (d : Description) (old mid : Parts) (c : ContextId) (b : ℕ) (rests : 
 
     kept-old : (j : ℕ) → j ≢ s.inv → (reading d log.all).invocations j ≡ (reading d old.log.all).invocations j
     kept-old j other =
-        ap (λ (r : Reading). r.invocations j) heard-mid ∙ kept j (λ same. other (same ∙ mid-inv)) ∙ ap (λ (l : Log). (reading d l).invocations j) all-same
+        ap (λ (r : NodeState). r.invocations j) heard-mid ∙ kept j (λ same. other (same ∙ mid-inv)) ∙ ap (λ (l : Log). (reading d l).invocations j) all-same
 
     pace-new : (p : Pace) → IsPace (reading d old.log.all) old.contexts p → (mark_of (machine_in d) (reading d old.log.all) s.inv ≤ p.counts s.inv + k)
         × (p.counts s.inv + ran ≡ mark_of (machine_in d) (reading d old.log.all) s.inv)

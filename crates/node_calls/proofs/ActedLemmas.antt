@@ -18,7 +18,7 @@ use Rattle.vm_desc.specs.declared.description.Description.{Description}
 use Rattle.mate_journal.specs.declared.entry.Entry.{Entry}
 use Rattle.mate_journal.specs.declared.entry.Entry.TheVariants as entry
 use Rattle.mate_journal.specs.Log.{Log}
-use Rattle.mate_journal.specs.Journal.{Told, told_of, Asked as AskedTold, Ended, Waiting, Invocation, Reading, heard}
+use Rattle.mate_journal.specs.Journal.{JournalEntry, journal_entry, Asked as AskedTold, Ended, Waiting, Invocation, NodeState, next_state}
 use Rattle.mate_journal.specs.Grants.{AllHeldBack}
 use Rattle.mate_journal.specs.Grants.{IsStart}
 use Rattle.mate_journal.specs.WellFormed.{Closes}
@@ -58,7 +58,7 @@ mark-within d s c keeps is_ready =
     subst P (sym (ap number_at (one d s c keeps is_ready).is)) (one-within d s c keeps is_ready)
 
 -- a turn that told its entry, with no start after it
-pub TakesTurn-told : (d : Description) (old next : Parts) (at_ : Stamp) (c : ContextId) (k ran : ℕ) (told : Told) → HasMoved d old next at_ c k ran told → AllHeldBack (machine_in d) (reading d next.log.all) → mark_of (machine_in d) (reading d old.log.all) (invocation_in old.contexts c) ≤ most d → TakesTurn d old next at_ c k ran
+pub TakesTurn-told : (d : Description) (old next : Parts) (at_ : Stamp) (c : ContextId) (k ran : ℕ) (told : JournalEntry) → HasMoved d old next at_ c k ran told → AllHeldBack (machine_in d) (reading d next.log.all) → mark_of (machine_in d) (reading d old.log.all) (invocation_in old.contexts c) ≤ most d → TakesTurn d old next at_ c k ran
 TakesTurn-told d old next at_ c k ran told m held within = record {
   invocation = m.invocation;
   number = m.number;
@@ -69,7 +69,7 @@ TakesTurn-told d old next at_ c k ran told m held within = record {
     record {
       ready = m.was;
       short = λ below. absurd (let above = h.0 in omega arith);
-      reached = λ above. record { starts = []; are_starts = All-nil IsStart; told_is = ap (λ (t : Told). t ∷ []) m.told_is };
+      reached = λ above. record { starts = []; are_starts = All-nil IsStart; told_is = ap (λ (t : JournalEntry). t ∷ []) m.told_is };
     },
     (let above = h.0 in let ran_is = h.1 in omega arith),
     h.2,
@@ -82,7 +82,7 @@ TakesTurn-told d old next at_ c k ran told m held within = record {
 }
 
 -- and with all the starts that can follow
-pub TakesTurn-starts : (d : Description) (old mid next : Parts) (at_ : Stamp) (c : ContextId) (k ran : ℕ) (told : Told) → HasMoved d old mid at_ c k ran told → StartsAll d mid next at_ → mark_of (machine_in d) (reading d old.log.all) (invocation_in old.contexts c) ≤ most d → TakesTurn d old next at_ c k ran
+pub TakesTurn-starts : (d : Description) (old mid next : Parts) (at_ : Stamp) (c : ContextId) (k ran : ℕ) (told : JournalEntry) → HasMoved d old mid at_ c k ran told → StartsAll d mid next at_ → mark_of (machine_in d) (reading d old.log.all) (invocation_in old.contexts c) ≤ most d → TakesTurn d old next at_ c k ran
 TakesTurn-starts d old mid next at_ c k ran told m s within = record {
   invocation = m.invocation;
   number = m.number;
@@ -93,7 +93,7 @@ TakesTurn-starts d old mid next at_ c k ran told m s within = record {
     record {
       ready = m.was;
       short = λ below. absurd (let above = h.0 in omega arith);
-      reached = λ above. record { starts = s.some.told; are_starts = s.some.starts; told_is = ap (λ (t : Told). t ∷ s.some.told) m.told_is };
+      reached = λ above. record { starts = s.some.told; are_starts = s.some.starts; told_is = ap (λ (t : JournalEntry). t ∷ s.some.told) m.told_is };
     },
     (let above = h.0 in let ran_is = h.1 in omega arith),
     s.some.pace _ h.2,
@@ -170,13 +170,13 @@ module _ (d : Description) (old now : Parts) (c : ContextId) (k ran : ℕ) (rest
       pub TakesTurn-asked : TakesTurn d old (record stops.mid { contexts = after; heap = now.heap; log = log }) at_ c k ran
       TakesTurn-asked =
           let heard_is = heard-by d stops.mid (record stops.mid { contexts = after; heap = now.heap; log = log }) stops.mid.log.all at_ (entry.Ask t.inv f args) (AskedTold t.inv f args) stops.goes.order ask-next room in
-          let P : Reading → Type 0 = λ r. AllHeldBack (machine_in d) r in
+          let P : NodeState → Type 0 = λ r. AllHeldBack (machine_in d) r in
           TakesTurn-told d old (record stops.mid { contexts = after; heap = now.heap; log = log }) at_ c k ran (AskedTold t.inv f args) HasMoved-asked
-          (subst P (sym heard_is) (all-held-moves (machine_in d) (reading d stops.mid.log.all) (heard (machine_in d) (reading d stops.mid.log.all) (AskedTold t.inv f args)) t.inv (Waiting f args) (asked-Moves (machine_in d) (reading d stops.mid.log.all) t.inv f args) refl mid-held))
+          (subst P (sym heard_is) (all-held-moves (machine_in d) (reading d stops.mid.log.all) (next_state (machine_in d) (reading d stops.mid.log.all) (AskedTold t.inv f args)) t.inv (Waiting f args) (asked-Moves (machine_in d) (reading d stops.mid.log.all) t.inv f args) refl mid-held))
           (mark-within d old c rests.order.keeps is_ready)
 
     -- it is over
-    module _ (e : End) (told : Entry) (closes : Closes e) (closing : IsClosing how e) (tells : told_of stops.mid.log.all told ≡ Ended t.inv e) (plain : IsPlain d told)
+    module _ (e : End) (told : Entry) (closes : Closes e) (closing : IsClosing how e) (tells : journal_entry stops.mid.log.all told ≡ Ended t.inv e) (plain : IsPlain d told)
         (entry-is : Ended t.inv e ≡ entry_at t.inv e) (after : Contexts) (log : OpenView) (finishes : Ends now.contexts after c) (pushed : IsPushed stops.mid.log.all record { stamp = at_; entry = told } log.all) (room : stops.mid.log.all.spare ≤ log.all.spare + 1) where
       abbrev pub end-a : At
       end-a = record (at stops.mid.contexts c) { seat = None; holds = None; ready = false; waits = None }
@@ -247,7 +247,7 @@ module _ (d : Description) (old now : Parts) (c : ContextId) (k ran : ℕ) (rest
       (TakesTurn-asked d old now c k ran rests small is_ready at_ timely how stops f args is after log asks (pushed-mid (λ j. entry.Ask j f args) (subst P same pushed)) room-mid)
 
   -- what ends the invocation, and how it is told
-  module _ (e : End) (told : ℕ → Entry) (closes : Closes e) (closing : IsClosing how e) (tells : (l : Log) (j : ℕ) → told_of l (told j) ≡ Ended j e) (plain : (j : ℕ) → IsPlain d (told j))
+  module _ (e : End) (told : ℕ → Entry) (closes : Closes e) (closing : IsClosing how e) (tells : (l : Log) (j : ℕ) → journal_entry l (told j) ≡ Ended j e) (plain : (j : ℕ) → IsPlain d (told j))
       (entry-is : (j : ℕ) → Ended j e ≡ entry_at j e) (finishes : Ends now.contexts after c) (pushed : IsPushed now.log.all record { stamp = at_; entry = told n } log.all) where
     abbrev pub j : ℕ
     j = (one d stops.mid c stops.goes.order.keeps (ready-mid d old stops.mid c stops.before rests small is_ready stops.goes)).seat.inv

@@ -17,14 +17,14 @@ use Rattle.mate_code.proofs.RunLemmas.{resumed_own, after-given}
 use Rattle.split_phase.specs.Calls.{Asked}
 use Rattle.lock_manager.specs.Claims.{Claims}
 use Rattle.lock_manager.proofs.ClaimLemmas.{same_context}
-use Rattle.code_verifier.specs.Verified.{Fits as FitsCode}
+use Rattle.code_verifier.specs.Verified.{IsAtVerified as FitsCode}
 use Rattle.vm_desc.specs.declared.description.Description.{Description}
 use Rattle.vm_desc.specs.Shapes.{shape_of}
 use Rattle.mate_journal.specs.declared.entry.Entry.TheVariants as entry
 use Rattle.mate_journal.specs.Machine.{Machine}
-use Rattle.mate_journal.specs.Journal.{Answered, Phase, Ready, Waiting, is_started, Invocation, Reading, answers_of, heard}
+use Rattle.mate_journal.specs.Journal.{Answered, Phase, Ready, Waiting, is_started, Invocation, NodeState, answers_of, next_state}
 use Rattle.mate_journal.specs.Grants.{AllHeldBack}
-use Rattle.mate_journal.specs.NodeScript.{Answers as AnswersStep}
+use Rattle.mate_journal.specs.NodeScript.{AnswersCall as AnswersStep}
 use Rattle.journal_laws.specs.Growth.{IsPushed}
 use Rattle.journal_laws.proofs.Moves.{answered-Moves}
 use Rattle.node_contexts.specs.declared.seat.Seat.{Seat}
@@ -54,11 +54,11 @@ use Rattle.mate_journal.specs.OpenLog.{OpenView}
 -- ---- the run goes on
 
 -- an invocation with one more answer
-abbrev pub given : Machine → Reading → ℤ → Invocation → Invocation
-given m r value i = (heard m (record r { invocations = λ _. i }) (Answered 0 value)).invocations 0
+abbrev pub given : Machine → NodeState → ℤ → Invocation → Invocation
+given m r value i = (next_state m (record r { invocations = λ _. i }) (Answered 0 value)).invocations 0
 
 -- it is ready with the answer on its stack, as its own run with one more answer is
-pub own-given : (d : Description) (r : Reading) (i : Invocation) (s now : Seat) (heap : Store) (f : FunId) (args : ArrayVec ℤ) (value : ℤ) → i.phase ≡ Waiting f args → now.count ≡ s.count → now.machine ≡ push value s.machine
+pub own-given : (d : Description) (r : NodeState) (i : Invocation) (s now : Seat) (heap : Store) (f : FunId) (args : ArrayVec ℤ) (value : ℤ) → i.phase ≡ Waiting f args → now.count ≡ s.count → now.machine ≡ push value s.machine
     → IsOwnRun d i s r.serial heap → IsOwnRun d (given (machine_in d) r value i) now r.serial heap
 own-given d r i s now heap f args value waits counted pushed is =
     record {
@@ -102,7 +102,7 @@ own-given d r i s now heap f args value waits counted pushed is =
 
 module _ (d : Description) (old : Parts) (contexts : Contexts) (log : OpenView) (stamp : Stamp) (c : ContextId) (value : ℤ) (call : Asked) (rests : Rests d old) (timely : IsTimely stamp old.log.all)
     (is_waiting : (at old.contexts c).call ≡ Some call) (answers : IsAnswered old.contexts contexts c value) where
-  abbrev pub r : Reading
+  abbrev pub r : NodeState
   r = reading d old.log.all
 
   abbrev pub held : Programs
@@ -157,7 +157,7 @@ module _ (d : Description) (old : Parts) (contexts : Contexts) (log : OpenView) 
   started : is_started i.phase ≡ true
   started = ap is_started waits
 
-  agrees-now : Agrees d (heard (machine_in d) r (Answered one.seat.inv value)) contexts old.heap
+  agrees-now : Agrees d (next_state (machine_in d) r (Answered one.seat.inv value)) contexts old.heap
   agrees-now =
       Agrees-moves d r old.contexts contexts old.heap old.heap one.seat.inv (given (machine_in d) r value i) c (ready answers.now one.seated.x.locks) answers.now keeps.agrees
       (record { becomes = becomes-ready; seat = refl; number = now-inv; alone = alone })
@@ -196,13 +196,13 @@ module _ (d : Description) (old : Parts) (contexts : Contexts) (log : OpenView) 
         KeepsOrder-push d old new old.log.all stamp (entry.Answer one.seat.inv value) (Answered one.seat.inv value) rests.order Continues-answered room rests.held
         (IsQueue-becomes old.contexts contexts c (ready answers.now one.seated.x.locks) becomes-ready (ap (λ (l : Claims). l.waiting) answers.locks) (inr (now-inv ∙ ap number_at (sym one.is))) rests.order.queue)
 
-    heard-is : reading d log.all ≡ heard (machine_in d) r (Answered one.seat.inv value)
+    heard-is : reading d log.all ≡ next_state (machine_in d) r (Answered one.seat.inv value)
     heard-is = heard-by d old new old.log.all stamp (entry.Answer one.seat.inv value) (Answered one.seat.inv value) rests.order Continues-answered room
 
     held-now : AllHeldBack (machine_in d) (reading d log.all)
     held-now =
-        let P : Reading → Type 0 = λ q. AllHeldBack (machine_in d) q in
-        subst P (sym heard-is) (all-held-moves (machine_in d) r (heard (machine_in d) r (Answered one.seat.inv value)) one.seat.inv Ready (answered-Moves (machine_in d) r one.seat.inv value) refl rests.held)
+        let P : NodeState → Type 0 = λ q. AllHeldBack (machine_in d) q in
+        subst P (sym heard-is) (all-held-moves (machine_in d) r (next_state (machine_in d) r (Answered one.seat.inv value)) one.seat.inv Ready (answered-Moves (machine_in d) r one.seat.inv value) refl rests.held)
 
     -- ---- the pace
 
@@ -214,7 +214,7 @@ module _ (d : Description) (old : Parts) (contexts : Contexts) (log : OpenView) 
           subst P (sym (same_context k c e)) (ap number_at one.is ∙ sym now-inv ∙ ap (λ (a : At). number_at a.seat) (sym becomes-ready.here))
       by (inr other) = ap (λ (a : At). number_at a.seat) (sym (becomes-ready.others k other))
 
-    pace-heard : (p : Pace) → IsPace r old.contexts p → IsPace (heard (machine_in d) r (Answered one.seat.inv value)) contexts (paced p (Answered one.seat.inv value))
+    pace-heard : (p : Pace) → IsPace r old.contexts p → IsPace (next_state (machine_in d) r (Answered one.seat.inv value)) contexts (paced p (Answered one.seat.inv value))
     pace-heard p pace = record {
       line =
           ap (λ (l : List ℕ). l ++ one.seat.inv ∷ []) pace.line
@@ -224,7 +224,7 @@ module _ (d : Description) (old : Parts) (contexts : Contexts) (log : OpenView) 
           ∙ map-same (invocation_in old.contexts) (invocation_in contexts) contexts.ring number-same;
       counts = λ k t e is. by k t e is (cases_eq k.0 c.0);
     } where
-      by : (k : ContextId) (t : Seat) → (at contexts k).seat ≡ Some t → is_started ((heard (machine_in d) r (Answered one.seat.inv value)).invocations t.inv).phase ≡ true → (k.0 ≡ c.0) ⊎ (k.0 ≡ c.0 → ⊥) → t.count ≡ p.counts t.inv
+      by : (k : ContextId) (t : Seat) → (at contexts k).seat ≡ Some t → is_started ((next_state (machine_in d) r (Answered one.seat.inv value)).invocations t.inv).phase ≡ true → (k.0 ≡ c.0) ⊎ (k.0 ≡ c.0 → ⊥) → t.count ≡ p.counts t.inv
       by k t e is (inl same) =
           let Q : ContextId → Type 0 = λ j. (at contexts j).seat ≡ Some t in
           let f : Some answers.now ≡ Some t = ap (λ (a : At). a.seat) (sym becomes-ready.here) ∙ subst Q (same_context k c same) e in
@@ -243,7 +243,7 @@ module _ (d : Description) (old : Parts) (contexts : Contexts) (log : OpenView) 
         made = record { invocation = one.seat.inv; waits = record { fun = call.0; args = call.1; waits = waits }; context = one.seated.context; made = refl };
       };
       rests = record { order = order-now; held = held-now };
-      pace = λ p pace. (let P : Reading → Type 0 = λ q. IsPace q contexts (paced p (Answered one.seat.inv value)) in subst P (sym heard-is) (pace-heard p pace));
+      pace = λ p pace. (let P : NodeState → Type 0 = λ q. IsPace q contexts (paced p (Answered one.seat.inv value)) in subst P (sym heard-is) (pace-heard p pace));
     }
 
 -- the answer is told of whoever has the context

@@ -9,7 +9,7 @@ use Rattle.vm_desc.specs.Shapes.{shape_of}
 use Rattle.mate_journal.specs.declared.entry.Entry.{Entry}
 use Rattle.mate_journal.specs.declared.entry.Entry.TheVariants as entry
 use Rattle.mate_journal.specs.Log.{Log}
-use Rattle.mate_journal.specs.Journal.{Told, Reset, Seen, told_of, Phase, is_live, is_started, Invocation, Reading, heard, journal_of}
+use Rattle.mate_journal.specs.Journal.{JournalEntry, Reset, Seen, journal_entry, Phase, is_live, is_started, Invocation, NodeState, next_state, journal_of}
 use Rattle.mate_journal.specs.Grants.{AllHeldBack, IsGranted}
 use Rattle.mate_journal.specs.NodeScript.{Resets}
 use Rattle.mate_journal.specs.Serial.{EndsAsRun}
@@ -40,21 +40,21 @@ use Rattle.node_calls.proofs.QuietLemmas.{RestsAgain-then}
 use Rattle.mate_journal.specs.OpenLog.{OpenView}
 
 -- the last entry shows a store
-pub seen-last : (old new : Log) (at_ : Stamp) (told : List Told) (store : Store) → Grows old new at_ told → told ≡ Seen store ∷ [] → last_is_seen false (journal_of new) ≡ true
+pub seen-last : (old new : Log) (at_ : Stamp) (told : List JournalEntry) (store : Store) → Grows old new at_ told → told ≡ Seen store ∷ [] → last_is_seen false (journal_of new) ≡ true
 seen-last old new at_ told store grows is =
-    let journal : journal_of new ≡ journal_of old ++ event_at at_ (Seen store) ∷ [] = grows.journal ∙ ap (λ (ts : List Told). journal_of old ++ map (event_at at_) ts) is in
+    let journal : journal_of new ≡ journal_of old ++ event_at at_ (Seen store) ∷ [] = grows.journal ∙ ap (λ (ts : List JournalEntry). journal_of old ++ map (event_at at_) ts) is in
     ap (last_is_seen false) journal ∙ last_is_seen-push false (journal_of old) (event_at at_ (Seen store))
 
 -- one entry was told, in one place at most
-pub told-one : (old new : Log) (at_ : Stamp) (told : List Told) (one : Told) → Grows old new at_ told → told ≡ one ∷ [] → (length new.entries ≡ length old.entries + 1) × (old.spare ≤ new.spare + 1)
+pub told-one : (old new : Log) (at_ : Stamp) (told : List JournalEntry) (one : JournalEntry) → Grows old new at_ told → told ≡ one ∷ [] → (length new.entries ≡ length old.entries + 1) × (old.spare ≤ new.spare + 1)
 told-one old new at_ told one grows is =
-    let P : List Told → Type 0 = λ ts. (length new.entries ≡ length old.entries + length ts) × (old.spare ≤ new.spare + length ts) in
+    let P : List JournalEntry → Type 0 = λ ts. (length new.entries ≡ length old.entries + length ts) × (old.spare ≤ new.spare + length ts) in
     subst P is (grows.count, grows.spare)
 
 -- what is told begins an era
-pub record BeginsEra (d : Description) (r : Reading) (told : Told) : Type 0 where
-  pub serial : (heard (machine_in d) r told).serial ≡ (machine_in d).zero_store
-  pub cuts : Cuts r (heard (machine_in d) r told)
+pub record BeginsEra (d : Description) (r : NodeState) (told : JournalEntry) : Type 0 where
+  pub serial : (next_state (machine_in d) r told).serial ≡ (machine_in d).zero_store
+  pub cuts : Cuts r (next_state (machine_in d) r told)
   pub follows : MayFollow (machine_in d) r told
   pub ends : EndsAsRun (machine_in d) r told
   pub shown : ShowsStore (machine_in d) r told
@@ -62,17 +62,17 @@ pub record BeginsEra (d : Description) (r : Reading) (told : Told) : Type 0 wher
   pub before_era : IsSeenBefore true told
   pub line : (p : Pace) → (paced p told).line ≡ []
 
-module _ (d : Description) (old new : Parts) (before : Log) (stamp : Stamp) (e : Entry) (told : Told) (rests : Rests d old) (timely : IsTimely stamp old.log.all) (era : BeginsEra d (reading d old.log.all) told)
+module _ (d : Description) (old new : Parts) (before : Log) (stamp : Stamp) (e : Entry) (told : JournalEntry) (rests : Rests d old) (timely : IsTimely stamp old.log.all) (era : BeginsEra d (reading d old.log.all) told)
     (seen : last_is_seen false (journal_of old.log.all) ≡ true) (idles : AreIdle new.contexts) (zero : new.heap ≡ zero_store (length d.shared.items) (length d.buffers.items)) (posts : new.posts ≡ old.posts)
     (places : length new.handlers.programs ≡ length d.handlers.items)
-    (installed : AreInstalled d (heard (machine_in d) (reading d old.log.all) told).installed (held_at new.handlers.programs))
-    (prepared : IsPrepared old.log.all before) (pushed : IsPushed before record { stamp = stamp; entry = e } new.log.all) (tells : told_of before e ≡ told) (tidily : AddsTidily d old.log.all e new.log.all)
+    (installed : AreInstalled d (next_state (machine_in d) (reading d old.log.all) told).installed (held_at new.handlers.programs))
+    (prepared : IsPrepared old.log.all before) (pushed : IsPushed before record { stamp = stamp; entry = e } new.log.all) (tells : journal_entry before e ≡ told) (tidily : AddsTidily d old.log.all e new.log.all)
     (room : old.log.all.spare ≤ new.log.all.spare + 1) where
-  abbrev r : Reading
+  abbrev r : NodeState
   r = reading d old.log.all
 
-  abbrev later : Reading
-  later = heard (machine_in d) (reading d old.log.all) told
+  abbrev later : NodeState
+  later = next_state (machine_in d) (reading d old.log.all) told
 
   abbrev keeps : Keeps d old
   keeps = rests.order.keeps
@@ -129,13 +129,13 @@ module _ (d : Description) (old new : Parts) (before : Log) (stamp : Stamp) (e :
     adds = record { told = told ∷ []; grows = grows-by d old new before stamp e told rests.order Continues-era room; made = refl };
     rests = record {
       order = KeepsOrder-push d old new before stamp e told rests.order Continues-era room (era.granted rests.held (last_started old.log.all)) (IsQueue-idle new.contexts idles);
-      held = (let P : Reading → Type 0 = λ q. AllHeldBack (machine_in d) q in subst P (sym heard-is) held-now);
+      held = (let P : NodeState → Type 0 = λ q. AllHeldBack (machine_in d) q in subst P (sym heard-is) held-now);
     };
-    pace = λ p pace. (let P : Reading → Type 0 = λ q. IsPace q new.contexts (paced p told) in subst P (sym heard-is) (pace-now p));
+    pace = λ p pace. (let P : NodeState → Type 0 = λ q. IsPace q new.contexts (paced p told) in subst P (sym heard-is) (pace-now p));
   }
 
 -- a reset does
-pub BeginsEra-reset : (d : Description) (r : Reading) → BeginsEra d r Reset
+pub BeginsEra-reset : (d : Description) (r : NodeState) → BeginsEra d r Reset
 BeginsEra-reset d r = record {
   serial = refl;
   cuts = record { posts = refl; each = λ n. refl };
@@ -166,4 +166,4 @@ RestsAgain-resets d old mid next log at_ told cleared pushed room =
     RestsAgain-then d old mid (record next { log = log }) at_ (λ ts. ts ≡ Seen old.heap ∷ []) (λ ts. ts ≡ Reset ∷ []) (AtPace d old (Resets (machine_in d) (reading d old.log.all))) told.again
     (RestsAgain-reset d mid (record next { log = log }) at_ told.again.rests told.again.adds.grows.timely last cleared.idle cleared.zero (ap (λ (s : Parts). s.posts) cleared.same) (ap (λ (s : Parts). s.handlers) cleared.same)
     (subst P log_is pushed) (subst Q log_is room))
-    (λ xs ys e f p has. record { seen = old.heap; shown = told.shown p has; made = ap (λ (l : List Told). l ++ ys) e ∙ ap (λ (l : List Told). Seen old.heap ∷ l) f })
+    (λ xs ys e f p has. record { seen = old.heap; shown = told.shown p has; made = ap (λ (l : List JournalEntry). l ++ ys) e ∙ ap (λ (l : List JournalEntry). Seen old.heap ∷ l) f })

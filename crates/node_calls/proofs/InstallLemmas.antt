@@ -12,7 +12,7 @@ use Rattle.mate_num.specs.declared.shape.Shape.{Shape}
 use Rattle.mate_num.specs.declared.bounds.TheConstants.{CODE_MAX}
 use Rattle.mate_num.specs.declared.lock_set.LockSet.{LockSet}
 use Rattle.capsule_codec.specs.declared.capsule.Capsule.{Capsule}
-use Rattle.capsule_codec.specs.Image.{CapsuleParts, capsule_parts, image_of, IsOfMachine}
+use Rattle.capsule_codec.specs.Image.{CapsuleParts, capsule_parts, capsule_image, IsOfMachine}
 use Rattle.capsule_codec.specs.Reading.{capsule_in}
 use Rattle.code_verifier.specs.Verified.{VerifiedCode, marks_of, IsVerificationOf}
 use Rattle.code_verifier.specs.Faults.{refusal_of}
@@ -34,15 +34,15 @@ use Rattle.mate_journal.specs.declared.entry.Entry.TheVariants as entry
 use Rattle.mate_journal.specs.Log.{Log}
 use Rattle.mate_journal.specs.Machine.{Machine, HeldProgram}
 use Rattle.mate_journal.specs.NodeScript.{Occasion, Installs}
-use Rattle.mate_journal.specs.Journal.{Told, Installed, Seen, Reading, held, heard, heard_all, nothing_heard, journal_of}
+use Rattle.mate_journal.specs.Journal.{JournalEntry, Installed, Seen, NodeState, held, next_state, state_after_all, first_state, journal_of}
 use Rattle.journal_laws.specs.Growth.{AddsImage, last_is_seen}
 use Rattle.journal_laws.proofs.Append.{heard_all-append, journal_of-add_image}
 use Rattle.mate_num.specs.declared.store.Store.{Store}
 use Rattle.node_contexts.specs.declared.handlers.Held.{Held}
 use Rattle.node_contexts.specs.At.{AreIdle}
-use Rattle.node_contexts.specs.Programs.{HeldPrograms, held_at, version_in}
+use Rattle.node_contexts.specs.Programs.{HeldPrograms, held_at, held_version_in}
 use Rattle.node_invariant.specs.declared.parts.Parts.{Parts}
-use Rattle.node_invariant.specs.Meaning.{machine_in, code_in, code_of}
+use Rattle.node_invariant.specs.Meaning.{machine_in, code_in, image_code}
 use Rattle.node_invariant.specs.Fits.{program_of, IsHeld, AreInstalled}
 use Rattle.node_invariant.specs.Keeps.{reading, Keeps, IsTimely, event_at, Grows}
 use Rattle.node_invariant.specs.Continues.{IsPrepared, AddsTidily}
@@ -114,7 +114,7 @@ AreInstalled-with d installed programs h x before held_now below = record { each
 
 -- ---- an era begins with the program
 
-pub BeginsEra-install : (d : Description) (r : Reading) (p : HeldProgram) → BeginsEra d r (Installed p)
+pub BeginsEra-install : (d : Description) (r : NodeState) (p : HeldProgram) → BeginsEra d r (Installed p)
 BeginsEra-install d r p = record {
   serial = refl;
   cuts = record { posts = refl; each = λ n. refl };
@@ -184,39 +184,39 @@ RestsAgain-begun d old mid pushed handlers at_ h x rests timely seen held_now of
 -- ---- versions
 
 -- what is held is what was heard
-pub held-version : (d : Description) (s : Parts) (h : HandlerId) → Rests d s → held (reading d s.log.all) h ≡ version_in (held_at s.handlers.programs h)
+pub held-version : (d : Description) (s : Parts) (h : HandlerId) → Rests d s → held (reading d s.log.all) h ≡ held_version_in (held_at s.handlers.programs h)
 held-version d s h rests = ap (version h) (rests.order.keeps.installed.same h) ∙ by (held_at s.handlers.programs h) where
   version : HandlerId → Option HeldProgram → ℕ
   version k o = held (record (reading d s.log.all) { installed = λ _. o }) k
 
-  by : (o : Option Held) → version h (option_map (program_of h) o) ≡ version_in o
+  by : (o : Option Held) → version h (option_map (program_of h) o) ≡ held_version_in o
   by None = refl
   by (Some x) = refl
 
 -- ---- what the bytes are
 
 -- the image's code stands behind its first 16 bytes
-code-behind : (c : CapsuleParts) → drop 16 (image_of c) ≡ c.code
+code-behind : (c : CapsuleParts) → drop 16 (capsule_image c) ≡ c.code
 code-behind c = refl
 
 -- a list that begins is not empty
 begins-some : (x : ℕ) (xs ys : List ℕ) → ys ≡ x ∷ xs → 0 < length ys
 begins-some x xs ys is = let e = ap length is in omega arith
 
-pub IsInstallable-from : (d : Description) (bytes : List ℕ) (c : Capsule) (v : VerifiedCode) (locks : LockSet) (image : ArrayVec ℕ) → capsule_in d bytes ≡ Ok (capsule_parts c) → bytes ≡ image_of (capsule_parts c) → IsOfMachine d (capsule_parts c)
+pub IsInstallable-from : (d : Description) (bytes : List ℕ) (c : Capsule) (v : VerifiedCode) (locks : LockSet) (image : ArrayVec ℕ) → capsule_in d bytes ≡ Ok (capsule_parts c) → bytes ≡ capsule_image (capsule_parts c) → IsOfMachine d (capsule_parts c)
     → IsVerificationOf (shape_of d) c.code.items v → AreLocksOf (shape_of d) v.code locks → image.items ≡ bytes
     → IsInstallable d bytes (record { handler = c.handler; held = record { version = c.version; image = image; code = v; locks = locks } })
-unfolding code_of
+unfolding image_code
 IsInstallable-from d bytes c v locks image decoded_is image_is of_machine is_of are_locks same =
     let S : Shape → Type 0 = λ shape. bytes_verification shape v.bytes ≡ Ok (v.code, marks_of v) in
     let B : List ℕ → Type 0 = λ bs. bytes_verification (shape_of d) bs ≡ Ok (v.code, marks_of v) in
     let accepted : bytes_verification (shape_of d) c.code.items ≡ Ok (v.code, marks_of v) = subst B is_of.bytes_are (subst S is_of.shape_is is_of.is_verified.accepted) in
     let behind : drop 16 image.items ≡ c.code.items = ap (drop 16) (same ∙ image_is) ∙ code-behind (capsule_parts c) in
-    let code_is : v.code ≡ code_of (shape_of d) image =
+    let code_is : v.code ≡ image_code (shape_of d) image =
     sym (decoded-if (nat_lt CODE_MAX (length c.code.items)) (length c.code.items) (shape_of d) v.code (marks_of v) (decoded (table_of (shape_of d)) c.code.items) accepted)
     ∙ ap (λ (bs : List ℕ). code_in (decoded (table_of (shape_of d)) bs)) (sym behind) in
     let long = ap length (same ∙ image_is) in
-    let some : 0 < length (image_of (capsule_parts c)) = begins-some _ _ (image_of (capsule_parts c)) refl in
+    let some : 0 < length (capsule_image (capsule_parts c)) = begins-some _ _ (capsule_image (capsule_parts c)) refl in
     let full : 0 < length image.items = omega arith in
     let L : Code → Type 0 = λ code. AreLocksOf (shape_of d) code locks in
     record {
@@ -286,12 +286,12 @@ IsUnverified-from d bytes code c fault decoded_is same refused =
 -- ---- the whole install
 
 -- what is heard after more was told
-reading-grows : (d : Description) (old new : Log) (at_ : Stamp) (told : List Told) → Grows old new at_ told → reading d new ≡ heard_all (machine_in d) (reading d old) (map (event_at at_) told)
+reading-grows : (d : Description) (old new : Log) (at_ : Stamp) (told : List JournalEntry) → Grows old new at_ told → reading d new ≡ state_after_all (machine_in d) (reading d old) (map (event_at at_) told)
 unfolding reading
 reading-grows d old new at_ told grows =
-    ap (heard_all (machine_in d) (nothing_heard (machine_in d))) grows.journal ∙ heard_all-append (machine_in d) (nothing_heard (machine_in d)) (journal_of old) (map (event_at at_) told)
+    ap (state_after_all (machine_in d) (first_state (machine_in d))) grows.journal ∙ heard_all-append (machine_in d) (first_state (machine_in d)) (journal_of old) (map (event_at at_) told)
 
-Occasion-gives : (m : Machine) (r : Reading) (h : HandlerId) (payload : ArrayVec ℤ) (answer : PostAnswer) (told : List Told) → PostGives m r h payload answer told → Occasion m r h payload told
+Occasion-gives : (m : Machine) (r : NodeState) (h : HandlerId) (payload : ArrayVec ℤ) (answer : PostAnswer) (told : List JournalEntry) → PostGives m r h payload answer told → Occasion m r h payload told
 Occasion-gives m r h payload (PostedAnswer inv) told gives = inr (inr gives.1)
 Occasion-gives m r h payload NoCode told gives = inl gives
 Occasion-gives m r h payload AllBusy told gives = inr (inl gives)
@@ -301,7 +301,7 @@ module _ (d : Description) (old mid next : Parts) (at_ : Stamp) (bytes : List �
   abbrev m : Machine
   m = machine_in d
 
-  abbrev r : Reading
+  abbrev r : NodeState
   r = reading d old.log.all
 
   abbrev p : HeldProgram
@@ -311,12 +311,12 @@ module _ (d : Description) (old mid next : Parts) (at_ : Stamp) (bytes : List �
   both : RestsAgain d old next at_ (λ told. told ≡ Seen old.heap ∷ Installed p ∷ [])
   both =
       RestsAgain-then d old mid next at_ (λ told. told ≡ Seen old.heap ∷ []) (λ told. told ≡ Installed p ∷ []) (λ told. told ≡ Seen old.heap ∷ Installed p ∷ []) seen.again begun_
-      (λ xs ys e f. ap (λ (l : List Told). l ++ ys) e ∙ ap (λ (l : List Told). Seen old.heap ∷ l) f)
+      (λ xs ys e f. ap (λ (l : List JournalEntry). l ++ ys) e ∙ ap (λ (l : List JournalEntry). Seen old.heap ∷ l) f)
 
-  heard-next : reading d next.log.all ≡ heard m r (Installed p)
-  heard-next = reading-grows d old.log.all next.log.all at_ both.adds.told both.adds.grows ∙ ap (λ (ts : List Told). heard_all m r (map (event_at at_) ts)) both.adds.made
+  heard-next : reading d next.log.all ≡ next_state m r (Installed p)
+  heard-next = reading-grows d old.log.all next.log.all at_ both.adds.told both.adds.grows ∙ ap (λ (ts : List JournalEntry). state_after_all m r (map (event_at at_) ts)) both.adds.made
 
-  installs : (rest told : List Told) → told ≡ Seen old.heap ∷ Installed p ∷ rest → (IsTrue (m.runs_once i.handler) → Occasion m (heard m r (Installed p)) i.handler (record { items = [] }) rest) → ((m.runs_once i.handler ≡ false) → rest ≡ [])
+  installs : (rest told : List JournalEntry) → told ≡ Seen old.heap ∷ Installed p ∷ rest → (IsTrue (m.runs_once i.handler) → Occasion m (next_state m r (Installed p)) i.handler (record { items = [] }) rest) → ((m.runs_once i.handler ≡ false) → rest ≡ [])
       → AtPace d old (InstallsBytes d r bytes) told
   installs rest told made once else_ pace has =
       let P : HeldProgram → Type 0 = λ x. Installs m r pace x told in
@@ -338,15 +338,15 @@ module _ (d : Description) (old mid next : Parts) (at_ : Stamp) (bytes : List �
   RestsAgain-once new payload answer always empty posted =
       RestsAgain-then d old next new at_ (λ told. told ≡ Seen old.heap ∷ Installed p ∷ []) (PostGives m (reading d next.log.all) i.handler payload answer) (AtPace d old (InstallsBytes d r bytes)) both posted
       (λ xs ys e gives.
-      (let Q : Reading → Type 0 = λ q. PostGives m q i.handler payload answer ys in
-      let O : List ℤ → Type 0 = λ values. Occasion m (heard m r (Installed p)) i.handler (record { items = values }) ys in
-      installs ys (xs ++ ys) (ap (λ (l : List Told). l ++ ys) e) (λ is. subst O empty (Occasion-gives m (heard m r (Installed p)) i.handler payload answer ys (subst Q heard-next gives)))
+      (let Q : NodeState → Type 0 = λ q. PostGives m q i.handler payload answer ys in
+      let O : List ℤ → Type 0 = λ values. Occasion m (next_state m r (Installed p)) i.handler (record { items = values }) ys in
+      installs ys (xs ++ ys) (ap (λ (l : List JournalEntry). l ++ ys) e) (λ is. subst O empty (Occasion-gives m (next_state m r (Installed p)) i.handler payload answer ys (subst Q heard-next gives)))
       (λ never. absurd (let f : false ≡ true = sym never ∙ always in cc))))
 
 -- ---- refusals
 
 -- an older capsule, or one of the same version
-pub IsNoNewer-from : (d : Description) (s : Parts) (bytes : List ℕ) (i : Incoming) (version : ℕ) → Rests d s → IsInstallable d bytes i → version ≡ version_in (held_at s.handlers.programs i.handler) → i.held.version ≤ version → IsNoNewer d (reading d s.log.all) bytes version
+pub IsNoNewer-from : (d : Description) (s : Parts) (bytes : List ℕ) (i : Incoming) (version : ℕ) → Rests d s → IsInstallable d bytes i → version ≡ held_version_in (held_at s.handlers.programs i.handler) → i.held.version ≤ version → IsNoNewer d (reading d s.log.all) bytes version
 IsNoNewer-from d s bytes i version rests can version_is older =
     let H : HeldProgram → Type 0 = λ p. version ≡ held (reading d s.log.all) p.handler in
     let O : HeldProgram → Type 0 = λ p. p.version ≤ held (reading d s.log.all) p.handler in
@@ -354,10 +354,10 @@ IsNoNewer-from d s bytes i version rests can version_is older =
     record { capsule = can.capsule; right = can.right; held_is = subst H can.program same; older = subst O can.program (omega arith) }
 
 -- a newer one
-pub newer-than : (d : Description) (s : Parts) (i : Incoming) (version : ℕ) → Rests d s → version ≡ version_in (held_at s.handlers.programs i.handler) → version < i.held.version → held (reading d s.log.all) i.handler < i.held.version
+pub newer-than : (d : Description) (s : Parts) (i : Incoming) (version : ℕ) → Rests d s → version ≡ held_version_in (held_at s.handlers.programs i.handler) → version < i.held.version → held (reading d s.log.all) i.handler < i.held.version
 newer-than d s i version rests version_is above = let same = held-version d s i.handler rests in omega arith
 
-pub coming-newer : (d : Description) (s : Parts) (bytes : List ℕ) (i : Installable) (can : CanInstall d bytes (held_at s.handlers.programs i.handler) i) (version : ℕ) → Rests d s → version ≡ version_in (held_at s.handlers.programs i.handler) → version < i.version
+pub coming-newer : (d : Description) (s : Parts) (bytes : List ℕ) (i : Installable) (can : CanInstall d bytes (held_at s.handlers.programs i.handler) i) (version : ℕ) → Rests d s → version ≡ held_version_in (held_at s.handlers.programs i.handler) → version < i.version
     → held (reading d s.log.all) i.handler < can.x.version
 coming-newer d s bytes i can version rests version_is above =
     let its = comes-version (held_at s.handlers.programs i.handler) i can.x can.after in

@@ -14,7 +14,7 @@ use Rattle.mate_code.specs.Effect.{Private}
 use Rattle.lock_manager.specs.Claims.{Enqueues}
 use Rattle.lock_manager.proofs.ClaimLemmas.{same_context}
 use Rattle.context_sched.specs.Ready.{is_same, holds}
-use Rattle.code_verifier.specs.Verified.{VerifiedCode, IsVerifiedCode, Fits as FitsCode}
+use Rattle.code_verifier.specs.Verified.{VerifiedCode, IsVerifiedCode, IsAtVerified as FitsCode}
 use Rattle.exec_unit.specs.Machine.{begun}
 use Rattle.vm_desc.specs.declared.description.Description.{Description}
 use Rattle.vm_desc.specs.declared.handler.Handler.{Handler}
@@ -27,7 +27,7 @@ use Rattle.mate_journal.specs.declared.entry.DropCause.TheVariants as drop
 use Rattle.mate_journal.specs.declared.entry.Entry.TheVariants as entry
 use Rattle.mate_journal.specs.Described.{is_once, runs_once}
 use Rattle.mate_journal.specs.Machine.{Machine, HeldProgram}
-use Rattle.mate_journal.specs.Journal.{Posted, Dropped, is_started, Invocation, Reading, heard}
+use Rattle.mate_journal.specs.Journal.{Posted, Dropped, is_started, Invocation, NodeState, next_state}
 use Rattle.mate_journal.specs.WellFormed.{IsIdle, IsBusy}
 use Rattle.mate_journal.specs.NodeScript.{DropsNoCode, DropsAllBusy, IsFirstIdle, Posts}
 use Rattle.journal_laws.specs.Growth.{IsPushed}
@@ -39,7 +39,7 @@ use Rattle.node_contexts.specs.At.{At, at, idle, queued, Becomes, IsPlaced}
 use Rattle.node_contexts.specs.Programs.{Programs, held_at}
 use Rattle.node_invariant.specs.declared.parts.Parts.{Parts}
 use Rattle.node_invariant.specs.Meaning.{machine_in}
-use Rattle.node_invariant.specs.Fits.{program_of, Fits}
+use Rattle.node_invariant.specs.Fits.{program_of, ContextsMatch}
 use Rattle.node_invariant.specs.Keeps.{reading, IsTimely, Grows}
 use Rattle.node_invariant.specs.Continues.{Continues}
 use Rattle.node_invariant.proofs.FitLemmas.{no_seat, by_seat}
@@ -72,13 +72,13 @@ none-heard d s h rests is =
     let P : Option HeldProgram → Type 0 = λ o. IsNone o in
     subst P (sym (rests.order.keeps.installed.same h ∙ ap (λ (o : Option Held). option_map (program_of h) o) is)) refl
 
-busy-taken : (held : Programs) (r : Reading) (s : Contexts) (c : ContextId) → Fits held r s → IsSome (at s c).seat → IsBusy r c
+busy-taken : (held : Programs) (r : NodeState) (s : Contexts) (c : ContextId) → ContextsMatch held r s → IsSome (at s c).seat → IsBusy r c
 busy-taken held r s c fits some = by (at s c).seat refl some where
   by : (o : Option Seat) → (at s c).seat ≡ o → IsSome o → IsBusy r c
   by None e h = cc
   by (Some t) e h = let g = by_seat held r c (at s c) t e (fits.each c) in record { invocation = t.inv; live = g.live; context = g.context }
 
-idle-untaken : (held : Programs) (r : Reading) (s : Contexts) (c : ContextId) → Fits held r s → (at s c).seat ≡ None → IsIdle r c
+idle-untaken : (held : Programs) (r : NodeState) (s : Contexts) (c : ContextId) → ContextsMatch held r s → (at s c).seat ≡ None → IsIdle r c
 idle-untaken held r s c fits none n live context =
     let P : ContextId → Type 0 = λ k. IsPlaced (at s k) n in
     let p = subst P context (fits.placed n live) in
@@ -138,7 +138,7 @@ module _ (d : Description) (old : Parts) (contexts : Contexts) (log : OpenView) 
   abbrev pub m : Machine
   m = machine_in d
 
-  abbrev pub r : Reading
+  abbrev pub r : NodeState
   r = reading d old.log.all
 
   abbrev pub mid : Parts
@@ -161,10 +161,10 @@ module _ (d : Description) (old : Parts) (contexts : Contexts) (log : OpenView) 
   posts-is : posts ≡ suc r.posts
   posts-is = next_post ∙ ap suc (sym rests.order.keeps.posts)
 
-  heard-is : reading d log.all ≡ heard m r (Posted posts h c payload)
+  heard-is : reading d log.all ≡ next_state m r (Posted posts h c payload)
   heard-is = heard-by d old mid old.log.all stamp (entry.Post posts h c payload) (Posted posts h c payload) rests.order continues room
 
-  pace-post : (p : Pace) → IsPace r old.contexts p → IsPace (heard m r (Posted posts h c payload)) contexts p
+  pace-post : (p : Pace) → IsPace r old.contexts p → IsPace (next_state m r (Posted posts h c payload)) contexts p
   pace-post p pace = record {
     line =
         pace.line
@@ -172,8 +172,8 @@ module _ (d : Description) (old : Parts) (contexts : Contexts) (log : OpenView) 
         ∙ ap (map (invocation_in contexts)) (sym ring);
     counts = λ k t e started. by k t e started (cases_eq k.0 c.0) (cases_eq t.inv posts);
   } where
-    later : Reading
-    later = heard m r (Posted posts h c payload)
+    later : NodeState
+    later = next_state m r (Posted posts h c payload)
 
     queued-new : (t : Seat) → t.inv ≡ posts → is_started (later.invocations t.inv).phase ≡ false
     queued-new t e =
@@ -199,7 +199,7 @@ module _ (d : Description) (old : Parts) (contexts : Contexts) (log : OpenView) 
     grows = grows-post;
     starting = IsStarting-post;
     others = AllBut-new d old contexts log stamp h c payload x s posts rests timely is_held own next_post number machine none_yet fitting first.context free becomes enqueues pushed room;
-    pace = λ p pace. (let P : Reading → Type 0 = λ q. IsPace q contexts p in subst P (sym heard-is) (pace-post p pace));
+    pace = λ p pace. (let P : NodeState → Type 0 = λ q. IsPace q contexts p in subst P (sym heard-is) (pace-post p pace));
   }
 
 -- the seat and the entry, as the code makes them

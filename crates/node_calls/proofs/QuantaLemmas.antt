@@ -4,7 +4,7 @@ use Rattle.std.specs.Prelude.{min}
 use Rattle.std.proofs.lemmas.Bool.{cases_eq, cases_lt, eq-eqb}
 use Rattle.std.proofs.lemmas.List.{append-nil}
 use Rattle.mate_journal.specs.Machine.{Machine}
-use Rattle.mate_journal.specs.Journal.{Reading, changed}
+use Rattle.mate_journal.specs.Journal.{NodeState, changed}
 use Rattle.mate_journal.specs.Pace.{Pace, others, gives_way, paced_all}
 use Rattle.mate_journal.specs.Turns.{Turn, IsTurn, mark_of, after_step, after_turn}
 use Rattle.node_invariant.proofs.FitLemmas.{changed-here, changed-other}
@@ -22,7 +22,7 @@ line-lone p n e =
     ap (λ (l : List ℕ). others l n ++ n ∷ []) e
     ∙ ap (λ (t : Bool). cond (not t) (n ∷ []) [] ++ n ∷ []) (eq-eqb n n refl)
 
-module _ (m : Machine) (bound : ℕ) (r : Reading) (t : Turn) where
+module _ (m : Machine) (bound : ℕ) (r : NodeState) (t : Turn) where
   abbrev pub mark : ℕ
   mark = mark_of m r t.invocation
 

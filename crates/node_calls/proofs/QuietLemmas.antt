@@ -4,7 +4,7 @@ use Rattle.mate_num.specs.declared.call.Stamp.{Stamp}
 use Rattle.vm_desc.specs.declared.description.Description.{Description}
 use Rattle.mate_journal.specs.declared.entry.Entry.{Entry}
 use Rattle.mate_journal.specs.Log.{Log}
-use Rattle.mate_journal.specs.Journal.{Told, Reading, heard}
+use Rattle.mate_journal.specs.Journal.{JournalEntry, NodeState, next_state}
 use Rattle.mate_journal.specs.Grants.{AllHeldBack, IsGranted}
 use Rattle.node_invariant.specs.declared.parts.Parts.{Parts}
 use Rattle.node_invariant.specs.Meaning.{machine_in}
@@ -20,8 +20,8 @@ use Rattle.node_calls.specs.Calls.{RestsAgain}
 use Rattle.mate_journal.specs.OpenLog.{OpenView}
 
 -- one call after another
-pub RestsAgain-then : (d : Description) (a b c : Parts) (at_ : Stamp) (First Then Both : List Told → Type 0) → RestsAgain d a b at_ First → RestsAgain d b c at_ Then
-    → ((xs ys : List Told) → First xs → Then ys → Both (xs ++ ys)) → RestsAgain d a c at_ Both
+pub RestsAgain-then : (d : Description) (a b c : Parts) (at_ : Stamp) (First Then Both : List JournalEntry → Type 0) → RestsAgain d a b at_ First → RestsAgain d b c at_ Then
+    → ((xs ys : List JournalEntry) → First xs → Then ys → Both (xs ++ ys)) → RestsAgain d a c at_ Both
 RestsAgain-then d a b c at_ First Then Both f g both = record {
   adds = record {
     told = f.adds.told ++ g.adds.told;
@@ -35,7 +35,7 @@ RestsAgain-then d a b c at_ First Then Both f g both = record {
 }
 
 -- the rule is met in other words
-pub RestsAgain-as : (d : Description) (a b : Parts) (at_ : Stamp) (First Then : List Told → Type 0) → RestsAgain d a b at_ First → ((xs : List Told) → First xs → Then xs) → RestsAgain d a b at_ Then
+pub RestsAgain-as : (d : Description) (a b : Parts) (at_ : Stamp) (First Then : List JournalEntry → Type 0) → RestsAgain d a b at_ First → ((xs : List JournalEntry) → First xs → Then xs) → RestsAgain d a b at_ Then
 RestsAgain-as d a b at_ First Then f as_ = record {
   adds = record { told = f.adds.told; grows = f.adds.grows; made = as_ f.adds.told f.adds.made };
   rests = f.rests;
@@ -43,8 +43,8 @@ RestsAgain-as d a b at_ First Then f as_ = record {
 }
 
 -- an entry that leaves contexts, heap and programs as they are
-module _ (d : Description) (old : Parts) (log : OpenView) (before : Log) (at_ : Stamp) (e : Entry) (told : Told) (rests : Rests d old) (continues : Continues d old (record old { log = log }) before at_ e told) (room : old.log.all.spare ≤ log.all.spare + 1)
-    (granted : IsGranted (machine_in d) (reading d old.log.all) (last_started old.log.all) told) (unheard : heard (machine_in d) (reading d old.log.all) told ≡ reading d old.log.all) (unpaced : (p : Pace) → paced p told ≡ p) where
+module _ (d : Description) (old : Parts) (log : OpenView) (before : Log) (at_ : Stamp) (e : Entry) (told : JournalEntry) (rests : Rests d old) (continues : Continues d old (record old { log = log }) before at_ e told) (room : old.log.all.spare ≤ log.all.spare + 1)
+    (granted : IsGranted (machine_in d) (reading d old.log.all) (last_started old.log.all) told) (unheard : next_state (machine_in d) (reading d old.log.all) told ≡ reading d old.log.all) (unpaced : (p : Pace) → paced p told ≡ p) where
   heard-is : reading d log.all ≡ reading d old.log.all
   heard-is = heard-by d old (record old { log = log }) before at_ e told rests.order continues room ∙ unheard
 
@@ -53,10 +53,10 @@ module _ (d : Description) (old : Parts) (log : OpenView) (before : Log) (at_ : 
     adds = record { told = told ∷ []; grows = grows-by d old (record old { log = log }) before at_ e told rests.order continues room; made = refl };
     rests = record {
       order = KeepsOrder-push d old (record old { log = log }) before at_ e told rests.order continues room granted rests.order.queue;
-      held = (let P : Reading → Type 0 = λ r. AllHeldBack (machine_in d) r in subst P (sym heard-is) rests.held);
+      held = (let P : NodeState → Type 0 = λ r. AllHeldBack (machine_in d) r in subst P (sym heard-is) rests.held);
     };
     pace = λ p pace.
-        (let P : Reading → Type 0 = λ r. IsPace r old.contexts p in
+        (let P : NodeState → Type 0 = λ r. IsPace r old.contexts p in
         let Q : Pace → Type 0 = λ q. IsPace (reading d log.all) old.contexts q in
         subst Q (sym (unpaced p)) (subst P (sym heard-is) pace));
   }

@@ -7,7 +7,7 @@ use Rattle.vm_desc.specs.declared.description.Description.{Description}
 use Rattle.mate_journal.specs.Journal.{Phase, Ready, is_live, is_started, Invocation}
 use Rattle.mate_num.specs.declared.call.Stamp.{Stamp}
 use Rattle.mate_journal.specs.Pace.{Pace}
-use Rattle.mate_journal.specs.Stores.{values_at, Writes}
+use Rattle.mate_journal.specs.Stores.{values_at, WritesResource}
 use Rattle.mate_journal.specs.Turns.{store_so_far, ShowsReady}
 use Rattle.node_contexts.specs.declared.seat.Seat.{Seat}
 use Rattle.node_invariant.specs.declared.parts.Parts.{Parts}
@@ -24,7 +24,7 @@ use Rattle.mate_journal.specs.OpenLog.{OpenView}
 
 pub ShowsReady-keeps : (d : Description) (s : Parts) (p : Pace) → Keeps d s → IsPace (reading d s.log.all) s.contexts p → ShowsReady (machine_in d) (reading d s.log.all) p s.heap
 ShowsReady-keeps d s p keeps pace = record { ready = shows } where
-  shows : (q : Resource) (n : ℕ) → Writes (machine_in d) (reading d s.log.all) n q → ((reading d s.log.all).invocations n).phase ≡ Ready
+  shows : (q : Resource) (n : ℕ) → WritesResource (machine_in d) (reading d s.log.all) n q → ((reading d s.log.all).invocations n).phase ≡ Ready
       → values_at s.heap q ≡ values_at (store_so_far (machine_in d) (reading d s.log.all) p n) q
   shows q n writes is_ready =
       let i : Invocation = (reading d s.log.all).invocations n in

@@ -7,19 +7,19 @@ use Rattle.lock_manager.specs.Claims.{Claims}
 use Rattle.mate_code.specs.Effect.{Private}
 use Rattle.mate_code.specs.Run.{Own, Going}
 use Rattle.mate_num.specs.declared.id.HandlerId.{HandlerId}
-use Rattle.code_verifier.specs.Verified.{Fits as FitsCode}
+use Rattle.code_verifier.specs.Verified.{IsAtVerified as FitsCode}
 use Rattle.exec_unit.specs.declared.step_end.StepEnd.{StepEnd}
 use Rattle.exec_unit.specs.declared.step_end.StepEnd.TheVariants.{Next, Ask, Halt, Fault}
 use Rattle.exec_unit.specs.Step.{HasLengths, IsStep}
 use Rattle.vm_desc.specs.declared.description.Description.{Description}
-use Rattle.mate_journal.specs.Journal.{Phase, Ready, Invocation, Reading}
+use Rattle.mate_journal.specs.Journal.{Phase, Ready, Invocation, NodeState}
 use Rattle.node_contexts.specs.declared.handlers.Held.{Held}
 use Rattle.exec_unit.specs.declared.running.Ran.{Ran}
 use Rattle.node_contexts.specs.declared.seat.Seat.{Seat}
 use Rattle.node_contexts.specs.declared.contexts.Contexts.{Contexts}
 use Rattle.node_contexts.specs.At.{At, at, Becomes}
 use Rattle.node_contexts.specs.Programs.{Programs, held_at}
-use Rattle.exec_unit.specs.Running.{GoFor, StopsAfter, HasRunTo, HasRun}
+use Rattle.exec_unit.specs.Running.{GoFor, StopsAfter, HasRunTo, HasExecuted}
 use Rattle.node_contexts.specs.Executing.{IsSameSeat, with_seat, CanExecute, Executes, HasTurn}
 use Rattle.node_contexts.proofs.ContextLemmas.{with_seat-becomes, with_seat-same, with_seat-twice}
 use Rattle.node_invariant.specs.declared.parts.Parts.{Parts}
@@ -40,7 +40,7 @@ use Rattle.node_calls.proofs.MarkLemmas.{mark-going, mark-few}
 -- ---- the ready invocation of a context
 
 module _ (d : Description) (s : Parts) (c : ContextId) (keeps : Keeps d s) (is_ready : (at s.contexts c).ready ≡ true) where
-  abbrev r : Reading
+  abbrev r : NodeState
   r = reading d s.log.all
 
   abbrev held : Programs
@@ -228,7 +228,7 @@ module _ (d : Description) (old : Parts) (c : ContextId) (s : Seat) (x : Held) (
       ∙ ap (λ (h : HandlerId). record now { handler = h }) (sym same.handler)
 
   -- the whole turn
-  pub RunsFor-turn : (n : ℕ) (ran : Ran) (now : Seat) (heap : Store) → IsSameSeat s now → now.count ≡ s.count + ran.instructions → HasRun x.code s.machine old.heap n ran now.machine heap
+  pub RunsFor-turn : (n : ℕ) (ran : Ran) (now : Seat) (heap : Store) → IsSameSeat s now → now.count ≡ s.count + ran.instructions → HasExecuted x.code s.machine old.heap n ran now.machine heap
       → RunsFor d old (record old { contexts = with_seat old.contexts c now; heap = heap }) c n ran
   RunsFor-turn n ran now heap same counted run = by ran.how refl run where
     new : Parts

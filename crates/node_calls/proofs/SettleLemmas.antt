@@ -11,7 +11,7 @@ use Rattle.lock_manager.specs.Claims.{Claims}
 use Rattle.vm_desc.specs.declared.description.Description.{Description}
 use Rattle.mate_journal.specs.Log.{Log}
 use Rattle.mate_journal.specs.Machine.{Machine}
-use Rattle.mate_journal.specs.Journal.{Told, Ready, Reading, is_live, journal_of, nothing_heard, heard, heard_all}
+use Rattle.mate_journal.specs.Journal.{JournalEntry, Ready, NodeState, is_live, journal_of, first_state, next_state, state_after_all}
 use Rattle.journal_laws.proofs.Append.{heard_all-append}
 use Rattle.node_contexts.specs.declared.seat.Seat.{Seat}
 use Rattle.node_contexts.specs.declared.contexts.Contexts.{Contexts}
@@ -19,7 +19,7 @@ use Rattle.node_contexts.specs.At.{At, at, GivesWay}
 use Rattle.node_contexts.specs.Programs.{Programs, held_at}
 use Rattle.node_invariant.specs.declared.parts.Parts.{Parts}
 use Rattle.node_invariant.specs.Meaning.{machine_in}
-use Rattle.node_invariant.specs.Fits.{Fits, IsRight}
+use Rattle.node_invariant.specs.Fits.{ContextsMatch, IsRightContext}
 use Rattle.node_contexts.specs.At.{IsPlaced}
 use Rattle.node_invariant.specs.Agrees.{Agrees}
 use Rattle.node_invariant.specs.Keeps.{reading, IsTimely, event_at, Grows}
@@ -28,7 +28,7 @@ use Rattle.node_invariant.proofs.MoveLemmas.{alone-seat, none_ready}
 use Rattle.node_invariant.proofs.KeepLemmas.{Grows-then, Grows-none}
 use Rattle.node_invariant.specs.Queue.{number_at, invocation_in, NumbersRise}
 use Rattle.node_invariant.specs.Totals.{if_waits, if_ready, may_start, owed, left, starts_left, owes, falls}
-use Rattle.mate_journal.specs.Journal.{heard_told}
+use Rattle.mate_journal.specs.Journal.{state_after_entries}
 use Rattle.mate_journal.specs.Pace.{Pace, others, gives_way}
 use Rattle.mate_journal.specs.Turns.{Turn, IsTurn, after_step, after_turn, AreTurns, told_in, pace_after}
 use Rattle.node_invariant.specs.Pace.{IsPace}
@@ -43,44 +43,44 @@ use Rattle.node_calls.proofs.QuantaLemmas.{AreTogether-one, AreTogether-lone}
 
 -- ---- lists of turns
 
-pub heard_told-append : (m : Machine) (r : Reading) (xs ys : List Told) → heard_told m r (xs ++ ys) ≡ heard_told m (heard_told m r xs) ys
+pub heard_told-append : (m : Machine) (r : NodeState) (xs ys : List JournalEntry) → state_after_entries m r (xs ++ ys) ≡ state_after_entries m (state_after_entries m r xs) ys
 heard_told-append m r [] ys = refl
-heard_told-append m r (x ∷ xs) ys = heard_told-append m (heard m r x) xs ys
+heard_told-append m r (x ∷ xs) ys = heard_told-append m (next_state m r x) xs ys
 
-AreTurns-append : (m : Machine) (r : Reading) (p : Pace) (ts us : List Turn) → AreTurns m r p ts → AreTurns m (heard_told m r (told_in ts)) (pace_after m r p ts) us → AreTurns m r p (ts ++ us)
+AreTurns-append : (m : Machine) (r : NodeState) (p : Pace) (ts us : List Turn) → AreTurns m r p ts → AreTurns m (state_after_entries m r (told_in ts)) (pace_after m r p ts) us → AreTurns m r p (ts ++ us)
 AreTurns-append m r p [] us are further = further
 AreTurns-append m r p (t ∷ ts) us are further =
-    let P : Reading → Type 0 = λ q. AreTurns m q (pace_after m (heard_told m r t.told) (after_turn m r p t) ts) us in
-    (are.0, are.1, AreTurns-append m (heard_told m r t.told) (after_turn m r p t) ts us are.2 (subst P (heard_told-append m r t.told (told_in ts)) further))
+    let P : NodeState → Type 0 = λ q. AreTurns m q (pace_after m (state_after_entries m r t.told) (after_turn m r p t) ts) us in
+    (are.0, are.1, AreTurns-append m (state_after_entries m r t.told) (after_turn m r p t) ts us are.2 (subst P (heard_told-append m r t.told (told_in ts)) further))
 
-AreWithin-append : (m : Machine) (bound : ℕ) (r : Reading) (p : Pace) (ts us : List Turn) → AreWithin m bound r p ts → AreWithin m bound (heard_told m r (told_in ts)) (pace_after m r p ts) us → AreWithin m bound r p (ts ++ us)
+AreWithin-append : (m : Machine) (bound : ℕ) (r : NodeState) (p : Pace) (ts us : List Turn) → AreWithin m bound r p ts → AreWithin m bound (state_after_entries m r (told_in ts)) (pace_after m r p ts) us → AreWithin m bound r p (ts ++ us)
 AreWithin-append m bound r p [] us are further = further
 AreWithin-append m bound r p (t ∷ ts) us are further =
-    let P : Reading → Type 0 = λ q. AreWithin m bound q (pace_after m (heard_told m r t.told) (after_turn m r p t) ts) us in
-    (are.0, AreWithin-append m bound (heard_told m r t.told) (after_turn m r p t) ts us are.1 (subst P (heard_told-append m r t.told (told_in ts)) further))
+    let P : NodeState → Type 0 = λ q. AreWithin m bound q (pace_after m (state_after_entries m r t.told) (after_turn m r p t) ts) us in
+    (are.0, AreWithin-append m bound (state_after_entries m r t.told) (after_turn m r p t) ts us are.1 (subst P (heard_told-append m r t.told (told_in ts)) further))
 
-pace_after-append : (m : Machine) (r : Reading) (p : Pace) (ts us : List Turn) → pace_after m r p (ts ++ us) ≡ pace_after m (heard_told m r (told_in ts)) (pace_after m r p ts) us
+pace_after-append : (m : Machine) (r : NodeState) (p : Pace) (ts us : List Turn) → pace_after m r p (ts ++ us) ≡ pace_after m (state_after_entries m r (told_in ts)) (pace_after m r p ts) us
 pace_after-append m r p [] us = refl
 pace_after-append m r p (t ∷ ts) us =
-    pace_after-append m (heard_told m r t.told) (after_turn m r p t) ts us
-    ∙ ap (λ (q : Reading). pace_after m q (pace_after m (heard_told m r t.told) (after_turn m r p t) ts) us) (sym (heard_told-append m r t.told (told_in ts)))
+    pace_after-append m (state_after_entries m r t.told) (after_turn m r p t) ts us
+    ∙ ap (λ (q : NodeState). pace_after m q (pace_after m (state_after_entries m r t.told) (after_turn m r p t) ts) us) (sym (heard_told-append m r t.told (told_in ts)))
 
 told_in-append : (ts us : List Turn) → told_in (ts ++ us) ≡ told_in ts ++ told_in us
 told_in-append [] us = refl
-told_in-append (t ∷ ts) us = ap (λ (l : List Told). t.told ++ l) (told_in-append ts us) ∙ sym (append_assoc t.told (told_in ts) (told_in us))
+told_in-append (t ∷ ts) us = ap (λ (l : List JournalEntry). t.told ++ l) (told_in-append ts us) ∙ sym (append_assoc t.told (told_in ts) (told_in us))
 
 -- ---- what a log tells more is heard
 
-heard-events : (m : Machine) (r : Reading) (at_ : Stamp) (told : List Told) → heard_all m r (map (event_at at_) told) ≡ heard_told m r told
+heard-events : (m : Machine) (r : NodeState) (at_ : Stamp) (told : List JournalEntry) → state_after_all m r (map (event_at at_) told) ≡ state_after_entries m r told
 heard-events m r at_ [] = refl
-heard-events m r at_ (t ∷ ts) = heard-events m (heard m r t) at_ ts
+heard-events m r at_ (t ∷ ts) = heard-events m (next_state m r t) at_ ts
 
-pub reading-grows : (d : Description) (a b : Log) (at_ : Stamp) (told : List Told) → Grows a b at_ told → reading d b ≡ heard_told (machine_in d) (reading d a) told
+pub reading-grows : (d : Description) (a b : Log) (at_ : Stamp) (told : List JournalEntry) → Grows a b at_ told → reading d b ≡ state_after_entries (machine_in d) (reading d a) told
 unfolding reading
 reading-grows d a b at_ told g =
-    ap (heard_all (machine_in d) (nothing_heard (machine_in d))) g.journal
-    ∙ heard_all-append (machine_in d) (nothing_heard (machine_in d)) (journal_of a) (map (event_at at_) told)
-    ∙ heard-events (machine_in d) (heard_all (machine_in d) (nothing_heard (machine_in d)) (journal_of a)) at_ told
+    ap (state_after_all (machine_in d) (first_state (machine_in d))) g.journal
+    ∙ heard_all-append (machine_in d) (first_state (machine_in d)) (journal_of a) (map (event_at at_) told)
+    ∙ heard-events (machine_in d) (state_after_all (machine_in d) (first_state (machine_in d)) (journal_of a)) at_ told
 
 -- ---- the first of the ring
 
@@ -104,14 +104,14 @@ module _ (d : Description) (old : Parts) (contexts : Contexts) (c : ContextId) (
   abbrev next : Parts
   next = record old { contexts = contexts }
 
-  fits-way : (held : Programs) (r : Reading) → Fits held r old.contexts → Fits held r contexts
+  fits-way : (held : Programs) (r : NodeState) → ContextsMatch held r old.contexts → ContextsMatch held r contexts
   fits-way held r fits =
       record {
-        each = λ k. (let P : At → Type 0 = λ a. IsRight held r k a in subst P (sym (way.each k)) (fits.each k));
+        each = λ k. (let P : At → Type 0 = λ a. IsRightContext held r k a in subst P (sym (way.each k)) (fits.each k));
         placed = λ n live. (let P : At → Type 0 = λ a. IsPlaced a n in subst P (sym (way.each (r.invocations n).context)) (fits.placed n live));
       }
 
-  agrees-way : (r : Reading) → Agrees d r old.contexts old.heap → Agrees d r contexts old.heap
+  agrees-way : (r : NodeState) → Agrees d r old.contexts old.heap → Agrees d r contexts old.heap
   agrees-way r agrees =
       record { as_long = agrees.as_long; each = λ k s e. agrees.each k s (ap (λ (a : At). a.seat) (sym (way.each k)) ∙ e); apart = agrees.apart; elsewhere = agrees.elsewhere }
 
@@ -242,16 +242,16 @@ SettlesSome-then d old mid next contexts at_ c first f way n ran quanta g = reco
       let way_pace : IsPace (reading d mid.log.all) contexts (gives_way q g.invocation) = subst N whose (pace-way d mid contexts c way f.rests (first-ready mid.contexts c first) q h.pace) in
       let x = g.turn (gives_way q g.invocation) way_pace in
       let y = together q h.pace record { ready = x.0.ready; short = x.0.short; reached = x.0.reached } in
-      let heard_is : reading d mid.log.all ≡ heard_told m r (told_in h.turns) = f.heard_is ∙ ap (heard_told m r) h.made in
-      let P : Reading → Type 0 = λ s. AreTurns m s q y.turns in
-      let W : Reading → Type 0 = λ s. AreWithin m (most d) s q y.turns in
+      let heard_is : reading d mid.log.all ≡ state_after_entries m r (told_in h.turns) = f.heard_is ∙ ap (state_after_entries m r) h.made in
+      let P : NodeState → Type 0 = λ s. AreTurns m s q y.turns in
+      let W : NodeState → Type 0 = λ s. AreWithin m (most d) s q y.turns in
       let R : Pace → Type 0 = λ s. IsPace (reading d next.log.all) next.contexts s in
       record {
         turns = h.turns ++ y.turns;
         are_turns = AreTurns-append m r p h.turns y.turns h.are_turns (subst P heard_is y.are_turns);
-        made = ap (λ (l : List Told). l ++ g.told) h.made ∙ ap (λ (l : List Told). told_in h.turns ++ l) y.made ∙ sym (told_in-append h.turns y.turns);
+        made = ap (λ (l : List JournalEntry). l ++ g.told) h.made ∙ ap (λ (l : List JournalEntry). told_in h.turns ++ l) y.made ∙ sym (told_in-append h.turns y.turns);
         within = AreWithin-append m (most d) r p h.turns y.turns h.within (subst W heard_is y.within);
-        pace = subst R (sym (pace_after-append m r p h.turns y.turns ∙ ap (λ (s : Reading). pace_after m s q y.turns) (sym heard_is) ∙ y.then)) x.2;
+        pace = subst R (sym (pace_after-append m r p h.turns y.turns ∙ ap (λ (s : NodeState). pace_after m s q y.turns) (sym heard_is) ∙ y.then)) x.2;
       }
 
 pub SettlesAll-from : (d : Description) (old next : Parts) (at_ : Stamp) → SettlesSome d old next at_ → None ≡ slice_get next.contexts.ring 0 → SettlesAll d old next at_
@@ -268,7 +268,7 @@ SettlesAll-from d old next at_ f first = record {
         made = h.made;
         then = refl;
         empty = h.pace.line ∙ ap (map (invocation_in next.contexts)) (none-first next.contexts.ring first);
-        settled = λ n is. none n (let P : Reading → Type 0 = λ r. (r.invocations n).phase ≡ Ready in subst P (sym f.heard_is) is);
+        settled = λ n is. none n (let P : NodeState → Type 0 = λ r. (r.invocations n).phase ≡ Ready in subst P (sym f.heard_is) is);
       };
       within = h.within;
     },

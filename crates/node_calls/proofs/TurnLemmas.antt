@@ -11,7 +11,7 @@ use Rattle.lock_manager.proofs.ClaimLemmas.{same_context}
 use Rattle.exec_unit.specs.declared.step_end.StepEnd.{StepEnd}
 use Rattle.exec_unit.specs.Step.{own_after}
 use Rattle.vm_desc.specs.declared.description.Description.{Description}
-use Rattle.mate_journal.specs.Journal.{is_started, Invocation, Reading, whole_run, changed}
+use Rattle.mate_journal.specs.Journal.{is_started, Invocation, NodeState, whole_run, changed}
 use Rattle.node_contexts.specs.declared.seat.Seat.{Seat}
 use Rattle.node_contexts.specs.declared.contexts.Contexts.{Contexts}
 use Rattle.node_contexts.specs.At.{At, at, Becomes}
@@ -54,7 +54,7 @@ line-without f g c n (k ∷ ring) here apart same = by (cases_eq k.0 c.0) (line-
 
 -- ---- the pace where one leaves the line
 
-module _ (r later : Reading) (old after : Contexts) (c : ContextId) (a : At) (n count : ℕ) (alone : IsAlone old n c) (number : invocation_in old c ≡ n) (above : 0 < n)
+module _ (r later : NodeState) (old after : Contexts) (c : ContextId) (a : At) (n count : ℕ) (alone : IsAlone old n c) (number : invocation_in old c ≡ n) (above : 0 < n)
     (becomes : Becomes old after c a) (kept : (j : ℕ) → j ≢ n → later.invocations j ≡ r.invocations j) (here : (t : Seat) → a.seat ≡ Some t → (t.inv ≡ n) × (t.count ≡ count)) where
   number-other : (k : ContextId) → k.0 ≢ c.0 → invocation_in after k ≡ invocation_in old k
   number-other k other = ap (λ (b : At). number_at b.seat) (becomes.others k other)
@@ -106,7 +106,7 @@ module _ (d : Description) (old : Parts) (contexts : Contexts) (heap : Store) (c
   abbrev s : Seat
   s = (one d old c keeps is_ready).seat
 
-  abbrev r : Reading
+  abbrev r : NodeState
   r = reading d old.log.all
 
   abbrev i : Invocation

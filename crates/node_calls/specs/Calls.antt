@@ -3,7 +3,7 @@ use Rattle.std.specs.Prelude.{◌≡◌, ℕ, List, [], ◌∷◌, length}
 use Rattle.mate_num.specs.Store.{zero_store}
 use Rattle.mate_num.specs.declared.call.Stamp.{Stamp}
 use Rattle.mate_num.specs.declared.id.ContextId.{ContextId}
-use Rattle.mate_journal.specs.Journal.{Told, Seen, Reading}
+use Rattle.mate_journal.specs.Journal.{JournalEntry, Seen, NodeState}
 use Rattle.mate_journal.specs.WellFormed.{IsWaiting}
 use Rattle.node_contexts.specs.At.{AreIdle}
 use Rattle.vm_desc.specs.declared.description.Description.{Description}
@@ -16,18 +16,18 @@ use Rattle.node_invariant.specs.Pace.{IsPace}
 use Rattle.node_invariant.specs.Starting.{Rests}
 
 -- The entries meet the rule, the node rests again, and its pace is the one that they make.
-pub record RestsAgain (d : Description) (old new : Parts) (at : Stamp) (Rule : List Told → Type 0) : Type 0 where
+pub record RestsAgain (d : Description) (old new : Parts) (at : Stamp) (Rule : List JournalEntry → Type 0) : Type 0 where
   pub adds : TellsMore old.log.all new.log.all at Rule
   pub rests : Rests d new
   pub pace : (p : Pace) → IsPace (reading d old.log.all) old.contexts p
       → IsPace (reading d new.log.all) new.contexts (paced_all p adds.told)
 
 -- the rule, at each pace that the node may have
-abbrev pub AtPace : Description → Parts → (Pace → List Told → Type 0) → List Told → Type 0
+abbrev pub AtPace : Description → Parts → (Pace → List JournalEntry → Type 0) → List JournalEntry → Type 0
 AtPace d s Rule told = (p : Pace) → IsPace (reading d s.log.all) s.contexts p → Rule p told
 
 -- no invocation in the context waits for an answer
-abbrev pub NobodyWaits : Reading → ContextId → Type 0
+abbrev pub NobodyWaits : NodeState → ContextId → Type 0
 NobodyWaits r c = (n : ℕ) → IsWaiting r n → (r.invocations n).context ≡ c → ⊥
 
 -- the store is told, and nothing else changes

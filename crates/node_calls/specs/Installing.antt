@@ -4,7 +4,7 @@ use Rattle.arrayvec.specs.ArrayVec.{ArrayVec}
 use Rattle.mate_num.specs.declared.call.Stamp.{Stamp}
 use Rattle.mate_num.specs.declared.id.HandlerId.{HandlerId}
 use Rattle.capsule_codec.specs.declared.capsule.Capsule.{Capsule as DecodedCapsule}
-use Rattle.capsule_codec.specs.Image.{CapsuleParts, capsule_parts, image_of, IsOfMachine}
+use Rattle.capsule_codec.specs.Image.{CapsuleParts, capsule_parts, capsule_image, IsOfMachine}
 use Rattle.capsule_codec.specs.Reading.{capsule_in}
 use Rattle.code_verifier.specs.Faults.{refusal_of}
 use Rattle.code_verifier.specs.declared.fault.VerifyFault.{VerifyFault}
@@ -14,7 +14,7 @@ use Rattle.mate_code.specs.Verification.{Marks}
 use Rattle.vm_desc.specs.declared.description.Description.{Description}
 use Rattle.vm_desc.specs.Shapes.{shape_of}
 use Rattle.mate_journal.specs.Machine.{HeldProgram}
-use Rattle.mate_journal.specs.Journal.{Told, Reading, held}
+use Rattle.mate_journal.specs.Journal.{JournalEntry, NodeState, held}
 use Rattle.mate_journal.specs.NodeScript.{Installs}
 use Rattle.mate_journal.specs.Pace.{Pace}
 use Rattle.node_contexts.specs.Programs.{renewed}
@@ -51,14 +51,14 @@ pub record IsUnverified (d : Description) (bytes : List ℕ) (fault : VerifyFaul
   pub refused : bytes_verification (shape_of d) capsule.code ≡ Err (refusal_of fault)
 
 -- the bytes are a right capsule, and the node holds a version that isn't older
-pub record IsNoNewer (d : Description) (r : Reading) (bytes : List ℕ) (version : ℕ) : Type 0 where
+pub record IsNoNewer (d : Description) (r : NodeState) (bytes : List ℕ) (version : ℕ) : Type 0 where
   pub capsule : CapsuleParts
   pub right : IsRightCapsule d bytes capsule
   pub held_is : version ≡ held r (capsule_handler capsule)
   pub older : capsule.version ≤ held r (capsule_handler capsule)
 
 -- the first refusal, in this order
-abbrev pub Refuses : Description → Reading → List ℕ → InstallFault → Type 0
+abbrev pub Refuses : Description → NodeState → List ℕ → InstallFault → Type 0
 Refuses d r bytes (Capsule fault) = capsule_in d bytes ≡ Err fault
 Refuses d r bytes (Code fault) = IsUnverified d bytes fault
 Refuses d r bytes (NotNewer version) = IsNoNewer d r bytes version
@@ -66,11 +66,11 @@ Refuses d r bytes (NotNewer version) = IsNoNewer d r bytes version
 -- the bytes are read as this capsule of the machine
 pub record IsReadAs (d : Description) (bytes : List ℕ) (c : DecodedCapsule) : Type 0 where
   pub decoded : capsule_in d bytes ≡ Ok (capsule_parts c)
-  pub image : bytes ≡ image_of (capsule_parts c)
+  pub image : bytes ≡ capsule_image (capsule_parts c)
   pub of_machine : IsOfMachine d (capsule_parts c)
 
 -- the bytes are a right capsule, newer than what the node held, and its program was installed with these entries
-pub record InstallsBytes (d : Description) (r : Reading) (bytes : List ℕ) (p : Pace) (told : List Told) : Type 0 where
+pub record InstallsBytes (d : Description) (r : NodeState) (bytes : List ℕ) (p : Pace) (told : List JournalEntry) : Type 0 where
   pub capsule : CapsuleParts
   pub right : IsRightCapsule d bytes capsule
   pub installs : Installs (machine_in d) r p (program_by capsule bytes) told

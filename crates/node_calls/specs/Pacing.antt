@@ -7,7 +7,7 @@ use Rattle.exec_unit.specs.declared.step_end.StepEnd.{StepEnd}
 use Rattle.exec_unit.specs.declared.step_end.StepEnd.TheVariants.{Next, Ask, Halt, Fault}
 use Rattle.vm_desc.specs.declared.description.Description.{Description}
 use Rattle.mate_journal.specs.Machine.{Machine}
-use Rattle.mate_journal.specs.Journal.{Told, Ready, Reading, whole_run, changed, heard}
+use Rattle.mate_journal.specs.Journal.{JournalEntry, Ready, NodeState, whole_run, changed, next_state}
 use Rattle.exec_unit.specs.declared.running.Ran.{Ran}
 use Rattle.node_contexts.specs.declared.seat.Seat.{Seat}
 use Rattle.node_contexts.specs.At.{at, Becomes}
@@ -20,7 +20,7 @@ use Rattle.node_invariant.specs.Queue.{invocation_in}
 use Rattle.node_invariant.specs.Totals.{starts_left, owes, falls}
 use Rattle.node_invariant.specs.Pace.{IsPace}
 use Rattle.node_invariant.specs.Starting.{KeepsOrder, Rests}
-use Rattle.mate_journal.specs.Journal.{heard_told}
+use Rattle.mate_journal.specs.Journal.{state_after_entries}
 use Rattle.mate_journal.specs.Pace.{Pace, paced_all}
 use Rattle.mate_journal.specs.Turns.{Turn, IsTurn, mark_of, entry_at, after_step, after_turn, AreTurns, told_in, pace_after, Settles}
 
@@ -64,13 +64,13 @@ abbrev pub RunsFor : Description → Parts → Parts → ContextId → ℕ → R
 RunsFor d old new c n ran = RunsTo ran.how d old new c n ran.instructions
 
 -- the invocation in the context asked or is over, and that was told
-pub record HasMoved (d : Description) (old new : Parts) (at_ : Stamp) (c : ContextId) (n ran : ℕ) (told : Told) : Type 0 where
+pub record HasMoved (d : Description) (old new : Parts) (at_ : Stamp) (c : ContextId) (n ran : ℕ) (told : JournalEntry) : Type 0 where
   pub invocation : ℕ
   pub number : invocation_in old.contexts c ≡ invocation
   pub was : ((reading d old.log.all).invocations invocation).phase ≡ Ready
   pub order : KeepsOrder d new
   pub grows : Grows old.log.all new.log.all at_ (told ∷ [])
-  pub heard_is : reading d new.log.all ≡ heard (machine_in d) (reading d old.log.all) told
+  pub heard_is : reading d new.log.all ≡ next_state (machine_in d) (reading d old.log.all) told
   pub told_is : told ≡ entry_at invocation (whole_run (machine_in d) (reading d old.log.all) invocation).end
   pub pace : (p : Pace) → IsPace (reading d old.log.all) old.contexts p
       → (mark_of (machine_in d) (reading d old.log.all) invocation ≤ p.counts invocation + n)
@@ -91,7 +91,7 @@ pub record HasMoved (d : Description) (old new : Parts) (at_ : Stamp) (c : Conte
 pub record TakesTurn (d : Description) (old new : Parts) (at_ : Stamp) (c : ContextId) (n ran : ℕ) : Type 0 where
   pub invocation : ℕ
   pub number : invocation_in old.contexts c ≡ invocation
-  pub told : List Told
+  pub told : List JournalEntry
   pub rests : Rests d new
   pub grows : Grows old.log.all new.log.all at_ told
   pub turn : (p : Pace) → IsPace (reading d old.log.all) old.contexts p
@@ -112,13 +112,13 @@ pub record AreQuanta (quantum ready n : ℕ) : Type 0 where
   pub lone : (more ≡ 0) ⊎ (ready ≡ 1)
 
 -- in each of these turns the invocation's next mark is within the bound; so no invocation executes more instructions since its start
-abbrev pub AreWithin : Machine → ℕ → Reading → Pace → List Turn → Type 0
+abbrev pub AreWithin : Machine → ℕ → NodeState → Pace → List Turn → Type 0
 AreWithin m bound r p [] = Unit {0}
 AreWithin m bound r p (t ∷ ts) = (mark_of m r t.invocation ≤ bound)
-    × AreWithin m bound (heard_told m r t.told) (after_turn m r p t) ts
+    × AreWithin m bound (state_after_entries m r t.told) (after_turn m r p t) ts
 
 -- turns from this pace to that one, one after another
-pub record AreTogether (m : Machine) (bound : ℕ) (r : Reading) (p q : Pace) (told : List Told) : Type 0 where
+pub record AreTogether (m : Machine) (bound : ℕ) (r : NodeState) (p q : Pace) (told : List JournalEntry) : Type 0 where
   pub turns : List Turn
   pub are_turns : AreTurns m r p turns
   pub made : told ≡ told_in turns
@@ -126,7 +126,7 @@ pub record AreTogether (m : Machine) (bound : ℕ) (r : Reading) (p q : Pace) (t
   pub then : pace_after m r p turns ≡ q
 
 -- turns from this pace on, one after another
-pub record Chains (d : Description) (old new : Parts) (told : List Told) (p : Pace) : Type 0 where
+pub record Chains (d : Description) (old new : Parts) (told : List JournalEntry) (p : Pace) : Type 0 where
   pub turns : List Turn
   pub are_turns : AreTurns (machine_in d) (reading d old.log.all) p turns
   pub made : told ≡ told_in turns
@@ -134,13 +134,13 @@ pub record Chains (d : Description) (old new : Parts) (told : List Told) (p : Pa
   pub pace : IsPace (reading d new.log.all) new.contexts (pace_after (machine_in d) (reading d old.log.all) p turns)
 
 -- turns follow one another until nobody is ready, and none has its mark beyond the bound
-pub record SettlesWithin (m : Machine) (bound : ℕ) (r : Reading) (p : Pace) (told : List Told) (q : Pace) : Type 0 where
+pub record SettlesWithin (m : Machine) (bound : ℕ) (r : NodeState) (p : Pace) (told : List JournalEntry) (q : Pace) : Type 0 where
   pub settles : Settles m r p told q
   pub within : AreWithin m bound r p settles.turns
 
 -- the parts of a node after it
 pub record SettlesAll (d : Description) (old new : Parts) (at_ : Stamp) : Type 0 where
-  pub told : List Told
+  pub told : List JournalEntry
   pub rests : Rests d new
   pub grows : Grows old.log.all new.log.all at_ told
   pub settles : (p : Pace) → IsPace (reading d old.log.all) old.contexts p
@@ -151,10 +151,10 @@ pub record SettlesAll (d : Description) (old new : Parts) (at_ : Stamp) : Type 0
 
 -- so far
 pub record SettlesSome (d : Description) (old new : Parts) (at_ : Stamp) : Type 0 where
-  pub told : List Told
+  pub told : List JournalEntry
   pub rests : Rests d new
   pub grows : Grows old.log.all new.log.all at_ told
-  pub heard_is : reading d new.log.all ≡ heard_told (machine_in d) (reading d old.log.all) told
+  pub heard_is : reading d new.log.all ≡ state_after_entries (machine_in d) (reading d old.log.all) told
   pub chain : (p : Pace) → IsPace (reading d old.log.all) old.contexts p → Chains d old new told p
   pub owed : owes new.contexts + length told ≤ owes old.contexts
   pub handlers : new.handlers ≡ old.handlers

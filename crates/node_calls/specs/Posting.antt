@@ -4,7 +4,7 @@ use Rattle.arrayvec.specs.ArrayVec.{ArrayVec}
 use Rattle.mate_num.specs.declared.id.ContextId.{ContextId}
 use Rattle.mate_num.specs.declared.id.HandlerId.{HandlerId}
 use Rattle.mate_journal.specs.Machine.{Machine, IsContextOf}
-use Rattle.mate_journal.specs.Journal.{Told, Posted as PostedEntry, Reading}
+use Rattle.mate_journal.specs.Journal.{JournalEntry, Posted as PostedEntry, NodeState}
 use Rattle.mate_journal.specs.NodeScript.{DropsNoCode, DropsAllBusy, IsFirstIdle, Posts}
 use Rattle.mate_num.specs.declared.call.Stamp.{Stamp}
 use Rattle.mate_num.specs.declared.lock_set.LockSet.{LockSet}
@@ -23,7 +23,7 @@ use Rattle.node_calls.specs.declared.posting.PostAnswer.{PostAnswer}
 use Rattle.node_calls.specs.declared.posting.PostAnswer.TheVariants.{Posted, NoCode, AllBusy}
 
 -- the answer says which of the three the entries are, and which number the invocation has
-abbrev pub PostGives : Machine → Reading → HandlerId → ArrayVec ℤ → PostAnswer → List Told → Type 0
+abbrev pub PostGives : Machine → NodeState → HandlerId → ArrayVec ℤ → PostAnswer → List JournalEntry → Type 0
 PostGives m r h payload (Posted inv) told = (inv ≡ suc r.posts) × Posts m r h payload told
 PostGives m r h payload NoCode told = DropsNoCode r h told
 PostGives m r h payload AllBusy told = DropsAllBusy m r h told

@@ -2,7 +2,7 @@
 
 ghost use Rattle.std.specs.Prelude.{◌≡◌, ◌<◌, ◌≤◌, MatchResult};
 ghost use Rattle.mate_num.specs.declared.bounds.TheConstants.{CONTEXTS_MAX};
-ghost use Rattle.mate_journal.specs.NodeScript.{Answers};
+ghost use Rattle.mate_journal.specs.NodeScript.{AnswersCall};
 ghost use Rattle.node_invariant.specs.Keeps.{reading, IsTimely};
 ghost use Rattle.node_invariant.specs.Starting.{Rests};
 ghost use Rattle.node_calls.specs.Calls.{RestsAgain, NobodyWaits};
@@ -28,7 +28,7 @@ pub fn answer_in(
     requires room { 1 ≤ parts.old.log.all.spare }
     requires context { ctx.0 < CONTEXTS_MAX }
     ensures answers { MatchResult result
-        (λ _. RestsAgain description.now parts.old parts.new at (Answers (reading description.now parts.old.log.all) ctx value))
+        (λ _. RestsAgain description.now parts.old parts.new at (AnswersCall (reading description.now parts.old.log.all) ctx value))
         (λ _. NobodyWaits (reading description.now parts.old.log.all) ctx × (parts.new ≡ parts.old)) }
     ensures gone { parts.new.log.gone ≡ parts.old.log.gone }
 {

@@ -27,9 +27,9 @@ use Rattle.node_contexts.specs.declared.handlers.Held.{Held}
 use Rattle.exec_unit.specs.declared.running.Ran.{Ran}
 use Rattle.node_contexts.specs.declared.seat.Seat.{Seat}
 use Rattle.node_contexts.specs.declared.contexts.Contexts.{Contexts}
-use Rattle.node_contexts.specs.At.{At, seat_at, at, Becomes, AreIdle, Starts, GivesWay}
+use Rattle.node_contexts.specs.At.{At, seat_at, at, Becomes, AreIdle, StartsContext, GivesWay}
 use Rattle.node_contexts.specs.Programs.{Programs}
-use Rattle.exec_unit.specs.Running.{HasRun}
+use Rattle.exec_unit.specs.Running.{HasExecuted}
 use Rattle.node_contexts.specs.Executing.{IsSameSeat, with_seat, HasTurn, IsAnswered}
 
 -- ---- idle contexts
@@ -100,7 +100,7 @@ same_at a w h b w' h' b' e f g =
     ∙ ap (λ (x : Bool). record a { waits = w'; holds = h'; ready = x }) g
 
 pub Starts-from : (old : Contexts) (locks : Claims) (ring : List ContextId) (ctx : ContextId) (g : Grants old.locks locks ctx) → AreOnce (old.locks.started ++ old.locks.waiting)
-    → ring ≡ old.ring ++ ctx ∷ [] → Changes old.ring ring ctx true → Starts old (record old { locks = locks; ring = ring }) ctx
+    → ring ≡ old.ring ++ ctx ∷ [] → Changes old.ring ring ctx true → StartsContext old (record old { locks = locks; ring = ring }) ctx
 Starts-from old locks ring ctx g once last changes =
     record {
       set = g.claim.set;
@@ -149,7 +149,7 @@ pub with_seat-twice : (old : Contexts) (c : ContextId) (s now : Seat) → with_s
 with_seat-twice old c s now = ap (λ (l : List (Option Seat)). record old { seats = l }) (set-twice old.seats c.0 (Some s) (Some now))
 
 pub HasTurn-from : (held : Programs) (old : Contexts) (before after : Store) (c : ContextId) (n : ℕ) (ran : Ran) (s now : Seat) (x : Held) (place : ℕ) (mid : Option Seat)
-    → place ≡ c.0 → (at old c).seat ≡ Some s → held s.handler ≡ Some x → IsSameSeat s now → now.count ≡ s.count + ran.instructions → HasRun x.code s.machine before n ran now.machine after
+    → place ≡ c.0 → (at old c).seat ≡ Some s → held s.handler ≡ Some x → IsSameSeat s now → now.count ≡ s.count + ran.instructions → HasExecuted x.code s.machine before n ran now.machine after
     → HasTurn held old before c n ran (record old { seats = set (set old.seats place mid) place (Some now) }) after
 HasTurn-from held old before after c n ran s now x place mid same_place is is_held same counted run =
     record {

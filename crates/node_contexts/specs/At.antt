@@ -64,7 +64,7 @@ pub record CanStart (s : Contexts) : Type 0 where
   pub absent : (c : ContextId) (set : LockSet) → (at s c).waits ≡ Some set → (at s c).ready ≡ false
 
 -- the context gets the locks that it waits for, and is ready
-pub record Starts (old new : Contexts) (c : ContextId) : Type 0 where
+pub record StartsContext (old new : Contexts) (c : ContextId) : Type 0 where
   pub set : LockSet
   pub waited : (at old c).waits ≡ Some set
   pub becomes : Becomes old new c (record (at old c) { waits = None; holds = Some set; ready = true })

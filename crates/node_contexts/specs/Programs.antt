@@ -16,9 +16,9 @@ abbrev pub held_at : List (Option Held) → Programs
 held_at programs h = slice_index_or programs h.0 None
 
 -- the version that is held, 0 for none
-abbrev pub version_in : Option Held → ℕ
-version_in None = 0
-version_in (Some x) = x.version
+abbrev pub held_version_in : Option Held → ℕ
+held_version_in None = 0
+held_version_in (Some x) = x.version
 
 -- what is held, with another version and another image, and with its code and locks
 abbrev pub renewed : ℕ → ArrayVec ℕ → Option Held → Option Held

@@ -24,7 +24,7 @@ pub struct Contexts {
 }
 
 impl Contexts {
-    ghost use Rattle.node_contexts.specs.At.{at, idle, queued, ready, waiting, seat_at, Becomes, AreIdle, CanStart, Starts, Asks, Ends};
+    ghost use Rattle.node_contexts.specs.At.{at, idle, queued, ready, waiting, seat_at, Becomes, AreIdle, CanStart, StartsContext, Asks, Ends};
     ghost use Rattle.node_contexts.specs.At.{GivesWay, IsAsking, IsNoneAsking};
 
     /// All contexts are idle. No other call takes memory.
@@ -72,7 +72,7 @@ impl Contexts {
     /// held back.
     pub fn grant(&mut self) -> Option<ContextId>
         requires { CanStart self.old }
-        ensures granted { MatchOption result (GrantsNone self.old.locks self.new.locks × (self.new ≡ self.old)) (Starts self.old self.new) }
+        ensures granted { MatchOption result (GrantsNone self.old.locks self.new.locks × (self.new ≡ self.old)) (StartsContext self.old self.new) }
         ensures small { IfSome result (λ ctx. ctx.0 < CONTEXTS_MAX) }
         ensures once { AreOnce (self.old.locks.started ++ self.old.locks.waiting) }
     {

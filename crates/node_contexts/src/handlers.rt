@@ -36,7 +36,7 @@ impl Model for Handlers {
 }
 
 impl Handlers {
-    ghost use Rattle.node_contexts.specs.Programs.{held_at, renewed, version_in};
+    ghost use Rattle.node_contexts.specs.Programs.{held_at, renewed, held_version_in};
 
     /// Places for so many handlers, in which nothing is installed. No other call takes memory.
     pub fn new(alloc: Global, count: usize) -> Result<Handlers, NoMemory>
@@ -86,7 +86,7 @@ impl Handlers {
 
     /// The version that is installed for the handler, 0 for none.
     pub fn version(&self, handler: HandlerId) -> u32
-        ensures { result ≡ version_in (held_at self.now.programs handler) }
+        ensures { result ≡ held_version_in (held_at self.now.programs handler) }
     {
         match self.get(handler) {
             Some(held) => held.version,

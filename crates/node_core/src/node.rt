@@ -5,7 +5,7 @@ ghost use Rattle.mate_num.specs.declared.bounds.TheConstants.{CODE_MAX, CONTEXTS
 ghost use Rattle.mate_journal.specs.Log.{IsEmpty};
 ghost use Rattle.mate_journal.specs.Journal.{Void, held as held_version};
 ghost use Rattle.mate_journal.specs.Pace.{Pace, no_pace};
-ghost use Rattle.mate_journal.specs.NodeScript.{IsReadyIn, Answers, ShowsOnce, Resets};
+ghost use Rattle.mate_journal.specs.NodeScript.{IsReadyIn, AnswersCall, ShowsOnce, Resets};
 ghost use Rattle.node_invariant.specs.Meaning.{machine_in};
 ghost use Rattle.node_invariant.specs.Keeps.{IsTimely};
 ghost use Rattle.node_calls.specs.Pacing.{SettlesWithin};
@@ -165,7 +165,7 @@ impl Node {
         requires timely { IsTimely at self.old.log }
         requires room { 1 ≤ self.old.log.spare }
         ensures { MatchResult result
-            (λ _. Tells self.old self.new at (Pacing (λ _. Answers (heard_of self.old) ctx value)))
+            (λ _. Tells self.old self.new at (Pacing (λ _. AnswersCall (heard_of self.old) ctx value)))
             (λ _. NobodyWaits (heard_of self.old) ctx × (self.new ≡ self.old)) }
     {
         self.node.answer(ctx, value, at)

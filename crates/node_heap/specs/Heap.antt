@@ -6,8 +6,8 @@ use Rattle.node_heap.specs.declared.heap.Heap.TheInside.{Inside}
 use Rattle.mate_num.specs.declared.store.Store.{Store}
 
 -- the store that the block and the lengths stand for
-abbrev pub store_of : Inside → Store
-store_of h =
+abbrev pub held_store : Inside → Store
+held_store h =
     record {
       shared = record { items = take h.shared h.values };
       buffers = record { items = rows (take h.buffers h.lengths) (drop 16 h.values) };

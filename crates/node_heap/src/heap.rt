@@ -2,7 +2,7 @@
 
 ghost use Rattle.std.specs.Prelude.{◌≡◌, ℕ, ◌+◌, ◌*◌, ◌<◌, ◌≤◌, ℤ, pos, [], length, take, drop, slice_index, slice_index_or, Err, MatchOption, ◌↔◌};
 ghost use Rattle.mate_num.specs.Store.{payload, zero_store, value_at, buffer_at, set_value, set_buffer, item_of, item_set, appended, last_of, without_last};
-ghost use Rattle.node_heap.specs.Changes.{Changes};
+ghost use Rattle.node_heap.specs.Changes.{ChangesBuffer};
 ghost use Rattle.node_heap.specs.Blocks.{start_of, values_of};
 
 use arrayvec::ArrayVec;
@@ -32,9 +32,9 @@ impl Model for Heap {
 
     ghost Value = { Store };
 
-    ghost use Rattle.node_heap.specs.Heap.{store_of, IsHeap};
+    ghost use Rattle.node_heap.specs.Heap.{held_store, IsHeap};
 
-    ghost view = { store_of };
+    ghost view = { held_store };
 
     ghost invariant = { IsHeap };
 }
@@ -93,7 +93,7 @@ impl Heap {
     /// Changes the value at an index of a buffer, from 0; the fault Index exactly outside the buffer's values.
     pub fn set_item(&mut self, buf: BufId, index: i16, value: i16) -> Result<(), FaultKind>
         requires { buf.0 < length self.old.buffers.items }
-        ensures { Changes self.old buf.0 (item_set (buffer_at self.old buf.0) index value) result self.new }
+        ensures { ChangesBuffer self.old buf.0 (item_set (buffer_at self.old buf.0) index value) result self.new }
     {
         let size = self.buffer_values(buf).len();
         match usize::try_from(index) {
@@ -108,7 +108,7 @@ impl Heap {
     /// Appends a value to a buffer; the fault BufferFull exactly where it holds 10.
     pub fn append(&mut self, buf: BufId, value: i16) -> Result<(), FaultKind>
         requires { buf.0 < length self.old.buffers.items }
-        ensures { Changes self.old buf.0 (appended (buffer_at self.old buf.0) value) result self.new }
+        ensures { ChangesBuffer self.old buf.0 (appended (buffer_at self.old buf.0) value) result self.new }
     {
         let size = self.buffer_values(buf).len();
         if size >= ROOM {

@@ -18,11 +18,11 @@ use Rattle.exec_unit.specs.declared.step_end.StepEnd.{StepEnd}
 use Rattle.exec_unit.specs.Step.{IsStep, going, own_after}
 use Rattle.vm_desc.specs.declared.description.Description.{Description}
 use Rattle.vm_desc.specs.Shapes.{shape_of}
-use Rattle.mate_journal.specs.Journal.{Phase, Unposted, Queued, Ready, Waiting, Over as Gone, is_started, Invocation, Reading, changed}
+use Rattle.mate_journal.specs.Journal.{Phase, Unposted, Queued, Ready, Waiting, Over as Gone, is_started, Invocation, NodeState, changed}
 use Rattle.node_contexts.specs.declared.seat.Seat.{Seat}
 use Rattle.node_contexts.specs.declared.contexts.Contexts.{Contexts}
 use Rattle.node_contexts.specs.At.{At, at, Becomes}
-use Rattle.node_invariant.specs.Meaning.{code_of}
+use Rattle.node_invariant.specs.Meaning.{image_code}
 use Rattle.mate_journal.specs.Journal.{answers_of}
 use Rattle.node_invariant.specs.Agrees.{code_for, uses_for, own_run, status_in, own_in, IsOwnRun, RunsOwn, Agrees}
 use Rattle.node_invariant.proofs.FitLemmas.{changed-here, changed-other, IsAlone}
@@ -131,9 +131,9 @@ pub record Sits (old new : Contexts) (n : ℕ) (c : ContextId) (a : At) (t : Sea
   pub number : t.inv ≡ n
   pub alone : IsAlone old n c
 
-module _ (d : Description) (r : Reading) (old new : Contexts) (heap later : Store) (n : ℕ) (i : Invocation) (c : ContextId) (a : At) (t : Seat)
+module _ (d : Description) (r : NodeState) (old new : Contexts) (heap later : Store) (n : ℕ) (i : Invocation) (c : ContextId) (a : At) (t : Seat)
     (agrees : Agrees d r old heap) (sits : Sits old new n c a t) where
-  abbrev next : Reading
+  abbrev next : NodeState
   next = record r { invocations = changed r.invocations n i }
 
   -- each seat, where the others see no change of the heap
@@ -167,7 +167,7 @@ module _ (d : Description) (r : Reading) (old new : Contexts) (heap later : Stor
   same_uses stays m =
       elim (cases_eq m n) [
         | inl e ↦ (ap (uses_for d) (changed-here r.invocations n i m e)
-            ∙ ap (λ (p : _). uses_of (shape_of d) (code_of (shape_of d) p.image)) stays.program
+            ∙ ap (λ (p : _). uses_of (shape_of d) (image_code (shape_of d) p.image)) stays.program
             ∙ ap (λ (k : ℕ). uses_for d (r.invocations k)) (sym e))
         | inr other ↦ ap (uses_for d) (changed-other r.invocations n i m other)
       ]

@@ -34,7 +34,7 @@ use Rattle.vm_desc.specs.declared.function.Function.{Function}
 use Rattle.vm_desc.specs.Shapes.{shape_of, fun_shape}
 use Rattle.mate_journal.specs.Described.{device_for}
 use Rattle.mate_journal.specs.Devices.{WritesWhatItAsks}
-use Rattle.node_invariant.specs.Meaning.{code_of, code_in, meaning_of, machine_in}
+use Rattle.node_invariant.specs.Meaning.{image_code, code_in, meaning_of, machine_in}
 use Rattle.mate_code.proofs.CellLemmas.{is_same-refl}
 use Rattle.mate_code.proofs.RunLemmas.{fetch-Any}
 
@@ -215,7 +215,7 @@ device-shaped (f ∷ fs) (suc k) d speaks = device-shaped fs k d speaks
 pub writes-what_it_asks : (d : Description) → WritesWhatItAsks (machine_in d).device_of (meaning_of (shape_of d))
 writes-what_it_asks d p store payload answers turns f args device wants speaks =
     let x = device-shaped d.functions.items f.0 device speaks in
-    CallsOf-writes (shape_of d) (code_of (shape_of d) p.image) f x.0 device (asked-by (shape_of d) (code_of (shape_of d) p.image) store payload answers turns f args wants) x.1 x.2
+    CallsOf-writes (shape_of d) (image_code (shape_of d) p.image) f x.0 device (asked-by (shape_of d) (image_code (shape_of d) p.image) store payload answers turns f args wants) x.1 x.2
 
 -- ---- the function of the call is one of the machine's
 
@@ -251,8 +251,8 @@ code_in-in_table : (t : Layout) (bytes : List ℕ) (r : Result Code DecodeFault)
 code_in-in_table t bytes (Ok code) is = decoded_from-in_table (length bytes) t 0 bytes code is
 code_in-in_table t bytes (Err fault) is = λ k i found. cc
 
-code_of-in_table : (shape : Shape) (image : ArrayVec ℕ) → AllInTable (table_of shape) (code_of shape image)
-unfolding code_of
+code_of-in_table : (shape : Shape) (image : ArrayVec ℕ) → AllInTable (table_of shape) (image_code shape image)
+unfolding image_code
 code_of-in_table shape image = code_in-in_table (table_of shape) (drop 16 image.items) (decoded (table_of shape) (drop 16 image.items)) refl
 
 slice_get-below : {A : Type 0} (xs : List A) (k : ℕ) (x : A) → slice_get xs k ≡ Some x → k < length xs
@@ -267,9 +267,9 @@ call-in_range t _ f calls in_table = absurd calls
 
 -- a call that the run of an image's code wants is of a function of the machine
 pub asked-in_range : (d : Description) (image : ArrayVec ℕ) (store : Store) (msg : ArrayVec ℤ) (answers : List ℤ) (turns : ℕ) (f : FunId) (args : ArrayVec ℤ)
-    → (code_run (shape_of d) (code_of (shape_of d) image) store msg answers turns).end ≡ end.Wants f args → f.0 < length d.functions.items
+    → (code_run (shape_of d) (image_code (shape_of d) image) store msg answers turns).end ≡ end.Wants f args → f.0 < length d.functions.items
 asked-in_range d image store msg answers turns f args wants =
-    let calls = asked-by (shape_of d) (code_of (shape_of d) image) store msg answers turns f args wants in
+    let calls = asked-by (shape_of d) (image_code (shape_of d) image) store msg answers turns f args wants in
     let below = call-in_range (table_of (shape_of d)) calls.instr f calls.calls (code_of-in_table (shape_of d) image calls.place calls.instr calls.stands) in
     let shapes : length (map fun_shape d.functions.items) ≡ length d.functions.items = length-map d.functions.items fun_shape in
     let sends : length (table_of (shape_of d)).sends ≡ length (map fun_shape d.functions.items) = length-map (map fun_shape d.functions.items) (λ (x : FunShape). x.send) in

@@ -20,7 +20,7 @@ use Rattle.mate_code.specs.CodeUses.{uses_of}
 use Rattle.mate_code.specs.Effect.{Private}
 use Rattle.mate_code.specs.Run.{code_run, Own, Run, Status, Going, Over, begun_run, bound, end_of}
 use Rattle.mate_code.proofs.RunLemmas.{Matches, after-other, after-AreAsLong}
-use Rattle.code_verifier.specs.Verified.{Fits as FitsCode}
+use Rattle.code_verifier.specs.Verified.{IsAtVerified as FitsCode}
 use Rattle.exec_unit.specs.declared.step_end.StepEnd.{StepEnd}
 use Rattle.exec_unit.specs.declared.step_end.StepEnd.TheVariants.{Next, Ask, Halt, Fault}
 use Rattle.exec_unit.specs.Step.{HasLengths, IsStep, Waits, own_after, FitsAfter as FitsCodeAfter}
@@ -32,16 +32,16 @@ use Rattle.journal_laws.specs.Growth.{IsPushed}
 use Rattle.mate_journal.specs.WellFormed.{Closes}
 use Rattle.mate_journal.specs.Serial.{EndsAsRun}
 use Rattle.mate_journal.specs.Machine.{HeldProgram}
-use Rattle.mate_journal.specs.Journal.{told_of, Started, Asked as AskedTold, Ended, Phase, Unposted, Queued, Ready, Waiting, Over as Gone, is_started, in_phase, Invocation, Reading}
+use Rattle.mate_journal.specs.Journal.{journal_entry, Started, Asked as AskedTold, Ended, Phase, Unposted, Queued, Ready, Waiting, Over as Gone, is_started, in_phase, Invocation, NodeState}
 use Rattle.node_contexts.specs.declared.handlers.Held.{Held}
 use Rattle.node_contexts.specs.declared.seat.Seat.{Seat}
 use Rattle.node_contexts.specs.declared.contexts.Contexts.{Contexts}
-use Rattle.node_contexts.specs.At.{At, idle, ready, waiting, at, Becomes, Starts, Asks, Ends}
+use Rattle.node_contexts.specs.At.{At, idle, ready, waiting, at, Becomes, StartsContext, Asks, Ends}
 use Rattle.node_contexts.specs.Programs.{Programs, held_at}
 use Rattle.node_contexts.specs.Executing.{Executes}
 use Rattle.node_invariant.specs.declared.parts.Parts.{Parts}
 use Rattle.node_invariant.specs.Standing.{standing}
-use Rattle.node_invariant.specs.Meaning.{machine_in, code_of}
+use Rattle.node_invariant.specs.Meaning.{machine_in, image_code}
 use Rattle.node_invariant.specs.Fits.{IsHeld, IsSeated}
 use Rattle.mate_journal.specs.Journal.{answers_of}
 use Rattle.node_invariant.specs.Agrees.{code_for, uses_for, own_run, own_in, IsOwnRun, RunsOwn, Agrees}
@@ -61,7 +61,7 @@ use Rattle.mate_journal.specs.OpenLog.{OpenView}
 -- the locks of a seat are what its invocation uses
 pub seat-uses : (d : Description) (held : Programs) (posts : ℕ) (i : Invocation) (c : ContextId) (s : Seat) (a : At) (g : IsSeated held posts i c s a) → IsHeld d g.x → IsSameUses (locks.lock_uses g.x.locks) (uses_for d i)
 seat-uses d held posts i c s a g h =
-    let P : HeldProgram → Type 0 = λ p. IsSameUses (locks.lock_uses g.x.locks) (uses_of (shape_of d) (code_of (shape_of d) p.image)) in
+    let P : HeldProgram → Type 0 = λ p. IsSameUses (locks.lock_uses g.x.locks) (uses_of (shape_of d) (image_code (shape_of d) p.image)) in
     subst P (sym g.program) h.locks_are
 
 pub uses-same : (a b : Uses) (q : Resource) → IsSameUses a b → uses b q ≡ true → uses a q ≡ true
@@ -83,8 +83,8 @@ holds-by_started Gone s l is = cc
 -- ---- a start
 
 module _ (d : Description) (old : Parts) (contexts : Contexts) (log : OpenView) (stamp : Stamp) (c : ContextId) (s : Seat) (keeps : Keeps d old) (timely : IsTimely stamp old.log.all)
-    (starts : Starts old.contexts contexts c) (seat : (at old.contexts c).seat ≡ Some s) (pushed : IsPushed old.log.all record { stamp = stamp; entry = entry.Start s.inv } log.all) where
-  abbrev r : Reading
+    (starts : StartsContext old.contexts contexts c) (seat : (at old.contexts c).seat ≡ Some s) (pushed : IsPushed old.log.all record { stamp = stamp; entry = entry.Start s.inv } log.all) where
+  abbrev r : NodeState
   r = reading d old.log.all
 
   abbrev held : Programs
@@ -170,7 +170,7 @@ IsClosing-fault kind = record { status = λ p o. refl; calls = λ p o. refl; cou
 
 module _ (d : Description) (old : Parts) (contexts : Contexts) (heap : Store) (c : ContextId) (how : StepEnd) (keeps : Keeps d old)
     (is_ready : (at old.contexts c).ready ≡ true) (ex : Executes (held_at old.handlers.programs) old.contexts old.heap c how contexts heap) where
-  abbrev pub q : Reading
+  abbrev pub q : NodeState
   q = reading d old.log.all
 
   abbrev pub programs : Programs
@@ -217,7 +217,7 @@ module _ (d : Description) (old : Parts) (contexts : Contexts) (heap : Store) (c
       subst P (sym same_seat) (subst Q (sym same_program) ex.step)
 
   code-is : x.code.code ≡ code_for d i
-  code-is = is_program.code ∙ ap (λ (p : HeldProgram). code_of (shape_of d) p.image) (sym one.seated.program)
+  code-is = is_program.code ∙ ap (λ (p : HeldProgram). image_code (shape_of d) p.image) (sym one.seated.program)
 
   pub executed-Alters : Alters (uses_for d i) old.heap heap
   executed-Alters = step-Alters d i one.seat q.serial old.heap heap x.code how ex.now.machine is_program.shape code-is stepping
@@ -353,7 +353,7 @@ module _ (d : Description) (old : Parts) (contexts : Contexts) (heap : Store) (c
 
   -- it is over
   module _ (after : Contexts) (log : OpenView) (stamp : Stamp) (e : End) (told : Entry) (timely : IsTimely stamp old.log.all) (closes : Closes e) (closing : IsClosing how e)
-      (tells : told_of old.log.all told ≡ Ended one.seat.inv e) (plain : IsPlain d told)
+      (tells : journal_entry old.log.all told ≡ Ended one.seat.inv e) (plain : IsPlain d told)
       (finishes : Ends contexts after c) (pushed : IsPushed old.log.all record { stamp = stamp; entry = told } log.all) where
     becomes-idle : Becomes old.contexts after c idle
     becomes-idle =

@@ -6,13 +6,13 @@ use Rattle.lock_manager.proofs.ClaimLemmas.{same_context}
 use Rattle.mate_num.specs.declared.id.ContextId.{ContextId}
 use Rattle.mate_num.specs.declared.lock_set.LockSet.{LockSet}
 use Rattle.split_phase.specs.Calls.{Asked}
-use Rattle.mate_journal.specs.Journal.{Phase, Unposted, Queued, Ready, Waiting, Over, is_live, Invocation, Reading, changed}
+use Rattle.mate_journal.specs.Journal.{Phase, Unposted, Queued, Ready, Waiting, Over, is_live, Invocation, NodeState, changed}
 use Rattle.node_contexts.specs.declared.seat.Seat.{Seat}
 use Rattle.node_contexts.specs.declared.contexts.Contexts.{Contexts}
 use Rattle.node_contexts.specs.At.{At, idle, at, Becomes, IsPlaced}
 use Rattle.node_contexts.specs.Programs.{Programs}
 use Rattle.node_invariant.specs.Standing.{standing}
-use Rattle.node_invariant.specs.Fits.{IsSeated, IsRightWith, IsRight, Fits}
+use Rattle.node_invariant.specs.Fits.{IsSeated, IsRightWith, IsRightContext, ContextsMatch}
 
 -- ---- one changed value
 
@@ -24,22 +24,22 @@ changed-other f n value k other = elim (eqb_tells k n) [ inl t ↦ absurd (other
 
 -- ---- what stands at a context, by its parts
 
-pub by_seat : (held : Programs) (r : Reading) (c : ContextId) (a : At) (s : Seat) → a.seat ≡ Some s → IsRight held r c a → IsSeated held r.posts (r.invocations s.inv) c s a
+pub by_seat : (held : Programs) (r : NodeState) (c : ContextId) (a : At) (s : Seat) → a.seat ≡ Some s → IsRightContext held r c a → IsSeated held r.posts (r.invocations s.inv) c s a
 by_seat held r c a s e right = let P : Option Seat → Type 0 = λ o. IsRightWith held r c a o in subst P e right
 
 -- it is idle, or there is a seat
-pub record HasSeat (held : Programs) (r : Reading) (c : ContextId) (a : At) : Type 0 where
+pub record HasSeat (held : Programs) (r : NodeState) (c : ContextId) (a : At) : Type 0 where
   pub seat : Seat
   pub is : a.seat ≡ Some seat
   pub seated : IsSeated held r.posts (r.invocations seat.inv) c seat a
 
-pub idle_or_seat : (held : Programs) (r : Reading) (c : ContextId) (a : At) → IsRight held r c a → (a ≡ idle) ⊎ HasSeat held r c a
+pub idle_or_seat : (held : Programs) (r : NodeState) (c : ContextId) (a : At) → IsRightContext held r c a → (a ≡ idle) ⊎ HasSeat held r c a
 idle_or_seat held r c a right = by a.seat refl right where
   by : (o : Option Seat) → a.seat ≡ o → IsRightWith held r c a o → (a ≡ idle) ⊎ HasSeat held r c a
   by None e h = inl h
   by (Some s) e h = inr (record { seat = s; is = e; seated = h })
 
-pub no_seat : (held : Programs) (r : Reading) (c : ContextId) (a : At) → IsRight held r c a → a.seat ≡ None → a ≡ idle
+pub no_seat : (held : Programs) (r : NodeState) (c : ContextId) (a : At) → IsRightContext held r c a → a.seat ≡ None → a ≡ idle
 no_seat held r c a right e = let P : Option Seat → Type 0 = λ o. IsRightWith held r c a o in subst P e right
 
 -- the phase of an invocation whose context stands so
@@ -65,14 +65,14 @@ waiting-by_call (Waiting f args) s l call e = let g : (f, args) ≡ call = cc in
 waiting-by_call Over s l call e = cc
 
 -- the seat of a context that isn't idle, by one of its parts
-pub seat-by : {A : Type 0} (part : At → Option A) (x : A) (held : Programs) (r : Reading) (c : ContextId) (a : At) → part idle ≡ None → part a ≡ Some x → IsRight held r c a → HasSeat held r c a
+pub seat-by : {A : Type 0} (part : At → Option A) (x : A) (held : Programs) (r : NodeState) (c : ContextId) (a : At) → part idle ≡ None → part a ≡ Some x → IsRightContext held r c a → HasSeat held r c a
 seat-by {A} part x held r c a none e right =
     elim (idle_or_seat held r c a right) [
       | inl i ↦ absurd (let g : None ≡ Some x = sym none ∙ ap part (sym i) ∙ e in cc)
       | inr h ↦ h
     ]
 
-pub seat-by_ready : (held : Programs) (r : Reading) (c : ContextId) (a : At) → a.ready ≡ true → IsRight held r c a → HasSeat held r c a
+pub seat-by_ready : (held : Programs) (r : NodeState) (c : ContextId) (a : At) → a.ready ≡ true → IsRightContext held r c a → HasSeat held r c a
 seat-by_ready held r c a e right =
     elim (idle_or_seat held r c a right) [
       | inl i ↦ absurd (let g : false ≡ true = ap (λ (b : At). b.ready) (sym i) ∙ e in cc)
@@ -90,27 +90,27 @@ pub record IsAlone (old : Contexts) (n : ℕ) (c : ContextId) : Type 0 where
   pub elsewhere : (k : ContextId) (s : Seat) → k.0 ≢ c.0 → (at old k).seat ≡ Some s → s.inv ≢ n
   pub here : (s : Seat) → (at old c).seat ≡ Some s → s.inv ≡ n
 
-module _ (held : Programs) (r : Reading) (posts : ℕ) (old new : Contexts) (n : ℕ) (i : Invocation) (c : ContextId) (a : At)
-    (fits : Fits held r old) (becomes : Becomes old new c a) (more : r.posts ≤ posts) (context : i.context ≡ c) (alone : IsAlone old n c) (now : IsNow held posts n i c a) where
-  abbrev later : Reading
+module _ (held : Programs) (r : NodeState) (posts : ℕ) (old new : Contexts) (n : ℕ) (i : Invocation) (c : ContextId) (a : At)
+    (fits : ContextsMatch held r old) (becomes : Becomes old new c a) (more : r.posts ≤ posts) (context : i.context ≡ c) (alone : IsAlone old n c) (now : IsNow held posts n i c a) where
+  abbrev later : NodeState
   later = record r { posts = posts; invocations = changed r.invocations n i }
 
-  here_right : IsRight held later c (at new c)
+  here_right : IsRightContext held later c (at new c)
   here_right =
-      let P : At → Type 0 = λ b. IsRight held later c b in
+      let P : At → Type 0 = λ b. IsRightContext held later c b in
       subst P (sym becomes.here) (by now) where
-        by : IsNow held posts n i c a → IsRight held later c a
-        by (inl x) = let P : At → Type 0 = λ b. IsRight held later c b in subst P (sym x.0) refl
+        by : IsNow held posts n i c a → IsRightContext held later c a
+        by (inl x) = let P : At → Type 0 = λ b. IsRightContext held later c b in subst P (sym x.0) refl
         by (inr y) =
             let Q : Invocation → Type 0 = λ j. IsSeated held posts j c y.0 a in
             let P : Option Seat → Type 0 = λ o. IsRightWith held later c a o in
             subst P (sym y.1) (subst Q (sym (changed-here r.invocations n i y.0.inv y.2)) y.3)
 
-  there_right : (k : ContextId) → k.0 ≢ c.0 → IsRight held later k (at new k)
+  there_right : (k : ContextId) → k.0 ≢ c.0 → IsRightContext held later k (at new k)
   there_right k other =
-      let P : At → Type 0 = λ b. IsRight held later k b in
+      let P : At → Type 0 = λ b. IsRightContext held later k b in
       subst P (sym (becomes.others k other)) (by (at old k).seat refl (fits.each k)) where
-        by : (o : Option Seat) → (at old k).seat ≡ o → IsRightWith held r k (at old k) o → IsRight held later k (at old k)
+        by : (o : Option Seat) → (at old k).seat ≡ o → IsRightWith held r k (at old k) o → IsRightContext held later k (at old k)
         by None e h = let P : Option Seat → Type 0 = λ o. IsRightWith held later k (at old k) o in subst P (sym e) h
         by (Some s) e h =
             let same = changed-other r.invocations n i s.inv (alone.elsewhere k s other e) in
@@ -121,10 +121,10 @@ module _ (held : Programs) (r : Reading) (posts : ℕ) (old new : Contexts) (n :
             record { x = h.x; is_held = h.is_held; handler = h.handler; program = h.program; context = h.context; number = omega arith; live = h.live; stands = h.stands; fits = h.fits } in
             subst P (sym e) (subst Q (sym same) seated)
 
-  each_right : (k : ContextId) → IsRight held later k (at new k)
+  each_right : (k : ContextId) → IsRightContext held later k (at new k)
   each_right k =
       elim (cases_eq k.0 c.0) [
-        | inl e ↦ (let P : ContextId → Type 0 = λ j. IsRight held later j (at new j) in subst P (sym (same_context k c e)) here_right)
+        | inl e ↦ (let P : ContextId → Type 0 = λ j. IsRightContext held later j (at new j) in subst P (sym (same_context k c e)) here_right)
         | inr other ↦ there_right k other
       ]
 
@@ -156,5 +156,5 @@ module _ (held : Programs) (r : Reading) (posts : ℕ) (old new : Contexts) (n :
             subst P (sym (changed-other r.invocations n i m other)) (there_placed m other))
       ]
 
-  pub Fits-one : Fits held later new
+  pub Fits-one : ContextsMatch held later new
   Fits-one = record { each = each_right; placed = each_placed }

@@ -9,7 +9,7 @@ use Rattle.mate_journal.specs.declared.entry.Entry.{Entry}
 use Rattle.mate_journal.specs.declared.entry.Stamped.{Stamped}
 use Rattle.mate_journal.specs.Log.{Log}
 use Rattle.mate_journal.specs.Machine.{Machine}
-use Rattle.mate_journal.specs.Journal.{Told, told_of, Event, journal_of, Reading, heard, heard_all, nothing_heard}
+use Rattle.mate_journal.specs.Journal.{JournalEntry, journal_entry, TimedEntry, journal_of, NodeState, next_state, state_after_all, first_state}
 use Rattle.journal_laws.proofs.TidyLemmas.{NumbersInOrder-push, in_range-push, ordered-in_time}
 use Rattle.mate_journal.specs.Tidy.{image_named, store_named, IsEntryInRange, IsStoreOf}
 use Rattle.journal_laws.specs.Growth.{event_of, IsPushed, FollowsLast, last_is_seen}
@@ -31,13 +31,13 @@ use Rattle.mate_journal.specs.OpenLog.{OpenView}
 pub Grows-none : (l : Log) (at : Stamp) → IsTimely at l → Grows l l at []
 Grows-none l at timely = record { journal = sym (append-nil (journal_of l)); count = omega arith; spare = omega arith; timely = timely }
 
-pub Grows-then : (a b c : Log) (at : Stamp) (first then : List Told) → Grows a b at first → Grows b c at then → Grows a c at (first ++ then)
+pub Grows-then : (a b c : Log) (at : Stamp) (first then : List JournalEntry) → Grows a b at first → Grows b c at then → Grows a c at (first ++ then)
 Grows-then a b c at first then f g =
     record {
       journal =
-          g.journal ∙ ap (λ (es : List Event). es ++ map (event_at at) then) f.journal
+          g.journal ∙ ap (λ (es : List TimedEntry). es ++ map (event_at at) then) f.journal
           ∙ append_assoc (journal_of a) (map (event_at at) first) (map (event_at at) then)
-          ∙ ap (λ (es : List Event). journal_of a ++ es) (sym (map-append (event_at at) first then));
+          ∙ ap (λ (es : List TimedEntry). journal_of a ++ es) (sym (map-append (event_at at) first then));
       count = let m = f.count in let n = g.count in omega (arith, length-append first then);
       spare = let m = f.spare in let n = g.spare in omega (arith, length-append first then);
       timely = g.timely;
@@ -45,7 +45,7 @@ Grows-then a b c at first then f g =
 
 -- ---- one more entry
 
-module _ (d : Description) (old new : Parts) (before : Log) (at : Stamp) (e : Entry) (told : Told) (keeps : Keeps d old) (next : Continues d old new before at e told) where
+module _ (d : Description) (old new : Parts) (before : Log) (at : Stamp) (e : Entry) (told : JournalEntry) (keeps : Keeps d old) (next : Continues d old new before at e told) where
   abbrev m : Machine
   m = machine_in d
 
@@ -55,18 +55,18 @@ module _ (d : Description) (old new : Parts) (before : Log) (at : Stamp) (e : En
   journal-new : journal_of new.log.all ≡ journal_of old.log.all ++ event_at at told ∷ []
   journal-new =
       journal_of-push before s new.log.all next.pushed
-      ∙ ap (λ (es : List Event). es ++ event_of before s ∷ []) next.prepared.journal
-      ∙ ap (λ (t : Told). journal_of old.log.all ++ event_at at t ∷ []) next.tells
+      ∙ ap (λ (es : List TimedEntry). es ++ event_of before s ∷ []) next.prepared.journal
+      ∙ ap (λ (t : JournalEntry). journal_of old.log.all ++ event_at at t ∷ []) next.tells
 
-  reading-new : reading d new.log.all ≡ heard m (reading d old.log.all) told
+  reading-new : reading d new.log.all ≡ next_state m (reading d old.log.all) told
   unfolding reading
-  reading-new = ap (heard_all m (nothing_heard m)) journal-new ∙ heard_all-push m (nothing_heard m) (journal_of old.log.all) (event_at at told)
+  reading-new = ap (state_after_all m (first_state m)) journal-new ∙ heard_all-push m (first_state m) (journal_of old.log.all) (event_at at told)
 
-  well_formed-new : IsWellFormed m (nothing_heard m) (journal_of new.log.all)
+  well_formed-new : IsWellFormed m (first_state m) (journal_of new.log.all)
   unfolding reading
   well_formed-new =
-      let P : List Event → Type 0 = λ es. IsWellFormed m (nothing_heard m) es in
-      subst P (sym journal-new) (IsWellFormed-push m (nothing_heard m) (journal_of old.log.all) (event_at at told) keeps.well_formed next.timely.after_last next.follows)
+      let P : List TimedEntry → Type 0 = λ es. IsWellFormed m (first_state m) es in
+      subst P (sym journal-new) (IsWellFormed-push m (first_state m) (journal_of old.log.all) (event_at at told) keeps.well_formed next.timely.after_last next.follows)
 
   entries-new : length new.log.all.entries ≡ length old.log.all.entries + 1
   entries-new =
@@ -77,26 +77,26 @@ module _ (d : Description) (old new : Parts) (before : Log) (at : Stamp) (e : En
 
   timely-new : IsTimely at new.log.all
   timely-new =
-      let P : List Event → Type 0 = λ es. FollowsLast es at in
+      let P : List TimedEntry → Type 0 = λ es. FollowsLast es at in
       record { after_last = subst P (sym journal-new) (FollowsLast-push (journal_of old.log.all) (event_at at told)) }
 
   after-new : AgreesAfter d (reading d new.log.all) new
-  after-new = let P : Reading → Type 0 = λ r. AgreesAfter d r new in subst P (sym reading-new) next.after
+  after-new = let P : NodeState → Type 0 = λ r. AgreesAfter d r new in subst P (sym reading-new) next.after
 
-  serial-new : IsSerial m (nothing_heard m) (journal_of new.log.all)
+  serial-new : IsSerial m (first_state m) (journal_of new.log.all)
   unfolding reading
   serial-new =
-      let P : List Event → Type 0 = λ es. IsSerial m (nothing_heard m) es in
+      let P : List TimedEntry → Type 0 = λ es. IsSerial m (first_state m) es in
       let x = next.after in
-      let runs : RunsSoFar m (heard m (reading d old.log.all) told) =
-      stands d (heard m (reading d old.log.all) told) new.contexts (held_at new.handlers.programs) new.heap x.fits x.installed.each x.agrees in
-      subst P (sym journal-new) (IsSerial-push m (nothing_heard m) (journal_of old.log.all) (event_at at told) keeps.serial next.ends runs)
+      let runs : RunsSoFar m (next_state m (reading d old.log.all) told) =
+      stands d (next_state m (reading d old.log.all) told) new.contexts (held_at new.handlers.programs) new.heap x.fits x.installed.each x.agrees in
+      subst P (sym journal-new) (IsSerial-push m (first_state m) (journal_of old.log.all) (event_at at told) keeps.serial next.ends runs)
 
-  shows-new : ShowsStores m (nothing_heard m) (journal_of new.log.all)
+  shows-new : ShowsStores m (first_state m) (journal_of new.log.all)
   unfolding reading
   shows-new =
-      let P : List Event → Type 0 = λ es. ShowsStores m (nothing_heard m) es in
-      subst P (sym journal-new) (ShowsStores-push m (nothing_heard m) (journal_of old.log.all) (event_at at told) keeps.shows next.shown next.before_era)
+      let P : List TimedEntry → Type 0 = λ es. ShowsStores m (first_state m) es in
+      subst P (sym journal-new) (ShowsStores-push m (first_state m) (journal_of old.log.all) (event_at at told) keeps.shows next.shown next.before_era)
 
   in_range-new : All (λ (x : Stamped). IsEntryInRange d x.entry) new.log.all.entries
   in_range-new =
@@ -153,15 +153,15 @@ AddsTidily-plain d old new at e pushed plain =
     }
 
 -- an entry that changes nothing of the parts
-pub Continues-same : (d : Description) (old : Parts) (log : OpenView) (at : Stamp) (e : Entry) (told : Told) → Keeps d old → IsTimely at old.log.all → IsPushed old.log.all record { stamp = at; entry = e } log.all
-    → told_of old.log.all e ≡ told → IsPlain d e → MayFollow (machine_in d) (reading d old.log.all) told
+pub Continues-same : (d : Description) (old : Parts) (log : OpenView) (at : Stamp) (e : Entry) (told : JournalEntry) → Keeps d old → IsTimely at old.log.all → IsPushed old.log.all record { stamp = at; entry = e } log.all
+    → journal_entry old.log.all e ≡ told → IsPlain d e → MayFollow (machine_in d) (reading d old.log.all) told
     → EndsAsRun (machine_in d) (reading d old.log.all) told → ShowsStore (machine_in d) (reading d old.log.all) told → IsSeenBefore (last_is_seen false (journal_of old.log.all)) told
-    → heard (machine_in d) (reading d old.log.all) told ≡ reading d old.log.all
+    → next_state (machine_in d) (reading d old.log.all) told ≡ reading d old.log.all
     → Continues d old (record old { log = log }) old.log.all at e told
 Continues-same d old log at e told keeps timely pushed tells plain follows ends shown before_era same =
     let n = keeps.numbers in
     let after : AgreesAfter d (reading d old.log.all) (record old { log = log }) = record { posts = keeps.posts; places = keeps.places; installed = keeps.installed; fits = keeps.fits; lengths = keeps.lengths; agrees = keeps.agrees } in
-    let P : Reading → Type 0 = λ r. AgreesAfter d r (record old { log = log }) in
+    let P : NodeState → Type 0 = λ r. AgreesAfter d r (record old { log = log }) in
     record {
       prepared = IsPrepared-same old.log.all;
       pushed = pushed;

@@ -10,24 +10,24 @@ use Rattle.mate_num.specs.declared.id.HandlerId.{HandlerId}
 use Rattle.mate_num.specs.declared.id.FunId.{FunId}
 use Rattle.mate_num.specs.declared.lock_set.LockSet.{LockSet}
 use Rattle.split_phase.specs.Calls.{Asked}
-use Rattle.code_verifier.specs.Verified.{Fits as FitsCode}
+use Rattle.code_verifier.specs.Verified.{IsAtVerified as FitsCode}
 use Rattle.exec_unit.specs.Step.{Waits}
 use Rattle.mate_journal.specs.Machine.{HeldProgram, Machine}
 use Rattle.mate_journal.specs.WellFormed.{IsIdle, IsBusy}
 use Rattle.mate_journal.specs.NodeScript.{IsReadyIn}
-use Rattle.mate_journal.specs.Journal.{Posted, Started, Asked as AskedTold, Answered, Ended, Phase, Unposted, Queued, Ready, Waiting, Over, is_live, in_phase, cut, heard, Invocation, Reading, changed}
+use Rattle.mate_journal.specs.Journal.{Posted, Started, Asked as AskedTold, Answered, Ended, Phase, Unposted, Queued, Ready, Waiting, Over, is_live, in_phase, cut_at_era, next_state, Invocation, NodeState, changed}
 use Rattle.vm_desc.specs.declared.description.Description.{Description}
 use Rattle.node_contexts.specs.declared.handlers.Held.{Held}
 use Rattle.node_contexts.specs.declared.seat.Seat.{Seat}
 use Rattle.node_contexts.specs.declared.contexts.Contexts.{Contexts}
-use Rattle.node_contexts.specs.At.{At, idle, queued, ready, waiting, at, Becomes, AreIdle, Starts, IsPlaced}
+use Rattle.node_contexts.specs.At.{At, idle, queued, ready, waiting, at, Becomes, AreIdle, StartsContext, IsPlaced}
 use Rattle.node_contexts.specs.Programs.{Programs}
 use Rattle.node_invariant.specs.Standing.{standing}
-use Rattle.node_invariant.specs.Fits.{program_of, AreInstalled, FitsIn, IsRight, Fits}
+use Rattle.node_invariant.specs.Fits.{program_of, AreInstalled, FitsIn, IsRightContext, ContextsMatch}
 use Rattle.node_invariant.proofs.FitLemmas.{changed-here, changed-other, HasSeat, by_seat, queued-by_waits, ready-by_ready, waiting-by_call, seat-by, seat-by_ready, IsNow, IsAlone, Fits-one}
 
 -- the one that has the context has no other, and nobody else has it
-pub alone-seat : (held : Programs) (r : Reading) (old : Contexts) (c : ContextId) → Fits held r old → (h : HasSeat held r c (at old c)) → IsAlone old h.seat.inv c
+pub alone-seat : (held : Programs) (r : NodeState) (old : Contexts) (c : ContextId) → ContextsMatch held r old → (h : HasSeat held r c (at old c)) → IsAlone old h.seat.inv c
 alone-seat held r old c fits h =
     record {
       elsewhere = λ k s other e same.
@@ -39,8 +39,8 @@ alone-seat held r old c fits h =
     }
 
 -- the invocation of a context moves
-pub Fits-moves : (held : Programs) (r : Reading) (old new : Contexts) (c : ContextId) (i : Invocation) (a : At) → Fits held r old → (h : HasSeat held r c (at old c))
-    → Becomes old new c a → i.context ≡ c → IsNow held r.posts h.seat.inv i c a → Fits held (record r { invocations = changed r.invocations h.seat.inv i }) new
+pub Fits-moves : (held : Programs) (r : NodeState) (old new : Contexts) (c : ContextId) (i : Invocation) (a : At) → ContextsMatch held r old → (h : HasSeat held r c (at old c))
+    → Becomes old new c a → i.context ≡ c → IsNow held r.posts h.seat.inv i c a → ContextsMatch held (record r { invocations = changed r.invocations h.seat.inv i }) new
 Fits-moves held r old new c i a fits h becomes context now =
     Fits-one held r r.posts old new h.seat.inv i c a fits becomes (omega arith) context (alone-seat held r old c fits h) now
 
@@ -58,9 +58,9 @@ unwrap-some o p d e = ap (λ (q : Option HeldProgram). unwrap_or q d) e
 
 -- ---- a post
 
-module _ (m : Machine) (d : Description) (held : Programs) (r : Reading) (old new : Contexts) (c : ContextId) (h : HandlerId) (x : Held) (s : Seat) (payload : ArrayVec ℤ) where
-  pub Fits-posted : Fits held r old → AreInstalled d r.installed held → held h ≡ Some x → s.handler ≡ h → s.inv ≡ suc r.posts → FitsCode x.code s.machine
-      → at old c ≡ idle → Becomes old new c (queued s x.locks) → Fits held (heard m r (Posted (suc r.posts) h c payload)) new
+module _ (m : Machine) (d : Description) (held : Programs) (r : NodeState) (old new : Contexts) (c : ContextId) (h : HandlerId) (x : Held) (s : Seat) (payload : ArrayVec ℤ) where
+  pub Fits-posted : ContextsMatch held r old → AreInstalled d r.installed held → held h ≡ Some x → s.handler ≡ h → s.inv ≡ suc r.posts → FitsCode x.code s.machine
+      → at old c ≡ idle → Becomes old new c (queued s x.locks) → ContextsMatch held (next_state m r (Posted (suc r.posts) h c payload)) new
   Fits-posted fits installed is_held own number fitting free becomes =
       let installed_is : r.installed h ≡ Some (program_of h x) = installed.same h ∙ some-map (held h) h x is_held in
       let P : HandlerId → Type 0 = λ k. held k ≡ Some x in
@@ -87,13 +87,13 @@ module _ (m : Machine) (d : Description) (held : Programs) (r : Reading) (old ne
         },
       ))
 
-  pub idle-free : Fits held r old → at old c ≡ idle → IsIdle r c
+  pub idle-free : ContextsMatch held r old → at old c ≡ idle → IsIdle r c
   idle-free fits free n live context =
       let P : ContextId → Type 0 = λ k. IsPlaced (at old k) n in
       let p = subst P context (fits.placed n live) in
       absurd (let g : None ≡ Some p.seat = ap (λ (a : At). a.seat) (sym free) ∙ p.is in cc)
 
-  pub busy-seat : Fits held r old → IsSome (at old c).seat → IsBusy r c
+  pub busy-seat : ContextsMatch held r old → IsSome (at old c).seat → IsBusy r c
   busy-seat fits some = by (at old c).seat refl some where
     by : (o : Option Seat) → (at old c).seat ≡ o → IsSome o → IsBusy r c
     by None e h = cc
@@ -101,7 +101,7 @@ module _ (m : Machine) (d : Description) (held : Programs) (r : Reading) (old ne
 
 -- ---- a start
 
-module _ (m : Machine) (held : Programs) (r : Reading) (old new : Contexts) (c : ContextId) (fits : Fits held r old) (starts : Starts old new c) where
+module _ (m : Machine) (held : Programs) (r : NodeState) (old new : Contexts) (c : ContextId) (fits : ContextsMatch held r old) (starts : StartsContext old new c) where
   pub starting : HasSeat held r c (at old c)
   starting = seat-by (λ a. a.waits) starts.set held r c (at old c) refl starts.waited (fits.each c)
 
@@ -123,7 +123,7 @@ module _ (m : Machine) (held : Programs) (r : Reading) (old new : Contexts) (c :
   pub start-queued : (s : Seat) → (at old c).seat ≡ Some s → (r.invocations s.inv).phase ≡ Queued
   start-queued s e = let P : Seat → Type 0 = λ t. (r.invocations t.inv).phase ≡ Queued in subst P (start-seat s e) was_queued
 
-  started-fits : Fits held (heard m r (Started starting.seat.inv)) new
+  started-fits : ContextsMatch held (next_state m r (Started starting.seat.inv)) new
   started-fits =
       let i : Invocation = r.invocations starting.seat.inv in
       let g = starting.seated in
@@ -146,12 +146,12 @@ module _ (m : Machine) (held : Programs) (r : Reading) (old new : Contexts) (c :
         },
       ))
 
-  pub Fits-started : (s : Seat) → (at old c).seat ≡ Some s → Fits held (heard m r (Started s.inv)) new
-  Fits-started s e = let P : Seat → Type 0 = λ t. Fits held (heard m r (Started t.inv)) new in subst P (start-seat s e) started-fits
+  pub Fits-started : (s : Seat) → (at old c).seat ≡ Some s → ContextsMatch held (next_state m r (Started s.inv)) new
+  Fits-started s e = let P : Seat → Type 0 = λ t. ContextsMatch held (next_state m r (Started t.inv)) new in subst P (start-seat s e) started-fits
 
 -- ---- a ready invocation
 
-module _ (m : Machine) (held : Programs) (r : Reading) (old : Contexts) (c : ContextId) (fits : Fits held r old) (is_ready : (at old c).ready ≡ true) where
+module _ (m : Machine) (held : Programs) (r : NodeState) (old : Contexts) (c : ContextId) (fits : ContextsMatch held r old) (is_ready : (at old c).ready ≡ true) where
   pub running : HasSeat held r c (at old c)
   running = seat-by_ready held r c (at old c) is_ready (fits.each c)
 
@@ -166,11 +166,11 @@ module _ (m : Machine) (held : Programs) (r : Reading) (old : Contexts) (c : Con
 
   -- it has another machine, and is still ready
   pub Fits-executed : (new : Contexts) (t : Seat) → t.inv ≡ running.seat.inv → t.handler ≡ running.seat.handler → FitsCode running.seated.x.code t.machine
-      → Becomes old new c (ready t running.seated.x.locks) → Fits held r new
+      → Becomes old new c (ready t running.seated.x.locks) → ContextsMatch held r new
   Fits-executed new t number handler fitting becomes =
       let g = running.seated in
       let i : Invocation = r.invocations running.seat.inv in
-      let P : (ℕ → Invocation) → Type 0 = λ f. Fits held (record r { invocations = f }) new in
+      let P : (ℕ → Invocation) → Type 0 = λ f. ContextsMatch held (record r { invocations = f }) new in
       let H : HandlerId → Type 0 = λ h. held h ≡ Some g.x in
       let V : Phase → Type 0 = λ p. FitsIn g.x.code p t.machine in
       subst P (changed-same r.invocations running.seat.inv)
@@ -194,7 +194,7 @@ module _ (m : Machine) (held : Programs) (r : Reading) (old : Contexts) (c : Con
 
   -- it waits for the answer to a call
   pub Fits-asked : (new : Contexts) (t : Seat) (f : FunId) (args : ArrayVec ℤ) → t.inv ≡ running.seat.inv → t.handler ≡ running.seat.handler → Waits running.seated.x.code t.machine
-      → Becomes old new c (waiting t running.seated.x.locks (f, args)) → Fits held (heard m r (AskedTold running.seat.inv f args)) new
+      → Becomes old new c (waiting t running.seated.x.locks (f, args)) → ContextsMatch held (next_state m r (AskedTold running.seat.inv f args)) new
   Fits-asked new t f args number handler waits becomes =
       let g = running.seated in
       let i : Invocation = r.invocations running.seat.inv in
@@ -218,15 +218,15 @@ module _ (m : Machine) (held : Programs) (r : Reading) (old : Contexts) (c : Con
       ))
 
   -- it is over
-  pub Fits-ended : (new : Contexts) (how : End) → Becomes old new c idle → Fits held (heard m r (Ended running.seat.inv how)) new
+  pub Fits-ended : (new : Contexts) (how : End) → Becomes old new c idle → ContextsMatch held (next_state m r (Ended running.seat.inv how)) new
   Fits-ended new how becomes =
       let i : Invocation = r.invocations running.seat.inv in
-      let P : Reading → Type 0 = λ q. Fits held q new in
+      let P : NodeState → Type 0 = λ q. ContextsMatch held q new in
       let f = Fits-moves held r old new c (in_phase Over i) idle fits running becomes running.seated.context (inl (refl, refl)) in
       record { each = f.each; placed = f.placed }
 
 -- no ready invocation is in a context that isn't ready
-pub none_ready : (held : Programs) (r : Reading) (old : Contexts) (c : ContextId) → Fits held r old → (at old c).ready ≡ false → IsReadyIn r c → ⊥
+pub none_ready : (held : Programs) (r : NodeState) (old : Contexts) (c : ContextId) → ContextsMatch held r old → (at old c).ready ≡ false → IsReadyIn r c → ⊥
 none_ready held r old c fits not_ready is =
     let n = is.invocation in
     let live : is_live (r.invocations n).phase ≡ true = ap is_live is.ready in
@@ -239,7 +239,7 @@ none_ready held r old c fits not_ready is =
 
 -- ---- a waiting invocation
 
-module _ (m : Machine) (held : Programs) (r : Reading) (old : Contexts) (c : ContextId) (call : Asked) (fits : Fits held r old) (is_waiting : (at old c).call ≡ Some call) where
+module _ (m : Machine) (held : Programs) (r : NodeState) (old : Contexts) (c : ContextId) (call : Asked) (fits : ContextsMatch held r old) (is_waiting : (at old c).call ≡ Some call) where
   pub answering : HasSeat held r c (at old c)
   answering = seat-by (λ a. a.call) call held r c (at old c) refl is_waiting (fits.each c)
 
@@ -253,7 +253,7 @@ module _ (m : Machine) (held : Programs) (r : Reading) (old : Contexts) (c : Con
   waits-in = let V : Phase → Type 0 = λ p. FitsIn answering.seated.x.code p answering.seat.machine in subst V was_waiting answering.seated.fits
 
   pub Fits-answered : (new : Contexts) (t : Seat) (value : ℤ) → t.inv ≡ answering.seat.inv → t.handler ≡ answering.seat.handler → FitsCode answering.seated.x.code t.machine
-      → Becomes old new c (ready t answering.seated.x.locks) → Fits held (heard m r (Answered answering.seat.inv value)) new
+      → Becomes old new c (ready t answering.seated.x.locks) → ContextsMatch held (next_state m r (Answered answering.seat.inv value)) new
   Fits-answered new t value number handler fitting becomes =
       let g = answering.seated in
       let H : HandlerId → Type 0 = λ h. held h ≡ Some g.x in
@@ -276,7 +276,7 @@ module _ (m : Machine) (held : Programs) (r : Reading) (old : Contexts) (c : Con
       ))
 
 -- nobody waits in a context without a call
-pub none_waits : (held : Programs) (r : Reading) (old : Contexts) (c : ContextId) → Fits held r old → (at old c).call ≡ None
+pub none_waits : (held : Programs) (r : NodeState) (old : Contexts) (c : ContextId) → ContextsMatch held r old → (at old c).call ≡ None
     → (n : ℕ) (f : FunId) (args : ArrayVec ℤ) → (r.invocations n).phase ≡ Waiting f args → (r.invocations n).context ≡ c → ⊥
 none_waits held r old c fits no_call n f args waits context =
     let live : is_live (r.invocations n).phase ≡ true = ap is_live waits in
@@ -289,7 +289,7 @@ none_waits held r old c fits no_call n f args waits context =
 
 -- ---- the beginning of an era
 
-pub cut-dead : (i : Invocation) → is_live (cut i).phase ≡ false
+pub cut-dead : (i : Invocation) → is_live (cut_at_era i).phase ≡ false
 cut-dead i = dead i.phase where
   dead : (p : Phase) → is_live (cond (is_live p) Over p) ≡ false
   dead Unposted = refl
@@ -298,9 +298,9 @@ cut-dead i = dead i.phase where
   dead (Waiting f args) = refl
   dead Over = refl
 
-pub Fits-idle : (held : Programs) (r : Reading) (new : Contexts) → AreIdle new → ((n : ℕ) → is_live (r.invocations n).phase ≡ false) → Fits held r new
+pub Fits-idle : (held : Programs) (r : NodeState) (new : Contexts) → AreIdle new → ((n : ℕ) → is_live (r.invocations n).phase ≡ false) → ContextsMatch held r new
 Fits-idle held r new idles dead =
     record {
-      each = λ c. (let P : At → Type 0 = λ a. IsRight held r c a in subst P (sym (idles.each c)) refl);
+      each = λ c. (let P : At → Type 0 = λ a. IsRightContext held r c a in subst P (sym (idles.each c)) refl);
       placed = λ n live. absurd (let e = dead n in cc);
     }

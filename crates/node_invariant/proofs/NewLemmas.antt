@@ -11,7 +11,7 @@ use Rattle.mate_num.specs.declared.store.Store.{Store}
 use Rattle.vm_desc.specs.declared.description.Description.{Description}
 use Rattle.vm_desc.specs.Shapes.{shape_of}
 use Rattle.mate_journal.specs.Log.{IsEmpty}
-use Rattle.mate_journal.specs.Journal.{Event, Unposted, Queued, Waiting, Reading, journal_of, nothing_heard, heard_all}
+use Rattle.mate_journal.specs.Journal.{TimedEntry, Unposted, Queued, Waiting, NodeState, journal_of, first_state, state_after_all}
 use Rattle.mate_journal.specs.WellFormed.{IsWellFormed}
 use Rattle.mate_journal.specs.Serial.{RunsSoFar, IsSerial}
 use Rattle.mate_journal.specs.Stores.{ShowsStores}
@@ -27,7 +27,7 @@ use Rattle.node_contexts.specs.At.{AreIdle}
 use Rattle.node_contexts.specs.Programs.{held_at}
 use Rattle.node_invariant.specs.declared.parts.Parts.{Parts}
 use Rattle.node_invariant.specs.Meaning.{machine_in}
-use Rattle.node_invariant.specs.Fits.{program_of, AreInstalled, Fits}
+use Rattle.node_invariant.specs.Fits.{program_of, AreInstalled, ContextsMatch}
 use Rattle.node_invariant.specs.Agrees.{Agrees}
 use Rattle.node_invariant.specs.Keeps.{reading, Keeps}
 use Rattle.node_invariant.proofs.MoveLemmas.{Fits-idle}
@@ -43,20 +43,20 @@ module _ (d : Description) (s : Parts) (idles : AreIdle s.contexts) (none : (h :
   journal-is : journal_of s.log.all ≡ []
   journal-is = journal_of-empty s.log.all empty
 
-  reading-is : reading d s.log.all ≡ nothing_heard (machine_in d)
+  reading-is : reading d s.log.all ≡ first_state (machine_in d)
   unfolding reading
-  reading-is = ap (heard_all (machine_in d) (nothing_heard (machine_in d))) journal-is
+  reading-is = ap (state_after_all (machine_in d) (first_state (machine_in d))) journal-is
 
-  at_start : (P : List Event → Type 0) → P [] → P (journal_of s.log.all)
+  at_start : (P : List TimedEntry → Type 0) → P [] → P (journal_of s.log.all)
   at_start P here = subst P (sym journal-is) here
 
-  heard_nothing : (P : Reading → Type 0) → P (nothing_heard (machine_in d)) → P (reading d s.log.all)
+  heard_nothing : (P : NodeState → Type 0) → P (first_state (machine_in d)) → P (reading d s.log.all)
   heard_nothing P here = subst P (sym reading-is) here
 
-  runs : RunsSoFar (machine_in d) (nothing_heard (machine_in d))
+  runs : RunsSoFar (machine_in d) (first_state (machine_in d))
   runs = record { calls = λ n started. (let e : false ≡ true = started in cc); wants = λ n f args is. (let e : Unposted ≡ Waiting f args = is in cc) }
 
-  installed-none : AreInstalled d (nothing_heard (machine_in d)).installed (held_at s.handlers.programs)
+  installed-none : AreInstalled d (first_state (machine_in d)).installed (held_at s.handlers.programs)
   installed-none = record {
     each = λ h x is. absurd (let e : None ≡ Some x = sym (none h) ∙ is in cc);
     same = λ h. sym (ap (λ (o : Option Held). option_map (program_of h) o) (none h));
@@ -77,19 +77,19 @@ module _ (d : Description) (s : Parts) (idles : AreIdle s.contexts) (none : (h :
         };
         full = record { full = all-none (λ (image : ArrayVec ℕ). 0 < length image.items) s.log.all.images empty.images };
         numbers = omega arith;
-        well_formed = at_start (λ es. IsWellFormed m (nothing_heard m) es) (record { in_time = tt; follow = tt });
-        posts = ap (λ (r : Reading). r.posts) reading-is ∙ sym no_posts;
+        well_formed = at_start (λ es. IsWellFormed m (first_state m) es) (record { in_time = tt; follow = tt });
+        posts = ap (λ (r : NodeState). r.posts) reading-is ∙ sym no_posts;
         places = places;
         installed = heard_nothing (λ r. AreInstalled d r.installed (held_at s.handlers.programs)) installed-none;
-        fits = heard_nothing (λ r. Fits (held_at s.handlers.programs) r s.contexts) (Fits-idle (held_at s.handlers.programs) (nothing_heard m) s.contexts idles (λ n. refl));
+        fits = heard_nothing (λ r. ContextsMatch (held_at s.handlers.programs) r s.contexts) (Fits-idle (held_at s.handlers.programs) (first_state m) s.contexts idles (λ n. refl));
         lengths = subst H (sym zero) (record { shared = length-replicate _ _; buffers = length-replicate _ _ });
-        agrees = heard_nothing (λ r. Agrees d r s.contexts s.heap) (Agrees-idle d (nothing_heard m) s.contexts s.heap idles zero (λ n. refl));
-        serial = at_start (λ es. IsSerial m (nothing_heard m) es) (record { ends = tt; so_far = runs });
-        shows = at_start (λ es. ShowsStores m (nothing_heard m) es) (record { shown = tt; before_eras = tt });
+        agrees = heard_nothing (λ r. Agrees d r s.contexts s.heap) (Agrees-idle d (first_state m) s.contexts s.heap idles zero (λ n. refl));
+        serial = at_start (λ es. IsSerial m (first_state m) es) (record { ends = tt; so_far = runs });
+        shows = at_start (λ es. ShowsStores m (first_state m) es) (record { shown = tt; before_eras = tt });
       }
 
   pub Rests-new : Rests d s
   Rests-new = record {
-    order = record { keeps = keeps-new; queue = IsQueue-idle s.contexts idles; grants = at_start (λ es. GrantsBefore (machine_in d) (nothing_heard (machine_in d)) 0 es) tt };
+    order = record { keeps = keeps-new; queue = IsQueue-idle s.contexts idles; grants = at_start (λ es. GrantsBefore (machine_in d) (first_state (machine_in d)) 0 es) tt };
     held = heard_nothing (λ r. AllHeldBack (machine_in d) r) (λ n queued. (let e : Unposted ≡ Queued = queued in cc));
   }

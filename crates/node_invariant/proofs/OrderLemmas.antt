@@ -13,9 +13,9 @@ use Rattle.lock_manager.proofs.ClaimLemmas.{same_context}
 use Rattle.mate_journal.specs.declared.entry.Entry.{Entry}
 use Rattle.mate_journal.specs.Log.{Log}
 use Rattle.mate_journal.specs.Machine.{Machine}
-use Rattle.mate_journal.specs.Journal.{Told, Posted, Dropped, Started, Asked, Answered, Ended, Installed, Reset, Seen, Void, Event, Phase, Unposted, Queued, Ready, Waiting, Over as Gone, is_live, is_started, Invocation, Reading, journal_of, nothing_heard, heard, heard_all, AtEachEntry}
+use Rattle.mate_journal.specs.Journal.{JournalEntry, Posted, Dropped, Started, Asked, Answered, Ended, Installed, Reset, Seen, Void, TimedEntry, Phase, Unposted, Queued, Ready, Waiting, Over as Gone, is_live, is_started, Invocation, NodeState, journal_of, first_state, next_state, state_after_all, AtEachEntry}
 use Rattle.mate_journal.specs.WellFormed.{MayFollow}
-use Rattle.mate_journal.specs.Grants.{IsAhead, IsHeldBack, IsGranted, start_of}
+use Rattle.mate_journal.specs.Grants.{IsAhead, IsHeldBack, IsGranted, started_number}
 use Rattle.journal_laws.specs.Growth.{GrantsBefore, last_start}
 use Rattle.journal_laws.proofs.Append.{heard_all-push, GrantsBefore-push, last_start-push}
 use Rattle.journal_laws.proofs.Moves.{Moves, started-Moves, asked-Moves, answered-Moves, ended-Moves, Joins, posted-Joins, Cuts, cut-unposted}
@@ -27,7 +27,7 @@ use Rattle.node_contexts.specs.At.{At, at, idle, queued, Becomes, AreIdle}
 use Rattle.node_contexts.specs.Programs.{Programs}
 use Rattle.node_invariant.specs.declared.parts.Parts.{Parts}
 use Rattle.node_invariant.specs.Meaning.{machine_in}
-use Rattle.node_invariant.specs.Fits.{Fits}
+use Rattle.node_invariant.specs.Fits.{ContextsMatch}
 use Rattle.node_invariant.specs.Keeps.{reading, Keeps, event_at, Grows}
 use Rattle.node_invariant.specs.Continues.{Continues}
 use Rattle.node_invariant.proofs.FitLemmas.{by_seat}
@@ -63,14 +63,14 @@ IsQueue-becomes old next c a becomes same how queue =
           subst Q (sym (same_context x.ctx c e)) (ap (λ (b : At). number_at b.seat) becomes.here ∙ number)
 
 -- nobody has a greater number than was posted
-number-few : (held : Programs) (r : Reading) (s : Contexts) (c : ContextId) → Fits held r s → invocation_in s c ≤ r.posts
+number-few : (held : Programs) (r : NodeState) (s : Contexts) (c : ContextId) → ContextsMatch held r s → invocation_in s c ≤ r.posts
 number-few held r s c fits = by (at s c).seat refl where
   by : (o : Option Seat) → (at s c).seat ≡ o → number_at o ≤ r.posts
   by None e = omega arith
   by (Some t) e = (by_seat held r c (at s c) t e (fits.each c)).number
 
 -- a post
-pub IsQueue-post : (held : Programs) (r : Reading) (old next : Contexts) (c : ContextId) (t : Seat) (set : LockSet) → Fits held r old → at old c ≡ idle → Becomes old next c (queued t set) → Enqueues old.locks next.locks c set
+pub IsQueue-post : (held : Programs) (r : NodeState) (old next : Contexts) (c : ContextId) (t : Seat) (set : LockSet) → ContextsMatch held r old → at old c ≡ idle → Becomes old next c (queued t set) → Enqueues old.locks next.locks c set
     → t.inv ≡ suc r.posts → IsQueue old → IsQueue next
 IsQueue-post held r old next c t set fits free becomes enqueues number queue =
     let P : List Claim → Type 0 = λ l. NumbersRise (invocation_in next) l in
@@ -98,7 +98,7 @@ IsQueue-idle s idles = let P : Claims → Type 0 = λ l. NumbersRise (invocation
 
 -- ---- one more entry
 
-module _ (d : Description) (old next : Parts) (before : Log) (at_ : Stamp) (e : Entry) (told : Told) (order : KeepsOrder d old) (continues : Continues d old next before at_ e told) (room : old.log.all.spare ≤ next.log.all.spare + 1) where
+module _ (d : Description) (old next : Parts) (before : Log) (at_ : Stamp) (e : Entry) (told : JournalEntry) (order : KeepsOrder d old) (continues : Continues d old next before at_ e told) (room : old.log.all.spare ≤ next.log.all.spare + 1) where
   abbrev m : Machine
   m = machine_in d
 
@@ -108,71 +108,71 @@ module _ (d : Description) (old next : Parts) (before : Log) (at_ : Stamp) (e : 
   journal-is : journal_of next.log.all ≡ journal_of old.log.all ++ event_at at_ told ∷ []
   journal-is = grows-by.journal
 
-  pub heard-by : reading d next.log.all ≡ heard m (reading d old.log.all) told
+  pub heard-by : reading d next.log.all ≡ next_state m (reading d old.log.all) told
   unfolding reading
-  heard-by = ap (heard_all m (nothing_heard m)) journal-is ∙ heard_all-push m (nothing_heard m) (journal_of old.log.all) (event_at at_ told)
+  heard-by = ap (state_after_all m (first_state m)) journal-is ∙ heard_all-push m (first_state m) (journal_of old.log.all) (event_at at_ told)
 
-  pub last-by : last_started next.log.all ≡ start_of told
+  pub last-by : last_started next.log.all ≡ started_number told
   last-by = ap (last_start 0) journal-is ∙ last_start-push 0 (journal_of old.log.all) (event_at at_ told)
 
   pub KeepsOrder-push : IsGranted m (reading d old.log.all) (last_started old.log.all) told → IsQueue next.contexts → KeepsOrder d next
   unfolding reading
   KeepsOrder-push granted queue =
-      let P : List Event → Type 0 = λ es. GrantsBefore m (nothing_heard m) 0 es in
+      let P : List TimedEntry → Type 0 = λ es. GrantsBefore m (first_state m) 0 es in
       record {
         keeps = Keeps-push d old next before at_ e told order.keeps continues;
         queue = queue;
-        grants = subst P (sym journal-is) (GrantsBefore-push m (nothing_heard m) 0 (journal_of old.log.all) (event_at at_ told) order.grants granted);
+        grants = subst P (sym journal-is) (GrantsBefore-push m (first_state m) 0 (journal_of old.log.all) (event_at at_ told) order.grants granted);
       }
 
 -- ---- invocations are numbered from 1
 
-pub record HasNoZero (r : Reading) : Type 0 where
+pub record HasNoZero (r : NodeState) : Type 0 where
   pub unposted : (r.invocations 0).phase ≡ Unposted
 
-zero-moves : (r s : Reading) (n : ℕ) (phase : Phase) → Moves r s n phase → ((r.invocations n).phase ≡ Unposted → ⊥) → HasNoZero r → HasNoZero s
+zero-moves : (r s : NodeState) (n : ℕ) (phase : Phase) → Moves r s n phase → ((r.invocations n).phase ≡ Unposted → ⊥) → HasNoZero r → HasNoZero s
 zero-moves r s n phase moves posted right = by (cases_eq 0 n) where
   by : (0 ≡ n) ⊎ (0 ≡ n → ⊥) → HasNoZero s
   by (inl e) = let P : ℕ → Type 0 = λ k. (r.invocations k).phase ≡ Unposted in absurd (posted (subst P e right.unposted))
   by (inr other) = record { unposted = ap (λ (i : Invocation). i.phase) (moves.others 0 other) ∙ right.unposted }
 
-zero-cuts : (r s : Reading) → Cuts r s → HasNoZero r → HasNoZero s
+zero-cuts : (r s : NodeState) → Cuts r s → HasNoZero r → HasNoZero s
 zero-cuts r s cuts right = record { unposted = ap (λ (i : Invocation). i.phase) (cuts.each 0) ∙ cut-unposted (r.invocations 0) right.unposted }
 
 isnt-unposted : (p : Phase) → is_live p ≡ true → p ≡ Unposted → ⊥
 isnt-unposted p live e = let f : false ≡ true = sym (ap is_live e) ∙ live in cc
 
-zero-step : (m : Machine) (r : Reading) (told : Told) → MayFollow m r told → HasNoZero r → HasNoZero (heard m r told)
+zero-step : (m : Machine) (r : NodeState) (told : JournalEntry) → MayFollow m r told → HasNoZero r → HasNoZero (next_state m r told)
 zero-step m r (Posted n h c payload) follows right =
     let j = posted-Joins m r n h c payload in
     let number = follows.0 in
     let other : 0 ≢ n = omega arith in
     record { unposted = ap (λ (i : Invocation). i.phase) (j.others 0 other) ∙ right.unposted }
 zero-step m r (Dropped h cause) follows right = right
-zero-step m r (Started n) follows right = zero-moves r (heard m r (Started n)) n Ready (started-Moves m r n) (isnt-unposted (r.invocations n).phase (ap is_live follows)) right
-zero-step m r (Asked n f args) follows right = zero-moves r (heard m r (Asked n f args)) n (Waiting f args) (asked-Moves m r n f args) (isnt-unposted (r.invocations n).phase (ap is_live follows)) right
-zero-step m r (Answered n value) follows right = zero-moves r (heard m r (Answered n value)) n Ready (answered-Moves m r n value) (isnt-unposted (r.invocations n).phase (ap is_live follows.waits)) right
-zero-step m r (Ended n how) follows right = zero-moves r (heard m r (Ended n how)) n Gone (ended-Moves m r n how) (isnt-unposted (r.invocations n).phase (ap is_live follows.0)) right
-zero-step m r (Installed p) follows right = zero-cuts r (heard m r (Installed p)) (record { posts = refl; each = λ n. refl }) right
-zero-step m r Reset follows right = zero-cuts r (heard m r Reset) (record { posts = refl; each = λ n. refl }) right
+zero-step m r (Started n) follows right = zero-moves r (next_state m r (Started n)) n Ready (started-Moves m r n) (isnt-unposted (r.invocations n).phase (ap is_live follows)) right
+zero-step m r (Asked n f args) follows right = zero-moves r (next_state m r (Asked n f args)) n (Waiting f args) (asked-Moves m r n f args) (isnt-unposted (r.invocations n).phase (ap is_live follows)) right
+zero-step m r (Answered n value) follows right = zero-moves r (next_state m r (Answered n value)) n Ready (answered-Moves m r n value) (isnt-unposted (r.invocations n).phase (ap is_live follows.waits)) right
+zero-step m r (Ended n how) follows right = zero-moves r (next_state m r (Ended n how)) n Gone (ended-Moves m r n how) (isnt-unposted (r.invocations n).phase (ap is_live follows.0)) right
+zero-step m r (Installed p) follows right = zero-cuts r (next_state m r (Installed p)) (record { posts = refl; each = λ n. refl }) right
+zero-step m r Reset follows right = zero-cuts r (next_state m r Reset) (record { posts = refl; each = λ n. refl }) right
 zero-step m r (Seen store) follows right = right
 zero-step m r (Void cause) follows right = right
 
-zero-after : (m : Machine) (r : Reading) (es : List Event) → AtEachEntry (MayFollow m) m r es → HasNoZero r → HasNoZero (heard_all m r es)
+zero-after : (m : Machine) (r : NodeState) (es : List TimedEntry) → AtEachEntry (MayFollow m) m r es → HasNoZero r → HasNoZero (state_after_all m r es)
 zero-after m r [] follow right = right
-zero-after m r (e ∷ es) follow right = zero-after m (heard m r e.told) es follow.1 (zero-step m r e.told follow.0 right)
+zero-after m r (e ∷ es) follow right = zero-after m (next_state m r e.told) es follow.1 (zero-step m r e.told follow.0 right)
 
 -- whoever is live has a number above 0
 pub live-above : (d : Description) (s : Parts) (k : ℕ) → Keeps d s → is_live ((reading d s.log.all).invocations k).phase ≡ true → 0 < k
 unfolding reading
 live-above d s k keeps live = by (cases_eq k 0) where
-  none : HasNoZero (heard_all (machine_in d) (nothing_heard (machine_in d)) (journal_of s.log.all))
-  none = zero-after (machine_in d) (nothing_heard (machine_in d)) (journal_of s.log.all) keeps.well_formed.follow (record { unposted = refl })
+  none : HasNoZero (state_after_all (machine_in d) (first_state (machine_in d)) (journal_of s.log.all))
+  none = zero-after (machine_in d) (first_state (machine_in d)) (journal_of s.log.all) keeps.well_formed.follow (record { unposted = refl })
 
   by : (k ≡ 0) ⊎ (k ≡ 0 → ⊥) → 0 < k
   by (inl e) =
-      let P : ℕ → Type 0 = λ j. is_live ((heard_all (machine_in d) (nothing_heard (machine_in d)) (journal_of s.log.all)).invocations j).phase ≡ true in
-      absurd (isnt-unposted ((heard_all (machine_in d) (nothing_heard (machine_in d)) (journal_of s.log.all)).invocations 0).phase (subst P e live) none.unposted)
+      let P : ℕ → Type 0 = λ j. is_live ((state_after_all (machine_in d) (first_state (machine_in d)) (journal_of s.log.all)).invocations j).phase ≡ true in
+      absurd (isnt-unposted ((state_after_all (machine_in d) (first_state (machine_in d)) (journal_of s.log.all)).invocations 0).phase (subst P e live) none.unposted)
   by (inr other) = omega arith
 
 pub queued-above : (d : Description) (s : Parts) (k : ℕ) → Keeps d s → ((reading d s.log.all).invocations k).phase ≡ Queued → 0 < k
@@ -186,13 +186,13 @@ IsStarting-first d s order last =
 
 -- ---- after a post
 
-held-posted : (m : Machine) (r : Reading) (n : ℕ) (h : HandlerId) (c : ContextId) (payload : ArrayVec ℤ) (k : ℕ) → (r.invocations n).phase ≡ Unposted → k ≢ n → IsHeldBack m r k → IsHeldBack m (heard m r (Posted n h c payload)) k
+held-posted : (m : Machine) (r : NodeState) (n : ℕ) (h : HandlerId) (c : ContextId) (payload : ArrayVec ℤ) (k : ℕ) → (r.invocations n).phase ≡ Unposted → k ≢ n → IsHeldBack m r k → IsHeldBack m (next_state m r (Posted n h c payload)) k
 held-posted m r n h c payload k fresh other b = record {
   by = b.by;
   ahead = later b.ahead;
-  conflict = conflicting_by m (heard m r (Posted n h c payload)) r k b.by (ap (λ (i : Invocation). i.program) (sym (j.others k other))) (ap (λ (i : Invocation). i.program) (sym (j.others b.by apart))) b.conflict;
+  conflict = conflicting_by m (next_state m r (Posted n h c payload)) r k b.by (ap (λ (i : Invocation). i.program) (sym (j.others k other))) (ap (λ (i : Invocation). i.program) (sym (j.others b.by apart))) b.conflict;
 } where
-  j : Joins r (heard m r (Posted n h c payload)) n
+  j : Joins r (next_state m r (Posted n h c payload)) n
   j = posted-Joins m r n h c payload
 
   was_live : IsAhead r k b.by → is_live (r.invocations b.by).phase ≡ true
@@ -208,18 +208,18 @@ held-posted m r n h c payload k fresh other b = record {
   apart : b.by ≢ n
   apart e = let P : ℕ → Type 0 = λ i. (r.invocations i).phase ≡ Unposted in isnt-unposted (r.invocations b.by).phase (was_live b.ahead) (subst P (sym e) fresh)
 
-  later : IsAhead r k b.by → IsAhead (heard m r (Posted n h c payload)) k b.by
+  later : IsAhead r k b.by → IsAhead (next_state m r (Posted n h c payload)) k b.by
   later (inl started) = inl (ap (λ (i : Invocation). is_started i.phase) (j.others b.by apart) ∙ started)
   later (inr x) = inr (x.0, ap (λ (i : Invocation). i.phase) (j.others b.by apart) ∙ x.1)
 
 -- after a post from rest each other queued one is still held back
 pub AllBut-posted : (d : Description) (s : Parts) (n : ℕ) (h : HandlerId) (c : ContextId) (payload : ArrayVec ℤ) → Rests d s → n ≡ suc (reading d s.log.all).posts
-    → AllButHeld (machine_in d) (heard (machine_in d) (reading d s.log.all) (Posted n h c payload)) n
+    → AllButHeld (machine_in d) (next_state (machine_in d) (reading d s.log.all) (Posted n h c payload)) n
 unfolding reading
 AllBut-posted d s n h c payload rests number k other queued_ =
     let m = machine_in d in
     let r = reading d s.log.all in
-    let o = orderly-after m (nothing_heard m) 0 (journal_of s.log.all) rests.order.keeps.well_formed.follow rests.order.grants (nothing_heard-orderly m) in
+    let o = orderly-after m (first_state m) 0 (journal_of s.log.all) rests.order.keeps.well_formed.follow rests.order.grants (nothing_heard-orderly m) in
     let j = posted-Joins m r n h c payload in
     let was : (r.invocations k).phase ≡ Queued = ap (λ (i : Invocation). i.phase) (sym (j.others k other)) ∙ queued_ in
     held-posted m r n h c payload k (o.numbered n (omega arith)) other (rests.held k was)

@@ -6,7 +6,7 @@ use Rattle.mate_num.specs.declared.call.Stamp.{Stamp}
 use Rattle.mate_num.specs.declared.id.ContextId.{ContextId}
 use Rattle.mate_num.specs.declared.id.HandlerId.{HandlerId}
 use Rattle.lock_manager.specs.Claims.{Enqueues}
-use Rattle.code_verifier.specs.Verified.{Fits as FitsCode}
+use Rattle.code_verifier.specs.Verified.{IsAtVerified as FitsCode}
 use Rattle.exec_unit.specs.Machine.{begun}
 use Rattle.vm_desc.specs.declared.description.Description.{Description}
 use Rattle.vm_desc.specs.declared.handler.Handler.{Handler}
@@ -16,7 +16,7 @@ use Rattle.vm_desc.proofs.DescriptionLemmas.{first_context-within}
 use Rattle.mate_journal.specs.Described.{contexts_of}
 use Rattle.mate_journal.specs.declared.entry.Entry.TheVariants as entry
 use Rattle.mate_journal.specs.Machine.{Machine, HeldProgram, IsContextOf}
-use Rattle.mate_journal.specs.Journal.{Posted, Unposted, is_started, Reading, journal_of, nothing_heard, heard}
+use Rattle.mate_journal.specs.Journal.{Posted, Unposted, is_started, NodeState, journal_of, first_state, next_state}
 use Rattle.journal_laws.specs.Growth.{IsPushed}
 use Rattle.journal_laws.proofs.Apart.{orderly-after, nothing_heard-orderly}
 use Rattle.node_contexts.specs.declared.handlers.Held.{Held}
@@ -26,7 +26,7 @@ use Rattle.node_contexts.specs.At.{At, at, idle, queued, Becomes}
 use Rattle.node_contexts.specs.Programs.{Programs, held_at}
 use Rattle.node_invariant.specs.declared.parts.Parts.{Parts}
 use Rattle.node_invariant.specs.Meaning.{machine_in}
-use Rattle.node_invariant.specs.Fits.{program_of, Fits as FitsContexts}
+use Rattle.node_invariant.specs.Fits.{program_of, ContextsMatch as FitsContexts}
 use Rattle.node_invariant.specs.Keeps.{reading, Keeps, IsTimely}
 use Rattle.node_invariant.specs.Continues.{Continues}
 use Rattle.node_invariant.proofs.FitLemmas.{by_seat, IsAlone}
@@ -62,7 +62,7 @@ module _ (d : Description) (old : Parts) (contexts : Contexts) (log : OpenView) 
   abbrev pub m : Machine
   m = machine_in d
 
-  abbrev pub r : Reading
+  abbrev pub r : NodeState
   r = reading d old.log.all
 
   abbrev pub held : Programs
@@ -81,7 +81,7 @@ module _ (d : Description) (old : Parts) (contexts : Contexts) (log : OpenView) 
   unfolding reading
   unposted-now =
       let e = posts-is in
-      (orderly-after m (nothing_heard m) 0 (journal_of old.log.all) keeps.well_formed.follow rests.order.grants (nothing_heard-orderly m)).numbered posts (omega arith)
+      (orderly-after m (first_state m) 0 (journal_of old.log.all) keeps.well_formed.follow rests.order.grants (nothing_heard-orderly m)).numbered posts (omega arith)
 
   alone : IsAlone old.contexts posts c
   alone = record {
@@ -92,14 +92,14 @@ module _ (d : Description) (old : Parts) (contexts : Contexts) (log : OpenView) 
   installed-is : r.installed h ≡ Some (program_of h x)
   installed-is = keeps.installed.same h ∙ some-map (held h) h x is_held
 
-  fits-new : FitsContexts held (heard m r (Posted (suc r.posts) h c payload)) contexts
+  fits-new : FitsContexts held (next_state m r (Posted (suc r.posts) h c payload)) contexts
   fits-new = Fits-posted m d held r old.contexts contexts c h x s payload keeps.fits keeps.installed is_held own (number ∙ posts-is) fitting free becomes
 
   pub Continues-posted : Continues d old new old.log.all stamp (entry.Post posts h c payload) (Posted posts h c payload)
   Continues-posted =
       let few = keeps.numbers in
       let p = next_post in
-      let Q : ℕ → Type 0 = λ n. FitsContexts held (heard m r (Posted n h c payload)) contexts in
+      let Q : ℕ → Type 0 = λ n. FitsContexts held (next_state m r (Posted n h c payload)) contexts in
       record {
         prepared = IsPrepared-same old.log.all;
         pushed = pushed;
@@ -134,6 +134,6 @@ module _ (d : Description) (old : Parts) (contexts : Contexts) (log : OpenView) 
   -- all but the new one are held back
   pub AllBut-new : AllButHeld m (reading d log.all) posts
   AllBut-new =
-      let P : Reading → Type 0 = λ q. AllButHeld m q posts in
+      let P : NodeState → Type 0 = λ q. AllButHeld m q posts in
       subst P (sym (heard-by d old new old.log.all stamp (entry.Post posts h c payload) (Posted posts h c payload) rests.order Continues-posted room))
       (AllBut-posted d old posts h c payload rests posts-is)

@@ -22,16 +22,16 @@ use Rattle.code_verifier.specs.Verified.{VerifiedCode, IsVerifiedCode, marks_of}
 use Rattle.exec_unit.specs.Step.{HasLengths}
 use Rattle.vm_desc.specs.declared.description.Description.{Description}
 use Rattle.vm_desc.specs.Shapes.{shape_of}
-use Rattle.mate_journal.specs.Journal.{Phase, Unposted, Queued, Ready, Waiting, Over as Gone, is_started, is_live, Invocation, Reading}
+use Rattle.mate_journal.specs.Journal.{Phase, Unposted, Queued, Ready, Waiting, Over as Gone, is_started, is_live, Invocation, NodeState}
 use Rattle.mate_journal.specs.Serial.{RunsSoFar}
-use Rattle.mate_journal.specs.Stores.{values_at, Writes, IsShown}
+use Rattle.mate_journal.specs.Stores.{values_at, WritesResource, IsShown}
 use Rattle.node_contexts.specs.declared.handlers.Held.{Held}
 use Rattle.node_contexts.specs.declared.seat.Seat.{Seat}
 use Rattle.node_contexts.specs.declared.contexts.Contexts.{Contexts}
 use Rattle.node_contexts.specs.At.{At, at}
-use Rattle.node_invariant.specs.Meaning.{machine_in, code_of}
+use Rattle.node_invariant.specs.Meaning.{machine_in, image_code}
 use Rattle.node_contexts.specs.Programs.{Programs}
-use Rattle.node_invariant.specs.Fits.{IsHeld, IsSeated, Fits}
+use Rattle.node_invariant.specs.Fits.{IsHeld, IsSeated, ContextsMatch}
 use Rattle.mate_journal.specs.Journal.{answers_of}
 use Rattle.node_invariant.specs.Agrees.{code_for, uses_for, own_run, own_in, IsOwnRun, RunsOwn, Agrees}
 use Rattle.node_invariant.proofs.FitLemmas.{by_seat}
@@ -130,7 +130,7 @@ module _ (d : Description) (i : Invocation) (s : Seat) (serial heap : Store) (v 
   own-few = let few = (ends-in-time d i serial v).in_time s.count in let n = counted in omega arith
 
 -- a started invocation, with its seat
-pub record IsRunning (d : Description) (r : Reading) (contexts : Contexts) (heap : Store) (n : ℕ) : Type 0 where
+pub record IsRunning (d : Description) (r : NodeState) (contexts : Contexts) (heap : Store) (n : ℕ) : Type 0 where
   pub seat : Seat
   pub number : seat.inv ≡ n
   pub verified : HasVerified d (r.invocations n)
@@ -150,14 +150,14 @@ started-live Ready is = refl
 started-live (Waiting f args) is = refl
 started-live Gone is = cc
 
-module _ (d : Description) (r : Reading) (contexts : Contexts) (held : Programs) (heap : Store) (fits : Fits held r contexts) (programs : (h : _) (x : Held) → held h ≡ Some x → IsHeld d x) (agrees : Agrees d r contexts heap) where
+module _ (d : Description) (r : NodeState) (contexts : Contexts) (held : Programs) (heap : Store) (fits : ContextsMatch held r contexts) (programs : (h : _) (x : Held) → held h ≡ Some x → IsHeld d x) (agrees : Agrees d r contexts heap) where
   pub verified-seat : (c : ContextId) (i : Invocation) (s : Seat) (a : At) (posts : ℕ) → IsSeated held posts i c s a → HasVerified d i
   verified-seat c i s a posts g =
       let x = programs s.handler g.x g.is_held in
       record {
         code = g.x.code;
         shape_is = x.shape;
-        code_is = x.code ∙ ap (λ (p : _). code_of (shape_of d) p.image) (sym g.program);
+        code_is = x.code ∙ ap (λ (p : _). image_code (shape_of d) p.image) (sym g.program);
         verified = x.verified;
       }
 
@@ -202,9 +202,9 @@ values-read s t (Shared v) as_long same = one_value s.shared.items t.shared.item
 values-read s t (Buffer b) as_long same = same
 values-read s t (Device d) as_long same = refl
 
-module _ (d : Description) (r : Reading) (contexts : Contexts) (held : Programs) (heap : Store) (fits : Fits held r contexts) (programs : (h : _) (x : Held) → held h ≡ Some x → IsHeld d x) (agrees : Agrees d r contexts heap)
+module _ (d : Description) (r : NodeState) (contexts : Contexts) (held : Programs) (heap : Store) (fits : ContextsMatch held r contexts) (programs : (h : _) (x : Held) → held h ≡ Some x → IsHeld d x) (agrees : Agrees d r contexts heap)
     (lengths : HasLengths (shape_of d) heap) where
-  not_written : (q : Resource) → ((n : ℕ) → Writes (machine_in d) r n q → ⊥) → (n : ℕ) → is_started (r.invocations n).phase ≡ true → (uses_for d (r.invocations n)).writes q ≡ false
+  not_written : (q : Resource) → ((n : ℕ) → WritesResource (machine_in d) r n q → ⊥) → (n : ℕ) → is_started (r.invocations n).phase ≡ true → (uses_for d (r.invocations n)).writes q ≡ false
   not_written q nobody n is =
       elim (cases_Bool ((uses_for d (r.invocations n)).writes q)) [
         | inl writes ↦ absurd (nobody n record { started = is; writes = writes })

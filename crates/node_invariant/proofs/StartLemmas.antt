@@ -12,7 +12,7 @@ use Rattle.mate_code.specs.Effect.{Private}
 use Rattle.mate_code.specs.Run.{Own, Run, Going, begun_run, after}
 use Rattle.vm_desc.specs.declared.description.Description.{Description}
 use Rattle.vm_desc.specs.Shapes.{shape_of}
-use Rattle.mate_journal.specs.Journal.{Phase, Queued, Ready, is_started, in_phase, Invocation, Reading, changed}
+use Rattle.mate_journal.specs.Journal.{Phase, Queued, Ready, is_started, in_phase, Invocation, NodeState, changed}
 use Rattle.node_contexts.specs.declared.seat.Seat.{Seat}
 use Rattle.node_contexts.specs.declared.contexts.Contexts.{Contexts}
 use Rattle.node_contexts.specs.At.{At, at, Becomes, AreIdle}
@@ -29,7 +29,7 @@ IsCompatible-back u w apart = record { apart = λ q at. by q at } where
   by q (inr y) = apart.apart q (inl y)
 
 -- the heap has what the serial store has, wherever no started invocation writes what these uses touch
-Agree-elsewhere : (d : Description) (r : Reading) (contexts : Contexts) (heap : Store) (u : Uses) → Agrees d r contexts heap
+Agree-elsewhere : (d : Description) (r : NodeState) (contexts : Contexts) (heap : Store) (u : Uses) → Agrees d r contexts heap
     → ((m : ℕ) → is_started (r.invocations m).phase ≡ true → IsCompatible u (uses_for d (r.invocations m))) → Agree (uses u) r.serial heap
 Agree-elsewhere d r contexts heap u agrees apart =
     record {
@@ -42,14 +42,14 @@ Agree-elsewhere d r contexts heap u agrees apart =
 
 -- ---- a start
 
-module _ (d : Description) (r : Reading) (old new : Contexts) (heap : Store) (n : ℕ) (c : ContextId) (a : At) (t : Seat)
+module _ (d : Description) (r : NodeState) (old new : Contexts) (heap : Store) (n : ℕ) (c : ContextId) (a : At) (t : Seat)
     (agrees : Agrees d r old heap) (sits : Sits old new n c a t)
     (was : (at old c).seat ≡ Some t) (phase : (r.invocations n).phase ≡ Queued)
     (free : (m : ℕ) → is_started (r.invocations m).phase ≡ true → IsCompatible (uses_for d (r.invocations n)) (uses_for d (r.invocations m))) where
   abbrev i : Invocation
   i = in_phase Ready (r.invocations n)
 
-  abbrev started : Reading
+  abbrev started : NodeState
   started = record r { invocations = changed r.invocations n i }
 
   not_itself : (m : ℕ) → is_started (r.invocations m).phase ≡ true → m ≢ n
@@ -120,10 +120,10 @@ module _ (d : Description) (r : Reading) (old new : Contexts) (heap : Store) (n 
 
 -- ---- a post
 
-module _ (d : Description) (r : Reading) (old new : Contexts) (heap : Store) (n : ℕ) (i : Invocation) (c : ContextId) (a : At) (t : Seat)
+module _ (d : Description) (r : NodeState) (old new : Contexts) (heap : Store) (n : ℕ) (i : Invocation) (c : ContextId) (a : At) (t : Seat)
     (agrees : Agrees d r old heap) (sits : Sits old new n c a t)
     (phase : i.phase ≡ Queued) (dead : is_started (r.invocations n).phase ≡ false) (fresh-now : IsFresh d i t) where
-  abbrev posted : Reading
+  abbrev posted : NodeState
   posted = record r { posts = n; invocations = changed r.invocations n i }
 
   was-started : (m : ℕ) → is_started (posted.invocations m).phase ≡ true → (m ≢ n) × (is_started (r.invocations m).phase ≡ true)
@@ -160,11 +160,11 @@ module _ (d : Description) (r : Reading) (old new : Contexts) (heap : Store) (n 
 
 -- ---- an end
 
-module _ (d : Description) (r : Reading) (old new : Contexts) (heap later serial : Store) (n : ℕ) (i : Invocation) (c : ContextId) (a : At)
+module _ (d : Description) (r : NodeState) (old new : Contexts) (heap later serial : Store) (n : ℕ) (i : Invocation) (c : ContextId) (a : At)
     (agrees : Agrees d r old heap) (becomes : Becomes old new c a) (gone : a.seat ≡ None) (alone : IsAlone old n c)
     (was : is_started (r.invocations n).phase ≡ true) (dead : is_started i.phase ≡ false)
     (seen : Agree (uses (uses_for d (r.invocations n))) serial later) (executed : Alters (uses_for d (r.invocations n)) heap later) (alters : Alters (uses_for d (r.invocations n)) r.serial serial) where
-  abbrev ended : Reading
+  abbrev ended : NodeState
   ended = record r { serial = serial; invocations = changed r.invocations n i }
 
   still : (m : ℕ) → is_started (ended.invocations m).phase ≡ true → (m ≢ n) × (is_started (r.invocations m).phase ≡ true)
@@ -232,7 +232,7 @@ module _ (d : Description) (r : Reading) (old new : Contexts) (heap later serial
 
 -- ---- the beginning of an era
 
-pub Agrees-idle : (d : Description) (r : Reading) (new : Contexts) (heap : Store) → AreIdle new → heap ≡ r.serial → ((n : ℕ) → is_started (r.invocations n).phase ≡ false) → Agrees d r new heap
+pub Agrees-idle : (d : Description) (r : NodeState) (new : Contexts) (heap : Store) → AreIdle new → heap ≡ r.serial → ((n : ℕ) → is_started (r.invocations n).phase ≡ false) → Agrees d r new heap
 Agrees-idle d r new heap idles same dead =
     record {
       as_long = record { shared = ap (λ (s : Store). length s.shared.items) same; buffers = ap (λ (s : Store). length s.buffers.items) same };

@@ -12,7 +12,7 @@ use Rattle.lock_manager.proofs.ClaimLemmas.{same_context, times-append, AreOnce-
 use Rattle.node_contexts.proofs.ContextLemmas.{claim-small}
 use Rattle.mate_journal.specs.declared.entry.Entry.TheVariants as entry
 use Rattle.mate_journal.specs.Machine.{Machine}
-use Rattle.mate_journal.specs.Journal.{changed, Told, Event, Started, Phase, Queued, Ready, is_live, is_started, Invocation, Reading, journal_of, nothing_heard, heard, heard_all}
+use Rattle.mate_journal.specs.Journal.{changed, JournalEntry, TimedEntry, Started, Phase, Queued, Ready, is_live, is_started, Invocation, NodeState, journal_of, first_state, next_state, state_after_all}
 use Rattle.mate_journal.specs.Grants.{IsHeldBack, AllHeldBack, MayStart}
 use Rattle.mate_journal.specs.Grants.{IsStart}
 use Rattle.journal_laws.specs.Growth.{GrantsBefore, IsPushed, last_start}
@@ -21,12 +21,12 @@ use Rattle.journal_laws.proofs.Moves.{Moves, started-Moves}
 use Rattle.vm_desc.specs.declared.description.Description.{Description}
 use Rattle.node_contexts.specs.declared.seat.Seat.{Seat}
 use Rattle.node_contexts.specs.declared.contexts.Contexts.{Contexts}
-use Rattle.node_contexts.specs.At.{At, at, queued, CanStart, Starts, IsPlaced}
+use Rattle.node_contexts.specs.At.{At, at, queued, CanStart, StartsContext, IsPlaced}
 use Rattle.node_contexts.specs.Programs.{Programs, held_at}
 use Rattle.node_invariant.specs.declared.parts.Parts.{Parts}
 use Rattle.node_invariant.specs.Meaning.{machine_in}
 use Rattle.node_invariant.specs.Standing.{standing}
-use Rattle.node_invariant.specs.Fits.{Fits}
+use Rattle.node_invariant.specs.Fits.{ContextsMatch}
 use Rattle.node_invariant.specs.Agrees.{IsFresh, RunsOwn}
 use Rattle.node_invariant.specs.Keeps.{reading, Keeps, IsTimely, event_at}
 use Rattle.node_invariant.specs.Continues.{Continues}
@@ -46,7 +46,7 @@ use Rattle.mate_journal.specs.OpenLog.{OpenView}
 
 -- ---- who can be granted its locks
 
-pub CanStart-fits : (held : Programs) (r : Reading) (s : Contexts) → Fits held r s → CanStart s
+pub CanStart-fits : (held : Programs) (r : NodeState) (s : Contexts) → ContextsMatch held r s → CanStart s
 CanStart-fits held r s fits = record {
   absent = λ c set waits.
       (let h = seat-by (λ a. a.waits) set held r c (at s c) refl waits (fits.each c) in
@@ -56,24 +56,24 @@ CanStart-fits held r s fits = record {
 
 -- ---- held back and free exclude each other
 
-not_both : (m : Machine) (r : Reading) (n : ℕ) → MayStart m r n → IsHeldBack m r n → ⊥
+not_both : (m : Machine) (r : NodeState) (n : ℕ) → MayStart m r n → IsHeldBack m r n → ⊥
 not_both m r n may h = may h.by h.ahead h.conflict
 
-queued-later : (m : Machine) (r : Reading) (n k : ℕ) → ((heard m r (Started n)).invocations k).phase ≡ Queued → (k ≢ n) × ((r.invocations k).phase ≡ Queued)
+queued-later : (m : Machine) (r : NodeState) (n k : ℕ) → ((next_state m r (Started n)).invocations k).phase ≡ Queued → (k ≢ n) × ((r.invocations k).phase ≡ Queued)
 queued-later m r n k is = by (cases_eq k n) where
-  moves : Moves r (heard m r (Started n)) n Ready
+  moves : Moves r (next_state m r (Started n)) n Ready
   moves = started-Moves m r n
 
   by : (k ≡ n) ⊎ (k ≡ n → ⊥) → (k ≢ n) × ((r.invocations k).phase ≡ Queued)
   by (inl e) =
-      let P : ℕ → Type 0 = λ j. ((heard m r (Started n)).invocations j).phase ≡ Queued in
+      let P : ℕ → Type 0 = λ j. ((next_state m r (Started n)).invocations j).phase ≡ Queued in
       absurd (let f : Ready ≡ Queued = sym moves.here ∙ subst P e is in cc)
   by (inr other) = (other, ap (λ (i : Invocation). i.phase) (sym (moves.others k other)) ∙ is)
 
 -- ---- the two sums at a start
 
-module _ (d : Description) (old : Parts) (contexts : Contexts) (c : ContextId) (s : Seat) (keeps : Keeps d old) (starts : Starts old.contexts contexts c) (small : c.0 < 16) (seat : (at old.contexts c).seat ≡ Some s) where
-  abbrev q : Reading
+module _ (d : Description) (old : Parts) (contexts : Contexts) (c : ContextId) (s : Seat) (keeps : Keeps d old) (starts : StartsContext old.contexts contexts c) (small : c.0 < 16) (seat : (at old.contexts c).seat ≡ Some s) where
+  abbrev q : NodeState
   q = reading d old.log.all
 
   abbrev programs : Programs
@@ -125,14 +125,14 @@ pub map-same : (f g : ContextId → ℕ) (xs : List ContextId) → ((c : Context
 map-same f g [] same = refl
 map-same f g (x ∷ xs) same = ap (λ (n : ℕ). n ∷ map f xs) (same x) ∙ ap (λ (l : List ℕ). g x ∷ l) (map-same f g xs same)
 
-same-seats : (old next : Contexts) (c : ContextId) → Starts old next c → (k : ContextId) → (at next k).seat ≡ (at old k).seat
+same-seats : (old next : Contexts) (c : ContextId) → StartsContext old next c → (k : ContextId) → (at next k).seat ≡ (at old k).seat
 same-seats old next c starts k = by (cases_eq k.0 c.0) where
   by : (k.0 ≡ c.0) ⊎ (k.0 ≡ c.0 → ⊥) → (at next k).seat ≡ (at old k).seat
   by (inl e) = let P : ContextId → Type 0 = λ j. (at next j).seat ≡ (at old j).seat in subst P (sym (same_context k c e)) (ap (λ (a : At). a.seat) starts.becomes.here)
   by (inr other) = ap (λ (a : At). a.seat) (starts.becomes.others k other)
 
-pub pace-started : (d : Description) (old : Parts) (contexts : Contexts) (c : ContextId) (s : Seat) → Keeps d old → (starts : Starts old.contexts contexts c) → c.0 < 16 → (at old.contexts c).seat ≡ Some s
-    → (p : Pace) → IsPace (reading d old.log.all) old.contexts p → IsPace (heard (machine_in d) (reading d old.log.all) (Started s.inv)) contexts (paced p (Started s.inv))
+pub pace-started : (d : Description) (old : Parts) (contexts : Contexts) (c : ContextId) (s : Seat) → Keeps d old → (starts : StartsContext old.contexts contexts c) → c.0 < 16 → (at old.contexts c).seat ≡ Some s
+    → (p : Pace) → IsPace (reading d old.log.all) old.contexts p → IsPace (next_state (machine_in d) (reading d old.log.all) (Started s.inv)) contexts (paced p (Started s.inv))
 pace-started d old contexts c s keeps starts small seat p pace = record {
   line =
       ap (λ (l : List ℕ). l ++ s.inv ∷ []) pace.line
@@ -142,7 +142,7 @@ pace-started d old contexts c s keeps starts small seat p pace = record {
       ∙ map-same (invocation_in old.contexts) (invocation_in contexts) contexts.ring (λ k. ap number_at (sym (same-seats old.contexts contexts c starts k)));
   counts = λ k t e started. by k t (sym (same-seats old.contexts contexts c starts k) ∙ e) started (cases_eq k.0 c.0);
 } where
-  r : Reading
+  r : NodeState
   r = reading d old.log.all
 
   alone : IsAlone old.contexts s.inv c
@@ -151,7 +151,7 @@ pace-started d old contexts c s keeps starts small seat p pace = record {
       subst P (start-seat (machine_in d) (held_at old.handlers.programs) (reading d old.log.all) old.contexts contexts c keeps.fits starts s seat)
       (alone-seat (held_at old.handlers.programs) (reading d old.log.all) old.contexts c keeps.fits (starting (machine_in d) (held_at old.handlers.programs) (reading d old.log.all) old.contexts contexts c keeps.fits starts))
 
-  by : (k : ContextId) (t : Seat) → (at old.contexts k).seat ≡ Some t → is_started ((heard (machine_in d) (reading d old.log.all) (Started s.inv)).invocations t.inv).phase ≡ true → (k.0 ≡ c.0) ⊎ (k.0 ≡ c.0 → ⊥)
+  by : (k : ContextId) (t : Seat) → (at old.contexts k).seat ≡ Some t → is_started ((next_state (machine_in d) (reading d old.log.all) (Started s.inv)).invocations t.inv).phase ≡ true → (k.0 ≡ c.0) ⊎ (k.0 ≡ c.0 → ⊥)
       → t.count ≡ changed p.counts s.inv 0 t.inv
   by k t e started (inl same) =
       let Q : ContextId → Type 0 = λ j. (at old.contexts j).seat ≡ Some t in
@@ -166,12 +166,12 @@ pace-started d old contexts c s keeps starts small seat p pace = record {
 -- ---- one start
 
 module _ (d : Description) (old : Parts) (contexts : Contexts) (log : OpenView) (at_ : Stamp) (c : ContextId) (s : Seat) (starting_ : IsStarting d old) (timely : IsTimely at_ old.log.all)
-    (starts : Starts old.contexts contexts c) (once : AreOnce (old.contexts.locks.started ++ old.contexts.locks.waiting)) (small : c.0 < 16)
+    (starts : StartsContext old.contexts contexts c) (once : AreOnce (old.contexts.locks.started ++ old.contexts.locks.waiting)) (small : c.0 < 16)
     (seat : (at old.contexts c).seat ≡ Some s) (pushed : IsPushed old.log.all record { stamp = at_; entry = entry.Start s.inv } log.all) (room : old.log.all.spare ≤ log.all.spare + 1) where
   abbrev m : Machine
   m = machine_in d
 
-  abbrev r : Reading
+  abbrev r : NodeState
   r = reading d old.log.all
 
   abbrev held : Programs
@@ -212,18 +212,18 @@ module _ (d : Description) (old : Parts) (contexts : Contexts) (log : OpenView) 
   journal-is : journal_of log.all ≡ journal_of old.log.all ++ event_at at_ (Started s.inv) ∷ []
   journal-is = (Grows-push d old new old.log.all at_ (entry.Start s.inv) (Started s.inv) keeps next room).journal
 
-  heard-is : reading d log.all ≡ heard m r (Started s.inv)
+  heard-is : reading d log.all ≡ next_state m r (Started s.inv)
   unfolding reading
-  heard-is = ap (heard_all m (nothing_heard m)) journal-is ∙ heard_all-push m (nothing_heard m) (journal_of old.log.all) (event_at at_ (Started s.inv))
+  heard-is = ap (state_after_all m (first_state m)) journal-is ∙ heard_all-push m (first_state m) (journal_of old.log.all) (event_at at_ (Started s.inv))
 
   last-is : last_started log.all ≡ s.inv
   last-is = ap (last_start 0) journal-is ∙ last_start-push 0 (journal_of old.log.all) (event_at at_ (Started s.inv))
 
-  grants-new : GrantsBefore m (nothing_heard m) 0 (journal_of log.all)
+  grants-new : GrantsBefore m (first_state m) 0 (journal_of log.all)
   unfolding reading
   grants-new =
-      let P : List Event → Type 0 = λ es. GrantsBefore m (nothing_heard m) 0 es in
-      subst P (sym journal-is) (GrantsBefore-push m (nothing_heard m) 0 (journal_of old.log.all) (event_at at_ (Started s.inv)) starting_.order.grants (may, after-last))
+      let P : List TimedEntry → Type 0 = λ es. GrantsBefore m (first_state m) 0 es in
+      subst P (sym journal-is) (GrantsBefore-push m (first_state m) 0 (journal_of old.log.all) (event_at at_ (Started s.inv)) starting_.order.grants (may, after-last))
 
   -- the seats stay
   same-seat : (k : ContextId) → (at contexts k).seat ≡ (at old.contexts k).seat
@@ -242,17 +242,17 @@ module _ (d : Description) (old : Parts) (contexts : Contexts) (log : OpenView) 
   order-new : KeepsOrder d new
   order-new = record { keeps = Keeps-push d old new old.log.all at_ (entry.Start s.inv) (Started s.inv) keeps next; queue = queue-new; grants = grants-new }
 
-  past-new : IsPastLast m (heard m r (Started s.inv)) s.inv
+  past-new : IsPastLast m (next_state m r (Started s.inv)) s.inv
   past-new k queued_ =
       let q = queued-later m r s.inv k queued_ in
       by k (past-it k q.0 q.1) where
-        by : (k : ℕ) → (s.inv < k) ⊎ IsHeldBack m r k → (s.inv < k) ⊎ IsHeldBack m (heard m r (Started s.inv)) k
+        by : (k : ℕ) → (s.inv < k) ⊎ IsHeldBack m r k → (s.inv < k) ⊎ IsHeldBack m (next_state m r (Started s.inv)) k
         by k (inl above) = inl above
         by k (inr h) = inr (held-started m r s.inv k h)
 
   starting-new : IsStarting d new
   starting-new =
-      let P : Reading → Type 0 = λ q. IsPastLast m q s.inv in
+      let P : NodeState → Type 0 = λ q. IsPastLast m q s.inv in
       let Q : ℕ → Type 0 = λ last. IsPastLast m (reading d log.all) last in
       record { order = order-new; past = subst Q (sym last-is) (subst P (sym heard-is) past-new) }
 
@@ -267,18 +267,18 @@ module _ (d : Description) (old : Parts) (contexts : Contexts) (log : OpenView) 
     owed = owed-new d old contexts c s keeps starts small seat;
     left_is = left-new d old contexts c s keeps starts small seat;
     falls_by = falls-new d old contexts c s keeps starts small seat;
-    pace = λ p pace. (let P : Reading → Type 0 = λ q. IsPace q contexts (paced p (Started s.inv)) in subst P (sym heard-is) (pace-started d old contexts c s keeps starts small seat p pace));
+    pace = λ p pace. (let P : NodeState → Type 0 = λ q. IsPace q contexts (paced p (Started s.inv)) in subst P (sym heard-is) (pace-started d old contexts c s keeps starts small seat p pace));
     heap = refl;
     handlers = refl;
     posts = refl;
   }
 
 -- the seat that stands there after the start stood there before
-pub seat-before : (old later : Contexts) (c : ContextId) (n : ℕ) → Starts old later c → IsPlaced (at later c) n → IsPlaced (at old c) n
+pub seat-before : (old later : Contexts) (c : ContextId) (n : ℕ) → StartsContext old later c → IsPlaced (at later c) n → IsPlaced (at old c) n
 seat-before old later c n starts p = record { seat = p.seat; is = ap (λ (a : At). a.seat) (sym starts.becomes.here) ∙ p.is; number = p.number }
 
 -- whoever starts was free
-pub free-start : (d : Description) (old : Parts) (contexts : Contexts) (c : ContextId) (s : Seat) → IsStarting d old → (starts : Starts old.contexts contexts c) → AreOnce (old.contexts.locks.started ++ old.contexts.locks.waiting) → (at old.contexts c).seat ≡ Some s
+pub free-start : (d : Description) (old : Parts) (contexts : Contexts) (c : ContextId) (s : Seat) → IsStarting d old → (starts : StartsContext old.contexts contexts c) → AreOnce (old.contexts.locks.started ++ old.contexts.locks.waiting) → (at old.contexts c).seat ≡ Some s
     → (((reading d old.log.all).invocations s.inv).phase ≡ Queued) × (IsHeldBack (machine_in d) (reading d old.log.all) s.inv → ⊥)
 free-start d old contexts c s starting_ starts once seat =
     let m = machine_in d in
@@ -289,7 +289,7 @@ free-start d old contexts c s starting_ starts once seat =
     let may : MayStart m r s.inv = subst P (ap number_at seat) (granted-may d held r old.contexts keeps.fits keeps.installed once starting_.order.queue.rises contexts.locks c starts.grants) in
     (start-queued m held r old.contexts contexts c keeps.fits starts s seat, λ h. not_both m r s.inv may h)
 
-pub has-room : (d : Description) (old : Parts) (contexts : Contexts) (c : ContextId) (n : ℕ) → IsStarting d old → Starts old.contexts contexts c → AreOnce (old.contexts.locks.started ++ old.contexts.locks.waiting) → IsPlaced (at contexts c) n → HasRoomToStart d old → 1 ≤ old.log.all.spare
+pub has-room : (d : Description) (old : Parts) (contexts : Contexts) (c : ContextId) (n : ℕ) → IsStarting d old → StartsContext old.contexts contexts c → AreOnce (old.contexts.locks.started ++ old.contexts.locks.waiting) → IsPlaced (at contexts c) n → HasRoomToStart d old → 1 ≤ old.log.all.spare
 has-room d old contexts c n starting_ starts once placed room =
     let p = seat-before old.contexts contexts c n starts placed in
     let f = free-start d old contexts c p.seat starting_ starts once p.is in
@@ -320,7 +320,7 @@ room-next d old s at_ f (inr one) once n queued_ free = by (f.at_most one.invoca
   by (inl x) = let g = f.grows.spare in let e = ap length x.0 in let h = one.spare in omega arith
   by (inr y) = absurd (free (y.1 n queued_))
 
-pub StartsNext-placed : (d : Description) (old : Parts) (contexts : Contexts) (log : OpenView) (at_ : Stamp) (c : ContextId) (n : ℕ) → IsStarting d old → IsTimely at_ old.log.all → Starts old.contexts contexts c
+pub StartsNext-placed : (d : Description) (old : Parts) (contexts : Contexts) (log : OpenView) (at_ : Stamp) (c : ContextId) (n : ℕ) → IsStarting d old → IsTimely at_ old.log.all → StartsContext old.contexts contexts c
     → AreOnce (old.contexts.locks.started ++ old.contexts.locks.waiting) → c.0 < 16 → IsPlaced (at contexts c) n → IsPushed old.log.all record { stamp = at_; entry = entry.Start n } log.all → old.log.all.spare ≤ log.all.spare + 1
     → StartsNext d old (record old { contexts = contexts; log = log }) at_
 StartsNext-placed d old contexts log at_ c n starting_ timely starts once small placed pushed room =
@@ -338,7 +338,7 @@ StartsNone-from d old later starting_ none once same =
 
 -- ---- several
 
-pub paced_all-append : (p : Pace) (xs ys : List Told) → paced_all p (xs ++ ys) ≡ paced_all (paced_all p xs) ys
+pub paced_all-append : (p : Pace) (xs ys : List JournalEntry) → paced_all p (xs ++ ys) ≡ paced_all (paced_all p xs) ys
 paced_all-append p [] ys = refl
 paced_all-append p (x ∷ xs) ys = paced_all-append (paced p x) xs ys
 
@@ -359,12 +359,12 @@ StartsSome-none d s at_ starting_ timely = record {
 }
 
 -- after the start of the one that wasn't held back, all are
-held-after : (m : Machine) (r : Reading) (k n : ℕ) → (r.invocations k).phase ≡ Queued → (IsHeldBack m r k → ⊥) → AllButHeld m r n → (k ≡ n) × AllHeldBack m (heard m r (Started k))
+held-after : (m : Machine) (r : NodeState) (k n : ℕ) → (r.invocations k).phase ≡ Queued → (IsHeldBack m r k → ⊥) → AllButHeld m r n → (k ≡ n) × AllHeldBack m (next_state m r (Started k))
 held-after m r k n was free others = (is, all) where
   is : k ≡ n
   is = elim (cases_eq k n) [ inl e ↦ e | inr other ↦ absurd (free (others k other was)) ]
 
-  all : AllHeldBack m (heard m r (Started k))
+  all : AllHeldBack m (next_state m r (Started k))
   all j queued_ = let q = queued-later m r k j queued_ in held-started m r k j (others j (λ e. q.0 (e ∙ sym is)) q.1)
 
 pub StartsSome-then : (d : Description) (old mid new : Parts) (at_ : Stamp) → StartsSome d old mid at_ → StartsNext d mid new at_ → StartsSome d old new at_
@@ -387,8 +387,8 @@ StartsSome-then d old mid new at_ f g = record {
   by : (n : ℕ) → AtMost d mid f.told n → AtMost d new (f.told ++ Started g.invocation ∷ []) n
   by n (inl x) =
       let h = held-after (machine_in d) (reading d mid.log.all) g.invocation n g.was g.free x.1 in
-      let P : Reading → Type 0 = λ q. AllHeldBack (machine_in d) q in
-      inr (ap (λ (l : List Told). l ++ Started g.invocation ∷ []) x.0 ∙ ap (λ (k : ℕ). Started k ∷ []) h.0, subst P (sym g.heard_is) h.1)
+      let P : NodeState → Type 0 = λ q. AllHeldBack (machine_in d) q in
+      inr (ap (λ (l : List JournalEntry). l ++ Started g.invocation ∷ []) x.0 ∙ ap (λ (k : ℕ). Started k ∷ []) h.0, subst P (sym g.heard_is) h.1)
   by n (inr y) = absurd (g.free (y.1 g.invocation g.was))
 
 pub StartsAll-from : (d : Description) (old mid later : Parts) (at_ : Stamp) → StartsSome d old mid at_ → StartsNone d mid later → StartsAll d old later at_

@@ -15,7 +15,7 @@ use Rattle.lock_manager.specs.Claims.{Claims, set_of, AreOnce, Grants}
 use Rattle.lock_manager.proofs.ClaimLemmas.{times-append, AreOnce-fewer}
 use Rattle.lock_manager.proofs.GrantLemmas.{Contains-set_of, set_of-Contains}
 use Rattle.mate_journal.specs.Machine.{Machine}
-use Rattle.mate_journal.specs.Journal.{Started, Phase, Unposted, Queued, Ready, Waiting, Over as Gone, is_live, is_started, Invocation, Reading, heard}
+use Rattle.mate_journal.specs.Journal.{Started, Phase, Unposted, Queued, Ready, Waiting, Over as Gone, is_live, is_started, Invocation, NodeState, next_state}
 use Rattle.mate_journal.specs.Grants.{IsAhead, AreConflicting, IsHeldBack, AllHeldBack, MayStart}
 use Rattle.journal_laws.proofs.Moves.{Moves, started-Moves}
 use Rattle.journal_laws.proofs.Apart.{conflicting_by}
@@ -27,7 +27,7 @@ use Rattle.node_contexts.specs.Programs.{Programs}
 use Rattle.node_invariant.specs.Meaning.{machine_in}
 use Rattle.node_invariant.specs.Standing.{standing}
 use Rattle.node_invariant.specs.Agrees.{uses_for}
-use Rattle.node_invariant.specs.Fits.{AreInstalled, Fits}
+use Rattle.node_invariant.specs.Fits.{AreInstalled, ContextsMatch}
 use Rattle.node_invariant.proofs.FitLemmas.{HasSeat, by_seat, seat-by, queued-by_waits}
 use Rattle.node_invariant.proofs.SerialLemmas.{started-live}
 use Rattle.node_invariant.proofs.EntryLemmas.{seat-uses, uses-same, IsCompatible-same, holds-by_started}
@@ -60,18 +60,18 @@ some-same l set o e f = let g : Some l ≡ Some set = sym e ∙ f in cc
 -- ---- claims and invocations
 
 -- the claim is the invocation's
-pub record IsClaimOf (d : Description) (r : Reading) (s : Contexts) (c : Claim) (n : ℕ) : Type 0 where
+pub record IsClaimOf (d : Description) (r : NodeState) (s : Contexts) (c : Claim) (n : ℕ) : Type 0 where
   pub number : invocation_in s c.ctx ≡ n
   pub same : IsSameUses (locks.lock_uses c.set) (uses_for d (r.invocations n))
 
 -- the invocation's claim is in the list
-pub record Claims-for (d : Description) (r : Reading) (s : Contexts) (list : List Claim) (n : ℕ) : Type 0 where
+pub record Claims-for (d : Description) (r : NodeState) (s : Contexts) (list : List Claim) (n : ℕ) : Type 0 where
   pub claim : Claim
   pub among : Contains list claim
   pub is : IsClaimOf d r s claim n
 
 -- the claim's invocation is in such a phase
-pub record Claimed-by (d : Description) (r : Reading) (s : Contexts) (c : Claim) (test : Phase → Type 0) : Type 0 where
+pub record Claimed-by (d : Description) (r : NodeState) (s : Contexts) (c : Claim) (test : Phase → Type 0) : Type 0 where
   pub invocation : ℕ
   pub phase : test (r.invocations invocation).phase
   pub is : IsClaimOf d r s c invocation
@@ -82,7 +82,7 @@ IsQueued p = p ≡ Queued
 abbrev pub HasStarted : Phase → Type 0
 HasStarted p = is_started p ≡ true
 
-module _ (d : Description) (held : Programs) (r : Reading) (s : Contexts) (fits : Fits held r s) (installed : AreInstalled d r.installed held) (once : AreOnce (s.locks.started ++ s.locks.waiting)) where
+module _ (d : Description) (held : Programs) (r : NodeState) (s : Contexts) (fits : ContextsMatch held r s) (installed : AreInstalled d r.installed held) (once : AreOnce (s.locks.started ++ s.locks.waiting)) where
   abbrev m : Machine
   m = machine_in d
 
@@ -251,7 +251,7 @@ module _ (d : Description) (held : Programs) (r : Reading) (s : Contexts) (fits 
 
 -- ---- one that is started, and moves, holds nobody less
 
-pub held-moves : (m : Machine) (r later : Reading) (n k : ℕ) (phase : Phase) → Moves r later n phase → is_started phase ≡ true → IsHeldBack m r k → IsHeldBack m later k
+pub held-moves : (m : Machine) (r later : NodeState) (n k : ℕ) (phase : Phase) → Moves r later n phase → is_started phase ≡ true → IsHeldBack m r k → IsHeldBack m later k
 held-moves m r later n k phase moves starts h = record { by = h.by; ahead = by (cases_eq h.by n) h.ahead; conflict = conflicting_by m later r k h.by (sym (program k)) (sym (program h.by)) h.conflict } where
   program : (j : ℕ) → (later.invocations j).program ≡ (r.invocations j).program
   program j = elim (cases_eq j n) [
@@ -264,11 +264,11 @@ held-moves m r later n k phase moves starts h = record { by = h.by; ahead = by (
   by (inr other) (inl started) = inl (ap (λ (i : Invocation). is_started i.phase) (moves.others h.by other) ∙ started)
   by (inr other) (inr x) = inr (x.0, ap (λ (i : Invocation). i.phase) (moves.others h.by other) ∙ x.1)
 
-pub held-started : (m : Machine) (r : Reading) (n k : ℕ) → IsHeldBack m r k → IsHeldBack m (heard m r (Started n)) k
-held-started m r n k h = held-moves m r (heard m r (Started n)) n k Ready (started-Moves m r n) refl h
+pub held-started : (m : Machine) (r : NodeState) (n k : ℕ) → IsHeldBack m r k → IsHeldBack m (next_state m r (Started n)) k
+held-started m r n k h = held-moves m r (next_state m r (Started n)) n k Ready (started-Moves m r n) refl h
 
 -- where one moves from a started phase to another, and all are held back, all still are
-pub all-held-moves : (m : Machine) (r later : Reading) (n : ℕ) (phase : Phase) → Moves r later n phase → is_started phase ≡ true → AllHeldBack m r → AllHeldBack m later
+pub all-held-moves : (m : Machine) (r later : NodeState) (n : ℕ) (phase : Phase) → Moves r later n phase → is_started phase ≡ true → AllHeldBack m r → AllHeldBack m later
 all-held-moves m r later n phase moves starts all k queued_ = by (cases_eq k n) where
   by : (k ≡ n) ⊎ (k ≡ n → ⊥) → IsHeldBack m later k
   by (inl e) =

@@ -11,15 +11,15 @@ use Rattle.mate_code.specs.Run.{Code, Status, Going, Over, Own, Run, run_after}
 use Rattle.exec_unit.specs.Machine.{begun}
 use Rattle.vm_desc.specs.declared.description.Description.{Description}
 use Rattle.vm_desc.specs.Shapes.{shape_of}
-use Rattle.mate_journal.specs.Journal.{Phase, Unposted, Queued, Ready, Waiting, Over as Gone, is_started, Invocation, Reading, answers_of}
+use Rattle.mate_journal.specs.Journal.{Phase, Unposted, Queued, Ready, Waiting, Over as Gone, is_started, Invocation, NodeState, answers_of}
 use Rattle.node_contexts.specs.declared.seat.Seat.{Seat}
 use Rattle.node_contexts.specs.declared.contexts.Contexts.{Contexts}
 use Rattle.node_contexts.specs.At.{at}
-use Rattle.node_invariant.specs.Meaning.{code_of}
+use Rattle.node_invariant.specs.Meaning.{image_code}
 
 -- the code of an invocation, and what it uses
 abbrev pub code_for : Description → Invocation → Code
-code_for d i = code_of (shape_of d) i.program.image
+code_for d i = image_code (shape_of d) i.program.image
 
 abbrev pub uses_for : Description → Invocation → Uses
 uses_for d i = uses_of (shape_of d) (code_for d i)
@@ -61,7 +61,7 @@ RunsOwn d Gone i s serial heap = Unit {0}
 
 -- Each started invocation runs as if it were alone on the serial store. No two of them conflict. What none of them writes
 -- is as in the serial store.
-pub record Agrees (d : Description) (r : Reading) (contexts : Contexts) (heap : Store) : Type 0 where
+pub record Agrees (d : Description) (r : NodeState) (contexts : Contexts) (heap : Store) : Type 0 where
   pub as_long : AreAsLong heap r.serial
   pub each : (c : ContextId) (s : Seat) → (at contexts c).seat ≡ Some s
       → RunsOwn d (r.invocations s.inv).phase (r.invocations s.inv) s r.serial heap

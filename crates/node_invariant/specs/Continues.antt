@@ -3,7 +3,7 @@ use Rattle.std.specs.Prelude.{All, ◌≡◌, ◌+◌, ◌≤◌, false, length}
 use Rattle.mate_num.specs.declared.call.Stamp.{Stamp}
 use Rattle.mate_journal.specs.declared.entry.Entry.{Entry}
 use Rattle.mate_journal.specs.Log.{Log}
-use Rattle.mate_journal.specs.Journal.{Told, told_of, journal_of, Reading, heard}
+use Rattle.mate_journal.specs.Journal.{JournalEntry, journal_entry, journal_of, NodeState, next_state}
 use Rattle.journal_laws.specs.Growth.{IsPushed, last_is_seen}
 use Rattle.mate_journal.specs.Tidy.{IsEntryInRange, IsStoreOf, NumbersInOrder, HasFullImages}
 use Rattle.mate_journal.specs.Serial.{EndsAsRun}
@@ -15,7 +15,7 @@ use Rattle.vm_desc.specs.Shapes.{shape_of}
 use Rattle.node_invariant.specs.declared.parts.Parts.{Parts}
 use Rattle.node_invariant.specs.Meaning.{machine_in}
 use Rattle.node_contexts.specs.Programs.{held_at}
-use Rattle.node_invariant.specs.Fits.{AreInstalled, Fits}
+use Rattle.node_invariant.specs.Fits.{AreInstalled, ContextsMatch}
 use Rattle.node_invariant.specs.Agrees.{Agrees}
 use Rattle.node_invariant.specs.Keeps.{reading, IsTimely}
 
@@ -32,19 +32,19 @@ pub record AddsTidily (d : Description) (old : Log) (e : Entry) (new : Log) : Ty
   pub full : HasFullImages old → HasFullImages new
 
 -- the parts agree with what is heard after the entry
-pub record AgreesAfter (d : Description) (r : Reading) (new : Parts) : Type 0 where
+pub record AgreesAfter (d : Description) (r : NodeState) (new : Parts) : Type 0 where
   pub posts : r.posts ≡ new.posts
   pub places : length new.handlers.programs ≡ length d.handlers.items
   pub installed : AreInstalled d r.installed (held_at new.handlers.programs)
-  pub fits : Fits (held_at new.handlers.programs) r new.contexts
+  pub fits : ContextsMatch (held_at new.handlers.programs) r new.contexts
   pub lengths : HasLengths (shape_of d) new.heap
   pub agrees : Agrees d r new.contexts new.heap
 
 -- the entry may follow
-pub record Continues (d : Description) (old new : Parts) (before : Log) (at : Stamp) (e : Entry) (told : Told) : Type 0 where
+pub record Continues (d : Description) (old new : Parts) (before : Log) (at : Stamp) (e : Entry) (told : JournalEntry) : Type 0 where
   pub prepared : IsPrepared old.log.all before
   pub pushed : IsPushed before record { stamp = at; entry = e } new.log.all
-  pub tells : told_of before e ≡ told
+  pub tells : journal_entry before e ≡ told
   pub tidily : AddsTidily d old.log.all e new.log.all
   pub timely : IsTimely at old.log.all
   pub follows : MayFollow (machine_in d) (reading d old.log.all) told
@@ -52,4 +52,4 @@ pub record Continues (d : Description) (old new : Parts) (before : Log) (at : St
   pub shown : ShowsStore (machine_in d) (reading d old.log.all) told
   pub before_era : IsSeenBefore (last_is_seen false (journal_of old.log.all)) told
   pub numbers : new.posts ≤ length old.log.all.entries + 1
-  pub after : AgreesAfter d (heard (machine_in d) (reading d old.log.all) told) new
+  pub after : AgreesAfter d (next_state (machine_in d) (reading d old.log.all) told) new

@@ -7,19 +7,19 @@ use Rattle.mate_num.specs.Locks as locks
 use Rattle.mate_num.specs.Uses.{IsSameUses}
 use Rattle.mate_code.specs.CodeUses.{uses_of}
 use Rattle.mate_code.specs.Effect.{Private}
-use Rattle.code_verifier.specs.Verified.{VerifiedCode, IsVerifiedCode, Fits as FitsCode}
+use Rattle.code_verifier.specs.Verified.{VerifiedCode, IsVerifiedCode, IsAtVerified as FitsCode}
 use Rattle.exec_unit.specs.Step.{Waits}
 use Rattle.vm_desc.specs.declared.description.Description.{Description}
 use Rattle.vm_desc.specs.Shapes.{shape_of}
 use Rattle.mate_journal.specs.Machine.{HeldProgram}
-use Rattle.mate_journal.specs.Journal.{Phase, Unposted, Queued, Ready, Waiting, Over, is_live, Invocation, Reading}
+use Rattle.mate_journal.specs.Journal.{Phase, Unposted, Queued, Ready, Waiting, Over, is_live, Invocation, NodeState}
 use Rattle.node_contexts.specs.declared.handlers.Held.{Held}
 use Rattle.node_contexts.specs.declared.seat.Seat.{Seat}
 use Rattle.node_contexts.specs.declared.contexts.Contexts.{Contexts}
 use Rattle.node_contexts.specs.At.{At, idle, at, IsPlaced}
 use Rattle.node_contexts.specs.Programs.{Programs}
 use Rattle.node_invariant.specs.Standing.{standing}
-use Rattle.node_invariant.specs.Meaning.{code_of}
+use Rattle.node_invariant.specs.Meaning.{image_code}
 
 -- the program, as a journal has it
 abbrev pub program_of : HandlerId → Held → HeldProgram
@@ -28,9 +28,9 @@ program_of h x = record { handler = h; version = x.version; image = x.image }
 -- the verified code of the image, with the locks that it takes
 pub record IsHeld (d : Description) (x : Held) : Type 0 where
   pub shape : x.code.shape ≡ shape_of d
-  pub code : x.code.code ≡ code_of (shape_of d) x.image
+  pub code : x.code.code ≡ image_code (shape_of d) x.image
   pub verified : IsVerifiedCode x.code
-  pub locks_are : IsSameUses (locks.lock_uses x.locks) (uses_of (shape_of d) (code_of (shape_of d) x.image))
+  pub locks_are : IsSameUses (locks.lock_uses x.locks) (uses_of (shape_of d) (image_code (shape_of d) x.image))
   pub version_is : 0 < x.version
   pub full : 0 < length x.image.items
 
@@ -62,14 +62,14 @@ pub record IsSeated (held : Programs) (posts : ℕ) (i : Invocation) (c : Contex
   pub fits : FitsIn x.code i.phase s.machine
 
 -- a context is idle, or has its invocation
-abbrev pub IsRightWith : Programs → Reading → ContextId → At → Option Seat → Type 0
+abbrev pub IsRightWith : Programs → NodeState → ContextId → At → Option Seat → Type 0
 IsRightWith held r c a None = a ≡ idle
 IsRightWith held r c a (Some s) = IsSeated held r.posts (r.invocations s.inv) c s a
 
-abbrev pub IsRight : Programs → Reading → ContextId → At → Type 0
-IsRight held r c a = IsRightWith held r c a a.seat
+abbrev pub IsRightContext : Programs → NodeState → ContextId → At → Type 0
+IsRightContext held r c a = IsRightWith held r c a a.seat
 
 -- each context is idle or has a live invocation, and each live invocation has its context
-pub record Fits (held : Programs) (r : Reading) (contexts : Contexts) : Type 0 where
-  pub each : (c : ContextId) → IsRight held r c (at contexts c)
+pub record ContextsMatch (held : Programs) (r : NodeState) (contexts : Contexts) : Type 0 where
+  pub each : (c : ContextId) → IsRightContext held r c (at contexts c)
   pub placed : (n : ℕ) → is_live (r.invocations n).phase ≡ true → IsPlaced (at contexts (r.invocations n).context) n

@@ -17,16 +17,16 @@ code_in (Ok code) = code
 code_in (Err fault) = []
 
 -- the code of an image, which stands behind the first 16 bytes
-unfoldable pub code_of : Shape → ArrayVec ℕ → Code
-code_of shape image = code_in (decoded (table_of shape) (drop 16 image.items))
+unfoldable pub image_code : Shape → ArrayVec ℕ → Code
+image_code shape image = code_in (decoded (table_of shape) (drop 16 image.items))
 
 -- a program's run is that of its code, in which it comes as far as its code does, and it uses what its code uses
 abbrev pub meaning_of : Shape → Meaning
 meaning_of shape = record {
-  run = λ p store payload answers turns. code_run shape (code_of shape p.image) store payload answers turns;
-  uses = λ p. uses_of shape (code_of shape p.image);
-  mark = λ p store payload answers turns. next_mark shape (code_of shape p.image) store payload answers turns;
-  after = λ n p store payload answers turns. code_after n shape (code_of shape p.image) store payload answers turns;
+  run = λ p store payload answers turns. code_run shape (image_code shape p.image) store payload answers turns;
+  uses = λ p. uses_of shape (image_code shape p.image);
+  mark = λ p store payload answers turns. next_mark shape (image_code shape p.image) store payload answers turns;
+  after = λ n p store payload answers turns. code_after n shape (image_code shape p.image) store payload answers turns;
 }
 
 -- the machine of a node

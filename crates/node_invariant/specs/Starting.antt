@@ -4,7 +4,7 @@ use Rattle.mate_num.specs.declared.call.Stamp.{Stamp}
 use Rattle.lock_manager.specs.Claims.{AreOnce}
 use Rattle.mate_journal.specs.Log.{Log}
 use Rattle.mate_journal.specs.Machine.{Machine}
-use Rattle.mate_journal.specs.Journal.{Told, Started, Queued, journal_of, Reading, nothing_heard, heard}
+use Rattle.mate_journal.specs.Journal.{JournalEntry, Started, Queued, journal_of, NodeState, first_state, next_state}
 use Rattle.mate_journal.specs.Grants.{IsHeldBack, AllHeldBack}
 use Rattle.mate_journal.specs.Grants.{IsStart}
 use Rattle.journal_laws.specs.Growth.{GrantsBefore, last_start}
@@ -18,7 +18,7 @@ use Rattle.mate_journal.specs.Pace.{Pace, paced_all}
 use Rattle.node_invariant.specs.Pace.{IsPace}
 
 -- each queued invocation comes after the last start, or is held back
-abbrev pub IsPastLast : Machine → Reading → ℕ → Type 0
+abbrev pub IsPastLast : Machine → NodeState → ℕ → Type 0
 IsPastLast m r last = (k : ℕ) → (r.invocations k).phase ≡ Queued → (last < k) ⊎ IsHeldBack m r k
 
 -- the number that a journal of the log started last, 0 where its last entry is no start
@@ -29,7 +29,7 @@ last_started l = last_start 0 (journal_of l)
 pub record KeepsOrder (d : Description) (s : Parts) : Type 0 where
   pub keeps : Keeps d s
   pub queue : IsQueue s.contexts
-  pub grants : GrantsBefore (machine_in d) (nothing_heard (machine_in d)) 0 (journal_of s.log.all)
+  pub grants : GrantsBefore (machine_in d) (first_state (machine_in d)) 0 (journal_of s.log.all)
 
 -- starts may follow
 pub record IsStarting (d : Description) (s : Parts) : Type 0 where
@@ -42,7 +42,7 @@ pub record Rests (d : Description) (s : Parts) : Type 0 where
   pub held : AllHeldBack (machine_in d) (reading d s.log.all)
 
 -- each queued invocation but n is held back
-abbrev pub AllButHeld : Machine → Reading → ℕ → Type 0
+abbrev pub AllButHeld : Machine → NodeState → ℕ → Type 0
 AllButHeld m r n = (k : ℕ) → k ≢ n → (r.invocations k).phase ≡ Queued → IsHeldBack m r k
 
 -- there is room for a start, where one can follow
@@ -66,7 +66,7 @@ pub record StartsNext (d : Description) (old new : Parts) (at : Stamp) : Type 0 
   pub was : ((reading d old.log.all).invocations invocation).phase ≡ Queued
   pub free : IsHeldBack (machine_in d) (reading d old.log.all) invocation → ⊥
   pub starting : IsStarting d new
-  pub heard_is : reading d new.log.all ≡ heard (machine_in d) (reading d old.log.all) (Started invocation)
+  pub heard_is : reading d new.log.all ≡ next_state (machine_in d) (reading d old.log.all) (Started invocation)
   pub grows : Grows old.log.all new.log.all at (Started invocation ∷ [])
   pub owed : owes new.contexts + 1 ≡ owes old.contexts
   pub left_is : starts_left new.contexts + 1 ≡ starts_left old.contexts
@@ -83,14 +83,14 @@ pub record StartsNone (d : Description) (old new : Parts) : Type 0 where
   pub held : AllHeldBack (machine_in d) (reading d old.log.all)
 
 -- where all but one were held back, that one may have started, and now all are
-abbrev pub AtMost : Description → Parts → List Told → ℕ → Type 0
+abbrev pub AtMost : Description → Parts → List JournalEntry → ℕ → Type 0
 AtMost d s told n =
     ((told ≡ []) × AllButHeld (machine_in d) (reading d s.log.all) n)
     ⊎ ((told ≡ Started n ∷ []) × AllHeldBack (machine_in d) (reading d s.log.all))
 
 -- some start, one after another
 pub record StartsSome (d : Description) (old new : Parts) (at : Stamp) : Type 0 where
-  pub told : List Told
+  pub told : List JournalEntry
   pub starts : All IsStart told
   pub grows : Grows old.log.all new.log.all at told
   pub starting : IsStarting d new

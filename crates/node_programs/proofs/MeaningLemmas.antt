@@ -11,7 +11,7 @@ use Rattle.vm_desc.specs.Shapes.{shape_of}
 use Rattle.vm_desc.specs.declared.description.Description.{Description}
 use Rattle.mate_journal.specs.Machine.{HeldProgram}
 use Rattle.mate_journal.specs.declared.program.Program.{Program}
-use Rattle.node_invariant.specs.Meaning.{code_of, meaning_of}
+use Rattle.node_invariant.specs.Meaning.{image_code, meaning_of}
 use Rattle.node_programs.specs.Right.{IsSourceOf, IsRightProgram, AreRightPrograms}
 use Rattle.node_programs.specs.Sources.{is_held_as, source_in, run_from, uses_from, meaning_by}
 
@@ -30,14 +30,14 @@ IfSome-at P None x is h = cc
 IfSome-at P (Some y) x is h = let same : y ≡ x = cc in subst P same h
 
 -- the source of a held program is that of its image's code
-source-right : (d : Description) (ps : List Program) (h : HeldProgram) (s : Checked) → AreRightPrograms d ps → source_in ps h ≡ Some s → IsSourceOf (shape_of d) (code_of (shape_of d) h.image) s
+source-right : (d : Description) (ps : List Program) (h : HeldProgram) (s : Checked) → AreRightPrograms d ps → source_in ps h ≡ Some s → IsSourceOf (shape_of d) (image_code (shape_of d) h.image) s
 source-right d [] h s right is = cc
 source-right d (p ∷ ps) h s right is = by (is_held_as h p) refl is (source-right d ps h s (All-tail (IsRightProgram d) p ps right)) where
-  by : (b : Bool) → is_held_as h p ≡ b → (if b then p.source else source_in ps h) ≡ Some s → (source_in ps h ≡ Some s → IsSourceOf (shape_of d) (code_of (shape_of d) h.image) s)
-      → IsSourceOf (shape_of d) (code_of (shape_of d) h.image) s
+  by : (b : Bool) → is_held_as h p ≡ b → (if b then p.source else source_in ps h) ≡ Some s → (source_in ps h ≡ Some s → IsSourceOf (shape_of d) (image_code (shape_of d) h.image) s)
+      → IsSourceOf (shape_of d) (image_code (shape_of d) h.image) s
   by true held is later =
-      subst (λ (image : ArrayVec ℕ). IsSourceOf (shape_of d) (code_of (shape_of d) image) s) (held-image h p held)
-      (IfSome-at (IsSourceOf (shape_of d) (code_of (shape_of d) p.image)) p.source s is (All-head (IsRightProgram d) p ps right).source)
+      subst (λ (image : ArrayVec ℕ). IsSourceOf (shape_of d) (image_code (shape_of d) image) s) (held-image h p held)
+      (IfSome-at (IsSourceOf (shape_of d) (image_code (shape_of d) p.image)) p.source s is (All-head (IsRightProgram d) p ps right).source)
   by false held is later = later is
 
 run-same : (d : Description) (ps : List Program) → AreRightPrograms d ps → (h : HeldProgram) (store : Store) (payload : ArrayVec ℤ) (answers : List ℤ) (turns : ℕ)

@@ -6,22 +6,22 @@ use Rattle.mate_num.specs.declared.store.Store.{Store}
 use Rattle.mate_code.specs.BytesVerification.{bytes_verification}
 use Rattle.mate_code.specs.CodeUses.{uses_of as code_uses}
 use Rattle.mate_code.specs.Run.{Code, code_run}
-use Rattle.capsule_codec.specs.Image.{CapsuleParts, image_of, IsCapsule, IsOfMachine}
-use Rattle.ts_syntax.specs.Checked.{shape_of as shape_in, tree_of}
+use Rattle.capsule_codec.specs.Image.{CapsuleParts, capsule_image, IsCapsule, IsOfMachine}
+use Rattle.ts_syntax.specs.Checked.{checked_shape as shape_in, tree_of}
 use Rattle.ts_syntax.specs.declared.checked.Checked.{Checked}
 use Rattle.ts_meaning.specs.Meaning.{run_of}
-use Rattle.ts_meaning.specs.Uses.{uses_of}
+use Rattle.ts_meaning.specs.Uses.{script_uses}
 use Rattle.vm_desc.specs.Shapes.{shape_of}
 use Rattle.vm_desc.specs.declared.description.Description.{Description}
 use Rattle.mate_journal.specs.declared.program.Program.{Program}
-use Rattle.node_invariant.specs.Meaning.{code_of}
+use Rattle.node_invariant.specs.Meaning.{image_code}
 
 -- the source has the machine's shape, and the code has its run, its reads and its writes
 pub record IsSourceOf (shape : Shape) (code : Code) (source : Checked) : Type 0 where
   pub shape_is : shape_in source ≡ shape
   pub runs : (store : Store) (msg : ArrayVec ℤ) (answers : List ℤ) (turns : ℕ)
       → code_run shape code store msg answers turns ≡ run_of (tree_of source) store msg answers turns
-  pub uses : code_uses shape code ≡ uses_of shape (tree_of source)
+  pub uses : code_uses shape code ≡ script_uses shape (tree_of source)
 
 -- the image is the encoding of a capsule of this machine with the program's handler and version; its code is verified by
 -- the description's shape; and a source is that of the code
@@ -31,9 +31,9 @@ pub record IsRightProgram (d : Description) (p : Program) : Type 0 where
   pub of_machine : IsOfMachine d capsule
   pub handler : capsule.handler ≡ p.handler.0
   pub version : capsule.version ≡ p.version
-  pub image : p.image.items ≡ image_of capsule
+  pub image : p.image.items ≡ capsule_image capsule
   pub verified : IsOk (bytes_verification (shape_of d) capsule.code)
-  pub source : IfSome p.source (IsSourceOf (shape_of d) (code_of (shape_of d) p.image))
+  pub source : IfSome p.source (IsSourceOf (shape_of d) (image_code (shape_of d) p.image))
 
 abbrev pub AreRightPrograms : Description → List Program → Type 0
 AreRightPrograms d ps = All (IsRightProgram d) ps

@@ -8,7 +8,7 @@ use Rattle.mate_num.specs.declared.store.Store.{Store}
 use Rattle.ts_syntax.specs.Checked.{tree_of}
 use Rattle.ts_syntax.specs.declared.checked.Checked.{Checked}
 use Rattle.ts_meaning.specs.Meaning.{run_of}
-use Rattle.ts_meaning.specs.Uses.{uses_of}
+use Rattle.ts_meaning.specs.Uses.{script_uses}
 use Rattle.mate_num.specs.declared.outcome.Outcome.{Outcome}
 use Rattle.vm_desc.specs.Shapes.{shape_of}
 use Rattle.vm_desc.specs.declared.description.Description.{Description}
@@ -37,7 +37,7 @@ run_from shape (Some source) h store payload answers turns = run_of (tree_of sou
 
 abbrev pub uses_from : Shape → Option Checked → HeldProgram → Uses
 uses_from shape None h = (meaning_of shape).uses h
-uses_from shape (Some source) h = uses_of shape (tree_of source)
+uses_from shape (Some source) h = script_uses shape (tree_of source)
 
 -- what held programs mean, where these programs are given; by instructions they go as their code does
 abbrev pub meaning_by : Description → List Program → Meaning

@@ -3,7 +3,7 @@ use Rattle.std.specs.Prelude.{ℕ, List, [], ◌∷◌, ◌++◌, map, codes, de
 use Rattle.std.specs.List.{flat_map, enumerate_from}
 use Rattle.mate_files.specs.Pen.{encode_lower}
 use Rattle.mate_code.specs.declared.kind.Kind.{Kind}
-use Rattle.mate_code.specs.Kind.{form_of, width_of, name_of}
+use Rattle.mate_code.specs.Kind.{form_of, width_of, kind_name}
 use Rattle.mate_code.specs.Table.{table_of, kinds_of}
 use Rattle.vm_desc.specs.declared.description.Description.{Description}
 use Rattle.vm_desc.specs.Shapes.{shape_of}
@@ -15,7 +15,7 @@ names_of_functions desc = map (λ f. f.name) desc.functions.items
 -- a line: the opcode in two hexadecimal digits, the name, and the number of operand bytes
 abbrev pub table_row : List (List ℕ) → ℕ × Kind → List ℕ
 table_row functions entry =
-    encode_lower (entry.0 ∷ []) ++ codes " " ++ name_of functions entry.1 ++ codes " " ++ decimal (width_of (form_of entry.1)) ++ codes "\n"
+    encode_lower (entry.0 ∷ []) ++ codes " " ++ kind_name functions entry.1 ++ codes " " ++ decimal (width_of (form_of entry.1)) ++ codes "\n"
 
 -- the lines of the opcodes, from 0 on
 abbrev pub table_rows : List (List ℕ) → List Kind → List ℕ

@@ -2,7 +2,7 @@
 use Rattle.std.proofs.Common.{◌∙◌, ◌≡◌, List, length, sym, ap, subst, arith, ℕ, ◌<◌}
 use Rattle.vm_desc.specs.declared.description.Description.{Description}
 use Rattle.mate_journal.specs.Log.{IsSameLog}
-use Rattle.mate_journal.specs.Journal.{Event, Reading, journal_of, nothing_heard, heard_all}
+use Rattle.mate_journal.specs.Journal.{TimedEntry, NodeState, journal_of, first_state, state_after_all}
 use Rattle.mate_journal.specs.WellFormed.{IsWellFormed}
 use Rattle.mate_journal.specs.Serial.{IsSerial}
 use Rattle.mate_journal.specs.Stores.{ShowsStores}
@@ -25,7 +25,7 @@ use Rattle.node_contexts.specs.Programs.{held_at}
 use Rattle.node_invariant.proofs.AskLemmas.{writes-what_it_asks}
 use Rattle.node_invariant.specs.declared.parts.Parts.{Parts}
 use Rattle.node_invariant.specs.Meaning.{machine_in}
-use Rattle.node_invariant.specs.Fits.{AreInstalled, Fits}
+use Rattle.node_invariant.specs.Fits.{AreInstalled, ContextsMatch}
 use Rattle.node_invariant.specs.Agrees.{Agrees}
 use Rattle.node_invariant.specs.Keeps.{reading}
 use Rattle.mate_journal.specs.Pace.{Pace}
@@ -33,20 +33,20 @@ use Rattle.node_invariant.specs.Pace.{IsPace}
 use Rattle.node_invariant.specs.Starting.{Rests}
 use Rattle.open_node.specs.Journal.{KeepsJournal}
 
-grants-of : (d : Description) (s : Parts) → Rests d s → GrantsInOrder (machine_in d) (nothing_heard (machine_in d)) 0 (journal_of s.log.all)
+grants-of : (d : Description) (s : Parts) → Rests d s → GrantsInOrder (machine_in d) (first_state (machine_in d)) 0 (journal_of s.log.all)
 unfolding reading
-grants-of d s rests = GrantsInOrder-join (machine_in d) (nothing_heard (machine_in d)) 0 (journal_of s.log.all) rests.order.grants rests.held
+grants-of d s rests = GrantsInOrder-join (machine_in d) (first_state (machine_in d)) 0 (journal_of s.log.all) rests.order.grants rests.held
 
 pub Forward : (d : Description) (s : Parts) → Rests d s → GoesForward (reading d s.log.all)
 unfolding reading
 Forward d s rests =
     let m = machine_in d in
-    (never-stuck m (nothing_heard m) 0 (journal_of s.log.all) rests.order.keeps.well_formed.follow (grants-of d s rests) (record { numbered = (nothing_heard-orderly m).numbered })).last
+    (never-stuck m (first_state m) 0 (journal_of s.log.all) rests.order.keeps.well_formed.follow (grants-of d s rests) (record { numbered = (nothing_heard-orderly m).numbered })).last
 
 -- the calls to devices are in order in each such journal
 abbrev pub InOrder : Type 0
-InOrder = (m : Machine) (es : List Event) (device_of : DeviceOf) → WritesWhatItAsks device_of m.meaning → IsWellFormed m (nothing_heard m) es → IsSerial m (nothing_heard m) es
-    → GrantsInOrder m (nothing_heard m) 0 es → AsksDevicesInOrder device_of es
+InOrder = (m : Machine) (es : List TimedEntry) (device_of : DeviceOf) → WritesWhatItAsks device_of m.meaning → IsWellFormed m (first_state m) es → IsSerial m (first_state m) es
+    → GrantsInOrder m (first_state m) 0 es → AsksDevicesInOrder device_of es
 
 pub KeepsJournal-rests : (d : Description) (s : Parts) → InOrder → Rests d s → KeepsJournal d (machine_in d) s.log.all
 KeepsJournal-rests d s in_order rests =
@@ -60,9 +60,9 @@ KeepsJournal-rests d s in_order rests =
       grants = grants;
       tidy = keeps.tidy;
       full = keeps.full;
-      never_stuck = never-stuck m (nothing_heard m) 0 (journal_of s.log.all) keeps.well_formed.follow grants (record { numbered = (nothing_heard-orderly m).numbered });
+      never_stuck = never-stuck m (first_state m) 0 (journal_of s.log.all) keeps.well_formed.follow grants (record { numbered = (nothing_heard-orderly m).numbered });
       devices = in_order m (journal_of s.log.all) m.device_of (writes-what_it_asks d) keeps.well_formed keeps.serial grants;
-      ends_as_posted = ends-in_order m (nothing_heard m) 0 (journal_of s.log.all) keeps.well_formed.follow rests.order.grants (nothing_heard-orderly m);
+      ends_as_posted = ends-in_order m (first_state m) 0 (journal_of s.log.all) keeps.well_formed.follow rests.order.grants (nothing_heard-orderly m);
     }
 
 -- ---- the same log, with other room
@@ -73,19 +73,19 @@ module _ (d : Description) (s : Parts) (log : OpenView) (same : IsSameLog log.al
 
   pub reading-is : reading d log.all ≡ reading d s.log.all
   unfolding reading
-  reading-is = ap (heard_all (machine_in d) (nothing_heard (machine_in d))) journal-is
+  reading-is = ap (state_after_all (machine_in d) (first_state (machine_in d))) journal-is
 
-  along : (P : List Event → Type 0) → P (journal_of s.log.all) → P (journal_of log.all)
+  along : (P : List TimedEntry → Type 0) → P (journal_of s.log.all) → P (journal_of log.all)
   along P here = subst P (sym journal-is) here
 
-  heard : (P : Reading → Type 0) → P (reading d s.log.all) → P (reading d log.all)
+  heard : (P : NodeState → Type 0) → P (reading d s.log.all) → P (reading d log.all)
   heard P here = subst P (sym reading-is) here
 
   pub Rests-room : Rests d (record s { log = log })
   Rests-room =
       let keeps = rests.order.keeps in
       let m = machine_in d in
-      let n = nothing_heard m in
+      let n = first_state m in
       let entries = ap length same.entries in
       let numbers = keeps.numbers in
       record {
@@ -106,7 +106,7 @@ module _ (d : Description) (s : Parts) (log : OpenView) (same : IsSameLog log.al
             posts = heard (λ r. r.posts ≡ s.posts) keeps.posts;
             places = keeps.places;
             installed = heard (λ r. AreInstalled d r.installed (held_at s.handlers.programs)) keeps.installed;
-            fits = heard (λ r. Fits (held_at s.handlers.programs) r s.contexts) keeps.fits;
+            fits = heard (λ r. ContextsMatch (held_at s.handlers.programs) r s.contexts) keeps.fits;
             lengths = keeps.lengths;
             agrees = heard (λ r. Agrees d r s.contexts s.heap) keeps.agrees;
             serial = along (λ es. IsSerial m n es) keeps.serial;

@@ -5,7 +5,7 @@ use Rattle.std.proofs.lemmas.List.{length-map, get_or-map, drop-map, drop-drop, 
 use Rattle.std.proofs.lemmas.List.Elements.{All-drop, All-same}
 use Rattle.vm_desc.specs.declared.description.Description.{Description}
 use Rattle.mate_journal.specs.Log.{Log}
-use Rattle.mate_journal.specs.Journal.{Told, Installed, Seen, told_of, no_image, no_store}
+use Rattle.mate_journal.specs.Journal.{JournalEntry, Installed, Seen, journal_entry, no_image, no_store}
 use Rattle.mate_journal.specs.declared.entry.Entry.{Entry}
 use Rattle.mate_journal.specs.declared.entry.Entry.TheVariants as entry
 use Rattle.mate_journal.specs.declared.entry.Stamped.{Stamped}
@@ -34,7 +34,7 @@ module _ (v : OpenView) (kept : Log) (is : IsKept v kept) where
   pub entries-kept : (from : ℕ) → drop (v.gone.entries + from) v.all.entries ≡ map moved (drop from kept.entries)
   entries-kept from = sym (drop-drop from v.gone.entries v.all.entries) ∙ ap (drop from) is.entries ∙ drop-map moved from kept.entries
 
-  told-same : (e : Entry) → told_of v.all (entry_behind v.gone.images v.gone.stores e) ≡ told_of kept e
+  told-same : (e : Entry) → journal_entry v.all (entry_behind v.gone.images v.gone.stores e) ≡ journal_entry kept e
   told-same (entry.Post n h c payload) = refl
   told-same (entry.Dropped h cause) = refl
   told-same (entry.Start n) = refl
@@ -50,7 +50,7 @@ module _ (v : OpenView) (kept : Log) (is : IsKept v kept) where
 
   told-all : (es : List Stamped) → told_by_entries kept es ≡ told_by_entries v.all (map moved es)
   told-all [] = refl
-  told-all (e ∷ es) = ap (λ (t : Told). t ∷ told_by_entries kept es) (sym (told-same e.entry)) ∙ ap (λ (ts : List Told). told_of v.all (moved e).entry ∷ ts) (told-all es)
+  told-all (e ∷ es) = ap (λ (t : JournalEntry). t ∷ told_by_entries kept es) (sym (told-same e.entry)) ∙ ap (λ (ts : List JournalEntry). journal_entry v.all (moved e).entry ∷ ts) (told-all es)
 
   pub tell-from : (from : ℕ) → TellFrom (v.gone.entries + from) v.all (drop from kept.entries)
   tell-from from = record { by = kept; told = told-all (drop from kept.entries) ∙ ap (told_by_entries v.all) (sym (entries-kept from)) }

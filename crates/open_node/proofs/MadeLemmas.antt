@@ -5,7 +5,7 @@ use Rattle.mate_num.specs.declared.bounds.TheConstants.{CODE_MAX}
 use Rattle.mate_num.specs.declared.call.Stamp.{Stamp}
 use Rattle.mate_num.specs.declared.id.ContextId.{ContextId}
 use Rattle.vm_desc.specs.declared.description.Description.{Description}
-use Rattle.mate_journal.specs.Journal.{Reading}
+use Rattle.mate_journal.specs.Journal.{NodeState}
 use Rattle.mate_journal.specs.Pace.{no_pace}
 use Rattle.node_contexts.specs.declared.contexts.Contexts.{Contexts}
 use Rattle.node_contexts.specs.At.{At, at, AreIdle}
@@ -21,7 +21,7 @@ use Rattle.open_node.specs.View.{Tells}
 use Rattle.open_node.specs.Calls.{HasStepped}
 use Rattle.open_node.proofs.PaceLemmas.{seen_as, Tells-from}
 
-pub IsPace-idle : (r : Reading) (s : Contexts) → AreIdle s → IsPace r s no_pace
+pub IsPace-idle : (r : NodeState) (s : Contexts) → AreIdle s → IsPace r s no_pace
 IsPace-idle r s idles = record {
   line = ap (map (invocation_in s)) (sym idles.ring);
   counts = λ c t is started. absurd (let e : None ≡ Some t = ap (λ (a : At). a.seat) (sym (idles.each c)) ∙ is in cc);

@@ -4,7 +4,7 @@ use Rattle.std.specs.Prelude.{map, slice_index_or}
 use Rattle.mate_num.specs.declared.call.Stamp.{Stamp}
 use Rattle.mate_num.specs.declared.id.ContextId.{ContextId}
 use Rattle.vm_desc.specs.declared.description.Description.{Description}
-use Rattle.mate_journal.specs.Journal.{Told, is_started}
+use Rattle.mate_journal.specs.Journal.{JournalEntry, is_started}
 use Rattle.mate_journal.specs.Pace.{Pace}
 use Rattle.journal_laws.proofs.Moves.{started_live}
 use Rattle.node_contexts.specs.declared.seat.Seat.{Seat}
@@ -50,7 +50,7 @@ module _ (d : Description) (s : Parts) (keeps : Keeps d s) (p : Pace) where
     counts c o is = subst Right (sym (entry-is c ∙ ap entry_of is)) (by c o is)
 
 -- what the parts tell, as it is seen
-pub Tells-from : (d : Description) (old new : Parts) (at_ : Stamp) (Rule : Pace → List Told → Pace → Type 0) (told : List Told) → Keeps d old → Keeps d new → Grows old.log.all new.log.all at_ told → new.log.gone ≡ old.log.gone
+pub Tells-from : (d : Description) (old new : Parts) (at_ : Stamp) (Rule : Pace → List JournalEntry → Pace → Type 0) (told : List JournalEntry) → Keeps d old → Keeps d new → Grows old.log.all new.log.all at_ told → new.log.gone ≡ old.log.gone
     → ((p : Pace) → IsPace (reading d old.log.all) old.contexts p → (q : Pace) × Rule p told q × IsPace (reading d new.log.all) new.contexts q) → Tells (seen_as d old) (seen_as d new) at_ Rule
 Tells-from d old new at_ Rule told before after grows gone paces = record {
   told = told;

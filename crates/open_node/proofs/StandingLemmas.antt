@@ -7,13 +7,13 @@ use Rattle.mate_num.specs.declared.id.HandlerId.{HandlerId}
 use Rattle.split_phase.specs.Calls as calls
 use Rattle.context_sched.specs.Ready.{holds}
 use Rattle.vm_desc.specs.declared.description.Description.{Description}
-use Rattle.mate_journal.specs.Journal.{Reading, held, is_live}
+use Rattle.mate_journal.specs.Journal.{NodeState, held, is_live}
 use Rattle.mate_journal.specs.NodeScript.{IsReadyIn}
 use Rattle.journal_laws.specs.Progress.{IsNoneLive, IsSomeReady, GoesForward}
 use Rattle.node_contexts.specs.declared.handlers.Held.{Held}
 use Rattle.node_contexts.specs.declared.seat.Seat.{Seat}
 use Rattle.node_contexts.specs.At.{at, IsAsking, IsNoneAsking}
-use Rattle.node_contexts.specs.Programs.{Programs, held_at, version_in}
+use Rattle.node_contexts.specs.Programs.{Programs, held_at, held_version_in}
 use Rattle.node_invariant.specs.declared.parts.Parts.{Parts}
 use Rattle.node_invariant.specs.Meaning.{machine_in}
 use Rattle.node_invariant.specs.Fits.{program_of}
@@ -52,7 +52,7 @@ ready-or-not d s keeps None first b is =
 -- ---- who waits
 
 module _ (d : Description) (s : Parts) (keeps : Keeps d s) where
-  abbrev r : Reading
+  abbrev r : NodeState
   r = reading d s.log.all
 
   abbrev h : Programs
@@ -100,17 +100,17 @@ module _ (d : Description) (s : Parts) (keeps : Keeps d s) where
 -- ---- what is installed
 
 module _ (d : Description) (s : Parts) (keeps : Keeps d s) (handler : HandlerId) where
-  abbrev q : Reading
+  abbrev q : NodeState
   q = reading d s.log.all
 
-  pub held-is : held q handler ≡ version_in (held_at s.handlers.programs handler)
+  pub held-is : held q handler ≡ held_version_in (held_at s.handlers.programs handler)
   held-is = by (held_at s.handlers.programs handler) (keeps.installed.same handler) where
-    by : (o : Option Held) → q.installed handler ≡ option_map (program_of handler) o → held q handler ≡ version_in o
+    by : (o : Option Held) → q.installed handler ≡ option_map (program_of handler) o → held q handler ≡ held_version_in o
     by None e = rw e refl
     by (Some x) e = rw e refl
 
   pub nothing-held : held_at s.handlers.programs handler ≡ None → held q handler ≡ 0
-  nothing-held none = held-is ∙ ap version_in none
+  nothing-held none = held-is ∙ ap held_version_in none
 
   pub image-is : (x : Held) → held_at s.handlers.programs handler ≡ Some x → IsImageOf q handler x.image
   image-is x is = record {

@@ -6,7 +6,7 @@ use Rattle.mate_num.specs.declared.id.ContextId.{ContextId}
 use Rattle.mate_num.specs.declared.id.HandlerId.{HandlerId}
 use Rattle.mate_journal.specs.Log.{Log}
 use Rattle.mate_journal.specs.Machine.{Machine, HeldProgram}
-use Rattle.mate_journal.specs.Journal.{Told, Ready, Waiting, Reading, told_of}
+use Rattle.mate_journal.specs.Journal.{JournalEntry, Ready, Waiting, NodeState, journal_entry}
 use Rattle.mate_journal.specs.declared.entry.Stamped.{Stamped}
 use Rattle.mate_journal.specs.WellFormed.{IsWaiting}
 use Rattle.mate_journal.specs.NodeScript.{IsReadyIn, TurnsIn}
@@ -18,50 +18,50 @@ use Rattle.open_node.specs.declared.standing.Standing.{Standing}
 use Rattle.open_node.specs.declared.standing.Standing.TheVariants.{Can, Outside, Idle}
 
 -- entries that meet the rule, and change the pace one by one: no instruction is executed
-abbrev pub Pacing : (Pace → List Told → Type 0) → Pace → List Told → Pace → Type 0
+abbrev pub Pacing : (Pace → List JournalEntry → Type 0) → Pace → List JournalEntry → Pace → Type 0
 Pacing Rule p told q = Rule p told × (q ≡ paced_all p told)
 
 -- One turn of n instructions. So many are executed: those up to the next mark, which is within what one invocation executes at
 -- most from its start to its end.
-pub record HasStepped (m : Machine) (r : Reading) (c : ContextId) (n ran : ℕ) (p : Pace) (told : List Told) (q : Pace) : Type
+pub record HasStepped (m : Machine) (r : NodeState) (c : ContextId) (n ran : ℕ) (p : Pace) (told : List JournalEntry) (q : Pace) : Type
     0 where
   pub turn : TurnsIn m r p c n told q
   pub ran_is : p.counts turn.invocation + ran ≡ min (p.counts turn.invocation + n) (mark_of m r turn.invocation)
   pub within : mark_of m r turn.invocation ≤ (m.turns + 1) * CODE_MAX
 
 -- an invocation in the context waits for an answer
-pub record IsWaitingIn (r : Reading) (c : ContextId) : Type 0 where
+pub record IsWaitingIn (r : NodeState) (c : ContextId) : Type 0 where
   pub invocation : ℕ
   pub waits : IsWaiting r invocation
   pub context : (r.invocations invocation).context ≡ c
 
-abbrev pub IsNoneReady : Reading → Type 0
+abbrev pub IsNoneReady : NodeState → Type 0
 IsNoneReady r = (n : ℕ) → (r.invocations n).phase ≡ Ready → ⊥
 
 -- what can go on: a ready invocation; where none is, one that waits for the outside; and nothing exactly where none is live
-abbrev pub StandsAs : Reading → Standing → Type 0
+abbrev pub StandsAs : NodeState → Standing → Type 0
 StandsAs r (Can c) = IsReadyIn r c
 StandsAs r (Outside c) = IsNoneReady r × IsWaitingIn r c
 StandsAs r Idle = IsNoneLive r
 
 -- the invocation that waits in the context, and what it asked
-pub record IsAsked (r : Reading) (c : ContextId) (a : Asked) : Type 0 where
+pub record IsAsked (r : NodeState) (c : ContextId) (a : Asked) : Type 0 where
   pub waits : (r.invocations a.inv).phase ≡ Waiting a.fun a.args
   pub context : (r.invocations a.inv).context ≡ c
 
 -- the image is that of what is installed for the handler, whose version is none that stands for nothing
-pub record IsImageOf (r : Reading) (h : HandlerId) (image : ArrayVec ℕ) : Type 0 where
+pub record IsImageOf (r : NodeState) (h : HandlerId) (image : ArrayVec ℕ) : Type 0 where
   pub program : HeldProgram
   pub installed : r.installed h ≡ Some program
   pub is : program.image ≡ image
   pub version : 0 < program.version
 
 -- what entries tell
-abbrev pub told_by_entries : Log → List Stamped → List Told
-told_by_entries l es = map (λ (e : Stamped). told_of l e.entry) es
+abbrev pub told_by_entries : Log → List Stamped → List JournalEntry
+told_by_entries l es = map (λ (e : Stamped). journal_entry l e.entry) es
 
 -- what the entries from a position on tell
-abbrev pub told_from : ℕ → Log → List Told
+abbrev pub told_from : ℕ → Log → List JournalEntry
 told_from from l = told_by_entries l (drop from l.entries)
 
 -- with the images and stores of some log the entries tell what those from the position on tell

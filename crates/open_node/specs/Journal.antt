@@ -1,7 +1,7 @@
 -- What each node's log keeps.
 use Rattle.mate_journal.specs.Log.{Log}
 use Rattle.mate_journal.specs.Machine.{Machine}
-use Rattle.mate_journal.specs.Journal.{journal_of, nothing_heard}
+use Rattle.mate_journal.specs.Journal.{journal_of, first_state}
 use Rattle.mate_journal.specs.WellFormed.{IsWellFormed}
 use Rattle.mate_journal.specs.Serial.{IsSerial}
 use Rattle.mate_journal.specs.Stores.{ShowsStores}
@@ -18,12 +18,12 @@ use Rattle.journal_laws.specs.Progress.{IsNeverStuck}
 -- invocation is ready, waits for the outside, or none is live; conflicting ones end in the order of their posts; and in each era the
 -- calls to a device are in order.
 pub record KeepsJournal (d : Description) (m : Machine) (l : Log) : Type 0 where
-  pub well_formed : IsWellFormed m (nothing_heard m) (journal_of l)
-  pub serial : IsSerial m (nothing_heard m) (journal_of l)
-  pub stores : ShowsStores m (nothing_heard m) (journal_of l)
-  pub grants : GrantsInOrder m (nothing_heard m) 0 (journal_of l)
-  pub never_stuck : IsNeverStuck m (nothing_heard m) (journal_of l)
+  pub well_formed : IsWellFormed m (first_state m) (journal_of l)
+  pub serial : IsSerial m (first_state m) (journal_of l)
+  pub stores : ShowsStores m (first_state m) (journal_of l)
+  pub grants : GrantsInOrder m (first_state m) 0 (journal_of l)
+  pub never_stuck : IsNeverStuck m (first_state m) (journal_of l)
   pub devices : AsksDevicesInOrder m.device_of (journal_of l)
   pub tidy : IsTidyLog d l
   pub full : HasFullImages l
-  pub ends_as_posted : EndAsPosted m (nothing_heard m) (journal_of l)
+  pub ends_as_posted : EndAsPosted m (first_state m) (journal_of l)

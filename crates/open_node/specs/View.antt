@@ -5,7 +5,7 @@ use Rattle.mate_num.specs.declared.call.Stamp.{Stamp}
 use Rattle.mate_num.specs.declared.id.ContextId.{ContextId}
 use Rattle.vm_desc.specs.declared.description.Description.{Description}
 use Rattle.mate_journal.specs.Log.{Log, IsSameLog}
-use Rattle.mate_journal.specs.Journal.{Told, is_started, Reading}
+use Rattle.mate_journal.specs.Journal.{JournalEntry, is_started, NodeState}
 use Rattle.mate_journal.specs.Pace.{Pace}
 use Rattle.mate_journal.specs.OpenLog.{Gone}
 use Rattle.node_invariant.specs.Keeps.{reading, Grows}
@@ -21,7 +21,7 @@ pub record NodeView : Type 0 where
   pub counts : List (ℕ × ℕ)
 
 -- what was heard of the node
-abbrev pub heard_of : NodeView → Reading
+abbrev pub heard_of : NodeView → NodeState
 heard_of v = reading v.description v.log
 
 abbrev pub count_at : NodeView → ContextId → ℕ × ℕ
@@ -34,8 +34,8 @@ pub record HasPace (v : NodeView) (p : Pace) : Type 0 where
       → (count_at v c).1 ≡ p.counts (count_at v c).0
 
 -- the node tells more with this stamp, and what it tells and the pace after it meet the rule
-pub record Tells (old new : NodeView) (at : Stamp) (Rule : Pace → List Told → Pace → Type 0) : Type 0 where
-  pub told : List Told
+pub record Tells (old new : NodeView) (at : Stamp) (Rule : Pace → List JournalEntry → Pace → Type 0) : Type 0 where
+  pub told : List JournalEntry
   pub description : new.description ≡ old.description
   pub grows : Grows old.log new.log at told
   pub gone : new.gone ≡ old.gone

@@ -3,7 +3,7 @@
 ghost use Rattle.std.specs.Prelude.{◌≡◌, ◌<◌, ◌≤◌, ◌∷◌, [], length, MatchResult};
 ghost use Rattle.mate_num.specs.declared.bounds.TheConstants.{CONTEXTS_MAX};
 ghost use Rattle.mate_journal.specs.Journal.{Void};
-ghost use Rattle.mate_journal.specs.NodeScript.{Answers, ShowsOnce, Resets};
+ghost use Rattle.mate_journal.specs.NodeScript.{AnswersCall, ShowsOnce, Resets};
 ghost use Rattle.node_invariant.specs.Meaning.{machine_in};
 ghost use Rattle.node_invariant.specs.Keeps.{IsTimely};
 ghost use Rattle.node_calls.specs.Calls.{NobodyWaits};
@@ -43,7 +43,7 @@ impl OpenNode {
         requires timely { IsTimely at self.old.log }
         requires room { 1 ≤ self.old.log.spare }
         ensures { MatchResult result
-            (λ _. Tells self.old self.new at (Pacing (λ _. Answers (heard_of self.old) ctx value)))
+            (λ _. Tells self.old self.new at (Pacing (λ _. AnswersCall (heard_of self.old) ctx value)))
             (λ _. NobodyWaits (heard_of self.old) ctx × (self.new ≡ self.old)) }
     {
         answer_in(&self.description, &mut self.parts, ctx, value, at)

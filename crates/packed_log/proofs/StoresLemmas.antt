@@ -11,14 +11,14 @@ use Rattle.arrayvec.specs.ArrayVec.{ArrayVec}
 use Rattle.mate_num.specs.declared.store.Store.{Store}
 use Rattle.mate_num.specs.Store.{payload, buffer_at}
 use Rattle.packed_log.specs.Pieces.{pieces}
-use Rattle.packed_log.specs.Stores.{AreParts, in_vec, items_in, store_parts, store_of}
+use Rattle.packed_log.specs.Stores.{AreParts, in_vec, items_in, store_parts, unpacked_store}
 use Rattle.packed_log.proofs.PiecesLemmas.{length-pieces, pieces-push, pieces-take, get_or-pieces, cuts-within}
 
 pub in_vec-items : {A : Type 0} (vs : List (ArrayVec A)) → map in_vec (map items_in vs) ≡ vs
 in_vec-items {A = A} [] = refl
 in_vec-items {A = A} (v ∷ vs) = ap (λ (rest : List (ArrayVec A)). v ∷ rest) (in_vec-items vs)
 
-pub store_of-parts : (s : Store) → store_of (store_parts s) ≡ s
+pub store_of-parts : (s : Store) → unpacked_store (store_parts s) ≡ s
 store_of-parts s = ap (λ (buffers : List (ArrayVec ℤ)). let out : Store = record { shared = s.shared; buffers = in_vec buffers } in out) (in_vec-items s.buffers.items)
 
 -- a store's parts among those of the stores: from `first` on, up to `behind`
@@ -47,13 +47,13 @@ is-at ns ps index first behind whole right h from to =
     }
 
 pub store-at : (ns : List ℕ) (ps : List (List ℤ)) (index first behind : ℕ) → IsAt ns ps index first behind → index < length ns
-    → Some (store_of (take (behind - first - 1 + 1) (drop first ps))) ≡ slice_get (map store_of (pieces ns ps)) index
+    → Some (unpacked_store (take (behind - first - 1 + 1) (drop first ps))) ≡ slice_get (map unpacked_store (pieces ns ps)) index
 store-at ns ps index first behind at h =
     let there : index < length (pieces ns ps) = omega (arith, h, length-pieces ns ps) in
     let count : behind - first - 1 + 1 ≡ behind - first = omega (arith, at.rise) in
-    ap (λ (k : ℕ). Some (store_of (take k (drop first ps)))) count
-    ∙ ap (λ (parts : List (List ℤ)). Some (store_of parts)) at.is
-    ∙ sym (slice_get-map store_of (pieces ns ps) index ∙ ap (λ (o : Option (List (List ℤ))). option_map store_of o) (slice_get-get_or (pieces ns ps) index [] there))
+    ap (λ (k : ℕ). Some (unpacked_store (take k (drop first ps)))) count
+    ∙ ap (λ (parts : List (List ℤ)). Some (unpacked_store parts)) at.is
+    ∙ sym (slice_get-map unpacked_store (pieces ns ps) index ∙ ap (λ (o : Option (List (List ℤ))). option_map unpacked_store o) (slice_get-get_or (pieces ns ps) index [] there))
 
 pub parts-at : (ns : List ℕ) (ps : List (List ℤ)) (index first behind : ℕ) → IsAt ns ps index first behind → AreParts (take (behind - first - 1 + 1) (drop first ps))
 parts-at ns ps index first behind at =
@@ -73,7 +73,7 @@ buffers-behind ps first buffers within =
     omega (arith, length-drop 1 (take (buffers + 1) (drop first ps)), length-take-le (buffers + 1) (drop first ps) (omega (arith, length-drop first ps, within)), within)
 
 pub buffer-at : (ps : List (List ℤ)) (first buffers buffer : ℕ) → buffer < buffers → first + buffers < length ps
-    → get_or ps (first + 1 + buffer) [] ≡ buffer_at (store_of (take (buffers + 1) (drop first ps))) buffer
+    → get_or ps (first + 1 + buffer) [] ≡ buffer_at (unpacked_store (take (buffers + 1) (drop first ps))) buffer
 buffer-at ps first buffers buffer h within =
     let behind = drop 1 (take (buffers + 1) (drop first ps)) in
     part-of-buffer ps first buffers buffer h within
@@ -121,11 +121,11 @@ pub whole-push : (ns : List ℕ) (ps : List (List ℤ)) (s : Store) (count : ℕ
 whole-push ns ps s count whole is = omega (arith, sum_by_push (λ x. x) ns count, length-append ps (store_parts s), length-parts s, whole, is)
 
 pub items-push : (ns : List ℕ) (ps : List (List ℤ)) (s : Store) (count : ℕ) → sum ns ≡ length ps → count ≡ 1 + length s.buffers.items
-    → map store_of (pieces (ns ++ count ∷ []) (ps ++ store_parts s)) ≡ map store_of (pieces ns ps) ++ s ∷ []
+    → map unpacked_store (pieces (ns ++ count ∷ []) (ps ++ store_parts s)) ≡ map unpacked_store (pieces ns ps) ++ s ∷ []
 items-push ns ps s count whole is =
-    ap (λ (groups : List (List (List ℤ))). map store_of groups) (stores-push ns ps s count whole is)
-    ∙ map_push store_of (pieces ns ps) (store_parts s)
-    ∙ ap (λ (t : Store). map store_of (pieces ns ps) ++ t ∷ []) (store_of-parts s)
+    ap (λ (groups : List (List (List ℤ))). map unpacked_store groups) (stores-push ns ps s count whole is)
+    ∙ map_push unpacked_store (pieces ns ps) (store_parts s)
+    ∙ ap (λ (t : Store). map unpacked_store (pieces ns ps) ++ t ∷ []) (store_of-parts s)
 
 pub right-push : (ns : List ℕ) (ps : List (List ℤ)) (s : Store) (count : ℕ) → sum ns ≡ length ps → count ≡ 1 + length s.buffers.items
     → All AreParts (pieces ns ps) → AreParts (store_parts s) → All AreParts (pieces (ns ++ count ∷ []) (ps ++ store_parts s))
@@ -136,8 +136,8 @@ right-push ns ps s count whole is all right =
 pub whole-take : (n : ℕ) (ns : List ℕ) (ps : List (List ℤ)) → sum ns ≡ length ps → sum (take n ns) ≡ length (take (sum (take n ns)) ps)
 whole-take n ns ps whole = sym (length-take-le (sum (take n ns)) ps (omega (arith, cuts-within ns n, whole)))
 
-pub items-take : (n : ℕ) (ns : List ℕ) (ps : List (List ℤ)) → map store_of (pieces (take n ns) (take (sum (take n ns)) ps)) ≡ take n (map store_of (pieces ns ps))
-items-take n ns ps = ap (λ (groups : List (List (List ℤ))). map store_of groups) (pieces-take n ns ps) ∙ sym (take-map store_of n (pieces ns ps))
+pub items-take : (n : ℕ) (ns : List ℕ) (ps : List (List ℤ)) → map unpacked_store (pieces (take n ns) (take (sum (take n ns)) ps)) ≡ take n (map unpacked_store (pieces ns ps))
+items-take n ns ps = ap (λ (groups : List (List (List ℤ))). map unpacked_store groups) (pieces-take n ns ps) ∙ sym (take-map unpacked_store n (pieces ns ps))
 
 pub right-take : (n : ℕ) (ns : List ℕ) (ps : List (List ℤ)) → All AreParts (pieces ns ps) → All AreParts (pieces (take n ns) (take (sum (take n ns)) ps))
 right-take n ns ps all =

@@ -20,8 +20,8 @@ abbrev pub store_parts : Store → List (List ℤ)
 store_parts s = s.shared.items ∷ map items_in s.buffers.items
 
 -- the store of these parts
-abbrev pub store_of : List (List ℤ) → Store
-store_of parts = record { shared = in_vec (slice_index_or parts 0 []); buffers = in_vec (map in_vec (drop 1 parts)) }
+abbrev pub unpacked_store : List (List ℤ) → Store
+unpacked_store parts = record { shared = in_vec (slice_index_or parts 0 []); buffers = in_vec (map in_vec (drop 1 parts)) }
 
 -- the parts are those of a store
 pub record AreParts (parts : List (List ℤ)) : Type 0 where

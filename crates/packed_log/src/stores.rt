@@ -31,12 +31,12 @@ impl Model for Stores {
     ghost use Rattle.std.specs.List.{sum};
     ghost use Rattle.mate_num.specs.declared.store.Store.{Store};
     ghost use Rattle.packed_log.specs.Pieces.{pieces};
-    ghost use Rattle.packed_log.specs.Stores.{Listed, AreParts, store_of};
+    ghost use Rattle.packed_log.specs.Stores.{Listed, AreParts, unpacked_store};
 
     ghost Value = { Listed Store };
 
     ghost view = { λ s. record {
-      items = map store_of (pieces s.counts.lengths s.parts.pieces);
+      items = map unpacked_store (pieces s.counts.lengths s.parts.pieces);
       spare = min s.counts.spare (min (s.parts.places / 9) (s.parts.room / 96));
     } };
 
@@ -147,11 +147,11 @@ pub struct StoreRef<'a> {
 impl<'a> Model for StoreRef<'a> {
     ghost use Rattle.std.specs.Prelude.{◌+◌, ◌<◌, length, take, drop};
     ghost use Rattle.mate_num.specs.declared.store.Store.{Store};
-    ghost use Rattle.packed_log.specs.Stores.{AreParts, store_of};
+    ghost use Rattle.packed_log.specs.Stores.{AreParts, unpacked_store};
 
     ghost Value = { Store };
 
-    ghost view = { λ s. store_of (take (s.buffers + 1) (drop s.first s.parts.now.pieces)) };
+    ghost view = { λ s. unpacked_store (take (s.buffers + 1) (drop s.first s.parts.now.pieces)) };
 
     ghost invariant = { λ s. (s.first + s.buffers < length s.parts.now.pieces)
         × AreParts (take (s.buffers + 1) (drop s.first s.parts.now.pieces)) };

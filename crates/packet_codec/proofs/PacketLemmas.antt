@@ -15,21 +15,21 @@ use Rattle.capsule_codec.proofs.ImageLemmas.{IsBytes-drop, part_fits}
 use Rattle.packet_codec.specs.declared.decoding.PacketFault.{PacketFault}
 use Rattle.packet_codec.specs.declared.packet.Packet.{Packet}
 use Rattle.packet_codec.specs.declared.packet.Packet.TheVariants.{Vector, Status, Fragment, App}
-use Rattle.packet_codec.specs.Packet.{full_len, IsRight, IsRightStatus, IsRightFragment, HasRanges, HasStatusRanges, HasFragmentRanges}
+use Rattle.packet_codec.specs.Packet.{full_len, IsRightPacket, IsRightStatus, IsRightFragment, HasPacketRanges, HasStatusRanges, HasFragmentRanges}
 use Rattle.packet_codec.specs.Bytes.{first_byte_of, body_of, packet_bytes, version_bytes, value_bytes}
 use Rattle.packet_codec.specs.Reading.{u32_of, versions_in, values_in, vector_in, app_in, is_status, status_read, is_fragment, fragment_read, body_in, packet_in}
 use Rattle.packet_codec.proofs.ItemLemmas.{length-version_bytes, versions_in-version_bytes, AreVersions, versions_are, length-value_bytes, values_in-value_bytes, AreValues, values_are}
 
 -- ---- what was written is read
 
-vector_again : (handlers : ℕ) (versions : List ℕ) → length versions ≡ handlers → HasRanges (Vector (record { items = versions }))
+vector_again : (handlers : ℕ) (versions : List ℕ) → length versions ≡ handlers → HasPacketRanges (Vector (record { items = versions }))
     → vector_in handlers (length versions ∷ version_bytes versions) ≡ Ok (Vector (record { items = versions }))
 vector_again handlers versions right ranges =
     let len : eqb (length (version_bytes versions)) (4 * length versions) ≡ true = eq-eqb _ _ (length-version_bytes versions) in
     let same : eqb (length versions) handlers ≡ true = eq-eqb _ _ right in
     cond-false _ _ _ (not_from_true _ len) ∙ cond-false _ _ _ (not_from_true _ same) ∙ rw (versions_in-version_bytes versions ranges.1) refl
 
-app_again : (values : List ℤ) → length values ≤ 10 → HasRanges (App (record { items = values }))
+app_again : (values : List ℤ) → length values ≤ 10 → HasPacketRanges (App (record { items = values }))
     → app_in (length values ∷ value_bytes values) ≡ Ok (App (record { items = values }))
 app_again values right ranges =
     let len : eqb (length (value_bytes values)) (2 * length values) ≡ true = eq-eqb _ _ (length-value_bytes values) in
@@ -71,14 +71,14 @@ fragment_again handlers handler version index count large bytes right ranges =
     let known = is_fragment-right handlers handler version index count large bytes right in
     cond-false _ _ _ (not_from_true _ len) ∙ rw (v, known) refl
 
-body_again : (handlers : ℕ) (p : Packet) → IsRight handlers p → HasRanges p → body_in handlers (first_byte_of p) (body_of p) ≡ Ok p
+body_again : (handlers : ℕ) (p : Packet) → IsRightPacket handlers p → HasPacketRanges p → body_in handlers (first_byte_of p) (body_of p) ≡ Ok p
 body_again handlers (Vector versions) right ranges = vector_again handlers versions.items right ranges
 body_again handlers (Status handler version missing) right ranges = status_again handlers handler.0 version missing right ranges
 body_again handlers (Fragment handler version index count false bytes) right ranges = fragment_again handlers handler.0 version index count false bytes.items right ranges
 body_again handlers (App payload) right ranges = app_again payload.items right ranges
 body_again handlers (Fragment handler version index count true bytes) right ranges = fragment_again handlers handler.0 version index count true bytes.items right ranges
 
-pub packet_again : (d : Description) (p : Packet) → IsRight (length d.handlers.items) p → HasRanges p → packet_in d (packet_bytes d.vm_id p) ≡ Ok p
+pub packet_again : (d : Description) (p : Packet) → IsRightPacket (length d.handlers.items) p → HasPacketRanges p → packet_in d (packet_bytes d.vm_id p) ≡ Ok p
 packet_again d p right ranges =
     let bounds : HasBounds d = bounds_of d in
     let vm : from_be_bytes w32 (to_be_bytes w32 d.vm_id) ≡ d.vm_id = from_be_bytes-to_be_bytes_4 d.vm_id (omega (arith, bounds.vm_id)) in
@@ -106,8 +106,8 @@ same_read a b e = cc
 record Means (handlers kind : ℕ) (body : List ℕ) (p : Packet) : Type 0 where
   kind_is : kind ≡ first_byte_of p
   body_is : body ≡ body_of p
-  right : IsRight handlers p
-  ranges : HasRanges p
+  right : IsRightPacket handlers p
+  ranges : HasPacketRanges p
 
 vector_is : (handlers : ℕ) (body : List ℕ) (p : Packet) → IsBytes body → vector_in handlers body ≡ Ok p → Means handlers 1 body p
 vector_is handlers [] p fits e = absurd cc
@@ -228,7 +228,7 @@ body_means handlers kind body p fits e =
     (λ e. absurd (cc e))))))
 
 pub packet_is : (d : Description) (bytes : List ℕ) (p : Packet) → IsBytes bytes → packet_in d bytes ≡ Ok p
-    → (bytes ≡ packet_bytes d.vm_id p) × IsRight (length d.handlers.items) p × HasRanges p
+    → (bytes ≡ packet_bytes d.vm_id p) × IsRightPacket (length d.handlers.items) p × HasPacketRanges p
 packet_is d (kind ∷ m0 ∷ m1 ∷ m2 ∷ m3 ∷ body) p fits e =
     let bytes : List ℕ = kind ∷ m0 ∷ m1 ∷ m2 ∷ m3 ∷ body in
     let vm = passes_not _ _ _ p e in
@@ -241,10 +241,10 @@ packet_is d _ p fits e = absurd cc
 -- ---- of a result
 
 pub packet_found : (d : Description) (bytes : List ℕ) (r : Result Packet PacketFault) → IsBytes bytes → r ≡ packet_in d bytes
-    → IfOk r (λ p. (bytes ≡ packet_bytes d.vm_id p) × IsRight (length d.handlers.items) p)
+    → IfOk r (λ p. (bytes ≡ packet_bytes d.vm_id p) × IsRightPacket (length d.handlers.items) p)
 packet_found d bytes (Ok p) fits e = let h = packet_is d bytes p fits (sym e) in (h.0, h.1)
 packet_found d bytes (Err fault) fits e = tt
 
 pub only_packet : (d : Description) (bytes : List ℕ) (r : Result Packet PacketFault) (p : Packet) → r ≡ packet_in d bytes
-    → IsRight (length d.handlers.items) p → HasRanges p → bytes ≡ packet_bytes d.vm_id p → r ≡ Ok p
+    → IsRightPacket (length d.handlers.items) p → HasPacketRanges p → bytes ≡ packet_bytes d.vm_id p → r ≡ Ok p
 only_packet d bytes r p e right ranges same = e ∙ ap (packet_in d) same ∙ packet_again d p right ranges

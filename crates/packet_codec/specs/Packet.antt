@@ -28,11 +28,11 @@ pub record IsRightFragment (handlers handler version index count : ℕ) (large :
   pub full : index + 1 < count → length bytes ≡ full_len large
 
 -- the packet is right for a machine with so many handlers
-abbrev pub IsRight : ℕ → Packet → Type 0
-IsRight handlers (Vector versions) = length versions.items ≡ handlers
-IsRight handlers (Status handler version missing) = IsRightStatus handlers handler.0 version missing
-IsRight handlers (Fragment handler version index count large bytes) = IsRightFragment handlers handler.0 version index count large bytes.items
-IsRight handlers (App payload) = length payload.items ≤ 10
+abbrev pub IsRightPacket : ℕ → Packet → Type 0
+IsRightPacket handlers (Vector versions) = length versions.items ≡ handlers
+IsRightPacket handlers (Status handler version missing) = IsRightStatus handlers handler.0 version missing
+IsRightPacket handlers (Fragment handler version index count large bytes) = IsRightFragment handlers handler.0 version index count large bytes.items
+IsRightPacket handlers (App payload) = length payload.items ≤ 10
 
 -- the numbers in a packet are in the ranges of their types: every packet's are
 pub record HasStatusRanges (handler version missing : ℕ) : Type 0 where
@@ -47,8 +47,8 @@ pub record HasFragmentRanges (handler version index count : ℕ) (bytes : List �
   pub count_fits : count < 256
   pub bytes_fit : IsBytes bytes
 
-abbrev pub HasRanges : Packet → Type 0
-HasRanges (Vector versions) = (length versions.items < 256) × All (λ version. version < 2 ^ 32) versions.items
-HasRanges (Status handler version missing) = HasStatusRanges handler.0 version missing
-HasRanges (Fragment handler version index count large bytes) = HasFragmentRanges handler.0 version index count bytes.items
-HasRanges (App payload) = (length payload.items < 256) × All (λ value. FitsSigned w16 value) payload.items
+abbrev pub HasPacketRanges : Packet → Type 0
+HasPacketRanges (Vector versions) = (length versions.items < 256) × All (λ version. version < 2 ^ 32) versions.items
+HasPacketRanges (Status handler version missing) = HasStatusRanges handler.0 version missing
+HasPacketRanges (Fragment handler version index count large bytes) = HasFragmentRanges handler.0 version index count bytes.items
+HasPacketRanges (App payload) = (length payload.items < 256) × All (λ value. FitsSigned w16 value) payload.items

@@ -4,7 +4,7 @@ ghost use Rattle.std.specs.Prelude.{◌≡◌, ◌≤◌, length, IfOk, is_err, 
 ghost use Rattle.packet_codec.specs.declared.packet.Packet.{Packet};
 ghost use Rattle.packet_codec.specs.Bytes.{packet_bytes};
 ghost use Rattle.packet_codec.specs.Reading.{packet_in, is_noise, body_in, vector_in, status_read, fragment_read, app_in, is_status, is_fragment, versions_in, values_in};
-ghost use Rattle.packet_codec.specs.Packet.{full_len, IsRight, HasRanges};
+ghost use Rattle.packet_codec.specs.Packet.{full_len, IsRightPacket, HasPacketRanges};
 
 use crate::packet::Packet;
 use arrayvec::ArrayVec;
@@ -32,9 +32,9 @@ pub fn decode(desc: &Description, bytes: &[u8]) -> Result<Packet, PacketFault>
     ensures noise { is_err result ≡ is_noise desc.now bytes.now }
 
     // The bytes are the packet's one form, and it is right for the machine.
-    ensures form { IfOk result (λ p. (bytes.now ≡ packet_bytes desc.now.vm_id p) × IsRight (length desc.now.handlers.items) p) }
+    ensures form { IfOk result (λ p. (bytes.now ≡ packet_bytes desc.now.vm_id p) × IsRightPacket (length desc.now.handlers.items) p) }
     // The bytes of a packet that is right for the machine decode to this packet.
-    ensures only { (p : Packet) → IsRight (length desc.now.handlers.items) p → HasRanges p
+    ensures only { (p : Packet) → IsRightPacket (length desc.now.handlers.items) p → HasPacketRanges p
         → bytes.now ≡ packet_bytes desc.now.vm_id p → result ≡ Ok p }
 {
     read_packet(desc, bytes)

@@ -3,7 +3,7 @@
 ghost use Rattle.std.specs.Prelude.{◌≡◌, ◌+◌, ◌*◌, ◌^◌, ◌<◌, ◌≤◌, ◌++◌, [], ◌∷◌, length, All, Ok, FitsSigned};
 ghost use Rattle.std.specs.Int.{w16};
 ghost use Rattle.capsule_codec.specs.Image.{IsBytes};
-ghost use Rattle.packet_codec.specs.Packet.{IsRight, HasRanges};
+ghost use Rattle.packet_codec.specs.Packet.{IsRightPacket, HasPacketRanges};
 ghost use Rattle.packet_codec.specs.Bytes.{packet_bytes, first_byte_of, body_of, version_bytes, value_bytes};
 ghost use Rattle.packet_codec.specs.Reading.{packet_in};
 
@@ -13,9 +13,9 @@ use vm_desc::Description;
 
 /// The packet's one form as bytes: its kind, the machine's number, and its fields.
 pub fn encode(desc: &Description, packet: &Packet) -> PacketBytes
-    requires { IsRight (length desc.now.handlers.items) packet.now }
+    requires { IsRightPacket (length desc.now.handlers.items) packet.now }
     ensures bytes { result.items ≡ packet_bytes desc.now.vm_id packet.now }
-    ensures ranges { HasRanges packet.now }
+    ensures ranges { HasPacketRanges packet.now }
 
     // The machine decodes it to this packet.
     ensures again { packet_in desc.now result.items ≡ Ok packet.now }
@@ -44,7 +44,7 @@ fn kind(packet: &Packet) -> u8
 fn put_body(out: &mut PacketBytes, packet: &Packet)
     requires { length out.old.items ≡ 5 }
     ensures bytes { out.new.items ≡ out.old.items ++ body_of packet.now }
-    ensures ranges { HasRanges packet.now }
+    ensures ranges { HasPacketRanges packet.now }
 {
     match packet {
         Packet::Vector { versions } => {

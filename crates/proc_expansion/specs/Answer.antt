@@ -1,7 +1,7 @@
 -- What an expansion answers.
 use Rattle.std.specs.Prelude.{◌≡◌, ◌≤◌, ◌<◌, ℕ, min, Result, Ok, Err, ⊤}
 use Rattle.ts_syntax.specs.declared.script.Script.{Script}
-use Rattle.ts_syntax.specs.Seen.{source_of}
+use Rattle.ts_syntax.specs.Seen.{source_seen}
 use Rattle.ts_syntax.specs.Tree.{ProcedureSource}
 use Rattle.proc_names.specs.declared.fault.ProcFault.{ProcFault}
 use Rattle.proc_names.specs.declared.fault.ProcFault.TheVariants.{TooLarge, TooNested, NoMemory}
@@ -12,7 +12,7 @@ use Rattle.proc_expansion.specs.Extent.{acts_count, acts_depth}
 
 -- the script is the expansion, which is within both limits
 pub record IsExpansion (source : ProcedureSource) (script : Script) : Type 0 where
-  pub is : source_of script ≡ expansion source
+  pub is : source_seen script ≡ expansion source
   pub small : acts_count (expansion source).body ≤ STATEMENTS_MAX
   pub shallow : acts_depth (expansion source).body ≤ DEPTH_MAX
 

@@ -1,7 +1,7 @@
 //! The expansion of a whole script.
 
 ghost use Rattle.std.specs.Prelude.{◌≡◌, ◌≤◌, min, map, IfOk};
-ghost use Rattle.ts_syntax.specs.Seen.{acts_of, procedure_of, source_of};
+ghost use Rattle.ts_syntax.specs.Seen.{acts_of, procedure_of, source_seen};
 ghost use Rattle.proc_names.specs.Heads.{parameter_count};
 ghost use Rattle.proc_names.specs.Named.{written_of};
 ghost use Rattle.proc_expansion.specs.declared.expanding.TheConstants.{STATEMENTS_MAX, DEPTH_MAX};
@@ -67,7 +67,7 @@ pub fn expand(alloc: Global, script: &PScript) -> Result<Script, ProcFault>
 fn shortened(alloc: Global, plan: &Plan, script: &PScript) -> Result<Script, NoMemory>
     requires planned { map procedure_of plan.now.heads.procs.now ≡ (written_of script.now).procs }
     requires shallow { acts_depth (expansion (written_of script.now)).body ≤ DEPTH_MAX }
-    ensures { IfOk result (λ new. source_of new ≡ expansion (written_of script.now)) }
+    ensures { IfOk result (λ new. source_seen new ≡ expansion (written_of script.now)) }
 {
     let hidden = Hidden::of(alloc, 0, &[])?;
     let live = live_procs(alloc, plan, &hidden)?;
@@ -104,7 +104,7 @@ fn written<'a>(
     requires same { BecomesSame (callees (written_of script.now).procs) (acts_of body.now) (written_of script.now).body }
     requires counted { plan.now.parameters ≡ parameter_count (written_of script.now).procs }
     requires shallow { acts_depth (expansion (written_of script.now)).body ≤ DEPTH_MAX }
-    ensures { IfOk result (λ new. source_of new ≡ expansion (written_of script.now)) }
+    ensures { IfOk result (λ new. source_seen new ≡ expansion (written_of script.now)) }
 {
     let decls = declarations(alloc, script.decls().as_slice(), plan.parameters)?;
     let hidden = Hidden::of(alloc, 0, &[])?;

@@ -3,7 +3,7 @@ use Rattle.std.proofs.Common.{ap, ◌∙◌}
 use Rattle.mate_num.specs.declared.call.End.{End}
 use Rattle.mate_num.specs.declared.outcome.Outcome.{Outcome}
 use Rattle.ts_syntax.specs.Tree.{ProcedureSource}
-use Rattle.proc_meaning.specs.FrameLaw.{RunsAsExpanded}
+use Rattle.proc_laws.specs.FrameLaw.{RunsAsExpanded}
 use Rattle.procedure_callers.specs.Ends.{FramesEndIn, ExpansionEndsIn}
 
 pub ends_as_frames : (source : ProcedureSource) (end : End) → RunsAsExpanded source → FramesEndIn source end → ExpansionEndsIn source end

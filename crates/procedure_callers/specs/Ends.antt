@@ -9,7 +9,7 @@ use Rattle.ts_syntax.specs.Tree.{ProcedureSource}
 use Rattle.ts_checker.specs.Checks.{checked_source}
 use Rattle.ts_meaning.specs.Meaning.{run_of}
 use Rattle.proc_expansion.specs.Expansion.{expansion}
-use Rattle.proc_meaning.specs.Frames.{run_with_frames}
+use Rattle.proc_laws.specs.Frames.{run_with_frames}
 
 -- on every machine, each run with frames has this end
 abbrev pub FramesEndIn : ProcedureSource → End → Type 0

@@ -1,7 +1,7 @@
 //! Scripts that exclude wrong bodies of `expand`.
 
 ghost use Rattle.std.specs.Prelude.{◌≡◌, ◌⊎◌, IfOk, MatchResult};
-ghost use Rattle.ts_syntax.specs.Seen.{source_of};
+ghost use Rattle.ts_syntax.specs.Seen.{source_seen};
 ghost use Rattle.ts_syntax.specs.Tree.{set, number, no_acts, act_then};
 ghost use Rattle.proc_names.specs.Named.{written_of};
 ghost use Rattle.proc_renaming.specs.Renaming.{parameter_name, parameter_decls};
@@ -17,7 +17,7 @@ pub fn a_second_procedure_has_numbers_of_its_own(
     script: &PScript,
 ) -> Result<Script, ProcFault>
     requires { written_of script.now ≡ two_parameters }
-    ensures { IfOk result (λ plain. source_of plain ≡
+    ensures { IfOk result (λ plain. source_seen plain ≡
         record { decls = parameter_decls 0 2; body = act_then (set record { name = parameter_name 1; place = 3 } (number 7)) no_acts }) }
 {
     expand(alloc, script)

@@ -2,13 +2,13 @@
 //! expansion has that end.
 
 ghost use Rattle.std.specs.Prelude.{◌≡◌};
-ghost use Rattle.proc_meaning.specs.FrameLaw.{RunsAsExpanded};
+ghost use Rattle.proc_laws.specs.FrameLaw.{RunsAsExpanded};
 ghost use Rattle.proc_names.specs.Named.{written_of};
 ghost use Rattle.procedure_callers.specs.Ends.{FramesEndIn, ExpansionEndsIn};
 ghost use Rattle.procedure_callers.specs.Procedures.{hidden_variable, inner_call, kept_variable, reserved_name};
 
 use mate_num::{End, FaultKind};
-use proc_meaning::frame_law;
+use proc_laws::frame_law;
 use proc_names::PScript;
 use vm_desc::Description;
 

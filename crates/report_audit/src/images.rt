@@ -4,7 +4,7 @@ ghost use Rattle.std.specs.Prelude.{◌≡◌, ◌≤◌, ℕ, List, length, IfO
 ghost use Rattle.std.specs.List.{list_any};
 ghost use Rattle.arrayvec.specs.ArrayVec.{ArrayVec};
 ghost use Rattle.mate_num.specs.declared.id.HandlerId.{HandlerId as Handler};
-ghost use Rattle.mate_journal.specs.Journal.{journal_of, told_of};
+ghost use Rattle.mate_journal.specs.Journal.{journal_of, journal_entry};
 ghost use Rattle.mate_journal.specs.Tidy.{IsTidyLog};
 ghost use Rattle.journal_laws.specs.Growth.{IsNamedBelow};
 ghost use Rattle.node_programs.specs.Sources.{is_held_as};
@@ -60,7 +60,7 @@ fn installs_right(
 ) -> bool
     requires range { HasHandlerBelow 8 entry.now }
     requires named { IsNamedBelow (length log.now.images) (length log.now.stores) entry.now }
-    ensures { result ≡ told.installs_right programs.now (roll_in log.now.images roll.now) (told_of log.now entry.now) }
+    ensures { result ≡ told.installs_right programs.now (roll_in log.now.images roll.now) (journal_entry log.now entry.now) }
 {
     match entry {
         Entry::Install {

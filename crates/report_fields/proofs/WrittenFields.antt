@@ -20,7 +20,7 @@ use Rattle.mate_num.specs.declared.id.HandlerId.{HandlerId}
 use Rattle.mate_num.specs.declared.id.FunId.{FunId}
 use Rattle.mate_num.specs.declared.id.ContextId.{ContextId}
 use Rattle.mate_num.specs.Shapes.{is_device}
-use Rattle.vm_desc.specs.Limits.{is_handler, is_function, is_kind, args_of, first_of_two}
+use Rattle.vm_desc.specs.Limits.{is_handler, is_function, is_kind, function_args, first_of_two}
 use Rattle.vm_desc.specs.Names.{is_name, between, stands_in, repeat_after, first_repeat}
 use Rattle.vm_desc.specs.Whole.{context_count}
 use Rattle.vm_desc.specs.declared.description.Description.{Description}
@@ -29,7 +29,7 @@ use Rattle.vm_desc.specs.declared.function.Function.{Function}
 use Rattle.vm_desc.proofs.DescriptionLemmas.{bounds_of, items_of}
 use Rattle.mate_journal.specs.declared.entry.DropCause.{DropCause}
 use Rattle.mate_journal.specs.declared.entry.DropCause.TheVariants as drop
-use Rattle.report_text.specs.Words.{drop_word, fault_word, handler_name, function_name, name_of}
+use Rattle.report_text.specs.Words.{drop_word, fault_word, handler_name, function_name, name_or_none}
 use Rattle.report_fields.specs.Words.{reads}
 use Rattle.report_fields.specs.Numbers.{value_of, values_after}
 use Rattle.capsule_codec.specs.HexText.{bytes_of_digits}
@@ -161,16 +161,16 @@ handler-name h e = (and_parts (is_name h.name) (is_kind h.kind) (and_parts (is_n
 
 function-name : (devices : ℕ) (f : Function) → is_function devices f ≡ true → is_name f.name ≡ true
 function-name devices f e =
-    let a = and_parts ((is_name f.name && nat_le (args_of f.kind) 4) && is_device devices f.device) (between 1 60000 f.latency) e in
-    let b = and_parts (is_name f.name && nat_le (args_of f.kind) 4) (is_device devices f.device) a.0 in
-    (and_parts (is_name f.name) (nat_le (args_of f.kind) 4) b.0).0
+    let a = and_parts ((is_name f.name && nat_le (function_args f.kind) 4) && is_device devices f.device) (between 1 60000 f.latency) e in
+    let b = and_parts (is_name f.name && nat_le (function_args f.kind) 4) (is_device devices f.device) a.0 in
+    (and_parts (is_name f.name) (nat_le (function_args f.kind) 4) b.0).0
 
 pub record Reads {A : Type 0} (tells : List ℕ → Option A) (w : List ℕ) (a : A) : Type 0 where
   pub told : tells w ≡ Some a
   pub written : is_written w ≡ true
 
-word-in : (o : Option (List ℕ)) (word : List ℕ) → o ≡ Some word → name_of o ≡ word
-word-in o word h = ap name_of h
+word-in : (o : Option (List ℕ)) (word : List ℕ) → o ≡ Some word → name_or_none o ≡ word
+word-in o word h = ap name_or_none h
 
 pub reads-handler : (d : Description) (h : HandlerId) → h.0 < length d.handlers.items → Reads (names.handler_of d) (handler_name d h) h
 reads-handler d h below =

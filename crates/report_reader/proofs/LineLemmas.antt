@@ -28,7 +28,7 @@ use Rattle.report_reader.specs.Verbs.{verb_word, verb_of}
 use Rattle.report_fields.specs.Hex.{image_of, packet_of}
 use Rattle.report_fields.specs.Names.{handler_of, function_of, context_of}
 use Rattle.report_fields.specs.Stores.{store_of}
-use Rattle.report_reader.specs.Told.{told_words, line_words, IsRightTold, IsRight}
+use Rattle.report_reader.specs.Told.{told_words, line_words, IsRightTold, IsRightLine}
 use Rattle.report_reader.specs.Reading.{post_of, dropped_of, ask_of, answer_of, faulted_of, installed_of, VoidVerb, ready, waiting, newer, void_word, void_by, void_of, started_of, halted_of, shown_of, interval_of, sent_of, lost_of, got_of, noise_told, told_by, told_of, line_with, line_in}
 use Rattle.report_fields.proofs.OptionLemmas.{steps}
 use Rattle.report_fields.proofs.NumberLemmas.{Tells, decimal-unsigned_of, signed-value_of}
@@ -308,7 +308,7 @@ told_of_read d ws t h =
 
 pub record WritesLine (d : Description) (l : Line) (bytes : List ℕ) : Type 0 where
   pub words : bytes ≡ line_words d l
-  pub right : IsRight d l
+  pub right : IsRightLine d l
 
 pub join_words : (w : List ℕ) (ws : List (List ℕ)) → join_with_byte 32 (w ∷ ws) ≡ w ++ joined ws
 join_words w [] = sym (append-nil w)

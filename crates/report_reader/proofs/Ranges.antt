@@ -29,7 +29,7 @@ use Rattle.report_fields.specs.Hex.{is_hex_word, hex_of, image_of, packet_of}
 use Rattle.report_fields.specs.Names.{handler_of, function_of, context_of}
 use Rattle.report_fields.specs.Stores.{after, closed, shared_value, shared_after, item, items_after, opened, buffer_of, buffers_after, store_with, store_of}
 use Rattle.mate_journal.specs.Ranges.{IsByteList, AreValues}
-use Rattle.report_reader.specs.Told.{HasToldRanges, HasRanges}
+use Rattle.report_reader.specs.Told.{HasToldRanges, HasLineRanges}
 use Rattle.report_reader.specs.Reading.{post_of, dropped_of, ask_of, VoidVerb, ready, waiting, newer, void_word, void_by, told_by, told_of, line_with, line_in}
 use Rattle.report_fields.proofs.OptionLemmas.{steps, when_some, below_some}
 use Rattle.report_fields.proofs.NumberLemmas.{decimal-below_of}
@@ -287,16 +287,16 @@ told_ranges : (d : Description) (ws : List (List ℕ)) (t : Told) → told_of d 
 unfolding told_of
 told_ranges d ws t h = let a = steps (λ (v : Verb). told_by d v (rest ws)) (first verb_of ws) t h in told_by_ranges d a.step (rest ws) t a.gives
 
-pub line_ranges : (d : Description) (bytes : List ℕ) (l : Line) → line_in d bytes ≡ Some l → HasRanges l
+pub line_ranges : (d : Description) (bytes : List ℕ) (l : Line) → line_in d bytes ≡ Some l → HasLineRanges l
 line_ranges d bytes l h =
     let ws = words_of bytes in
     let a = steps _ (first unsigned_of ws) l h in
     let b = steps _ (first number_of (rest ws)) l a.gives in
     let c = steps _ (first node_of (rest (rest ws))) l b.gives in
     let m = maps _ (told_of d (rest (rest (rest ws)))) l c.gives in
-    let this : HasRanges (line_with a.step b.step c.step m.value) = record {
+    let this : HasLineRanges (line_with a.step b.step c.step m.value) = record {
       event = first-told unsigned_of (λ n. n < 2 ^ 64) (λ w n e. small-unsigned w n e) ws a.step a.was;
       time = small-number (rest ws) b.step b.was;
       told = told_ranges d (rest (rest (rest ws))) m.value m.was;
     } in
-    subst HasRanges m.gives this
+    subst HasLineRanges m.gives this

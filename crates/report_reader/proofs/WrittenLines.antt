@@ -32,7 +32,7 @@ use Rattle.report_reader.specs.Verbs.{verb_word, verb_of}
 use Rattle.report_fields.specs.Hex.{image_of, packet_of}
 use Rattle.report_fields.specs.Names.{handler_of, function_of, context_of}
 use Rattle.mate_journal.specs.Ranges.{HasVoidRanges, HasEntryRanges, HasAirRanges}
-use Rattle.report_reader.specs.Told.{told_words, line_words, IsRightTold, IsRightEntry, IsRightAir, IsRight, HasToldRanges, HasRanges}
+use Rattle.report_reader.specs.Told.{told_words, line_words, IsRightTold, IsRightEntry, IsRightAir, IsRightLine, HasToldRanges, HasLineRanges}
 use Rattle.report_reader.specs.Reading.{VoidVerb, ready, waiting, newer, void_word, void_by, told_by, told_of, line_with, line_of_words, line_in}
 use Rattle.report_fields.proofs.NumberLemmas.{unsigned_of-decimal}
 use Rattle.report_reader.proofs.VerbLemmas.{verb_of-word}
@@ -289,7 +289,7 @@ line_joined : (event time at : List ℕ) (words : List ℕ) (ws : List (List ℕ
     → event ++ word time ++ word at ++ words ≡ event ++ joined (time ∷ at ∷ ws)
 line_joined event time at words ws e = rw e (simp append_assoc)
 
-pub line_is_read : (d : Description) (l : Line) → IsRight d l → HasRanges l → IsRead d l
+pub line_is_read : (d : Description) (l : Line) → IsRightLine d l → HasLineRanges l → IsRead d l
 line_is_read d l right ranges =
     let s = spells d l.told right.told ranges.told in
     let event = decimal l.stamp.event in

@@ -66,7 +66,7 @@ IsRightTold d (told.Made e) = IsRightEntry d e
 IsRightTold d (told.Installed h version image) = (h.0 < length d.handlers.items) × (0 < length image.items)
 IsRightTold d (told.Shown s) = IsStoreOf d s
 
-pub record IsRight (d : Description) (l : Line) : Type 0 where
+pub record IsRightLine (d : Description) (l : Line) : Type 0 where
   pub node : l.node < 64
   pub told : IsRightTold d l.told
 
@@ -78,7 +78,7 @@ HasToldRanges (told.Made e) = HasEntryRanges e
 HasToldRanges (told.Installed h version image) = (version < 2 ^ 32) × (length image.items ≤ 1056) × IsByteList image.items
 HasToldRanges (told.Shown s) = HasStoreRanges s
 
-pub record HasRanges (l : Line) : Type 0 where
+pub record HasLineRanges (l : Line) : Type 0 where
   pub event : l.stamp.event < 2 ^ 64
   pub time : l.stamp.time < 2 ^ 32
   pub told : HasToldRanges l.told

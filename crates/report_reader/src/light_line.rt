@@ -3,7 +3,7 @@
 ghost use Rattle.std.specs.Prelude.{◌≡◌, IfSome, IfNone};
 ghost use Rattle.std.specs.Option.{option_map};
 ghost use Rattle.report_fields.specs.Words.{first, rest, only_at_end};
-ghost use Rattle.report_reader.specs.Told.{line_words, IsRight, HasRanges};
+ghost use Rattle.report_reader.specs.Told.{line_words, IsRightLine, HasLineRanges};
 ghost use Rattle.report_reader.specs.declared.light_line.Bulk.{Bulk};
 ghost use Rattle.report_reader.specs.declared.line.Line.{Line};
 ghost use Rattle.report_reader.specs.LightLine.{told_with, bulky_line};
@@ -72,9 +72,9 @@ impl Bulk {
 pub fn light_line_of(desc: &Description, bytes: &[u8], bulk: &mut Bulk) -> Option<LightLine>
     ensures value { option_map (bulky_line bulk.new) result ≡ line_in desc.now bytes.now }
     ensures form { IfSome result (λ l. bytes.now ≡ line_words desc.now (bulky_line bulk.new l)) }
-    ensures right { IfSome result (λ l. IsRight desc.now (bulky_line bulk.new l)) }
-    ensures ranges { IfSome result (λ l. HasRanges (bulky_line bulk.new l)) }
-    ensures none { IfNone result ((l : Line) → IsRight desc.now l → HasRanges l → bytes.now ≡ line_words desc.now l → ⊥) }
+    ensures right { IfSome result (λ l. IsRightLine desc.now (bulky_line bulk.new l)) }
+    ensures ranges { IfSome result (λ l. HasLineRanges (bulky_line bulk.new l)) }
+    ensures none { IfNone result ((l : Line) → IsRightLine desc.now l → HasLineRanges l → bytes.now ≡ line_words desc.now l → ⊥) }
 {
     read_light(desc, bytes, bulk)
 }

@@ -1,7 +1,7 @@
 //! A line of a report: when and where something happened, and what.
 
 ghost use Rattle.std.specs.Prelude.{◌≡◌, IfSome, IfNone};
-ghost use Rattle.report_reader.specs.Told.{line_words, IsRight, HasRanges};
+ghost use Rattle.report_reader.specs.Told.{line_words, IsRightLine, HasLineRanges};
 ghost use Rattle.report_reader.specs.declared.line.Line.{Line};
 ghost use Rattle.report_reader.specs.LightLine.{told_with, bulky_line};
 ghost use Rattle.report_reader.specs.Reading.{line_in};
@@ -43,9 +43,9 @@ pub struct Line {
 pub fn line_of(desc: &Description, bytes: &[u8]) -> Option<Line>
     ensures value { result ≡ line_in desc.now bytes.now }
     ensures form { IfSome result (λ l. bytes.now ≡ line_words desc.now l) }
-    ensures right { IfSome result (λ l. IsRight desc.now l) }
-    ensures ranges { IfSome result (λ l. HasRanges l) }
-    ensures none { IfNone result ((l : Line) → IsRight desc.now l → HasRanges l → bytes.now ≡ line_words desc.now l → ⊥) }
+    ensures right { IfSome result (λ l. IsRightLine desc.now l) }
+    ensures ranges { IfSome result (λ l. HasLineRanges l) }
+    ensures none { IfNone result ((l : Line) → IsRightLine desc.now l → HasLineRanges l → bytes.now ≡ line_words desc.now l → ⊥) }
 {
     read_line(desc, bytes)
 }

@@ -20,7 +20,7 @@ use Rattle.mate_journal.specs.declared.entry.Entry.{Entry}
 use Rattle.mate_journal.specs.declared.entry.Entry.TheVariants as entry
 use Rattle.mate_journal.specs.declared.entry.Stamped.{Stamped}
 use Rattle.mate_journal.specs.declared.report.Report.{Report}
-use Rattle.report_text.specs.Words.{entry_words, stamp_words, seen_words, image_of, image_word, word, number, handler_name}
+use Rattle.report_text.specs.Words.{entry_words, stamp_words, seen_words, image_text, image_word, word, number, handler_name}
 use Rattle.report_text.specs.Text.{air_line, entry_line, entry_lines, event_lines, event_piece, events_end, records, end_line, lines, text}
 use Rattle.report_text.specs.Tidy.{Mark}
 use Rattle.report_text.specs.Pieces.{IsNamed, IsBefore, AddsPiece}
@@ -45,7 +45,7 @@ use Rattle.report_reading.proofs.TidyLemmas.{all-map, air-marks, map-below, entr
 
 words-same : (d : Description) (x y : Log) (e : Entry) → IsSameLog x y → entry_words d x e ≡ entry_words d y e
 words-same d x y (entry.Install h version image) s =
-    ap (λ (is : List (ArrayVec ℕ)). codes " install" ++ word (handler_name d h) ++ number version ++ word (image_word (image_of (slice_get is image)))) s.images
+    ap (λ (is : List (ArrayVec ℕ)). codes " install" ++ word (handler_name d h) ++ number version ++ word (image_word (image_text (slice_get is image)))) s.images
 words-same d x y (entry.Seen store) s = ap (λ (ss : List Store). codes " seen" ++ seen_words d (slice_get ss store)) s.stores
 words-same d x y _ s = refl
 
@@ -269,7 +269,7 @@ piece-words d a at node (told.Made e) r =
 piece-words d a at node (told.Installed h version image) r =
     let e = stamped at (entry.Install h version (length a.images)) in
     append-nil (entry_line d (log_with_line a at (told.Installed h version image)) node e)
-    ∙ ap (λ (o : Option (ArrayVec ℕ)). stamp_words at node ++ (codes " install" ++ word (handler_name d h) ++ number version ++ word (image_word (image_of o))) ++ codes "\n") (get-new a.images image)
+    ∙ ap (λ (o : Option (ArrayVec ℕ)). stamp_words at node ++ (codes " install" ++ word (handler_name d h) ++ number version ++ word (image_word (image_text o))) ++ codes "\n") (get-new a.images image)
 piece-words d a at node (told.Shown s) r =
     let e = stamped at (entry.Seen (length a.stores)) in
     append-nil (entry_line d (log_with_line a at (told.Shown s)) node e)

@@ -18,11 +18,11 @@ use Rattle.mate_journal.specs.declared.entry.Entry.{Entry}
 use Rattle.mate_journal.specs.declared.entry.Entry.TheVariants as entry
 use Rattle.mate_journal.specs.declared.entry.Stamped.{Stamped}
 use Rattle.mate_journal.specs.declared.report.Report.{Report}
-use Rattle.report_text.specs.Words.{entry_words, stamp_words, seen_words, image_of, image_word, word, number, handler_name}
+use Rattle.report_text.specs.Words.{entry_words, stamp_words, seen_words, image_text, image_word, word, number, handler_name}
 use Rattle.report_text.specs.Text.{air_line, entry_line, entry_lines, event_lines}
 use Rattle.report_text.specs.Progress.{air_event, at_event}
 use Rattle.report_text.specs.Pieces.{IsNamed}
-use Rattle.report_text.specs.Tidy.{IsTidy, IsAirInRange, AirNodesRise, Mark, marks, marks_of, IsNoEarlier, AreOfOneNode, IsLastSeen}
+use Rattle.report_text.specs.Tidy.{IsTidy, IsAirInRange, AirNodesRise, Mark, marks, log_marks, IsNoEarlier, AreOfOneNode, IsLastSeen}
 use Rattle.report_text.proofs.EventLemmas.{All-of_map, All-of_flat_map, All-front, All-back}
 use Rattle.report_reader.specs.declared.line.Line.{Line}
 use Rattle.report_reader.specs.Told as reader
@@ -72,7 +72,7 @@ get-some (x ∷ xs) (suc i) d h = get-some xs i d (omega (arith, h))
 
 told-text : (d : Description) (l : Log) (x : Entry) → IsNamed l x → entry_words d l x ≡ reader.told_words d (told_by_entry l x)
 told-text d l (entry.Install h version image) n =
-    ap (λ (o : Option (ArrayVec ℕ)). codes " install" ++ word (handler_name d h) ++ number version ++ word (image_word (image_of o))) (get-some l.images image (record { items = [] }) n)
+    ap (λ (o : Option (ArrayVec ℕ)). codes " install" ++ word (handler_name d h) ++ number version ++ word (image_word (image_text o))) (get-some l.images image (record { items = [] }) n)
 told-text d l (entry.Seen store) n =
     ap (λ (o : Option Store). codes " seen" ++ seen_words d o) (get-some l.stores store (record { shared = record { items = [] }; buffers = record { items = [] } }) n)
 told-text d l (entry.Post n h c payload) x = refl
@@ -224,15 +224,15 @@ shown-seen l (entry.Void cause) = refl
 abbrev stamped_mark : ℕ → Stamped → Mark
 stamped_mark node e = record { stamp = e.stamp; node = node; is_seen = is_some (store_named e.entry) }
 
-marks-each : (P : Mark → Type 0) (node : ℕ) (ls : List Log) → All P (marks_of node ls) → (i : ℕ) (d : Log) → i < length ls → All (λ (e : Stamped). P (stamped_mark (node + i) e)) (get_or ls i d).entries
+marks-each : (P : Mark → Type 0) (node : ℕ) (ls : List Log) → All P (log_marks node ls) → (i : ℕ) (d : Log) → i < length ls → All (λ (e : Stamped). P (stamped_mark (node + i) e)) (get_or ls i d).entries
 marks-each P node [] h i d q = absurd (omega (arith, q))
 marks-each P node (l ∷ ls) h zero d q =
     let z : node ≡ node + 0 = omega arith in
-    let own = All-of_map P (stamped_mark node) l.entries (All-front P (map (stamped_mark node) l.entries) (marks_of (suc node) ls) h) in
+    let own = All-of_map P (stamped_mark node) l.entries (All-front P (map (stamped_mark node) l.entries) (log_marks (suc node) ls) h) in
     subst (λ (k : ℕ). All (λ (e : Stamped). P (stamped_mark k e)) l.entries) z own
 marks-each P node (l ∷ ls) h (suc i) d q =
     let n : suc node + i ≡ node + suc i = omega arith in
-    let more = marks-each P (suc node) ls (All-back P (map (stamped_mark node) l.entries) (marks_of (suc node) ls) h) i d (omega (arith, q)) in
+    let more = marks-each P (suc node) ls (All-back P (map (stamped_mark node) l.entries) (log_marks (suc node) ls) h) i d (omega (arith, q)) in
     subst (λ (k : ℕ). All (λ (e : Stamped). P (stamped_mark k e)) (get_or ls i d).entries) n more
 
 abbrev aired_mark : Aired → Mark
@@ -241,11 +241,11 @@ aired_mark a = record { stamp = a.stamp; node = a.node; is_seen = false }
 lines-marked : (P : Mark → Type 0) (r : Report) (events : List ℕ) → All P (marks r) → All (λ (l : Line). P (line_mark l)) (flat_map (lines_at r) events)
 lines-marked P r events h =
     lines-all (λ (l : Line). P (line_mark l)) r events
-    (All-of_map P aired_mark r.air (All-front P (map aired_mark r.air) (marks_of 0 r.nodes) h))
+    (All-of_map P aired_mark r.air (All-front P (map aired_mark r.air) (log_marks 0 r.nodes) h))
     (λ i x q k e p.
     (let l = get_or r.nodes i x in
     let z : 0 + i ≡ i = omega arith in
-    let m = marks-each P 0 r.nodes (All-back P (map aired_mark r.air) (marks_of 0 r.nodes) h) i x q k e p in
+    let m = marks-each P 0 r.nodes (All-back P (map aired_mark r.air) (log_marks 0 r.nodes) h) i x q k e p in
     let s = get_or l.entries k e in
     let at : P (stamped_mark i s) = subst (λ (n : ℕ). P (stamped_mark n s)) z m in
     subst (λ (b : Bool). P (record { stamp = s.stamp; node = i; is_seen = b })) (shown-seen l s.entry) at))

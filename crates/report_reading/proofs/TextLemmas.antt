@@ -8,7 +8,7 @@ use Rattle.std.proofs.lemmas.Grind.{flat_map-append}
 use Rattle.vm_desc.specs.declared.description.Description.{Description}
 use Rattle.mate_journal.specs.declared.report.Report.{Report}
 use Rattle.report_reader.specs.declared.line.Line.{Line}
-use Rattle.report_reader.specs.Told.{line_words, line_text, IsRight, HasRanges}
+use Rattle.report_reader.specs.Told.{line_words, line_text, IsRightLine, HasLineRanges}
 use Rattle.report_fields.specs.Words.{reads}
 use Rattle.report_fields.specs.Fields.{number_of, node_of}
 use Rattle.report_reader.specs.Reading.{told_of, line_with, line_in}

@@ -20,7 +20,7 @@ use Rattle.mate_journal.specs.declared.entry.Entry.TheVariants as entry
 use Rattle.mate_journal.specs.declared.entry.Stamped.{Stamped}
 use Rattle.mate_journal.specs.declared.report.Report.{Report}
 use Rattle.report_text.specs.Progress.{air_event}
-use Rattle.report_text.specs.Tidy.{IsTidy, IsAirInRange, AirNodesRise, Mark, marks, marks_of, IsNoEarlier, AreOfOneNode, IsLastSeen}
+use Rattle.report_text.specs.Tidy.{IsTidy, IsAirInRange, AirNodesRise, Mark, marks, log_marks, IsNoEarlier, AreOfOneNode, IsLastSeen}
 use Rattle.report_text.proofs.EventLemmas.{All-of_map}
 use Rattle.report_reader.specs.declared.line.Line.{Line}
 use Rattle.report_reader.specs.declared.line.Told.{Told}
@@ -309,8 +309,8 @@ entry-marks d P node l (x ∷ ls) s p h =
     (entry-marks-after d P node l x (All-head (IsSound d) x ls s).right.told (All-head (λ (y : Line). is_on_air y.told ≡ false → P (line_mark y)) x ls p) h)
 
 -- the marks of logs, node by node
-marks-push : (node : ℕ) (logs : List Log) (l : Log) → marks_of node (logs ++ l ∷ [])
-    ≡ marks_of node logs ++ map (λ (e : Stamped). record { stamp = e.stamp; node = node + length logs; is_seen = is_some (store_named e.entry) }) l.entries
+marks-push : (node : ℕ) (logs : List Log) (l : Log) → log_marks node (logs ++ l ∷ [])
+    ≡ log_marks node logs ++ map (λ (e : Stamped). record { stamp = e.stamp; node = node + length logs; is_seen = is_some (store_named e.entry) }) l.entries
 marks-push node [] l =
     let n : node ≡ node + 0 = omega arith in
     append-nil (map (λ (e : Stamped). let m : Mark = record { stamp = e.stamp; node = node; is_seen = is_some (store_named e.entry) } in m) l.entries)
@@ -319,8 +319,8 @@ marks-push node (x ∷ logs) l =
     let n : suc node + length logs ≡ node + suc (length logs) = omega arith in
     let front : List Mark = map (λ (e : Stamped). record { stamp = e.stamp; node = node; is_seen = is_some (store_named e.entry) }) x.entries in
     ap (λ (ms : List Mark). front ++ ms)
-    (marks-push (suc node) logs l ∙ ap (λ (k : ℕ). marks_of (suc node) logs ++ map (λ (e : Stamped). let m : Mark = record { stamp = e.stamp; node = k; is_seen = is_some (store_named e.entry) } in m) l.entries) n)
-    ∙ sym (append_assoc front (marks_of (suc node) logs) (map (λ (e : Stamped). let m : Mark = record { stamp = e.stamp; node = node + suc (length logs); is_seen = is_some (store_named e.entry) } in m) l.entries))
+    (marks-push (suc node) logs l ∙ ap (λ (k : ℕ). log_marks (suc node) logs ++ map (λ (e : Stamped). let m : Mark = record { stamp = e.stamp; node = k; is_seen = is_some (store_named e.entry) } in m) l.entries) n)
+    ∙ sym (append_assoc front (log_marks (suc node) logs) (map (λ (e : Stamped). let m : Mark = record { stamp = e.stamp; node = node + suc (length logs); is_seen = is_some (store_named e.entry) } in m) l.entries))
 
 pub map-below : {B : Type 0} (f : ℕ → B) (n : ℕ) → length (map f (below n)) ≡ n
 map-below f zero = refl
@@ -330,7 +330,7 @@ map-below f (suc n) =
     let k = ap (λ (xs : List _). length xs) e ∙ length-append (map f (below n)) (f n ∷ []) in
     omega (arith, k, ih)
 
-logs-marks : (d : Description) (P : Mark → Type 0) (n : ℕ) (ls : List Line) → All (IsSound d) ls → All (λ (x : Line). P (line_mark x)) ls → All P (marks_of 0 (logs_of n ls))
+logs-marks : (d : Description) (P : Mark → Type 0) (n : ℕ) (ls : List Line) → All (IsSound d) ls → All (λ (x : Line). P (line_mark x)) ls → All P (log_marks 0 (logs_of n ls))
 logs-marks d P zero ls s p = All-nil P
 logs-marks d P (suc n) ls s p =
     let logs = logs_of n ls in
@@ -338,17 +338,17 @@ logs-marks d P (suc n) ls s p =
     let e : logs_of (suc n) ls ≡ logs ++ l ∷ [] = Rattle.report_reading.proofs.PartLemmas.map-push (λ node. log_of node ls) (below n) n in
     let at : 0 + length logs ≡ n = (let k = map-below (λ node. log_of node ls) n in omega (arith, k)) in
     let own : List Mark = map (λ (x : Stamped). record { stamp = x.stamp; node = n; is_seen = is_some (store_named x.entry) }) l.entries in
-    let is : marks_of 0 (logs_of (suc n) ls) ≡ marks_of 0 logs ++ own =
-    ap (marks_of 0) e ∙ marks-push 0 logs l
-    ∙ ap (λ (k : ℕ). marks_of 0 logs ++ map (λ (x : Stamped). let m : Mark = record { stamp = x.stamp; node = k; is_seen = is_some (store_named x.entry) } in m) l.entries) at in
-    All-same P (marks_of 0 (logs_of (suc n) ls)) (marks_of 0 logs ++ own) is
-    (All-append P (marks_of 0 logs) own (logs-marks d P n ls s p)
+    let is : log_marks 0 (logs_of (suc n) ls) ≡ log_marks 0 logs ++ own =
+    ap (log_marks 0) e ∙ marks-push 0 logs l
+    ∙ ap (λ (k : ℕ). log_marks 0 logs ++ map (λ (x : Stamped). let m : Mark = record { stamp = x.stamp; node = k; is_seen = is_some (store_named x.entry) } in m) l.entries) at in
+    All-same P (log_marks 0 (logs_of (suc n) ls)) (log_marks 0 logs ++ own) is
+    (All-append P (log_marks 0 logs) own (logs-marks d P n ls s p)
     (All-map P (λ (x : Stamped). let m : Mark = record { stamp = x.stamp; node = n; is_seen = is_some (store_named x.entry) } in m) l.entries
     (entry-marks d P n no_log ls s (λ k x q off. p k x q) (All-nil (λ (x : Stamped). P (record { stamp = x.stamp; node = n; is_seen = is_some (store_named x.entry) }))))))
 
 all-marks : (d : Description) (P : Mark → Type 0) (ls : List Line) (e : LastLine) → All (IsSound d) ls → All (λ (x : Line). P (line_mark x)) ls → All P (marks (report_of ls e))
 all-marks d P ls e s p =
-    All-append P (map (λ (a : Aired). let m : Mark = record { stamp = a.stamp; node = a.node; is_seen = false } in m) (air_told ls)) (marks_of 0 (logs_of e.nodes ls))
+    All-append P (map (λ (a : Aired). let m : Mark = record { stamp = a.stamp; node = a.node; is_seen = false } in m) (air_told ls)) (log_marks 0 (logs_of e.nodes ls))
     (All-map P (λ (a : Aired). let m : Mark = record { stamp = a.stamp; node = a.node; is_seen = false } in m) (air_told ls) (air-marks P ls p)) (logs-marks d P e.nodes ls s p)
 
 last-of_marks : (d : Description) (ls : List Line) (e : LastLine) (event : ℕ) → All (IsSound d) ls → IsLastSeen (line_marks ls) event → IsLastSeen (marks (report_of ls e)) event
@@ -399,14 +399,14 @@ zip-length R [] (y ∷ ys) z = absurd z
 zip-length R (x ∷ xs) [] z = absurd z
 zip-length R (x ∷ xs) (y ∷ ys) z = ap suc (zip-length R xs ys z.1)
 
-marks-zip : (node : ℕ) (xs ys : List Log) → AllZip IsSameLog xs ys → marks_of node xs ≡ marks_of node ys
+marks-zip : (node : ℕ) (xs ys : List Log) → AllZip IsSameLog xs ys → log_marks node xs ≡ log_marks node ys
 marks-zip node [] [] z = refl
 marks-zip node [] (y ∷ ys) z = absurd z
 marks-zip node (x ∷ xs) [] z = absurd z
 marks-zip node (x ∷ xs) (y ∷ ys) z =
     let here : Stamped → Mark = λ (e : Stamped). record { stamp = e.stamp; node = node; is_seen = is_some (store_named e.entry) } in
     let tail = marks-zip (suc node) xs ys z.1 in
-    ap (λ (es : List Stamped). map here es ++ marks_of (suc node) xs) z.0.entries ∙ ap (λ (ms : List Mark). map here y.entries ++ ms) tail
+    ap (λ (es : List Stamped). map here es ++ log_marks (suc node) xs) z.0.entries ∙ ap (λ (ms : List Mark). map here y.entries ++ ms) tail
 
 same-log-tidy : (d : Description) (x y : Log) → IsSameLog x y → IsTidyLog d y → IsTidyLog d x
 same-log-tidy d x y s t = record {
@@ -428,7 +428,7 @@ tidy_same d a b s t =
     let low = t.nodes_low in
     let high = t.nodes_high in
     let ms : marks a ≡ marks b =
-    ap (λ (airs : List Aired). map (λ (x : Aired). let m : Mark = record { stamp = x.stamp; node = x.node; is_seen = false } in m) airs ++ marks_of 0 a.nodes) s.air
+    ap (λ (airs : List Aired). map (λ (x : Aired). let m : Mark = record { stamp = x.stamp; node = x.node; is_seen = false } in m) airs ++ log_marks 0 a.nodes) s.air
     ∙ ap (λ (rest : List Mark). map (λ (x : Aired). let m : Mark = record { stamp = x.stamp; node = x.node; is_seen = false } in m) b.air ++ rest) (marks-zip 0 a.nodes b.nodes s.nodes) in record {
       nodes_low = omega (arith, n, low);
       nodes_high = omega (arith, n, high);

@@ -5,7 +5,7 @@ use Rattle.report_text.specs.Tidy.{Mark, IsNoEarlier, AreOfOneNode, IsAirInRange
 use Rattle.report_reader.specs.declared.line.Line.{Line}
 use Rattle.report_reader.specs.declared.line.Told.{Told}
 use Rattle.report_reader.specs.declared.line.Told.TheVariants as told
-use Rattle.report_reader.specs.Told.{IsRight, HasRanges}
+use Rattle.report_reader.specs.Told.{IsRightLine, HasLineRanges}
 use Rattle.report_reading.specs.LastLines.{HasLastRanges}
 use Rattle.report_reading.specs.declared.last_line.LastLine.{LastLine}
 
@@ -45,8 +45,8 @@ pub record AreInOrder (ls : List Line) : Type 0 where
 
 -- a line is right for a description, and its numbers are in range
 pub record IsSound (d : Description) (l : Line) : Type 0 where
-  pub right : IsRight d l
-  pub ranges : HasRanges l
+  pub right : IsRightLine d l
+  pub ranges : HasLineRanges l
 
 -- Lines fit one after another: each is right, and they are in order. The first of them then fit, too.
 pub record AreFitting (d : Description) (ls : List Line) : Type 0 where

@@ -7,7 +7,7 @@ use Rattle.vm_desc.specs.declared.description.Description.{Description}
 use Rattle.mate_journal.specs.Log.{Log}
 use Rattle.mate_journal.specs.Machine.{Machine, Meaning}
 use Rattle.mate_journal.specs.Described.{machine_of}
-use Rattle.mate_journal.specs.Journal.{Event, Reading, journal_of, told_of, nothing_heard, heard_all}
+use Rattle.mate_journal.specs.Journal.{TimedEntry, NodeState, journal_of, journal_entry, first_state, state_after_all}
 use Rattle.mate_journal.specs.Pace.{Pace, no_pace}
 use Rattle.mate_journal.specs.NodeScript.{Step, RunEnd, Whole, Full, Cut, AreOfEvent, HaveMade, EndsRun, IsRunOf}
 use Rattle.mate_journal.specs.NodeReport.{IsNodeReport}
@@ -21,34 +21,34 @@ use Rattle.report_text.proofs.EventLemmas.{All-of_map}
 
 -- ---- all is of time 0
 
-abbrev AreAtZero : List Event → Type 0
-AreAtZero es = All (λ (e : Event). e.stamp.time ≡ 0) es
+abbrev AreAtZero : List TimedEntry → Type 0
+AreAtZero es = All (λ (e : TimedEntry). e.stamp.time ≡ 0) es
 
-of_event-zero : (n : ℕ) (es : List Event) → AreOfEvent n es → AreAtZero es
+of_event-zero : (n : ℕ) (es : List TimedEntry) → AreOfEvent n es → AreAtZero es
 of_event-zero n es all =
-    All-weaker (λ (e : Event). e.stamp ≡ record { event = n; time = 0 }) (λ (e : Event). e.stamp.time ≡ 0) (λ e is. ap (λ (s : Stamp). s.time) is) es all
+    All-weaker (λ (e : TimedEntry). e.stamp ≡ record { event = n; time = 0 }) (λ (e : TimedEntry). e.stamp.time ≡ 0) (λ e is. ap (λ (s : Stamp). s.time) is) es all
 
-none-zero : (es : List Event) → es ≡ [] → AreAtZero es
-none-zero es none = All-same (λ (e : Event). e.stamp.time ≡ 0) es [] none (All-nil (λ (e : Event). e.stamp.time ≡ 0))
+none-zero : (es : List TimedEntry) → es ≡ [] → AreAtZero es
+none-zero es none = All-same (λ (e : TimedEntry). e.stamp.time ≡ 0) es [] none (All-nil (λ (e : TimedEntry). e.stamp.time ≡ 0))
 
-parts-zero : (es front rest : List Event) → es ≡ front ++ rest → AreAtZero front → AreAtZero rest → AreAtZero es
-parts-zero es front rest is a b = All-same (λ (e : Event). e.stamp.time ≡ 0) es (front ++ rest) is (All-append (λ (e : Event). e.stamp.time ≡ 0) front rest a b)
+parts-zero : (es front rest : List TimedEntry) → es ≡ front ++ rest → AreAtZero front → AreAtZero rest → AreAtZero es
+parts-zero es front rest is a b = All-same (λ (e : TimedEntry). e.stamp.time ≡ 0) es (front ++ rest) is (All-append (λ (e : TimedEntry). e.stamp.time ≡ 0) front rest a b)
 
-made-zero : (m : Machine) (records n : ℕ) (r : Reading) (p : Pace) (steps : List Step) (es : List Event) (q : Pace) → HaveMade m records n r p steps es q → AreAtZero es
+made-zero : (m : Machine) (records n : ℕ) (r : NodeState) (p : Pace) (steps : List Step) (es : List TimedEntry) (q : Pace) → HaveMade m records n r p steps es q → AreAtZero es
 made-zero m records n r p [] es q made = none-zero es made.0
 made-zero m records n r p (step ∷ steps) es q made =
     parts-zero es made.1 made.2 made.4 (of_event-zero n made.1 made.5)
-    (made-zero m (records + length made.1) (suc n) (heard_all m r made.1) made.3 steps made.2 q made.7)
+    (made-zero m (records + length made.1) (suc n) (state_after_all m r made.1) made.3 steps made.2 q made.7)
 
-ends-zero : (m : Machine) (how : RunEnd) (records n : ℕ) (r : Reading) (p : Pace) (left : List Step) (es : List Event) → EndsRun m how records n r p left es → AreAtZero es
+ends-zero : (m : Machine) (how : RunEnd) (records n : ℕ) (r : NodeState) (p : Pace) (left : List Step) (es : List TimedEntry) → EndsRun m how records n r p left es → AreAtZero es
 ends-zero m Whole records n r p left es ends = of_event-zero n es ends.2
 ends-zero m Full records n r p left es ends = none-zero es ends.2
 ends-zero m Cut records n r p left es ends = none-zero es ends
 
-run-zero : (m : Machine) (how : RunEnd) (steps : List Step) (es : List Event) → IsRunOf m how steps es → AreAtZero es
+run-zero : (m : Machine) (how : RunEnd) (steps : List Step) (es : List TimedEntry) → IsRunOf m how steps es → AreAtZero es
 run-zero m how steps es run =
-    parts-zero es run.front run.last run.events_are (made-zero m 0 1 (nothing_heard m) no_pace run.done run.front run.pace run.made)
-    (ends-zero m how (length run.front) (suc (length run.done)) (heard_all m (nothing_heard m) run.front) run.pace run.left run.last run.ends)
+    parts-zero es run.front run.last run.events_are (made-zero m 0 1 (first_state m) no_pace run.done run.front run.pace run.made)
+    (ends-zero m how (length run.front) (suc (length run.done)) (state_after_all m (first_state m) run.front) run.pace run.left run.last run.ends)
 
 -- ---- one node
 
@@ -72,7 +72,7 @@ plain-marks (e ∷ es) all =
     (plain-marks es (All-tail (λ (e : Stamped). e.stamp.time ≡ 0) e es all))
 
 entries-zero : (l : Log) → AreAtZero (journal_of l) → All (λ (e : Stamped). e.stamp.time ≡ 0) l.entries
-entries-zero l all = All-of_map (λ (e : Event). e.stamp.time ≡ 0) (λ (e : Stamped). record { stamp = e.stamp; told = told_of l e.entry }) l.entries all
+entries-zero l all = All-of_map (λ (e : TimedEntry). e.stamp.time ≡ 0) (λ (e : Stamped). record { stamp = e.stamp; told = journal_entry l e.entry }) l.entries all
 
 pub node-tidy : (d : Description) (meaning : Meaning) (steps : List Step) (how : RunEnd) (r : Report) → IsNodeReport d meaning steps how r → IsTidy d r
 node-tidy d meaning steps how r n =

@@ -12,7 +12,7 @@ use Rattle.mate_journal.specs.declared.entry.Entry.{Entry}
 use Rattle.mate_journal.specs.declared.entry.Entry.TheVariants as entry
 use Rattle.mate_journal.specs.declared.entry.Stamped.{Stamped}
 use Rattle.mate_journal.specs.declared.report.Report.{Report}
-use Rattle.report_text.specs.Words.{entry_words, stamp_words, seen_words, image_of, image_word, word, number, handler_name}
+use Rattle.report_text.specs.Words.{entry_words, stamp_words, seen_words, image_text, image_word, word, number, handler_name}
 use Rattle.mate_journal.specs.Tidy.{below, entry_event}
 use Rattle.report_text.specs.Text.{air_line, entry_line, entry_lines, event_lines, event_piece, events_end, lines}
 use Rattle.report_text.specs.Progress.{air_event, at_event}
@@ -30,7 +30,7 @@ get-front (x ∷ xs) ys (suc i) p = get-front xs ys i (omega (arith, p))
 
 words-same : (d : Description) (l l' : Log) (x : Entry) → IsNamed l x → GoesOn l l' → entry_words d l' x ≡ entry_words d l x
 words-same d l l' (entry.Install h version image) named on =
-    ap (λ o. codes " install" ++ word (handler_name d h) ++ number version ++ word (image_word (image_of o)))
+    ap (λ o. codes " install" ++ word (handler_name d h) ++ number version ++ word (image_word (image_text o)))
     (ap (λ xs. slice_get xs image) on.images_are ∙ get-front l.images on.images image named)
 words-same d l l' (entry.Seen store) named on =
     ap (λ o. codes " seen" ++ seen_words d o) (ap (λ xs. slice_get xs store) on.stores_are ∙ get-front l.stores on.stores store named)

@@ -33,13 +33,13 @@ pub record Mark : Type 0 where
   pub is_seen : Bool
 
 -- the records of the nodes from `node` on
-abbrev pub marks_of : ℕ → List Log → List Mark
-marks_of node [] = []
-marks_of node (l ∷ ls) = map (λ (e : Stamped). record { stamp = e.stamp; node = node; is_seen = is_some (store_named e.entry) }) l.entries
-    ++ marks_of (suc node) ls
+abbrev pub log_marks : ℕ → List Log → List Mark
+log_marks node [] = []
+log_marks node (l ∷ ls) = map (λ (e : Stamped). record { stamp = e.stamp; node = node; is_seen = is_some (store_named e.entry) }) l.entries
+    ++ log_marks (suc node) ls
 
 abbrev pub marks : Report → List Mark
-marks r = map (λ (a : Aired). record { stamp = a.stamp; node = a.node; is_seen = false }) r.air ++ marks_of 0 r.nodes
+marks r = map (λ (a : Aired). record { stamp = a.stamp; node = a.node; is_seen = false }) r.air ++ log_marks 0 r.nodes
 
 -- a later event has no earlier time, and so one event has one time
 abbrev pub IsNoEarlier : Mark → Mark → Type 0

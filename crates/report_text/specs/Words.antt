@@ -23,15 +23,15 @@ use Rattle.mate_journal.specs.declared.entry.Entry.{Entry}
 use Rattle.mate_journal.specs.declared.entry.Entry.TheVariants as entry
 
 -- a name, where there is one
-abbrev pub name_of : Option (List ℕ) → List ℕ
-name_of None = []
-name_of (Some name) = name
+abbrev pub name_or_none : Option (List ℕ) → List ℕ
+name_or_none None = []
+name_or_none (Some name) = name
 
 abbrev pub handler_name : Description → HandlerId → List ℕ
-handler_name d h = name_of (option_map (λ x. x.name) (slice_get d.handlers.items h.0))
+handler_name d h = name_or_none (option_map (λ x. x.name) (slice_get d.handlers.items h.0))
 
 abbrev pub function_name : Description → FunId → List ℕ
-function_name d f = name_of (option_map (λ x. x.name) (slice_get d.functions.items f.0))
+function_name d f = name_or_none (option_map (λ x. x.name) (slice_get d.functions.items f.0))
 
 -- a space, and then a number, a value or a word
 abbrev pub number : ℕ → List ℕ
@@ -87,9 +87,9 @@ store_words d s =
     flat_map shared_word (zip d.shared.items s.shared.items) ++ flat_map buffer_word (zip d.buffers.items s.buffers.items)
 
 -- the image and the store that an entry names
-abbrev pub image_of : Option (ArrayVec ℕ) → List ℕ
-image_of None = []
-image_of (Some image) = image.items
+abbrev pub image_text : Option (ArrayVec ℕ) → List ℕ
+image_text None = []
+image_text (Some image) = image.items
 
 abbrev pub seen_words : Description → Option Store → List ℕ
 seen_words d None = []
@@ -112,7 +112,7 @@ entry_words d l (entry.Answer n v) = codes " answer" ++ number n ++ value v
 entry_words d l (entry.Halt n) = codes " halt" ++ number n
 entry_words d l (entry.Fault n kind) = codes " fault" ++ number n ++ word (fault_word kind)
 entry_words d l (entry.Install h version image) =
-    codes " install" ++ word (handler_name d h) ++ number version ++ word (image_word (image_of (slice_get l.images image)))
+    codes " install" ++ word (handler_name d h) ++ number version ++ word (image_word (image_text (slice_get l.images image)))
 entry_words d l entry.Reset = codes " reset"
 entry_words d l (entry.Seen store) = codes " seen" ++ seen_words d (slice_get l.stores store)
 entry_words d l (entry.Void cause) = codes " void" ++ void_words cause

@@ -4,7 +4,7 @@ ghost use Rattle.std.specs.Prelude.{◌≡◌, ◌+◌, ◌*◌, ◌≤◌, ◌+
 ghost use Rattle.mate_files.specs.Pen.{Prints};
 ghost use Rattle.mate_journal.specs.Log.{Log};
 ghost use Rattle.report_text.specs.Chunk.{IsInFront};
-ghost use Rattle.report_text.specs.Words.{handler_name, function_name, number, word, values, void_words, image_word, image_of, seen_words};
+ghost use Rattle.report_text.specs.Words.{handler_name, function_name, number, word, values, void_words, image_word, image_text, seen_words};
 ghost use Rattle.report_text.specs.Words.{stamp_words, entry_words, IsShort};
 ghost use Rattle.report_text.specs.Text.{entry_line};
 
@@ -304,7 +304,7 @@ fn function_name(desc: &Description, fun: FunId) -> &[u8]
 
 /// The bytes of an image of the log, and no bytes where the log has no such image.
 fn image_at(log: &NodeLog, image: u32) -> &[u8]
-    ensures { result.now ≡ image_of (slice_get log.now.images image) }
+    ensures { result.now ≡ image_text (slice_get log.now.images image) }
 {
     match log.images().get(image as usize) {
         Some(image) => image.as_slice(),

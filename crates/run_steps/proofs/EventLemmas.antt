@@ -16,7 +16,7 @@ use Rattle.mate_journal.specs.declared.entry.VoidCause.{VoidCause}
 use Rattle.mate_journal.specs.declared.entry.VoidCause.TheVariants as void
 use Rattle.mate_journal.specs.declared.program.Program.{Program}
 use Rattle.mate_journal.specs.Machine.{HeldProgram}
-use Rattle.mate_journal.specs.Journal.{Told, Void, Reading}
+use Rattle.mate_journal.specs.Journal.{JournalEntry, Void, NodeState}
 use Rattle.mate_journal.specs.Pace.{Pace, paced_all}
 use Rattle.mate_journal.specs.NodeScript.{Install, Makes, Installs, IsNotNewer}
 use Rattle.node_invariant.specs.Meaning.{machine_in}
@@ -33,12 +33,12 @@ use Rattle.node_programs.specs.Sources.{held_as}
 use Rattle.run_steps.specs.Running.{IsReadyFor}
 
 -- a step that could do nothing
-pub Tells-void : (old mid new : NodeView) (at : Stamp) (cause : VoidCause) (Other : Pace → List Told → Pace → Type 0) → mid ≡ old
+pub Tells-void : (old mid new : NodeView) (at : Stamp) (cause : VoidCause) (Other : Pace → List JournalEntry → Pace → Type 0) → mid ≡ old
     → ((p : Pace) → Other p (Void cause ∷ []) (paced_all p (Void cause ∷ []))) → Tells mid new at (Pacing (λ _ told. told ≡ Void cause ∷ [])) → Tells old new at Other
 Tells-void old mid new at cause Other same makes t =
     Tells-by old new at (Pacing (λ _ told. told ≡ Void cause ∷ [])) Other
     (λ p told q x.
-    let Q : List Told → Type 0 = λ ts. Other p ts (paced_all p ts) in
+    let Q : List JournalEntry → Type 0 = λ ts. Other p ts (paced_all p ts) in
     subst (Other p told) (sym x.1) (subst Q (sym x.0) (makes p)))
     (let P : NodeView → Type 0 = λ v. Tells v new at (Pacing (λ _ told. told ≡ Void cause ∷ [])) in subst P same t)
 
@@ -88,13 +88,13 @@ module _ (d : Description) (p : Program) (right : IsRightProgram d p) where
       (ap (λ (c : CapsuleParts). bytes_verification (shape_of d) c.code) (sym same) ∙ u.refused)
 
   -- no install of it is refused for its capsule or its code
-  pub not-bad_capsule : (r : Reading) (bytes : List ℕ) (fault : InstallFault) (cause : CapsuleFault) → bytes ≡ p.image.items → fault ≡ BadCapsule cause → Refuses d r bytes fault → ⊥
+  pub not-bad_capsule : (r : NodeState) (bytes : List ℕ) (fault : InstallFault) (cause : CapsuleFault) → bytes ≡ p.image.items → fault ≡ BadCapsule cause → Refuses d r bytes fault → ⊥
   not-bad_capsule r bytes fault cause same is refused =
       let P : List ℕ → Type 0 = λ bs. capsule_in d bs ≡ Err cause in
       let Q : InstallFault → Type 0 = λ f. Refuses d r bytes f in
       is-capsule cause (subst P same (subst Q is refused))
 
-  pub not-bad_code : (r : Reading) (bytes : List ℕ) (fault : InstallFault) (cause : VerifyFault) → bytes ≡ p.image.items → fault ≡ BadCode cause → Refuses d r bytes fault → ⊥
+  pub not-bad_code : (r : NodeState) (bytes : List ℕ) (fault : InstallFault) (cause : VerifyFault) → bytes ≡ p.image.items → fault ≡ BadCode cause → Refuses d r bytes fault → ⊥
   not-bad_code r bytes fault cause same is refused =
       let P : List ℕ → Type 0 = λ bs. IsUnverified d bs cause in
       let Q : InstallFault → Type 0 = λ f. Refuses d r bytes f in
@@ -108,13 +108,13 @@ module _ (d : Description) (p : Program) (right : IsRightProgram d p) where
       ∙ ap (λ (n : ℕ). let h : HeldProgram = record { handler = record { 0 = n }; version = right.capsule.version; image = p.image } in h) right.handler
       ∙ ap (λ (n : ℕ). let h : HeldProgram = record { handler = p.handler; version = n; image = p.image } in h) right.version
 
-  pub Makes-installed : (r : Reading) (pace : Pace) (told : List Told) (q : Pace) → Pacing (InstallsBytes d r p.image.items) pace told q
+  pub Makes-installed : (r : NodeState) (pace : Pace) (told : List JournalEntry) (q : Pace) → Pacing (InstallsBytes d r p.image.items) pace told q
       → Makes (machine_in d) r pace (Install (held_as p)) told q
   Makes-installed r pace told q x =
       let P : HeldProgram → Type 0 = λ h. Installs (machine_in d) r pace h told in
       (inl (subst P (is-program x.0.capsule x.0.right) x.0.installs), x.1)
 
-  pub Makes-not_newer : (r : Reading) (pace : Pace) (version : ℕ) → IsNoNewer d r p.image.items version
+  pub Makes-not_newer : (r : NodeState) (pace : Pace) (version : ℕ) → IsNoNewer d r p.image.items version
       → Makes (machine_in d) r pace (Install (held_as p)) (Void (void.NotNewer version) ∷ []) (paced_all pace (Void (void.NotNewer version) ∷ []))
   Makes-not_newer r pace version n =
       let is : program_by n.capsule p.image.items ≡ held_as p = is-program n.capsule n.right in

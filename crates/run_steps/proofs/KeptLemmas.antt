@@ -8,7 +8,7 @@ use Rattle.mate_journal.specs.Log.{Log, GoesOn}
 use Rattle.mate_journal.specs.declared.entry.Entry.{Entry}
 use Rattle.mate_journal.specs.declared.entry.Entry.TheVariants as entry
 use Rattle.mate_journal.specs.declared.entry.Stamped.{Stamped}
-use Rattle.mate_journal.specs.Journal.{Told, Event}
+use Rattle.mate_journal.specs.Journal.{JournalEntry, TimedEntry}
 use Rattle.mate_journal.specs.Pace.{Pace}
 use Rattle.mate_num.specs.declared.call.Stamp.{Stamp}
 use Rattle.mate_journal.specs.OpenLog.{Gone, OpenView, gone_of, entry_behind, stamped_behind, IsKept}
@@ -21,7 +21,7 @@ use Rattle.report_ranges.specs.Growth.{IsSizeOf, IsInRangeFrom, IsInRange}
 use Rattle.report_ranges.specs.declared.growth.LogSize.{LogSize}
 use Rattle.report_ranges.proofs.GrowthLemmas.{same-in-range, forgotten-in-range, log-goes-on}
 use Rattle.open_node.proofs.KeptLemmas.{entries-kept}
-use Rattle.report_text.specs.Words.{stamp_words, handler_name, number, word, image_word, image_of, seen_words, entry_words}
+use Rattle.report_text.specs.Words.{stamp_words, handler_name, number, word, image_word, image_text, seen_words, entry_words}
 use Rattle.report_text.specs.Text.{entry_line, event_piece}
 use Rattle.run_steps.specs.Keeping.{StaysAsToldTo}
 use Rattle.run_steps.specs.declared.heap_node.Written.{Written}
@@ -66,7 +66,7 @@ pub ranges-forgotten : (old mid new : NodeView) → old ≡ mid → IsSameNode (
 ranges-forgotten old mid new is same has = let h : InRange mid = subst InRange is has in forgotten-in-range new.log mid.log new.gone same.log same.gone h.ranges
 
 -- an event is told, and what is told is in range
-pub ranges-told : (old new : NodeView) (kept kept' : Log) (size : LogSize) (at : Stamp) (Rule : Pace → List Told → Pace → Type 0) → KeepsJournal old.description (machine_in old.description) old.log
+pub ranges-told : (old new : NodeView) (kept kept' : Log) (size : LogSize) (at : Stamp) (Rule : Pace → List JournalEntry → Pace → Type 0) → KeepsJournal old.description (machine_in old.description) old.log
     → KeepsJournal new.description (machine_in new.description) new.log → IsKept (record { all = old.log; gone = old.gone }) kept → IsSizeOf size kept → Tells old new at Rule
     → IsKept (record { all = new.log; gone = new.gone }) kept' → IsInRangeFrom size kept' → InRange old → InRange new
 ranges-told old new kept kept' size at Rule keeps keeps' held sized t held' rest has =
@@ -74,7 +74,7 @@ ranges-told old new kept kept' size at Rule keeps keeps' held sized t held' rest
     log-goes-on old.log new.log kept kept' old.gone new.gone size held sized (GoesOn-journal old.log new.log front keeps.tidy.numbered keeps'.tidy.numbered t.grows.journal) t.gone held' rest has
 
 -- the same, of the node as it is seen where it is read and where it is called
-pub ranges-told-as : (self first old new last : NodeView) → self ≡ first → self ≡ old → new ≡ last → (kept kept' : Log) (size : LogSize) (at : Stamp) (Rule : Pace → List Told → Pace → Type 0)
+pub ranges-told-as : (self first old new last : NodeView) → self ≡ first → self ≡ old → new ≡ last → (kept kept' : Log) (size : LogSize) (at : Stamp) (Rule : Pace → List JournalEntry → Pace → Type 0)
     → KeepsJournal first.description (machine_in first.description) first.log → KeepsJournal last.description (machine_in last.description) last.log → IsKept (record { all = first.log; gone = first.gone }) kept → IsSizeOf size kept
     → Tells old new at Rule → IsKept (record { all = last.log; gone = last.gone }) kept' → IsInRangeFrom size kept' → InRange self → InRange new
 ranges-told-as self first old new last a b e kept kept' size at Rule keeps keeps' held sized t held' rest has =
@@ -85,7 +85,7 @@ ranges-told-as self first old new last a b e kept kept' size at Rule keeps keeps
     ranges-told old new kept kept' size at Rule keeps_old keeps_new held_old sized t held_new rest (subst InRange b has)
 
 -- a log goes on, as it is seen where it is read and where it is called
-pub goes-on-as : (self first old new last : NodeView) → self ≡ first → self ≡ old → new ≡ last → (at : Stamp) (Rule : Pace → List Told → Pace → Type 0) → KeepsJournal first.description (machine_in first.description) first.log
+pub goes-on-as : (self first old new last : NodeView) → self ≡ first → self ≡ old → new ≡ last → (at : Stamp) (Rule : Pace → List JournalEntry → Pace → Type 0) → KeepsJournal first.description (machine_in first.description) first.log
     → KeepsJournal last.description (machine_in last.description) last.log → Tells old new at Rule → GoesOn self.log new.log
 goes-on-as self first old new last a b e at Rule keeps keeps' t =
     let keeps_old : KeepsJournal old.description (machine_in old.description) old.log = subst (λ (v : NodeView). KeepsJournal v.description (machine_in v.description) v.log) (sym a ∙ b) keeps in
@@ -115,7 +115,7 @@ module _ (d : Description) (v : OpenView) (kept : Log) (is : IsKept v kept) wher
   words-same (entry.Install h version image) =
       let same : slice_get v.all.images (v.gone.images + image) ≡ slice_get kept.images image =
       sym (slice_get-drop v.gone.images v.all.images image) ∙ ap (λ (xs : List (ArrayVec ℕ)). slice_get xs image) is.images in
-      ap (λ (o : _). codes " install" ++ word (handler_name d h) ++ number version ++ word (image_word (image_of o))) same
+      ap (λ (o : _). codes " install" ++ word (handler_name d h) ++ number version ++ word (image_word (image_text o))) same
   words-same entry.Reset = refl
   words-same (entry.Seen store) =
       let same : slice_get v.all.stores (v.gone.stores + store) ≡ slice_get kept.stores store =

@@ -10,7 +10,7 @@ use Rattle.script_reader.specs.declared.steps.Step.{Step}
 use Rattle.script_reader.specs.Steps.{NodeScript, IsRightStep}
 use Rattle.mate_journal.specs.Log.{Log, IsEmpty, IsSameLog}
 use Rattle.mate_journal.specs.Machine.{Machine, Meaning}
-use Rattle.mate_journal.specs.Journal.{Told, Event, Reading, journal_of, nothing_heard, heard_all, told_by, told_of}
+use Rattle.mate_journal.specs.Journal.{JournalEntry, TimedEntry, NodeState, journal_of, first_state, state_after_all, untimed, journal_entry}
 use Rattle.mate_journal.specs.Pace.{Pace, no_pace}
 use Rattle.mate_journal.specs.WellFormed.{NotBefore}
 use Rattle.mate_journal.specs.NodeScript as node
@@ -39,17 +39,17 @@ use Rattle.report_ranges.proofs.GrowthLemmas.{none-in-range}
 use Rattle.node_programs.specs.ScriptSteps.{AreProgramsOf, step_of, steps_of}
 use Rattle.node_programs.specs.Sources.{meaning_by}
 use Rattle.node_programs.proofs.MeaningLemmas.{meaning_by-right}
-use Rattle.run_steps.specs.Running.{MakesOn, at_event, HasRun, IsReportOf}
+use Rattle.run_steps.specs.Running.{MakesOn, stamp_at, HasRun, IsReportOf}
 
 -- ---- logs
 
 length-journal : (l : Log) → length (journal_of l) ≡ length l.entries
-length-journal l = length-map l.entries (λ (e : Stamped). let x : Event = record { stamp = e.stamp; told = told_of l e.entry } in x)
+length-journal l = length-map l.entries (λ (e : Stamped). let x : Event = record { stamp = e.stamp; told = journal_entry l e.entry } in x)
 
 -- the next event of a script may follow an event of it
-next-timely : (n : ℕ) (l : Log) → IsTimely (at_event n) l → IsTimely (at_event (suc n)) l
-next-timely n l t = record { after_last = FollowsLast-later (journal_of l) (at_event n) (at_event (suc n)) later t.after_last } where
-  later : (last : Stamp) → NotBefore last (at_event n) → NotBefore last (at_event (suc n))
+next-timely : (n : ℕ) (l : Log) → IsTimely (stamp_at n) l → IsTimely (stamp_at (suc n)) l
+next-timely n l t = record { after_last = FollowsLast-later (journal_of l) (stamp_at n) (stamp_at (suc n)) later t.after_last } where
+  later : (last : Stamp) → NotBefore last (stamp_at n) → NotBefore last (stamp_at (suc n))
   later last h = record {
     event = let e = h.event in omega (arith, e);
     time = h.time;
@@ -58,7 +58,7 @@ next-timely n l t = record { after_last = FollowsLast-later (journal_of l) (at_e
 
 same-timely : (at : Stamp) (a b : Log) → IsSameLog a b → IsTimely at b → IsTimely at a
 same-timely at a b same t =
-    let P : List Event → Type 0 = λ es. FollowsLast es at in
+    let P : List TimedEntry → Type 0 = λ es. FollowsLast es at in
     record { after_last = subst P (sym (journal_of-same b a same)) t.after_last }
 
 -- ---- the run
@@ -72,7 +72,7 @@ HasRun-new d ps v is empty has gone =
       has = has;
       made = (none, refl);
       timely =
-          let P : List Event → Type 0 = λ es. FollowsLast es (at_event 0) in
+          let P : List TimedEntry → Type 0 = λ es. FollowsLast es (stamp_at 0) in
           record { after_last = subst P (sym none) tt };
       ranges = subst (λ (g : Gone). IsInRange v.log g) (sym gone) (none-in-range v.log empty);
       few = lit< tt;
@@ -88,8 +88,8 @@ HasRun-same d ps done old new described same paces ranges h =
       pace = h.pace;
       has = paces h.pace h.has;
       made =
-          subst (λ (es : List Event). HaveMade (machine_in d) 0 1 (nothing_heard (machine_in d)) no_pace (map (step_of ps) done) es h.pace) (sym journals) h.made;
-      timely = same-timely (at_event (length done)) new.log old.log same h.timely;
+          subst (λ (es : List TimedEntry). HaveMade (machine_in d) 0 1 (first_state (machine_in d)) no_pace (map (step_of ps) done) es h.pace) (sym journals) h.made;
+      timely = same-timely (stamp_at (length done)) new.log old.log same h.timely;
       ranges = ranges h.ranges;
       few = h.few;
     }
@@ -98,16 +98,16 @@ map-append : {A B : Type 0} (f : A → B) (xs ys : List A) → map f (xs ++ ys) 
 map-append f [] ys = refl
 map-append f (x ∷ xs) ys = ap (λ zs. f x ∷ zs) (map-append f xs ys)
 
-heard-is : (d : Description) (v : NodeView) → v.description ≡ d → heard_of v ≡ heard_all (machine_in d) (nothing_heard (machine_in d)) (journal_of v.log)
+heard-is : (d : Description) (v : NodeView) → v.description ≡ d → heard_of v ≡ state_after_all (machine_in d) (first_state (machine_in d)) (journal_of v.log)
 unfolding reading
 heard-is d v is = ap (λ (x : Description). reading x v.log) is
 
 -- one more step
 one-more : (d : Description) (ps : List Program) (done : List Step) (step : Step) (old new : NodeView) → HasRun d ps done old → length old.log.entries < RECORDS_MAX
-    → Tells old new (at_event (suc (length done))) (MakesOn old (step_of ps step)) → (IsInRange old.log old.gone → IsInRange new.log new.gone) → HasStampRange (at_event (suc (length done))) → HasRun d ps (done ++ step ∷ []) new
+    → Tells old new (stamp_at (suc (length done))) (MakesOn old (step_of ps step)) → (IsInRange old.log old.gone → IsInRange new.log new.gone) → HasStampRange (stamp_at (suc (length done))) → HasRun d ps (done ++ step ∷ []) new
 one-more d ps done step old new h few t ranges stamp =
     let made = t.paces h.pace h.has in
-    let at : Stamp = at_event (suc (length done)) in
+    let at : Stamp = stamp_at (suc (length done)) in
     let front : List Event = map (event_at at) t.told in
     let long : length (done ++ step ∷ []) ≡ suc (length done) = length-append done (step ∷ []) ∙ omega arith in
     let count : length (map (step_of ps) done) ≡ length done = length-map done (step_of ps) in
@@ -115,10 +115,10 @@ one-more d ps done step old new h few t ranges stamp =
     let event : suc (length done) ≡ 1 + length (map (step_of ps) done) = omega (arith, count) in
     let by_description : Makes (machine_in d) (heard_of old) h.pace (step_of ps step) t.told made.0 =
     subst (λ (x : Description). Makes (machine_in x) (heard_of old) h.pace (step_of ps step) t.told made.0) h.description made.1 in
-    let makes : Makes (machine_in d) (heard_all (machine_in d) (nothing_heard (machine_in d)) (journal_of old.log)) h.pace (step_of ps step) (told_by front) made.0 =
-    subst (λ (ts : List Told). Makes (machine_in d) (heard_all (machine_in d) (nothing_heard (machine_in d)) (journal_of old.log)) h.pace (step_of ps step) ts made.0) (sym (told_by-at at t.told))
-    (subst (λ (r : Reading). Makes (machine_in d) r h.pace (step_of ps step) t.told made.0) (heard-is d old h.description) by_description) in
-    let P : List node.Step → List Event → Type 0 = λ steps es. HaveMade (machine_in d) 0 1 (nothing_heard (machine_in d)) no_pace steps es made.0 in
+    let makes : Makes (machine_in d) (state_after_all (machine_in d) (first_state (machine_in d)) (journal_of old.log)) h.pace (step_of ps step) (untimed front) made.0 =
+    subst (λ (ts : List JournalEntry). Makes (machine_in d) (state_after_all (machine_in d) (first_state (machine_in d)) (journal_of old.log)) h.pace (step_of ps step) ts made.0) (sym (told_by-at at t.told))
+    (subst (λ (r : NodeState). Makes (machine_in d) r h.pace (step_of ps step) t.told made.0) (heard-is d old h.description) by_description) in
+    let P : List node.Step → List TimedEntry → Type 0 = λ steps es. HaveMade (machine_in d) 0 1 (first_state (machine_in d)) no_pace steps es made.0 in
     record {
       description = t.description ∙ h.description;
       pace = made.0;
@@ -126,10 +126,10 @@ one-more d ps done step old new h few t ranges stamp =
       made =
           subst (P (map (step_of ps) (done ++ step ∷ []))) (sym t.grows.journal)
           (subst (λ (steps : List node.Step). P steps (journal_of old.log ++ front)) (sym (map-append (step_of ps) done (step ∷ [])))
-          (HaveMade-push (machine_in d) 0 1 (nothing_heard (machine_in d)) no_pace (map (step_of ps) done) (journal_of old.log) h.pace (step_of ps step) front made.0 h.made
+          (HaveMade-push (machine_in d) 0 1 (first_state (machine_in d)) no_pace (map (step_of ps) done) (journal_of old.log) h.pace (step_of ps step) front made.0 h.made
           (omega (arith, few, entries))
           (subst (λ (n : ℕ). AreOfEvent n front) event (AreOfEvent-at (suc (length done)) t.told)) makes));
-      timely = subst (λ (n : ℕ). IsTimely (at_event n) new.log) (sym long) t.grows.timely;
+      timely = subst (λ (n : ℕ). IsTimely (stamp_at n) new.log) (sym long) t.grows.timely;
       ranges = ranges h.ranges;
       few = subst (λ (n : ℕ). n < 2 ^ 64) (sym long) stamp.event;
     }
@@ -147,30 +147,30 @@ take-next (y ∷ list) (suc i) x below is =
 
 -- one more step of a list, as the next event
 pub HasRun-step : (d : Description) (ps : List Program) (list : List Step) (i event : ℕ) (step : Step) (old new : NodeView) → HasRun d ps (take i list) old → i < length list → event ≡ i
-    → step ≡ slice_index_or list i step → length old.log.entries < RECORDS_MAX → Tells old new (at_event (event + 1)) (MakesOn old (step_of ps step))
-    → (IsInRange old.log old.gone → IsInRange new.log new.gone) → HasStampRange (at_event (event + 1)) → HasRun d ps (take (i + 1) list) new
+    → step ≡ slice_index_or list i step → length old.log.entries < RECORDS_MAX → Tells old new (stamp_at (event + 1)) (MakesOn old (step_of ps step))
+    → (IsInRange old.log old.gone → IsInRange new.log new.gone) → HasStampRange (stamp_at (event + 1)) → HasRun d ps (take (i + 1) list) new
 HasRun-step d ps list i event step old new h below same is few t ranges stamp =
     let len : length (take i list) ≡ i = taken list i (omega (arith, below)) in
     let number : event + 1 ≡ suc (length (take i list)) = omega (arith, same, len) in
     subst (λ (done : List Step). HasRun d ps done new) (take-next list i step below is)
-    (one-more d ps (take i list) step old new h few (subst (λ (n : ℕ). Tells old new (at_event n) (MakesOn old (step_of ps step))) number t) ranges (subst (λ (n : ℕ). HasStampRange (at_event n)) number stamp))
+    (one-more d ps (take i list) step old new h few (subst (λ (n : ℕ). Tells old new (stamp_at n) (MakesOn old (step_of ps step))) number t) ranges (subst (λ (n : ℕ). HasStampRange (stamp_at n)) number stamp))
 
 -- an event of the last step's number may come
-pub timely-at : (d : Description) (ps : List Program) (list : List Step) (i event : ℕ) (v : NodeView) → HasRun d ps (take i list) v → i ≤ length list → event ≡ i → IsTimely (at_event event) v.log
+pub timely-at : (d : Description) (ps : List Program) (list : List Step) (i event : ℕ) (v : NodeView) → HasRun d ps (take i list) v → i ≤ length list → event ≡ i → IsTimely (stamp_at event) v.log
 timely-at d ps list i event v h within same =
     let len : length (take i list) ≡ i = taken list i within in
-    subst (λ (n : ℕ). IsTimely (at_event n) v.log) (len ∙ sym same) h.timely
+    subst (λ (n : ℕ). IsTimely (stamp_at n) v.log) (len ∙ sym same) h.timely
 
 -- 64 bits count the events
 pub few-events : (d : Description) (ps : List Program) (list : List Step) (i event : ℕ) (v : NodeView) → HasRun d ps (take i list) v → i ≤ length list → event ≡ i → event < 2 ^ 64
 few-events d ps list i event v h within same = subst (λ (n : ℕ). n < 2 ^ 64) (taken list i within ∙ sym same) h.few
 
 -- the next event may be made
-pub timely-next : (d : Description) (ps : List Program) (list : List Step) (i event : ℕ) (v : NodeView) → HasRun d ps (take i list) v → i ≤ length list → event ≡ i → IsTimely (at_event (event + 1)) v.log
+pub timely-next : (d : Description) (ps : List Program) (list : List Step) (i event : ℕ) (v : NodeView) → HasRun d ps (take i list) v → i ≤ length list → event ≡ i → IsTimely (stamp_at (event + 1)) v.log
 timely-next d ps list i event v h within same =
     let len : length (take i list) ≡ i = taken list i within in
     let number : suc (length (take i list)) ≡ event + 1 = omega (arith, same, len) in
-    subst (λ (n : ℕ). IsTimely (at_event n) v.log) number (next-timely (length (take i list)) v.log h.timely)
+    subst (λ (n : ℕ). IsTimely (stamp_at n) v.log) number (next-timely (length (take i list)) v.log h.timely)
 
 -- each step of a script is right on a node of its machine, with the programs of its files
 pub right-step : (d on : Description) (script : NodeScript) (ps : List Program) (list : List Step) (i : ℕ) (step : Step) → AreProgramsOf d script ps → list ≡ script.steps → i < length list → step ≡ slice_index_or list i step
@@ -214,16 +214,16 @@ report-by d steps how l events keeps run count r is = record {
 
 -- all steps were made, and the store is shown
 whole-run : (d : Description) (ps : List Program) (steps : List Step) (old new : NodeView) (h : HasRun d ps steps old)
-    → Tells old new (at_event (suc (length steps))) (Pacing (ShowsOnce (machine_in old.description) (heard_of old)))
+    → Tells old new (stamp_at (suc (length steps))) (Pacing (ShowsOnce (machine_in old.description) (heard_of old)))
     → (run : IsRunOf (machine_in d) Whole (map (step_of ps) steps) (journal_of new.log)) × (length steps ≡ length run.done)
 whole-run d ps steps old new h t =
     let m : Machine = machine_in d in
     let shown = t.paces h.pace h.has in
-    let at : Stamp = at_event (suc (length steps)) in
+    let at : Stamp = stamp_at (suc (length steps)) in
     let last : List Event = map (event_at at) t.told in
     let count : length (map (step_of ps) steps) ≡ length steps = length-map steps (step_of ps) in
     let by_description : ShowsOnce m (heard_of old) h.pace t.told = subst (λ (x : Description). ShowsOnce (machine_in x) (heard_of old) h.pace t.told) h.description shown.1.0 in
-    let by_heard : ShowsOnce m (heard_all m (nothing_heard m) (journal_of old.log)) h.pace t.told = subst (λ (r : Reading). ShowsOnce m r h.pace t.told) (heard-is d old h.description) by_description in (
+    let by_heard : ShowsOnce m (state_after_all m (first_state m) (journal_of old.log)) h.pace t.told = subst (λ (r : NodeState). ShowsOnce m r h.pace t.told) (heard-is d old h.description) by_description in (
       record {
         done = map (step_of ps) steps;
         left = [];
@@ -235,7 +235,7 @@ whole-run d ps steps old new h t =
         made = h.made;
         ends = (
           refl,
-          subst (λ (ts : List Told). ShowsOnce m (heard_all m (nothing_heard m) (journal_of old.log)) h.pace ts) (sym (told_by-at at t.told)) by_heard,
+          subst (λ (ts : List JournalEntry). ShowsOnce m (state_after_all m (first_state m) (journal_of old.log)) h.pace ts) (sym (told_by-at at t.told)) by_heard,
           subst (λ (n : ℕ). AreOfEvent n last) (ap suc (sym count)) (AreOfEvent-at (suc (length steps)) t.told),
         );
       },
@@ -268,13 +268,13 @@ run-full d ps steps i event v h within same full =
     )
 
 pub run-whole : (d : Description) (ps : List Program) (list : List Step) (i event : ℕ) (old new : NodeView) → HasRun d ps (take i list) old → i ≤ length list → length list ≤ i → event ≡ i
-    → Tells old new (at_event (event + 1)) (Pacing (ShowsOnce (machine_in old.description) (heard_of old)))
+    → Tells old new (stamp_at (event + 1)) (Pacing (ShowsOnce (machine_in old.description) (heard_of old)))
     → (run : IsRunOf (machine_in d) Whole (map (step_of ps) list) (journal_of new.log)) × (event ≡ length run.done)
 run-whole d ps list i event old new h within all same t =
     let whole : take i list ≡ list = take_all i list all in
     let number : event + 1 ≡ suc (length list) = omega (arith, same, within, all) in
     let run = whole-run d ps list old new (subst (λ (done : List Step). HasRun d ps done old) whole h)
-    (subst (λ (n : ℕ). Tells old new (at_event n) (Pacing (ShowsOnce (machine_in old.description) (heard_of old)))) number t) in
+    (subst (λ (n : ℕ). Tells old new (stamp_at n) (Pacing (ShowsOnce (machine_in old.description) (heard_of old)))) number t) in
     let count = run.1 in
     (run.0, omega (arith, same, within, all, count))
 

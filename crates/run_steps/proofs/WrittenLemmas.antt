@@ -14,7 +14,7 @@ use Rattle.mate_journal.specs.Pace.{Pace}
 use Rattle.script_reader.specs.declared.steps.Step.{Step}
 use Rattle.open_node.specs.View.{NodeView, Tells}
 use Rattle.run_steps.proofs.RunLemmas.{timely-at}
-use Rattle.mate_journal.specs.Journal.{Told, Event, journal_of, told_of}
+use Rattle.mate_journal.specs.Journal.{JournalEntry, TimedEntry, journal_of, journal_entry}
 use Rattle.mate_journal.specs.WellFormed.{IsInTime, StampsRise}
 use Rattle.mate_journal.specs.Tidy.{below}
 use Rattle.mate_journal.specs.declared.air.Aired.{Aired}
@@ -38,10 +38,10 @@ use Rattle.script_reader.specs.Steps.{NodeScript}
 use Rattle.mate_journal.specs.NodeScript.{RunEnd, Cut}
 use Rattle.mate_journal.specs.NodeReport.{is_whole}
 use Rattle.mate_journal.specs.declared.program.Program.{Program}
-use Rattle.run_steps.specs.Running.{report_with, at_event, HasRun, IsReportOf}
+use Rattle.run_steps.specs.Running.{report_with, stamp_at, HasRun, IsReportOf}
 use Rattle.run_steps.specs.Writing.{PassWrites}
 use Rattle.run_writing.specs.declared.pass.Pass.{Pass}
-use Rattle.run_writing.specs.Writing.{last_event, lines_before, last_line, write_fault_of, WritesReport, ended_by, HasWritten}
+use Rattle.run_writing.specs.Writing.{last_event, lines_before, last_line, write_fault_of, WritesReport, write_ended, HasWritten}
 use Rattle.run_writing.specs.declared.write_fault.WriteFault.{WriteFault}
 use Rattle.run_writing.specs.declared.write_fault.WriteFault.TheVariants.{NoMemory}
 use Rattle.run_writing.proofs.WritingLemmas.{behind-lines, stopped-within, cut-short}
@@ -52,29 +52,29 @@ one l = record { nodes = l ∷ []; air = []; events = 0; whole = false }
 
 -- ---- events are in order
 
-in_time-low : (last : Stamp) (es : List Event) → IsInTime last es → last.event ≤ (last_stamp last es).event
+in_time-low : (last : Stamp) (es : List TimedEntry) → IsInTime last es → last.event ≤ (last_stamp last es).event
 in_time-low last [] in_time = omega arith
 in_time-low last (e ∷ es) in_time = let h = in_time-low e.stamp es in_time.1 in let first = in_time.0.event in omega (arith, h, first)
 
-in_time-upto : (last : Stamp) (es : List Event) (n : ℕ) → IsInTime last es → (last_stamp last es).event ≤ n → All (λ (e : Event). e.stamp.event ≤ n) es
-in_time-upto last [] n in_time le = All-nil (λ (e : Event). e.stamp.event ≤ n)
+in_time-upto : (last : Stamp) (es : List TimedEntry) (n : ℕ) → IsInTime last es → (last_stamp last es).event ≤ n → All (λ (e : TimedEntry). e.stamp.event ≤ n) es
+in_time-upto last [] n in_time le = All-nil (λ (e : TimedEntry). e.stamp.event ≤ n)
 in_time-upto last (e ∷ es) n in_time le =
     let low = in_time-low e.stamp es in_time.1 in
-    All-cons (λ (e : Event). e.stamp.event ≤ n) e es (omega (arith, low, le)) (in_time-upto e.stamp es n in_time.1 le)
+    All-cons (λ (e : TimedEntry). e.stamp.event ≤ n) e es (omega (arith, low, le)) (in_time-upto e.stamp es n in_time.1 le)
 
-stamps-upto : (es : List Event) (at : Stamp) → StampsRise es → FollowsLast es at → All (λ (e : Event). e.stamp.event ≤ at.event) es
-stamps-upto [] at rise last = All-nil (λ (e : Event). e.stamp.event ≤ at.event)
+stamps-upto : (es : List TimedEntry) (at : Stamp) → StampsRise es → FollowsLast es at → All (λ (e : TimedEntry). e.stamp.event ≤ at.event) es
+stamps-upto [] at rise last = All-nil (λ (e : TimedEntry). e.stamp.event ≤ at.event)
 stamps-upto (e ∷ es) at rise last =
     let low = in_time-low e.stamp es rise in
     let high = last.event in
-    All-cons (λ (e : Event). e.stamp.event ≤ at.event) e es (omega (arith, low, high)) (in_time-upto e.stamp es at.event rise last.event)
+    All-cons (λ (e : TimedEntry). e.stamp.event ≤ at.event) e es (omega (arith, low, high)) (in_time-upto e.stamp es at.event rise last.event)
 
 module _ (d : Description) where
   -- the events of a node's log, up to a stamp that may follow
-  pub log-upto : (l : Log) (n : ℕ) → KeepsJournal d (machine_in d) l → IsTimely (at_event n) l → All (λ (e : Stamped). e.stamp.event ≤ n) l.entries
+  pub log-upto : (l : Log) (n : ℕ) → KeepsJournal d (machine_in d) l → IsTimely (stamp_at n) l → All (λ (e : Stamped). e.stamp.event ≤ n) l.entries
   log-upto l n keeps timely =
-      All-of_map (λ (e : Event). e.stamp.event ≤ n) (λ (s : Stamped). let x : Event = record { stamp = s.stamp; told = told_of l s.entry } in x) l.entries
-      (stamps-upto (journal_of l) (at_event n) keeps.well_formed.in_time timely.after_last)
+      All-of_map (λ (e : TimedEntry). e.stamp.event ≤ n) (λ (s : Stamped). let x : Event = record { stamp = s.stamp; told = journal_entry l s.entry } in x) l.entries
+      (stamps-upto (journal_of l) (stamp_at n) keeps.well_formed.in_time timely.after_last)
 
   named-entry : (l : Log) (e : Entry) → IsNamedBelow (length l.images) (length l.stores) e → IsNamed l e
   named-entry l (entry.Install h version image) named = named
@@ -94,28 +94,28 @@ module _ (d : Description) where
   named-all l (e ∷ es) named = All-cons (λ (e : Stamped). IsNamed l e.entry) e es (named-entry l e.entry named.0) (named-all l es named.1)
 
   -- the entries of an event
-  stamped-all : (at : Stamp) (told : List Told) → All (λ (e : Event). e.stamp.event ≡ at.event) (map (event_at at) told)
-  stamped-all at [] = All-nil (λ (e : Event). e.stamp.event ≡ at.event)
-  stamped-all at (t ∷ ts) = All-cons (λ (e : Event). e.stamp.event ≡ at.event) (event_at at t) (map (event_at at) ts) refl (stamped-all at ts)
+  stamped-all : (at : Stamp) (told : List JournalEntry) → All (λ (e : TimedEntry). e.stamp.event ≡ at.event) (map (event_at at) told)
+  stamped-all at [] = All-nil (λ (e : TimedEntry). e.stamp.event ≡ at.event)
+  stamped-all at (t ∷ ts) = All-cons (λ (e : TimedEntry). e.stamp.event ≡ at.event) (event_at at t) (map (event_at at) ts) refl (stamped-all at ts)
 
   map-drop : {A B : Type 0} (f : A → B) (n : ℕ) (xs : List A) → drop n (map f xs) ≡ map f (drop n xs)
   map-drop f zero xs = refl
   map-drop f (suc n) [] = refl
   map-drop f (suc n) (x ∷ xs) = map-drop f n xs
 
-  module _ (old new : Log) (n : ℕ) (told : List Told) (keeps : KeepsJournal d (machine_in d) old) (keeps' : KeepsJournal d (machine_in d) new)
-      (timely : IsTimely (at_event n) old) (grows : Grows old new (at_event (n + 1)) told) where
-    abbrev front : List Event
-    front = map (event_at (at_event (n + 1))) told
+  module _ (old new : Log) (n : ℕ) (told : List JournalEntry) (keeps : KeepsJournal d (machine_in d) old) (keeps' : KeepsJournal d (machine_in d) new)
+      (timely : IsTimely (stamp_at n) old) (grows : Grows old new (stamp_at (n + 1)) told) where
+    abbrev front : List TimedEntry
+    front = map (event_at (stamp_at (n + 1))) told
 
     new-events : All (λ (e : Stamped). e.stamp.event ≡ n + 1) (drop (length old.entries) new.entries)
     new-events =
-        let long : length (journal_of old) ≡ length old.entries = length-map old.entries (λ (s : Stamped). let x : Event = record { stamp = s.stamp; told = told_of old s.entry } in x) in
+        let long : length (journal_of old) ≡ length old.entries = length-map old.entries (λ (s : Stamped). let x : Event = record { stamp = s.stamp; told = journal_entry old s.entry } in x) in
         let is : map (event_of new) (drop (length old.entries) new.entries) ≡ front =
-        sym (map-drop (event_of new) (length old.entries) new.entries) ∙ ap (λ (es : List Event). drop (length old.entries) es) grows.journal
+        sym (map-drop (event_of new) (length old.entries) new.entries) ∙ ap (λ (es : List TimedEntry). drop (length old.entries) es) grows.journal
         ∙ ap (λ (k : ℕ). drop k (journal_of old ++ front)) (sym long) ∙ drop-append_seam (journal_of old) front in
-        All-of_map (λ (e : Event). e.stamp.event ≡ n + 1) (event_of new) (drop (length old.entries) new.entries)
-        (All-same (λ (e : Event). e.stamp.event ≡ n + 1) (map (event_of new) (drop (length old.entries) new.entries)) front is (stamped-all (at_event (n + 1)) told))
+        All-of_map (λ (e : TimedEntry). e.stamp.event ≡ n + 1) (event_of new) (drop (length old.entries) new.entries)
+        (All-same (λ (e : TimedEntry). e.stamp.event ≡ n + 1) (map (event_of new) (drop (length old.entries) new.entries)) front is (stamped-all (stamp_at (n + 1)) told))
 
     old-events : All (λ (l : Log). All (λ (e : Stamped). e.stamp.event ≤ n) l.entries) (old ∷ [])
     old-events = All-cons (λ (l : Log). All (λ (e : Stamped). e.stamp.event ≤ n) l.entries) old [] (log-upto old n keeps timely) (All-nil (λ (l : Log). All (λ (e : Stamped). e.stamp.event ≤ n) l.entries))
@@ -150,7 +150,7 @@ module _ (d : Description) where
     lines-before = lines-earlier d (one old) (one new) [] new (length old.entries) 0 adds (let e = events_end-le (one old) n (All-nil (λ (a : Aired). a.stamp.event ≤ n)) old-events in omega (arith, e))
 
   -- all lines are those of the events up to the last one
-  pub lines-last : (l : Log) (n : ℕ) → KeepsJournal d (machine_in d) l → IsTimely (at_event n) l → lines d (one l) ≡ flat_map (event_lines d (one l)) (below n) ++ event_lines d (one l) n
+  pub lines-last : (l : Log) (n : ℕ) → KeepsJournal d (machine_in d) l → IsTimely (stamp_at n) l → lines d (one l) ≡ flat_map (event_lines d (one l)) (below n) ++ event_lines d (one l) n
   lines-last l n keeps timely =
       lines-upto d (one l) n (events_end-le (one l) n (All-nil (λ (a : Aired). a.stamp.event ≤ n))
       (All-cons (λ (x : Log). All (λ (e : Stamped). e.stamp.event ≤ n) x.entries) l [] (log-upto l n keeps timely) (All-nil (λ (x : Log). All (λ (e : Stamped). e.stamp.event ≤ n) x.entries))))
@@ -179,7 +179,7 @@ stops-before d script ps out0 out1 f0 f1 l events report covers written =
 
 -- so a run writes whose last line was put
 pub last-put : (d : Description) (script : NodeScript) (ps : List Program) (out out' : Option (List ℕ)) (f f' : ℕ) (l : Log) (events : ℕ) (whole : Bool) (put : Result (Unit {0}) SinkFault) (pass : Pass)
-    → pass ≡ record { events = events; whole = whole; result = ended_by whole put } → WritesReport d (IsReportOf d script ps) out out' f f' (ended_by whole put) (report_with l events whole)
+    → pass ≡ record { events = events; whole = whole; result = write_ended whole put } → WritesReport d (IsReportOf d script ps) out out' f f' (write_ended whole put) (report_with l events whole)
     → PassWrites d script ps out out' f f' l pass
 last-put d script ps out out' f f' l events whole put pass is writes = subst (λ (x : Pass). PassWrites d script ps out out' f f' l x) (sym is) writes
 
@@ -203,8 +203,8 @@ lines-room d a b same =
     ∙ ap (λ (ss : List Store). lines d (one (L b.entries b.images ss a.spare))) same.stores ∙ room
 
 -- the lines of an event are one more piece, behind those of all events before it
-pub event-written : (d : Description) (ps : List Program) (list : List Step) (i event written : ℕ) (mid new : NodeView) (Rule : Pace → List Told → Pace → Type 0)
-    → HasRun d ps (take i list) mid → i ≤ length list → event ≡ i → KeepsJournal d (machine_in d) mid.log → KeepsJournal d (machine_in d) new.log → Tells mid new (at_event (event + 1)) Rule
+pub event-written : (d : Description) (ps : List Program) (list : List Step) (i event written : ℕ) (mid new : NodeView) (Rule : Pace → List JournalEntry → Pace → Type 0)
+    → HasRun d ps (take i list) mid → i ≤ length list → event ≡ i → KeepsJournal d (machine_in d) mid.log → KeepsJournal d (machine_in d) new.log → Tells mid new (stamp_at (event + 1)) Rule
     → written ≡ length mid.log.entries
     → (lines d (one new.log) ≡ lines d (one mid.log) ++ event_piece d [] new.log written 0) × (lines d (one mid.log) ≡ flat_map (event_lines d (one new.log)) (below (event + 1)))
 event-written d ps list i event written mid new Rule run within same keeps keeps' t position =

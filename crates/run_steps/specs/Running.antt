@@ -5,7 +5,7 @@ use Rattle.vm_desc.specs.declared.description.Description.{Description}
 use Rattle.script_reader.specs.Steps.{NodeScript}
 use Rattle.script_reader.specs.declared.steps.Step.{Step}
 use Rattle.mate_journal.specs.Log.{Log}
-use Rattle.mate_journal.specs.Journal.{Told, journal_of, nothing_heard}
+use Rattle.mate_journal.specs.Journal.{JournalEntry, journal_of, first_state}
 use Rattle.mate_journal.specs.Pace.{Pace, no_pace}
 use Rattle.mate_journal.specs.NodeScript as node
 use Rattle.mate_journal.specs.NodeScript.{RunEnd, Whole, Full, Makes, HaveMade}
@@ -51,19 +51,19 @@ pub record IsReadyFor (v : NodeView) (at : Stamp) : Type 0 where
   pub room : 32 ≤ v.log.spare
 
 -- what a step makes on a node
-abbrev pub MakesOn : NodeView → node.Step → Pace → List Told → Pace → Type 0
+abbrev pub MakesOn : NodeView → node.Step → Pace → List JournalEntry → Pace → Type 0
 MakesOn v step p told q = Makes (machine_in v.description) (heard_of v) p step told q
 
 -- the stamp of an event of a script
-abbrev pub at_event : ℕ → Stamp
-at_event n = record { event = n; time = 0 }
+abbrev pub stamp_at : ℕ → Stamp
+stamp_at n = record { event = n; time = 0 }
 
 -- the node made these steps, one event each
 pub record HasRun (d : Description) (ps : List Program) (done : List Step) (v : NodeView) : Type 0 where
   pub description : v.description ≡ d
   pub pace : Pace
   pub has : HasPace v pace
-  pub made : HaveMade (machine_in d) 0 1 (nothing_heard (machine_in d)) no_pace (map (step_of ps) done) (journal_of v.log) pace
-  pub timely : IsTimely (at_event (length done)) v.log
+  pub made : HaveMade (machine_in d) 0 1 (first_state (machine_in d)) no_pace (map (step_of ps) done) (journal_of v.log) pace
+  pub timely : IsTimely (stamp_at (length done)) v.log
   pub ranges : IsInRange v.log v.gone
   pub few : length done < 2 ^ 64

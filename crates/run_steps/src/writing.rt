@@ -9,7 +9,7 @@ ghost use Rattle.node_programs.specs.ScriptSteps.{AreProgramsOf};
 ghost use Rattle.run_steps.specs.Running.{IsReportOf, report_with};
 ghost use Rattle.run_steps.specs.Keeping.{IsNewNode, StaysAsToldTo};
 ghost use Rattle.run_steps.specs.Writing.{PassWrites};
-ghost use Rattle.run_writing.specs.Writing.{PutsLast, RunsInto, WritesRun};
+ghost use Rattle.run_writing.specs.Writing.{PutsLastLine, RunsInto, WritesRun};
 ghost use Rattle.run_writing.specs.declared.write_fault.WriteFault.TheVariants.{NoMemory as OutOfMemory};
 
 use crate::heap_node::{HeapNode, Written};
@@ -61,7 +61,7 @@ fn write_new<S: Sink>(
 
 /// Writes the last line of the report of a run on a node, behind its other lines.
 fn write_last<S: Sink>(node: &HeapNode, events: u64, whole: bool, out: &mut S) -> Pass
-    ensures { PutsLast (report_with node.now.log events whole) (S.written out.old) (S.faults out.old) (S.written out.new)
+    ensures { PutsLastLine (report_with node.now.log events whole) (S.written out.old) (S.faults out.old) (S.written out.new)
         (S.faults out.new) result }
 {
     let put = write_end(node.told() as u64, events, 1, whole, out);

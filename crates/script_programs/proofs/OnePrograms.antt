@@ -5,7 +5,7 @@ use Rattle.std.specs.Prelude.{⊤}
 use Rattle.std.proofs.lemmas.List.{append-nil}
 use Rattle.arrayvec.specs.ArrayVec.{ArrayVec}
 use Rattle.mate_num.specs.declared.id.HandlerId.{HandlerId}
-use Rattle.capsule_codec.specs.Image.{CapsuleParts, image_of}
+use Rattle.capsule_codec.specs.Image.{CapsuleParts, capsule_image}
 use Rattle.capsule_codec.specs.declared.capsule.Capsule.{Capsule}
 use Rattle.code_verifier.specs.Verified.{VerifiedCode}
 use Rattle.mate_files.specs.Files.{Names}
@@ -74,7 +74,7 @@ pub installed_same : (d : Description) (h : HandlerId) (version : ℕ) (c e : Co
 installed_same d h version c e same p q a b = record {
   handler = a.handler ∙ sym b.handler;
   version = a.version_is ∙ sym b.version_is;
-  image = same_image p.image q.image (a.image ∙ ap (λ (code : ArrayVec ℕ). image_of (record { vm_id = d.vm_id; handler = h.0; version = version; code = code.items })) same.code ∙ sym b.image);
+  image = same_image p.image q.image (a.image ∙ ap (λ (code : ArrayVec ℕ). capsule_image (record { vm_id = d.vm_id; handler = h.0; version = version; code = code.items })) same.code ∙ sym b.image);
   source = source_same p.source q.source c.script e.script a.source b.source same.tree;
 }
 
@@ -86,7 +86,7 @@ loaded_same : (c e : Capsule × VerifiedCode) → SameCapsule c e → (p q : Pro
 loaded_same c e same p q a b = record {
   handler = a.handler ∙ ap (λ (parts : CapsuleParts). let h : HandlerId = record { 0 = parts.handler } in h) same.parts ∙ sym b.handler;
   version = a.version_is ∙ ap (λ (parts : CapsuleParts). parts.version) same.parts ∙ sym b.version_is;
-  image = same_image p.image q.image (a.image ∙ ap image_of same.parts ∙ sym b.image);
+  image = same_image p.image q.image (a.image ∙ ap capsule_image same.parts ∙ sym b.image);
   source = source_none p.source q.source a.source b.source;
 }
 

@@ -4,12 +4,12 @@ use Rattle.std.specs.Prelude.{if◌then◌else◌, codes, slice_index}
 use Rattle.std.specs.Str.{bytes_eq}
 use Rattle.std.proofs.lemmas.List.{length_push}
 use Rattle.vm_desc.specs.declared.description.Description.{Description}
-use Rattle.script_reader.specs.Lines.{words_of, lines, is_skipped}
+use Rattle.script_reader.specs.Lines.{split_words, lines, is_skipped}
 use Rattle.script_reader.specs.NodeReader.{files_after}
 use Rattle.script_reader.specs.NodeScript.{Said, Progress, an_install, a_load, a_post, a_step, an_answer, behind_others, behind, a_line, with_file, with_said, when_said, after_line, nothing_yet, node_script_in}
 use Rattle.script_reader.specs.Script.{numbered, script_from}
 use Rattle.script_reader.specs.Steps.{NodeScript}
-use Rattle.script_reader.specs.Words.{Taken, Reading, ◌>>=◌, and_then, give, found, a_word, nothing_more, a_number, a_value, a_payload, a_handler, a_version, a_context}
+use Rattle.script_reader.specs.Words.{TakenWords, WordReading, ◌>>=◌, and_then, give, found, a_word, nothing_more, a_number, a_value, a_payload, a_handler, a_version, a_context}
 use Rattle.script_reader.specs.declared.fault.Cause.{Cause}
 use Rattle.script_reader.specs.declared.fault.Cause.TheVariants.{Word, Range}
 use Rattle.script_reader.specs.declared.fault.ScriptFault.{ScriptFault}
@@ -19,29 +19,29 @@ use Rattle.script_programs.specs.Numbers.{file_of, NamesNext, IsNumbered, NamesI
 -- ---- readings
 
 -- whatever a reading gives, this holds of it
-abbrev Gives : {A : Type 0} → (A → Type 0) → Reading A → Type 0
-Gives {A} P reading = (words : List (List ℕ)) (t : Taken A) → reading words ≡ Ok t → P t.value
+abbrev Gives : {A : Type 0} → (A → Type 0) → WordReading A → Type 0
+Gives {A} P reading = (words : List (List ℕ)) (t : TakenWords A) → reading words ≡ Ok t → P t.value
 
-Gives-any : {A : Type 0} (r : Reading A) → Gives (λ _. Unit {0}) r
+Gives-any : {A : Type 0} (r : WordReading A) → Gives (λ _. Unit {0}) r
 Gives-any r words t is = tt
 
 Gives-give : {A : Type 0} (P : A → Type 0) (a : A) → P a → Gives P (give a)
 Gives-give {A} P a h words t is =
-    let u : Taken A = record { value = a; rest = words } in
+    let u : TakenWords A = record { value = a; rest = words } in
     let same : u ≡ t = cc in
-    subst (λ (v : Taken A). P v.value) same h
+    subst (λ (v : TakenWords A). P v.value) same h
 
-Gives-then : {A B : Type 0} (Q : A → Type 0) (P : B → Type 0) (r : Reading A) (k : A → Reading B) → Gives Q r → ((a : A) → Q a → Gives P (k a)) → Gives P (r >>= k)
+Gives-then : {A B : Type 0} (Q : A → Type 0) (P : B → Type 0) (r : WordReading A) (k : A → WordReading B) → Gives Q r → ((a : A) → Q a → Gives P (k a)) → Gives P (r >>= k)
 Gives-then {A} {B} Q P r k first next words t is = by (r words) refl is where
-  by : (x : Result (Taken A) Cause) → r words ≡ x → and_then k x ≡ Ok t → P t.value
+  by : (x : Result (TakenWords A) Cause) → r words ≡ x → and_then k x ≡ Ok t → P t.value
   by (Ok u) got is = next u.value (first words u got) u.rest t is
   by (Err cause) got is = cc
 
 -- whatever comes first
-Gives-behind : {A B : Type 0} (P : B → Type 0) (r : Reading A) (k : A → Reading B) → ((a : A) → Gives P (k a)) → Gives P (r >>= k)
+Gives-behind : {A B : Type 0} (P : B → Type 0) (r : WordReading A) (k : A → WordReading B) → ((a : A) → Gives P (k a)) → Gives P (r >>= k)
 Gives-behind P r k next = Gives-then (λ _. Unit {0}) P r k (Gives-any r) (λ a q. next a)
 
-Gives-if : {A : Type 0} (P : A → Type 0) (b : Bool) (r s : Reading A) → Gives P r → Gives P s → Gives P (if b then r else s)
+Gives-if : {A : Type 0} (P : A → Type 0) (b : Bool) (r s : WordReading A) → Gives P r → Gives P s → Gives P (if b then r else s)
 Gives-if P true r s yes' no' = yes'
 Gives-if P false r s yes' no' = no'
 
@@ -122,7 +122,7 @@ said-in_order p said is names =
 after_line-in_order : (d : Description) (p q : Progress) (words : List (List ℕ)) → NamesInOrder p.script → after_line d p words ≡ Ok q → NamesInOrder q.script
 unfolding after_line
 after_line-in_order d p q words is next = by (is_skipped words) (a_line d p.newest (length p.script.files) words) refl next where
-  by : (b : Bool) (r : Result (Taken Said) Cause) → a_line d p.newest (length p.script.files) words ≡ r → (if b then Ok p else when_said p r) ≡ Ok q → NamesInOrder q.script
+  by : (b : Bool) (r : Result (TakenWords Said) Cause) → a_line d p.newest (length p.script.files) words ≡ r → (if b then Ok p else when_said p r) ≡ Ok q → NamesInOrder q.script
   by true r read next = let same : p ≡ q = cc in subst (λ (x : Progress). NamesInOrder x.script) same is
   by false (Ok t) read next =
       let same : with_said p t.value ≡ q = cc in
@@ -131,12 +131,12 @@ after_line-in_order d p q words is next = by (is_skipped words) (a_line d p.newe
 
 script-in_order : (d : Description) (number : ℕ) (p : Progress) (ls : List (List ℕ)) (s : NodeScript) → NamesInOrder p.script → script_from (after_line d) (λ number p. Ok p.script) number p ls ≡ Ok s → NamesInOrder s
 script-in_order d number p [] s is next = let same : p.script ≡ s = cc in subst NamesInOrder same is
-script-in_order d number p (line ∷ ls) s is next = by (after_line d p (words_of line)) refl next (λ q h rest. script-in_order d (number + 1) q ls s h rest) where
+script-in_order d number p (line ∷ ls) s is next = by (after_line d p (split_words line)) refl next (λ q h rest. script-in_order d (number + 1) q ls s h rest) where
   rest_of : Progress → Result NodeScript ScriptFault
   rest_of q = script_from (after_line d) (λ number p. Ok p.script) (number + 1) q ls
 
-  by : (r : Result Progress Cause) → after_line d p (words_of line) ≡ r → numbered number rest_of r ≡ Ok s → ((q : Progress) → NamesInOrder q.script → rest_of q ≡ Ok s → NamesInOrder s) → NamesInOrder s
-  by (Ok q) after next later = later q (after_line-in_order d p q (words_of line) is after) next
+  by : (r : Result Progress Cause) → after_line d p (split_words line) ≡ r → numbered number rest_of r ≡ Ok s → ((q : Progress) → NamesInOrder q.script → rest_of q ≡ Ok s → NamesInOrder s) → NamesInOrder s
+  by (Ok q) after next later = later q (after_line-in_order d p q (split_words line) is after) next
   by (Err cause) after next later = cc
 
 pub node_script-in_order : (d : Description) (bytes : List ℕ) (s : NodeScript) → node_script_in d bytes ≡ Ok s → NamesInOrder s

@@ -14,9 +14,9 @@ use Rattle.mate_code.specs.Table.{table_of}
 use Rattle.mate_code.specs.Verification.{Marks, Refusal, TooLong, verification}
 use Rattle.ts_syntax.specs.Statement.{Block}
 use Rattle.ts_meaning.specs.Meaning.{run_of}
-use Rattle.ts_meaning.specs.Uses.{uses_of}
+use Rattle.ts_meaning.specs.Uses.{script_uses}
 use Rattle.ts_meaning.specs.Translation as translation
-use Rattle.capsule_codec.specs.Image.{CapsuleParts, image_of, IsCapsule, IsOfMachine}
+use Rattle.capsule_codec.specs.Image.{CapsuleParts, capsule_image, IsCapsule, IsOfMachine}
 use Rattle.code_verifier.specs.Verified.{VerifiedCode, marks_of}
 use Rattle.mate_steps.specs.SourceCode.{IsCompiledOf, MeansTree, compiled_tree}
 use Rattle.mate_steps.specs.declared.code.CompiledScript.{CompiledScript}
@@ -24,7 +24,7 @@ use Rattle.mate_steps.proofs.CodeLemmas.{means-tree}
 use Rattle.vm_desc.specs.Shapes.{shape_of}
 use Rattle.vm_desc.specs.declared.description.Description.{Description}
 use Rattle.mate_journal.specs.declared.program.Program.{Program}
-use Rattle.node_invariant.specs.Meaning.{code_of, code_in}
+use Rattle.node_invariant.specs.Meaning.{image_code, code_in}
 use Rattle.node_programs.specs.Right.{IsSourceOf, IsRightProgram}
 
 -- verified bytes spell the code
@@ -38,12 +38,12 @@ code-if false n shape code marks (Err (BadOpcode place)) is = cc
 code-if false n shape code marks (Err (CutShort place)) is = cc
 
 -- the image's code stands behind its first 16 bytes
-code-behind : (c : CapsuleParts) → drop 16 (image_of c) ≡ c.code
+code-behind : (c : CapsuleParts) → drop 16 (capsule_image c) ≡ c.code
 code-behind c = refl
 
 -- the code of the image of a capsule with these bytes
-image-code : (shape : Shape) (c : CapsuleParts) (image : ArrayVec ℕ) (code : Code) (marks : Marks) → image.items ≡ image_of c → bytes_verification shape c.code ≡ Ok (code, marks) → code_of shape image ≡ code
-unfolding code_of
+image-code : (shape : Shape) (c : CapsuleParts) (image : ArrayVec ℕ) (code : Code) (marks : Marks) → image.items ≡ capsule_image c → bytes_verification shape c.code ≡ Ok (code, marks) → image_code shape image ≡ code
+unfolding image_code
 image-code shape c image code marks is verified =
     ap (λ (bs : List ℕ). code_in (decoded (table_of shape) (drop 16 bs))) is
     ∙ ap (λ (bs : List ℕ). code_in (decoded (table_of shape) bs)) (code-behind c)
@@ -53,23 +53,23 @@ IsOk-by : {A E : Type 0} (r : Result A E) (a : A) → r ≡ Ok a → IsOk r
 IsOk-by {A} {E} r a is = subst (λ (x : Result A E). IsOk x) (sym is) refl
 
 -- the compiled script is the source of its code
-source-of_code : (shape : Shape) (fold : Bool) (tree : Block) (x : CompiledScript) (c : CapsuleParts) (image : ArrayVec ℕ) → IsCompiledOf shape fold tree x → c.code ≡ x.code.items → image.items ≡ image_of c
-    → IsSourceOf shape (code_of shape image) x.script
+source-of_code : (shape : Shape) (fold : Bool) (tree : Block) (x : CompiledScript) (c : CapsuleParts) (image : ArrayVec ℕ) → IsCompiledOf shape fold tree x → c.code ≡ x.code.items → image.items ≡ capsule_image c
+    → IsSourceOf shape (image_code shape image) x.script
 source-of_code shape fold tree x c image is bytes image_is =
     let verified : bytes_verification shape c.code ≡ Ok (translation.code_of (compiled_tree fold tree), is.code_is.verified.0) = ap (bytes_verification shape) bytes ∙ is.code_is.verified.1 in
-    let code_is : code_of shape image ≡ translation.code_of (compiled_tree fold tree) = image-code shape c image (translation.code_of (compiled_tree fold tree)) is.code_is.verified.0 image_is verified in
+    let code_is : image_code shape image ≡ translation.code_of (compiled_tree fold tree) = image-code shape c image (translation.code_of (compiled_tree fold tree)) is.code_is.verified.0 image_is verified in
     let means : MeansTree shape fold tree = means-tree shape fold tree x is in
     let R : Code → Type 0 = λ code. (store : _) (msg : _) (answers : _) (turns : _) → code_run shape code store msg answers turns ≡ run_of (compiled_tree fold tree) store msg answers turns in
     record {
       shape_is = is.shape_is;
       runs = λ store msg answers turns.
           subst R (sym code_is) means.plays store msg answers turns ∙ ap (λ (t : Block). run_of t store msg answers turns) (sym is.tree_is);
-      uses = ap (code_uses shape) code_is ∙ means.uses ∙ ap (uses_of shape) (sym is.tree_is);
+      uses = ap (code_uses shape) code_is ∙ means.uses ∙ ap (script_uses shape) (sym is.tree_is);
     }
 
 -- the program of a compiled script
 pub IsRightProgram-compiled : (d : Description) (fold : Bool) (tree : Block) (x : CompiledScript) (c : CapsuleParts) (p : Program) → IsCompiledOf (shape_of d) fold tree x → IsCapsule c → IsOfMachine d c → c.code ≡ x.code.items
-    → c.handler ≡ p.handler.0 → c.version ≡ p.version → p.source ≡ Option.Some x.script → p.image.items ≡ image_of c → IsRightProgram d p
+    → c.handler ≡ p.handler.0 → c.version ≡ p.version → p.source ≡ Option.Some x.script → p.image.items ≡ capsule_image c → IsRightProgram d p
 IsRightProgram-compiled d fold tree x c p is capsule machine bytes handler version source image = record {
   capsule = c;
   is_capsule = capsule;
@@ -78,12 +78,12 @@ IsRightProgram-compiled d fold tree x c p is capsule machine bytes handler versi
   version = version;
   image = image;
   verified = IsOk-by (bytes_verification (shape_of d) c.code) _ (ap (bytes_verification (shape_of d)) bytes ∙ is.code_is.verified.1);
-  source = subst (λ (o : _). IfSome o (IsSourceOf (shape_of d) (code_of (shape_of d) p.image))) (sym source) (source-of_code (shape_of d) fold tree x c p.image is bytes image);
+  source = subst (λ (o : _). IfSome o (IsSourceOf (shape_of d) (image_code (shape_of d) p.image))) (sym source) (source-of_code (shape_of d) fold tree x c p.image is bytes image);
 }
 
 -- the program of a capsule that the verifier takes
 pub IsRightProgram-loaded : (d : Description) (v : VerifiedCode) (c : CapsuleParts) (p : Program) → bytes_verification (shape_of d) c.code ≡ Ok (v.code, marks_of v) → IsCapsule c → IsOfMachine d c
-    → c.handler ≡ p.handler.0 → c.version ≡ p.version → p.source ≡ None → p.image.items ≡ image_of c → IsRightProgram d p
+    → c.handler ≡ p.handler.0 → c.version ≡ p.version → p.source ≡ None → p.image.items ≡ capsule_image c → IsRightProgram d p
 IsRightProgram-loaded d v c p accepted capsule machine handler version source image = record {
   capsule = c;
   is_capsule = capsule;
@@ -92,5 +92,5 @@ IsRightProgram-loaded d v c p accepted capsule machine handler version source im
   version = version;
   image = image;
   verified = IsOk-by (bytes_verification (shape_of d) c.code) (v.code, marks_of v) accepted;
-  source = subst (λ (o : _). IfSome o (IsSourceOf (shape_of d) (code_of (shape_of d) p.image))) (sym source) tt;
+  source = subst (λ (o : _). IfSome o (IsSourceOf (shape_of d) (image_code (shape_of d) p.image))) (sym source) tt;
 }

@@ -7,7 +7,7 @@ use Rattle.mate_num.specs.declared.id.HandlerId.{HandlerId}
 use Rattle.mate_num.specs.declared.shape.Shape.{Shape}
 use Rattle.mate_num.specs.declared.store.Store.{Store}
 use Rattle.ts_meaning.specs.Meaning.{run_of}
-use Rattle.ts_meaning.specs.Uses.{uses_of}
+use Rattle.ts_meaning.specs.Uses.{script_uses}
 use Rattle.ts_syntax.specs.Statement.{Block}
 use Rattle.ts_syntax.specs.declared.checked.Checked.{Checked}
 use Rattle.mate_journal.specs.Machine.{HeldProgram}
@@ -88,7 +88,7 @@ uses-same : (shape : Shape) (a b : Option Checked) → SameSource a b → (h : H
 uses-same shape None None same h = refl
 uses-same shape None (Some b) same h = absurd same
 uses-same shape (Some a) None same h = absurd same
-uses-same shape (Some a) (Some b) same h = ap (λ (tree : Block). uses_of shape tree) same
+uses-same shape (Some a) (Some b) same h = ap (λ (tree : Block). script_uses shape tree) same
 
 pub meaning-same : (d : Description) (ps qs : List Program) → SamePrograms ps qs → meaning_by d ps ≡ meaning_by d qs
 meaning-same d ps qs same = λ i. record (meaning_by d ps) {

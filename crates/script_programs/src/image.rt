@@ -1,7 +1,7 @@
 //! The image of a capsule, as a program has it.
 
 ghost use Rattle.std.specs.Prelude.{◌≡◌};
-ghost use Rattle.capsule_codec.specs.Image.{capsule_parts, image_of, IsCapsule};
+ghost use Rattle.capsule_codec.specs.Image.{capsule_parts, capsule_image, IsCapsule};
 ghost use Rattle.mate_steps.specs.Steps.{obtained};
 
 use capsule_codec::{Capsule, encode};
@@ -12,7 +12,7 @@ use std::alloc::Global;
 /// The capsule's one image, on the heap.
 #[inline(never)]
 pub(crate) fn stored_image(alloc: Global, capsule: &Capsule) -> Result<StoredImage, Refusal>
-    ensures image { obtained (λ image. image.items ≡ image_of (capsule_parts capsule.now)) result }
+    ensures image { obtained (λ image. image.items ≡ capsule_image (capsule_parts capsule.now)) result }
     ensures fits { IsCapsule (capsule_parts capsule.now) }
 {
     match StoredImage::new(alloc, &encode(capsule)) {

@@ -3,8 +3,8 @@ use Rattle.std.proofs.Common.{◌≡◌, ℕ, ◌+◌, ◌<◌, ◌≤◌, List,
 use Rattle.script_reader.specs.declared.fault.Cause.{Cause}
 use Rattle.script_reader.specs.declared.fault.ScriptFault.{ScriptFault}
 use Rattle.script_reader.specs.declared.fault.ScriptFault.TheVariants.{BadLine, NoMemory}
-use Rattle.script_reader.specs.Lines.{lines, words_of}
-use Rattle.script_reader.specs.Script.{numbered, script_from, Answers, Follows}
+use Rattle.script_reader.specs.Lines.{lines, split_words}
+use Rattle.script_reader.specs.Script.{numbered, script_from, AnswersScript, FollowsLine}
 
 -- the whole is what the rest tells behind p
 pub record IsAt {P A : Type 0} (after : P → List (List ℕ) → Result P Cause) (ends : ℕ → P → Result A ScriptFault) (whole : Result A ScriptFault) (number : ℕ) (p : P) (rest : List ℕ) : Type 0 where
@@ -12,18 +12,18 @@ pub record IsAt {P A : Type 0} (after : P → List (List ℕ) → Result P Cause
   pub count : number + length rest ≤ 1048577
 
 one_line : {P A : Type 0} (after : P → List (List ℕ) → Result P Cause) (ends : ℕ → P → Result A ScriptFault) (n : ℕ) (p : P) (line rest new : List ℕ) (r : Result P Cause)
-    → lines rest ≡ line ∷ lines new → after p (words_of line) ≡ r → script_from after ends n p (lines rest) ≡ numbered n (λ p. script_from after ends (n + 1) p (lines new)) r
+    → lines rest ≡ line ∷ lines new → after p (split_words line) ≡ r → script_from after ends n p (lines rest) ≡ numbered n (λ p. script_from after ends (n + 1) p (lines new)) r
 one_line after ends n p line rest new r next e = ap (script_from after ends n p) next ∙ ap (numbered n (λ p. script_from after ends (n + 1) p (lines new))) e
 
 pub goes_on : {P A : Type 0} (after : P → List (List ℕ) → Result P Cause) (ends : ℕ → P → Result A ScriptFault) (whole : Result A ScriptFault) (n : ℕ) (p q : P) (line rest new : List ℕ)
-    → IsAt after ends whole n p rest → lines rest ≡ line ∷ lines new → length new < length rest → Follows (after p (words_of line)) n (Ok tt) q → IsAt after ends whole (n + 1) q new
+    → IsAt after ends whole n p rest → lines rest ≡ line ∷ lines new → length new < length rest → FollowsLine (after p (split_words line)) n (Ok tt) q → IsAt after ends whole (n + 1) q new
 goes_on after ends whole n p q line rest new at next shorter led = record {
   whole_is = sym (one_line after ends n p line rest new (Ok q) next led) ∙ at.whole_is;
   count = let room : n + length rest ≤ 1048577 = at.count in omega arith;
 }
 
 pub is_refused : {P A : Type 0} (after : P → List (List ℕ) → Result P Cause) (ends : ℕ → P → Result A ScriptFault) (whole : Result A ScriptFault) (n : ℕ) (p q : P) (line rest new : List ℕ) (fault : ScriptFault)
-    → IsAt after ends whole n p rest → lines rest ≡ line ∷ lines new → Follows (after p (words_of line)) n (Err fault) q → Answers (Err fault) whole
+    → IsAt after ends whole n p rest → lines rest ≡ line ∷ lines new → FollowsLine (after p (split_words line)) n (Err fault) q → AnswersScript (Err fault) whole
 is_refused after ends whole n p q line rest new (BadLine number cause) at next led =
     sym at.whole_is ∙ one_line after ends n p line rest new (Err cause) next led.1 ∙ ap (λ m. Err (BadLine m cause)) (sym led.0)
 is_refused after ends whole n p q line rest new NoMemory at next led = tt

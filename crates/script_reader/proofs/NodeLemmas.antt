@@ -4,8 +4,8 @@ use Rattle.vm_desc.specs.declared.description.Description.{Description}
 use Rattle.script_reader.specs.declared.fault.Cause.{Cause}
 use Rattle.script_reader.specs.declared.fault.ScriptFault.{ScriptFault}
 use Rattle.script_reader.specs.declared.fault.ScriptFault.TheVariants.{BadLine, NoMemory}
-use Rattle.script_reader.specs.Lines.{lines, words_of, is_skipped}
-use Rattle.script_reader.specs.Script.{Follows}
+use Rattle.script_reader.specs.Lines.{lines, split_words, is_skipped}
+use Rattle.script_reader.specs.Script.{FollowsLine}
 use Rattle.script_reader.specs.declared.steps.Step.{Step}
 use Rattle.script_reader.specs.Steps.{IsRightStep, IsRightSteps}
 use Rattle.script_reader.specs.NodeScript.{Said, Progress, a_line, with_said, when_said, after_line, nothing_yet, node_script_in}
@@ -16,7 +16,7 @@ use Rattle.script_reader.proofs.StepLemmas.{keeps_more, keeps_nothing, length-wi
 
 -- what a line's end leaves
 pub record IsLineEnd (d : Description) (n : ℕ) (old new : Progress) (words : List (List ℕ)) (r : Result (Unit {0}) ScriptFault) : Type 0 where
-  pub value : Follows (after_line d old words) n r new
+  pub value : FollowsLine (after_line d old words) n r new
   pub files : OnOk r (length new.script.files ≤ n)
   pub keeps : OnOk r (KeepsProgress d new)
 
@@ -56,7 +56,7 @@ at_start d bytes p steps files newest small =
     subst P (sym (same_start p steps files newest)) begun
 
 pub at_next : (d : Description) (bytes : List ℕ) (n : ℕ) (p after : Progress) (line rest new : List ℕ) → IsAtLine d bytes n p rest → lines rest ≡ line ∷ lines new → length new < length rest
-    → Follows (after_line d p (words_of line)) n (Ok tt) after → length after.script.files ≤ n → KeepsProgress d after → IsAtLine d bytes (n + 1) after new
+    → FollowsLine (after_line d p (split_words line)) n (Ok tt) after → length after.script.files ≤ n → KeepsProgress d after → IsAtLine d bytes (n + 1) after new
 at_next d bytes n p after line rest new at next shorter ended few keeps = record {
   at = goes_on (after_line d) (λ number p. Ok p.script) (node_script_in d bytes) n p after line rest new at.at next shorter ended;
   files = omega arith;

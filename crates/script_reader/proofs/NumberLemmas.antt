@@ -13,7 +13,7 @@ use Rattle.std.specs.Int.{w16}
 use mir.Val.{SFits}
 use Rattle.script_reader.specs.declared.fault.Cause.{Cause}
 use Rattle.script_reader.specs.declared.fault.Cause.TheVariants.{Range}
-use Rattle.script_reader.specs.Words.{Taken, and_then, found, printed, within, signed, number_of, value_of, a_value, is_printable}
+use Rattle.script_reader.specs.Words.{TakenWords, and_then, found, printed, within, signed, number_read, value_read, a_value, is_printable}
 
 -- where a digit more is too much, so are all
 pub overflows : (w : List ℕ) (place n : ℕ) → n ≡ digits_value 10 (take place w) → place < length w
@@ -70,29 +70,29 @@ minus_fits : (n : ℕ) → n ≤ 32768 → SFits w16 (neg_ℤ (pos n))
 minus_fits zero h = record { sfits = lit< tt }
 minus_fits (suc n) h = record { sfits = omega arith }
 
-value_of_fits : (w : List ℕ) (v : ℤ) → value_of w ≡ Ok v → SFits w16 v
+value_of_fits : (w : List ℕ) (v : ℤ) → value_read w ≡ Ok v → SFits w16 v
 value_of_fits [] v e = absurd (cc)
 value_of_fits (byte ∷ bytes) v e = by (byte == 45) e
   where
-    by : (b : Bool) → cond b (signed (λ n. neg_ℤ (pos n)) (within 0 32768 Range (number_of bytes))) (signed pos (within 0 32767 Range (number_of (byte ∷ bytes)))) ≡ Ok v → SFits w16 v
-    by true e = signed_fits (λ n. neg_ℤ (pos n)) (within 0 32768 Range (number_of bytes)) v e (λ n h. minus_fits n (within_high 0 32768 Range (number_of bytes) n h))
-    by false e = signed_fits pos (within 0 32767 Range (number_of (byte ∷ bytes))) v e
-        (λ n h. let small : n ≤ 32767 = within_high 0 32767 Range (number_of (byte ∷ bytes)) n h in record { sfits = omega arith })
+    by : (b : Bool) → cond b (signed (λ n. neg_ℤ (pos n)) (within 0 32768 Range (number_read bytes))) (signed pos (within 0 32767 Range (number_read (byte ∷ bytes)))) ≡ Ok v → SFits w16 v
+    by true e = signed_fits (λ n. neg_ℤ (pos n)) (within 0 32768 Range (number_read bytes)) v e (λ n h. minus_fits n (within_high 0 32768 Range (number_read bytes) n h))
+    by false e = signed_fits pos (within 0 32767 Range (number_read (byte ∷ bytes))) v e
+        (λ n h. let small : n ≤ 32767 = within_high 0 32767 Range (number_read (byte ∷ bytes)) n h in record { sfits = omega arith })
 
-abbrev value_or : Result (Taken ℤ) Cause → Result ℤ Cause
+abbrev value_or : Result (TakenWords ℤ) Cause → Result ℤ Cause
 value_or (Ok t) = Ok t.value
 value_or (Err cause) = Err cause
 
-value_found : (r : Result ℤ Cause) (words : List (List ℕ)) (t : Taken ℤ) → found r words ≡ Ok t → r ≡ Ok t.value
+value_found : (r : Result ℤ Cause) (words : List (List ℕ)) (t : TakenWords ℤ) → found r words ≡ Ok t → r ≡ Ok t.value
 value_found (Ok v) words t e = ap value_or e
 value_found (Err cause) words t e = absurd (cc)
 
 -- a value is a 16-bit number
-pub value_fits : (words : List (List ℕ)) (t : Taken ℤ) → a_value words ≡ Ok t → SFits w16 t.value
+pub value_fits : (words : List (List ℕ)) (t : TakenWords ℤ) → a_value words ≡ Ok t → SFits w16 t.value
 unfolding a_value
 value_fits [] t e = absurd (cc)
 value_fits (w ∷ words) t e = by (printed w) e
   where
-    by : (r : Result (List ℕ) Cause) → and_then (λ w. found (value_of w)) (found r words) ≡ Ok t → SFits w16 t.value
-    by (Ok text) e = value_of_fits text t.value (value_found (value_of text) words t e)
+    by : (r : Result (List ℕ) Cause) → and_then (λ w. found (value_read w)) (found r words) ≡ Ok t → SFits w16 t.value
+    by (Ok text) e = value_of_fits text t.value (value_found (value_read text) words t e)
     by (Err cause) e = absurd (cc)

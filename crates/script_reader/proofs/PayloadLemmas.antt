@@ -4,7 +4,7 @@ use Rattle.std.proofs.Math.Seq.{take-nil, drop-nil}
 use Rattle.script_reader.specs.declared.fault.Cause.{Cause}
 use Rattle.script_reader.specs.declared.fault.Cause.TheVariants.{Word}
 use Rattle.mate_num.specs.Store.{payload}
-use Rattle.script_reader.specs.Words.{Taken, found, and_then, printed, value_of, a_value, values_from, then_more, as_payload, a_payload}
+use Rattle.script_reader.specs.Words.{TakenWords, found, and_then, printed, value_read, a_value, values_from, then_more, as_payload, a_payload}
 
 -- so many values were read, and the words after them are left
 pub record IsReadTo (all : List (List ℕ)) (values : List ℤ) (rest : List (List ℕ)) : Type 0 where
@@ -12,7 +12,7 @@ pub record IsReadTo (all : List (List ℕ)) (values : List ℤ) (rest : List (Li
   pub whole : values_from [] (take 10 all) ≡ values_from values (take (10 - length values) rest)
   pub after : drop 10 all ≡ drop (10 - length values) rest
 
-abbrev pub with_rest : List (List ℕ) → Result (Taken ℤ) Cause → Result (Taken ℤ) Cause
+abbrev pub with_rest : List (List ℕ) → Result (TakenWords ℤ) Cause → Result (TakenWords ℤ) Cause
 with_rest words (Ok t) = Ok (record { value = t.value; rest = words })
 with_rest words (Err cause) = Err cause
 
@@ -25,28 +25,28 @@ pub one_value : (w : List ℕ) (words : List (List ℕ)) → a_value (w ∷ word
 unfolding a_value
 one_value w words = by (printed w)
   where
-    by : (r : Result (List ℕ) Cause) → and_then (λ w. found (value_of w)) (found r words) ≡ with_rest words (and_then (λ w. found (value_of w)) (found r []))
-    by (Ok text) = found_again (value_of text) words
+    by : (r : Result (List ℕ) Cause) → and_then (λ w. found (value_read w)) (found r words) ≡ with_rest words (and_then (λ w. found (value_read w)) (found r []))
+    by (Ok text) = found_again (value_read text) words
     by (Err cause) = refl
 
-pub nothing_to_read : (r : Result (Taken ℤ) Cause) → a_value [] ≡ r → r ≡ Err Word
+pub nothing_to_read : (r : Result (TakenWords ℤ) Cause) → a_value [] ≡ r → r ≡ Err Word
 unfolding a_value
 nothing_to_read r e = sym e
 
-abbrev value_or : ℤ → Result (Taken ℤ) Cause → ℤ
+abbrev value_or : ℤ → Result (TakenWords ℤ) Cause → ℤ
 value_or other (Ok t) = t.value
 value_or other (Err cause) = other
 
-abbrev rest_or : List (List ℕ) → Result (Taken ℤ) Cause → List (List ℕ)
+abbrev rest_or : List (List ℕ) → Result (TakenWords ℤ) Cause → List (List ℕ)
 rest_or other (Ok t) = t.rest
 rest_or other (Err cause) = other
 
-pub by_value : (next : ℤ → Result (List ℤ) Cause) (r : Result (Taken ℤ) Cause) (words rest : List (List ℕ)) (v : ℤ) → with_rest words r ≡ Ok (record { value = v; rest = rest })
+pub by_value : (next : ℤ → Result (List ℤ) Cause) (r : Result (TakenWords ℤ) Cause) (words rest : List (List ℕ)) (v : ℤ) → with_rest words r ≡ Ok (record { value = v; rest = rest })
     → (then_more next r ≡ next v) × (words ≡ rest)
 by_value next (Ok t) words rest v e = (ap next (ap (value_or v) e), ap (rest_or rest) e)
 by_value next (Err cause) words rest v e = absurd cc
 
-pub by_fault : (next : ℤ → Result (List ℤ) Cause) (r : Result (Taken ℤ) Cause) (words : List (List ℕ)) (cause : Cause) → with_rest words r ≡ Err cause
+pub by_fault : (next : ℤ → Result (List ℤ) Cause) (r : Result (TakenWords ℤ) Cause) (words : List (List ℕ)) (cause : Cause) → with_rest words r ≡ Err cause
     → then_more next r ≡ Err cause
 by_fault next (Ok t) words cause e = absurd cc
 by_fault next (Err fault) words cause e = cc

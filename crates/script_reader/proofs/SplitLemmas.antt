@@ -4,7 +4,7 @@ use Rattle.std.specs.Prelude.{nat_eq, slice_index_or}
 use Rattle.std.specs.List.{prefix_len, slice_split, onto_first}
 use Rattle.std.proofs.lemmas.List.Folds.{length-prefix_len}
 use Rattle.std.specs.Str.Lines.{lines, lines_of_parts, strip_carriage_return}
-use Rattle.script_reader.specs.Lines.{is_blank, is_some_part, words_of, is_skipped}
+use Rattle.script_reader.specs.Lines.{is_blank, is_some_part, split_words, is_skipped}
 
 -- how far no element is a separator
 abbrev pub front_len : (ℕ → Bool) → List ℕ → ℕ
@@ -33,17 +33,17 @@ front_none p (x ∷ xs) = by (p x) refl (front_none p xs)
     by false e h = rw (one-add (front_len p xs)) h
 
 -- blanks in front are no part of a word
-words_of-blanks : (xs : List ℕ) → words_of (drop (prefix_len is_blank xs) xs) ≡ words_of xs
+words_of-blanks : (xs : List ℕ) → split_words (drop (prefix_len is_blank xs) xs) ≡ split_words xs
 words_of-blanks [] = refl
 words_of-blanks (x ∷ xs) = by (is_blank x) refl (words_of-blanks xs)
   where
-    by : (v : Bool) → is_blank x ≡ v → words_of (drop (prefix_len is_blank xs) xs) ≡ words_of xs
-        → words_of (drop (cond v (1 + prefix_len is_blank xs) 0) (x ∷ xs)) ≡ filter is_some_part (cond v ([] ∷ slice_split is_blank xs) (onto_first x (slice_split is_blank xs)))
+    by : (v : Bool) → is_blank x ≡ v → split_words (drop (prefix_len is_blank xs) xs) ≡ split_words xs
+        → split_words (drop (cond v (1 + prefix_len is_blank xs) 0) (x ∷ xs)) ≡ filter is_some_part (cond v ([] ∷ slice_split is_blank xs) (onto_first x (slice_split is_blank xs)))
     by true e h = rw (one-add (prefix_len is_blank xs)) h
     by false e h = rw e refl
 
 -- the first word, where the text begins with no blank
-words_of-front : (xs : List ℕ) → 0 < length (take (front_len is_blank xs) xs) → words_of xs ≡ take (front_len is_blank xs) xs ∷ words_of (drop (front_len is_blank xs) xs)
+words_of-front : (xs : List ℕ) → 0 < length (take (front_len is_blank xs) xs) → split_words xs ≡ take (front_len is_blank xs) xs ∷ split_words (drop (front_len is_blank xs) xs)
 words_of-front xs some =
     let rest : List ℕ = drop (front_len is_blank xs) xs in
     let none : front_len is_blank rest ≡ 0 = front_none is_blank xs in
@@ -56,11 +56,11 @@ words_of-front xs some =
     kept (x ∷ w) parts h = refl
 
 -- no word is left, where the text is one of blanks
-words_of-nil : (xs : List ℕ) → front_len is_blank xs ≡ 0 → prefix_len is_blank xs ≡ 0 → words_of xs ≡ []
+words_of-nil : (xs : List ℕ) → front_len is_blank xs ≡ 0 → prefix_len is_blank xs ≡ 0 → split_words xs ≡ []
 words_of-nil [] h e = refl
 words_of-nil (x ∷ xs) h e = by (is_blank x) refl h e
   where
-    by : (v : Bool) → is_blank x ≡ v → cond (not v) (1 + front_len is_blank xs) 0 ≡ 0 → cond v (1 + prefix_len is_blank xs) 0 ≡ 0 → words_of (x ∷ xs) ≡ []
+    by : (v : Bool) → is_blank x ≡ v → cond (not v) (1 + front_len is_blank xs) 0 ≡ 0 → cond v (1 + prefix_len is_blank xs) 0 ≡ 0 → split_words (x ∷ xs) ≡ []
     by true e h k = absurd (omega arith)
     by false e h k = absurd (omega arith)
 
@@ -79,36 +79,36 @@ pub record IsCut (old from word new : List ℕ) : Type 0 where
   pub front : word ≡ take (front_len is_blank from) from
   pub back : new ≡ drop (front_len is_blank from) from
 
-pub a_word_is_next : (old from word new : List ℕ) → IsCut old from word new → 0 < length word → words_of old ≡ word ∷ words_of new
+pub a_word_is_next : (old from word new : List ℕ) → IsCut old from word new → 0 < length word → split_words old ≡ word ∷ split_words new
 a_word_is_next old from word new cut some =
-    let first : words_of from ≡ take (front_len is_blank from) from ∷ words_of (drop (front_len is_blank from) from) = words_of-front from (rw cut.front at some) in
-    sym (words_of-blanks old) ∙ ap words_of (sym cut.blanks) ∙ first ∙ rw (cut.front, cut.back) refl
+    let first : split_words from ≡ take (front_len is_blank from) from ∷ split_words (drop (front_len is_blank from) from) = words_of-front from (rw cut.front at some) in
+    sym (words_of-blanks old) ∙ ap split_words (sym cut.blanks) ∙ first ∙ rw (cut.front, cut.back) refl
 
-pub no_word_is_next : (old from word new : List ℕ) → IsCut old from word new → length word ≡ 0 → (words_of old ≡ []) × (words_of new ≡ [])
+pub no_word_is_next : (old from word new : List ℕ) → IsCut old from word new → length word ≡ 0 → (split_words old ≡ []) × (split_words new ≡ [])
 no_word_is_next old from word new cut none =
     let len : front_len is_blank from ≡ 0 = sym (length-prefix_len (λ x. not (is_blank x)) from) ∙ ap length (sym cut.front) ∙ none in
     let blanks : prefix_len is_blank from ≡ 0 = ap (prefix_len is_blank) cut.blanks ∙ blanks_none old in
-    let nothing : words_of from ≡ [] = words_of-nil from len blanks in
+    let nothing : split_words from ≡ [] = words_of-nil from len blanks in
     let same : new ≡ from = cut.back ∙ ap (λ n. drop n from) len in
-    (sym (words_of-blanks old) ∙ ap words_of (sym cut.blanks) ∙ nothing, ap words_of same ∙ nothing)
+    (sym (words_of-blanks old) ∙ ap split_words (sym cut.blanks) ∙ nothing, ap split_words same ∙ nothing)
 
 not_none : (w : List ℕ) (ws : List (List ℕ)) → (length (w ∷ ws) == 0) ≡ false
 not_none w ws = grind arith
 
 -- whether a word is left is told by what is behind the blanks
-pub blanks_decide : (xs from : List ℕ) → from ≡ drop (prefix_len is_blank xs) xs → (length from == 0) ≡ (length (words_of xs) == 0)
-blanks_decide xs [] cut = sym (ap (λ ws. length ws == 0) (sym (words_of-blanks xs) ∙ ap words_of (sym cut)))
+pub blanks_decide : (xs from : List ℕ) → from ≡ drop (prefix_len is_blank xs) xs → (length from == 0) ≡ (length (split_words xs) == 0)
+blanks_decide xs [] cut = sym (ap (λ ws. length ws == 0) (sym (words_of-blanks xs) ∙ ap split_words (sym cut)))
 blanks_decide xs (b ∷ bs) cut = by (is_blank b) refl (ap (prefix_len is_blank) cut ∙ blanks_none xs)
   where
-    by : (v : Bool) → is_blank b ≡ v → cond v (1 + prefix_len is_blank bs) 0 ≡ 0 → (length (b ∷ bs) == 0) ≡ (length (words_of xs) == 0)
+    by : (v : Bool) → is_blank b ≡ v → cond v (1 + prefix_len is_blank bs) 0 ≡ 0 → (length (b ∷ bs) == 0) ≡ (length (split_words xs) == 0)
     by true e h = absurd (omega arith)
     by false e h =
         let some : 0 < length (take (front_len is_blank (b ∷ bs)) (b ∷ bs)) = rw (e, one-add (front_len is_blank bs)) (grind arith) in
         let word : List ℕ = take (front_len is_blank (b ∷ bs)) (b ∷ bs) in
         let new : List ℕ = drop (front_len is_blank (b ∷ bs)) (b ∷ bs) in
-        let next : words_of xs ≡ word ∷ words_of new = a_word_is_next xs (b ∷ bs) word new (record { blanks = cut; front = refl; back = refl }) some in
+        let next : split_words xs ≡ word ∷ split_words new = a_word_is_next xs (b ∷ bs) word new (record { blanks = cut; front = refl; back = refl }) some in
         let here : (length (b ∷ bs) == 0) ≡ false = grind arith in
-        here ∙ sym (ap (λ ws. length ws == 0) next ∙ not_none word (words_of new))
+        here ∙ sym (ap (λ ws. length ws == 0) next ∙ not_none word (split_words new))
 
 -- ---- lines
 
@@ -165,21 +165,21 @@ abbrev pub skipped_by_first : List ℕ → Bool
 skipped_by_first [] = true
 skipped_by_first (x ∷ xs) = x == 35
 
-by_first : (xs : List ℕ) → prefix_len is_blank xs ≡ 0 → is_skipped (words_of xs) ≡ skipped_by_first xs
+by_first : (xs : List ℕ) → prefix_len is_blank xs ≡ 0 → is_skipped (split_words xs) ≡ skipped_by_first xs
 by_first [] none = refl
 by_first (x ∷ xs) none = by (is_blank x) refl none (slice_split is_blank xs) refl
   where
-    by : (v : Bool) → is_blank x ≡ v → cond v (1 + prefix_len is_blank xs) 0 ≡ 0 → (parts : List (List ℕ)) → slice_split is_blank xs ≡ parts → is_skipped (words_of (x ∷ xs)) ≡ (x == 35)
+    by : (v : Bool) → is_blank x ≡ v → cond v (1 + prefix_len is_blank xs) 0 ≡ 0 → (parts : List (List ℕ)) → slice_split is_blank xs ≡ parts → is_skipped (split_words (x ∷ xs)) ≡ (x == 35)
     by true e none parts p = absurd (omega arith)
     by false e none [] p = rw (e, p) refl
     by false e none (part ∷ parts) p = rw (e, p) refl
 
-by_blanks : (old from : List ℕ) → from ≡ drop (prefix_len is_blank old) old → is_skipped (words_of old) ≡ skipped_by_first from
+by_blanks : (old from : List ℕ) → from ≡ drop (prefix_len is_blank old) old → is_skipped (split_words old) ≡ skipped_by_first from
 by_blanks old from cut =
     ap is_skipped (sym (words_of-blanks old)) ∙ by_first (drop (prefix_len is_blank old) old) (blanks_none old) ∙ ap skipped_by_first (sym cut)
 
 -- a line of blanks is skipped
-pub blanks-skipped : (old from : List ℕ) → from ≡ drop (prefix_len is_blank old) old → length from < 1 → true ≡ is_skipped (words_of old)
+pub blanks-skipped : (old from : List ℕ) → from ≡ drop (prefix_len is_blank old) old → length from < 1 → true ≡ is_skipped (split_words old)
 blanks-skipped old from cut few = sym (by_blanks old from cut ∙ none from few)
   where
     none : (xs : List ℕ) → length xs < 1 → skipped_by_first xs ≡ true
@@ -187,7 +187,7 @@ blanks-skipped old from cut few = sym (by_blanks old from cut ∙ none from few)
     none (x ∷ xs) h = absurd (omega arith)
 
 -- another line is skipped as its first byte behind the blanks tells
-pub first-skipped : (old from : List ℕ) → from ≡ drop (prefix_len is_blank old) old → 1 ≤ length from → nat_eq (slice_index_or from 0 0) 35 ≡ is_skipped (words_of old)
+pub first-skipped : (old from : List ℕ) → from ≡ drop (prefix_len is_blank old) old → 1 ≤ length from → nat_eq (slice_index_or from 0 0) 35 ≡ is_skipped (split_words old)
 first-skipped old from cut some = sym (by_blanks old from cut ∙ one from some)
   where
     one : (xs : List ℕ) → 1 ≤ length xs → skipped_by_first xs ≡ nat_eq (slice_index_or xs 0 0) 35

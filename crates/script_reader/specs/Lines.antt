@@ -13,8 +13,8 @@ is_some_part [] = false
 is_some_part (byte ∷ bytes) = true
 
 -- the words stand between blanks
-abbrev pub words_of : List ℕ → List (List ℕ)
-words_of line = filter is_some_part (slice_split is_blank line)
+abbrev pub split_words : List ℕ → List (List ℕ)
+split_words line = filter is_some_part (slice_split is_blank line)
 
 -- a line without words, or one whose first word begins with #
 abbrev pub is_skipped : List (List ℕ) → Bool

@@ -10,7 +10,7 @@ use Rattle.script_reader.specs.declared.steps.Step.{Step}
 use Rattle.script_reader.specs.declared.steps.Step.TheVariants as step
 use Rattle.script_reader.specs.Lines.{lines, is_skipped}
 use Rattle.script_reader.specs.Script.{script_from}
-use Rattle.script_reader.specs.Words.{Taken, Reading, ◌>>=◌, give, found, a_word, nothing_more, a_number, a_value, a_payload, a_handler}
+use Rattle.script_reader.specs.Words.{TakenWords, WordReading, ◌>>=◌, give, found, a_word, nothing_more, a_number, a_value, a_payload, a_handler}
 use Rattle.script_reader.specs.Words.{a_version, a_context}
 use Rattle.script_reader.specs.Steps.{NodeScript}
 
@@ -20,7 +20,7 @@ pub record Said : Type 0 where
   pub file : Option (List ℕ)
 
 -- `install HANDLER VERSION FILE`, with the newest version of each handler and the number of files before the line
-unfoldable pub an_install : Description → List ℕ → ℕ → Reading Said
+unfoldable pub an_install : Description → List ℕ → ℕ → WordReading Said
 an_install d newest files = do
   handler ← a_handler d
   version ← a_version (slice_index newest handler.0)
@@ -28,38 +28,38 @@ an_install d newest files = do
   give (record { step = step.Install handler version files; file = Some file })
 
 -- `load FILE`
-unfoldable pub a_load : ℕ → Reading Said
+unfoldable pub a_load : ℕ → WordReading Said
 a_load files = do
   file ← a_word
   give (record { step = step.Load files; file = Some file })
 
 -- `post HANDLER V ..`
-unfoldable pub a_post : Description → Reading Said
+unfoldable pub a_post : Description → WordReading Said
 a_post d = do
   handler ← a_handler d
   payload ← a_payload
   give (record { step = step.Post handler payload; file = None })
 
 -- `step CTX N`
-unfoldable pub a_step : Description → Reading Said
+unfoldable pub a_step : Description → WordReading Said
 a_step d = do
   ctx ← a_context d
   n ← a_number 1 1000000 Range
   give (record { step = step.Step ctx n; file = None })
 
 -- `answer CTX V`
-unfoldable pub an_answer : Description → Reading Said
+unfoldable pub an_answer : Description → WordReading Said
 an_answer d = do
   ctx ← a_context d
   value ← a_value
   give (record { step = step.Answer ctx value; file = None })
 
 -- `run`, `show` and `reset`
-abbrev pub alone : Step → Reading Said
+abbrev pub alone : Step → WordReading Said
 alone s = give (record { step = s; file = None })
 
 -- what stands behind the first words of the lines that name no file, no handler and no number of instructions
-unfoldable pub behind_others : Description → List ℕ → Reading Said
+unfoldable pub behind_others : Description → List ℕ → WordReading Said
 behind_others d verb =
     if bytes_eq verb (codes "run") then alone step.Run
     else if bytes_eq verb (codes "answer") then an_answer d
@@ -68,7 +68,7 @@ behind_others d verb =
     else found (Err Word)
 
 -- what stands behind a line's first word
-unfoldable pub behind : Description → List ℕ → ℕ → List ℕ → Reading Said
+unfoldable pub behind : Description → List ℕ → ℕ → List ℕ → WordReading Said
 behind d newest files verb =
     if bytes_eq verb (codes "install") then an_install d newest files
     else if bytes_eq verb (codes "load") then a_load files
@@ -77,7 +77,7 @@ behind d newest files verb =
     else behind_others d verb
 
 -- a whole line
-unfoldable pub a_line : Description → List ℕ → ℕ → Reading Said
+unfoldable pub a_line : Description → List ℕ → ℕ → WordReading Said
 a_line d newest files = do
   verb ← a_word
   said ← behind d newest files verb
@@ -109,7 +109,7 @@ with_said p said = record {
   newest = newest_after p.newest said.step;
 }
 
-abbrev pub when_said : Progress → Result (Taken Said) Cause → Result Progress Cause
+abbrev pub when_said : Progress → Result (TakenWords Said) Cause → Result Progress Cause
 when_said p (Ok t) = Ok (with_said p t.value)
 when_said p (Err cause) = Err cause
 

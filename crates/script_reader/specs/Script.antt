@@ -3,7 +3,7 @@ use Rattle.std.specs.Prelude.{◌≡◌, ℕ, ◌+◌, List, [], ◌∷◌, Resu
 use Rattle.script_reader.specs.declared.fault.Cause.{Cause}
 use Rattle.script_reader.specs.declared.fault.ScriptFault.{ScriptFault}
 use Rattle.script_reader.specs.declared.fault.ScriptFault.TheVariants.{BadLine, NoMemory}
-use Rattle.script_reader.specs.Lines.{words_of}
+use Rattle.script_reader.specs.Lines.{split_words}
 
 -- what comes behind a line with a number, or the line with its cause
 abbrev pub numbered : {P A : Type 0} → ℕ → (P → Result A ScriptFault) → Result P Cause → Result A ScriptFault
@@ -16,16 +16,16 @@ abbrev pub script_from : {P A : Type 0} → (P → List (List ℕ) → Result P 
     → Result A ScriptFault
 script_from after ends number p [] = ends number p
 script_from after ends number p (line ∷ lines) = numbered number (λ p. script_from after ends (number + 1) p lines)
-    (after p (words_of line))
+    (after p (split_words line))
 
 -- a reader's answer is the script, or the first line that is refused; only want of memory may come in place of either
-abbrev pub Answers : {A : Type 0} → Result A ScriptFault → Result A ScriptFault → Type 0
-Answers (Ok script) answer = answer ≡ Ok script
-Answers (Err (BadLine line cause)) answer = answer ≡ Err (BadLine line cause)
-Answers (Err NoMemory) answer = ⊤
+abbrev pub AnswersScript : {A : Type 0} → Result A ScriptFault → Result A ScriptFault → Type 0
+AnswersScript (Ok script) answer = answer ≡ Ok script
+AnswersScript (Err (BadLine line cause)) answer = answer ≡ Err (BadLine line cause)
+AnswersScript (Err NoMemory) answer = ⊤
 
 -- the same of one line, which has a number: the state behind it, or its cause
-abbrev pub Follows : {P : Type 0} → Result P Cause → ℕ → Result (Unit {0}) ScriptFault → P → Type 0
-Follows answer number (Ok u) after = answer ≡ Ok after
-Follows answer number (Err (BadLine line cause)) after = (line ≡ number) × (answer ≡ Err cause)
-Follows answer number (Err NoMemory) after = ⊤
+abbrev pub FollowsLine : {P : Type 0} → Result P Cause → ℕ → Result (Unit {0}) ScriptFault → P → Type 0
+FollowsLine answer number (Ok u) after = answer ≡ Ok after
+FollowsLine answer number (Err (BadLine line cause)) after = (line ≡ number) × (answer ≡ Err cause)
+FollowsLine answer number (Err NoMemory) after = ⊤

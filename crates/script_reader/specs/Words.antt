@@ -16,35 +16,35 @@ use Rattle.script_reader.specs.declared.fault.Cause.{Cause}
 use Rattle.script_reader.specs.declared.fault.Cause.TheVariants.{Word, Number, Range, OldVersion, Name}
 
 -- what was read, and the words after it
-pub record Taken (A : Type 0) : Type 0 where
+pub record TakenWords (A : Type 0) : Type 0 where
   pub value : A
   pub rest : List (List ℕ)
 
 -- what the first words are, or the cause for which they are refused
-abbrev pub Reading : Type 0 → Type 0
-Reading A = List (List ℕ) → Result (Taken A) Cause
+abbrev pub WordReading : Type 0 → Type 0
+WordReading A = List (List ℕ) → Result (TakenWords A) Cause
 
-abbrev pub and_then : {A B : Type 0} → (A → Reading B) → Result (Taken A) Cause → Result (Taken B) Cause
+abbrev pub and_then : {A B : Type 0} → (A → WordReading B) → Result (TakenWords A) Cause → Result (TakenWords B) Cause
 and_then next (Ok t) = next t.value t.rest
 and_then next (Err cause) = Err cause
 
 infixl 10 ◌>>=◌
-abbrev pub ◌>>=◌ : {A B : Type 0} → Reading A → (A → Reading B) → Reading B
+abbrev pub ◌>>=◌ : {A B : Type 0} → WordReading A → (A → WordReading B) → WordReading B
 (reading >>= next) words = and_then next (reading words)
 
 -- a value that takes no word
-abbrev pub give : {A : Type 0} → A → Reading A
+abbrev pub give : {A : Type 0} → A → WordReading A
 give value words = Ok (record { value = value; rest = words })
 
 -- what was found, and the words that are left
-abbrev pub found : {A : Type 0} → Result A Cause → Reading A
+abbrev pub found : {A : Type 0} → Result A Cause → WordReading A
 found (Ok value) words = Ok (record { value = value; rest = words })
 found (Err cause) words = Err cause
 
 -- what a function returned, seen by view, and the words that it left are what the reading gives
-abbrev pub Reads : {X Y : Type 0} → (X → Y) → Reading Y → List (List ℕ) → Result X Cause → List (List ℕ) → Type 0
-Reads view reading before (Ok x) after = reading before ≡ Ok (record { value = view x; rest = after })
-Reads view reading before (Err cause) after = reading before ≡ Err cause
+abbrev pub ReadsWords : {X Y : Type 0} → (X → Y) → WordReading Y → List (List ℕ) → Result X Cause → List (List ℕ) → Type 0
+ReadsWords view reading before (Ok x) after = reading before ≡ Ok (record { value = view x; rest = after })
+ReadsWords view reading before (Err cause) after = reading before ≡ Err cause
 
 -- a printable ASCII character other than a space
 abbrev pub is_printable : ℕ → Bool
@@ -55,12 +55,12 @@ abbrev pub printed : List ℕ → Result (List ℕ) Cause
 printed w = if list_all is_printable w then Ok w else Err Word
 
 -- the next word, which is to be there
-abbrev pub a_word : Reading (List ℕ)
+abbrev pub a_word : WordReading (List ℕ)
 a_word [] = Err Word
 a_word (w ∷ words) = found (printed w) words
 
 -- no word is left
-abbrev pub nothing_more : Reading (Unit {0})
+abbrev pub nothing_more : WordReading (Unit {0})
 nothing_more [] = Ok (record { value = tt; rest = [] })
 nothing_more (w ∷ words) = Err Word
 
@@ -69,32 +69,32 @@ abbrev pub is_numeral : List ℕ → Bool
 is_numeral w = not (length w == 0) && list_all is_ascii_digit w
 
 -- the number that the digits spell; leading zeros are taken
-abbrev pub number_of : List ℕ → Result ℕ Cause
-number_of w = if is_numeral w then Ok (digits_value 10 w) else Err Number
+abbrev pub number_read : List ℕ → Result ℕ Cause
+number_read w = if is_numeral w then Ok (digits_value 10 w) else Err Number
 
 -- a number from low to high
 abbrev pub within : ℕ → ℕ → Cause → Result ℕ Cause → Result ℕ Cause
 within low high outside (Ok n) = if nat_le low n && nat_le n high then Ok n else Err outside
 within low high outside (Err cause) = Err cause
 
-unfoldable pub a_number : ℕ → ℕ → Cause → Reading ℕ
-a_number low high outside = a_word >>= (λ w. found (within low high outside (number_of w)))
+unfoldable pub a_number : ℕ → ℕ → Cause → WordReading ℕ
+a_number low high outside = a_word >>= (λ w. found (within low high outside (number_read w)))
 
 abbrev pub signed : (ℕ → ℤ) → Result ℕ Cause → Result ℤ Cause
 signed sign (Ok n) = Ok (sign n)
 signed sign (Err cause) = Err cause
 
 -- a number up to 32767, or a minus and a number up to 32768
-abbrev pub value_of : List ℕ → Result ℤ Cause
-value_of [] = Err Number
-value_of (byte ∷ bytes) =
-    if byte == 45 then signed (λ n. neg_ℤ (pos n)) (within 0 32768 Range (number_of bytes))
-    else signed pos (within 0 32767 Range (number_of (byte ∷ bytes)))
+abbrev pub value_read : List ℕ → Result ℤ Cause
+value_read [] = Err Number
+value_read (byte ∷ bytes) =
+    if byte == 45 then signed (λ n. neg_ℤ (pos n)) (within 0 32768 Range (number_read bytes))
+    else signed pos (within 0 32767 Range (number_read (byte ∷ bytes)))
 
-unfoldable pub a_value : Reading ℤ
-a_value = a_word >>= (λ w. found (value_of w))
+unfoldable pub a_value : WordReading ℤ
+a_value = a_word >>= (λ w. found (value_read w))
 
-abbrev pub then_more : (ℤ → Result (List ℤ) Cause) → Result (Taken ℤ) Cause → Result (List ℤ) Cause
+abbrev pub then_more : (ℤ → Result (List ℤ) Cause) → Result (TakenWords ℤ) Cause → Result (List ℤ) Cause
 then_more next (Ok t) = next t.value
 then_more next (Err cause) = Err cause
 
@@ -108,7 +108,7 @@ as_payload (Ok values) = Ok (payload values)
 as_payload (Err cause) = Err cause
 
 -- the values of the words that are left, but of no more than ten
-unfoldable pub a_payload : Reading (ArrayVec ℤ)
+unfoldable pub a_payload : WordReading (ArrayVec ℤ)
 a_payload words = found (as_payload (values_from [] (take 10 words))) (drop 10 words)
 
 -- the handler with a name, among those from a number on
@@ -119,15 +119,15 @@ handler_from w n (h ∷ handlers) = if bytes_eq h.name w then Ok (record { 0 = n
 abbrev pub handler_of : Description → List ℕ → Result HandlerId Cause
 handler_of d w = handler_from w 0 d.handlers.items
 
-unfoldable pub a_handler : Description → Reading HandlerId
+unfoldable pub a_handler : Description → WordReading HandlerId
 a_handler d = a_word >>= (λ w. found (handler_of d w))
 
 -- a version that is newer than the newest one so far
 abbrev pub newer : ℕ → ℕ → Result ℕ Cause
 newer newest version = if nat_lt newest version then Ok version else Err OldVersion
 
-unfoldable pub a_version : ℕ → Reading ℕ
+unfoldable pub a_version : ℕ → WordReading ℕ
 a_version newest = a_number 1 4294967295 Range >>= (λ version. found (newer newest version))
 
-unfoldable pub a_context : Description → Reading ContextId
+unfoldable pub a_context : Description → WordReading ContextId
 a_context d = a_number 0 (context_count d - 1) Range >>= (λ n. give (record { 0 = n }))

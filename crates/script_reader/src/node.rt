@@ -1,12 +1,12 @@
 //! The reader of node scripts.
 
 ghost use Rattle.std.specs.Prelude.{◌≡◌, ◌<◌, ◌≤◌, ◌^◌, ℕ, List, length, IfOk, IfErr, OnOk};
-ghost use Rattle.script_reader.specs.Lines.{words_of};
-ghost use Rattle.script_reader.specs.Words.{Reads};
+ghost use Rattle.script_reader.specs.Lines.{split_words};
+ghost use Rattle.script_reader.specs.Words.{ReadsWords};
 ghost use Rattle.script_reader.specs.Steps.{IsRightSteps};
 ghost use Rattle.script_reader.specs.NodeScript.{an_install, a_load, a_post, a_step, an_answer, behind, behind_others, a_line, with_said};
 ghost use Rattle.script_reader.specs.NodeScript.{newest_after, after_line, node_script_in};
-ghost use Rattle.script_reader.specs.Script.{Answers, Follows};
+ghost use Rattle.script_reader.specs.Script.{AnswersScript, FollowsLine};
 ghost use Rattle.script_reader.specs.NodeReader.{progress_of, said_of, IsRightSaid, KeepsProgress};
 ghost use Rattle.vm_desc.specs.declared.description.Description.{Description};
 
@@ -25,7 +25,7 @@ use vm_desc::Description;
 /// `load FILE`, `post HANDLER V ..`, `step CTX N`, `run`, `answer CTX V`, `show` or `reset`.
 pub fn node_script(alloc: Global, desc: &Description, bytes: &[u8]) -> Result<Steps, ScriptFault>
     requires { length bytes.now ≤ 1048576 }
-    ensures value { Answers result (node_script_in desc.now bytes.now) }
+    ensures value { AnswersScript result (node_script_in desc.now bytes.now) }
     ensures right { IfOk result (λ steps. IsRightSteps desc.now steps) }
 {
     let mut reader = Reader {
@@ -63,7 +63,7 @@ impl Reader {
         requires count { length self.old.steps.files < number }
         requires small { number < 2 ^ 32 }
         requires keeps { KeepsProgress desc.now (progress_of self.old) }
-        ensures value { Follows (after_line desc.now (progress_of self.old) (words_of line.now)) number result (progress_of self.new) }
+        ensures value { FollowsLine (after_line desc.now (progress_of self.old) (split_words line.now)) number result (progress_of self.new) }
         ensures files { OnOk result (length self.new.steps.files ≤ number) }
         ensures keeps { OnOk result (KeepsProgress desc.now (progress_of self.new)) }
     {
@@ -121,7 +121,7 @@ fn line_in<'a>(
     files: u32,
     words: &mut Words<'a>,
 ) -> Result<Said<'a>, Cause>
-    ensures value { Reads said_of (a_line desc.now newest.now files) (words_of words.old) result (words_of words.new) }
+    ensures value { ReadsWords said_of (a_line desc.now newest.now files) (split_words words.old) result (split_words words.new) }
     ensures right { IfOk result (λ said. IsRightSaid desc.now newest.now files (said_of said)) }
 {
     let verb = words.plain()?;
@@ -143,7 +143,7 @@ fn behind<'a>(
     verb: &[u8],
     words: &mut Words<'a>,
 ) -> Result<Said<'a>, Cause>
-    ensures value { Reads said_of (behind desc.now newest.now files verb.now) (words_of words.old) result (words_of words.new) }
+    ensures value { ReadsWords said_of (behind desc.now newest.now files verb.now) (split_words words.old) result (split_words words.new) }
     ensures right { IfOk result (λ said. IsRightSaid desc.now newest.now files (said_of said)) }
 {
     if spells(verb, "install") {
@@ -166,7 +166,7 @@ fn behind_others<'a>(
     verb: &[u8],
     words: &mut Words<'a>,
 ) -> Result<Said<'a>, Cause>
-    ensures value { Reads said_of (behind_others desc.now verb.now) (words_of words.old) result (words_of words.new) }
+    ensures value { ReadsWords said_of (behind_others desc.now verb.now) (split_words words.old) result (split_words words.new) }
     ensures right { IfOk result (λ said. (newest : List ℕ) (files : ℕ) → IsRightSaid desc.now newest files (said_of said)) }
 {
     if spells(verb, "run") {
@@ -196,7 +196,7 @@ fn install_in<'a>(
     files: u32,
     words: &mut Words<'a>,
 ) -> Result<Said<'a>, Cause>
-    ensures value { Reads said_of (an_install desc.now newest.now files) (words_of words.old) result (words_of words.new) }
+    ensures value { ReadsWords said_of (an_install desc.now newest.now files) (split_words words.old) result (split_words words.new) }
     ensures right { IfOk result (λ said. IsRightSaid desc.now newest.now files (said_of said)) }
 {
     let handler = words.handler(desc)?;
@@ -214,7 +214,7 @@ fn install_in<'a>(
 
 #[tactic(auto, unfolding(crate::specs::NodeScript::a_load))]
 fn load_in<'a>(files: u32, words: &mut Words<'a>) -> Result<Said<'a>, Cause>
-    ensures value { Reads said_of (a_load files) (words_of words.old) result (words_of words.new) }
+    ensures value { ReadsWords said_of (a_load files) (split_words words.old) result (split_words words.new) }
     ensures right { IfOk result (λ said. (d : Description) (newest : List ℕ) → IsRightSaid d newest files (said_of said)) }
 {
     let file = words.word()?;
@@ -226,7 +226,7 @@ fn load_in<'a>(files: u32, words: &mut Words<'a>) -> Result<Said<'a>, Cause>
 
 #[tactic(auto, unfolding(crate::specs::NodeScript::a_post))]
 fn post_in<'a>(desc: &Description, words: &mut Words<'a>) -> Result<Said<'a>, Cause>
-    ensures value { Reads said_of (a_post desc.now) (words_of words.old) result (words_of words.new) }
+    ensures value { ReadsWords said_of (a_post desc.now) (split_words words.old) result (split_words words.new) }
     ensures right { IfOk result (λ said. (newest : List ℕ) (files : ℕ) → IsRightSaid desc.now newest files (said_of said)) }
 {
     let handler = words.handler(desc)?;
@@ -240,7 +240,7 @@ fn post_in<'a>(desc: &Description, words: &mut Words<'a>) -> Result<Said<'a>, Ca
 
 #[tactic(auto, unfolding(crate::specs::NodeScript::a_step))]
 fn step_in<'a>(desc: &Description, words: &mut Words<'a>) -> Result<Said<'a>, Cause>
-    ensures value { Reads said_of (a_step desc.now) (words_of words.old) result (words_of words.new) }
+    ensures value { ReadsWords said_of (a_step desc.now) (split_words words.old) result (split_words words.new) }
     ensures right { IfOk result (λ said. (newest : List ℕ) (files : ℕ) → IsRightSaid desc.now newest files (said_of said)) }
 {
     let ctx = words.context(desc)?;
@@ -253,7 +253,7 @@ fn step_in<'a>(desc: &Description, words: &mut Words<'a>) -> Result<Said<'a>, Ca
 
 #[tactic(auto, unfolding(crate::specs::NodeScript::an_answer))]
 fn answer_in<'a>(desc: &Description, words: &mut Words<'a>) -> Result<Said<'a>, Cause>
-    ensures value { Reads said_of (an_answer desc.now) (words_of words.old) result (words_of words.new) }
+    ensures value { ReadsWords said_of (an_answer desc.now) (split_words words.old) result (split_words words.new) }
     ensures right { IfOk result (λ said. (newest : List ℕ) (files : ℕ) → IsRightSaid desc.now newest files (said_of said)) }
 {
     let ctx = words.context(desc)?;

@@ -7,9 +7,9 @@ ghost use Rattle.std.specs.Char.{is_ascii_digit, digit_value};
 ghost use Rattle.std.specs.Str.{bytes_eq};
 ghost use Rattle.std.specs.Str.Parse.{digits_value};
 ghost use Rattle.vm_desc.specs.Whole.{context_count};
-ghost use Rattle.script_reader.specs.Lines.{is_blank, words_of, is_skipped};
-ghost use Rattle.script_reader.specs.Words.{Reads, is_printable, printed, a_word, nothing_more, is_numeral, number_of, within, a_number};
-ghost use Rattle.script_reader.specs.Words.{signed, value_of, a_value, a_payload, handler_of, a_handler, newer, a_version, a_context};
+ghost use Rattle.script_reader.specs.Lines.{is_blank, split_words, is_skipped};
+ghost use Rattle.script_reader.specs.Words.{ReadsWords, is_printable, printed, a_word, nothing_more, is_numeral, number_read, within, a_number};
+ghost use Rattle.script_reader.specs.Words.{signed, value_read, a_value, a_payload, handler_of, a_handler, newer, a_version, a_context};
 
 use crate::fault::Cause;
 use mate_num::{ContextId, HandlerId, Payload};
@@ -40,8 +40,8 @@ impl<'a> Words<'a> {
 
     /// The next word, whatever its bytes are.
     fn next(&mut self) -> Option<&'a [u8]>
-        ensures { MatchOption result ((words_of self.old ≡ []) × (words_of self.new ≡ [])) (λ w. words_of self.old ≡ w.now
-            ∷ words_of self.new) }
+        ensures { MatchOption result ((split_words self.old ≡ []) × (split_words self.new ≡ [])) (λ w. split_words self.old ≡ w.now
+            ∷ split_words self.new) }
     {
         let (_, rest) = self.rest.split_at(blanks_len(self.rest));
         let (word, rest) = rest.split_at(word_len(rest));
@@ -51,14 +51,14 @@ impl<'a> Words<'a> {
 
     /// Whether no word is left.
     pub fn is_done(&self) -> bool
-        ensures { result ≡ (length (words_of self.now) == 0) }
+        ensures { result ≡ (length (split_words self.now) == 0) }
     {
         self.rest.split_at(blanks_len(self.rest)).1.is_empty()
     }
 
     /// Whether the line says nothing: it has no word, or its first word begins with `#`.
     pub fn is_skipped(&self) -> bool
-        ensures { result ≡ is_skipped (words_of self.now) }
+        ensures { result ≡ is_skipped (split_words self.now) }
     {
         match self.rest.split_at(blanks_len(self.rest)).1 {
             [first, ..] => *first == b'#',
@@ -68,7 +68,7 @@ impl<'a> Words<'a> {
 
     /// The bytes of the next word, of printable characters.
     pub(crate) fn plain(&mut self) -> Result<&'a [u8], Cause>
-        ensures { Reads (λ w. w.now) a_word (words_of self.old) result (words_of self.new) }
+        ensures { ReadsWords (λ w. w.now) a_word (split_words self.old) result (split_words self.new) }
     {
         match self.next() {
             Some(word) => plain(word),
@@ -78,7 +78,7 @@ impl<'a> Words<'a> {
 
     /// The next word, of printable characters.
     pub fn word(&mut self) -> Result<&'a str, Cause>
-        ensures { Reads (λ w. w.now) a_word (words_of self.old) result (words_of self.new) }
+        ensures { ReadsWords (λ w. w.now) a_word (split_words self.old) result (split_words self.new) }
     {
         match self.next() {
             Some(word) => printed(word),
@@ -88,7 +88,7 @@ impl<'a> Words<'a> {
 
     /// Refuses a word that is left.
     pub fn finish(&mut self) -> Result<(), Cause>
-        ensures { Reads (λ u. u) nothing_more (words_of self.old) result (words_of self.new) }
+        ensures { ReadsWords (λ u. u) nothing_more (split_words self.old) result (split_words self.new) }
     {
         match self.next() {
             Some(_) => Err(Cause::Word),
@@ -99,7 +99,7 @@ impl<'a> Words<'a> {
     /// A number from `low` to `high`; one that is outside is refused with `outside`.
     #[tactic(auto, unfolding(crate::specs::Words::a_number))]
     pub fn number(&mut self, low: u64, high: u64, outside: Cause) -> Result<u64, Cause>
-        ensures value { Reads (λ n. n) (a_number low high outside) (words_of self.old) result (words_of self.new) }
+        ensures value { ReadsWords (λ n. n) (a_number low high outside) (split_words self.old) result (split_words self.new) }
         ensures low { IfOk result (λ n. low ≤ n) }
         ensures high { IfOk result (λ n. n ≤ high) }
     {
@@ -110,7 +110,7 @@ impl<'a> Words<'a> {
     /// A value of a script.
     #[tactic(auto, unfolding(crate::specs::Words::a_value))]
     pub fn value(&mut self) -> Result<i16, Cause>
-        ensures { Reads (λ v. v) a_value (words_of self.old) result (words_of self.new) }
+        ensures { ReadsWords (λ v. v) a_value (split_words self.old) result (split_words self.new) }
     {
         let word = self.plain()?;
         value_in(word)
@@ -118,7 +118,7 @@ impl<'a> Words<'a> {
 
     /// The values of the words that are left, but of no more than ten.
     pub fn payload(&mut self) -> Result<Payload, Cause>
-        ensures value { Reads (λ p. p) a_payload (words_of self.old) result (words_of self.new) }
+        ensures value { ReadsWords (λ p. p) a_payload (split_words self.old) result (split_words self.new) }
         ensures few { IfOk result (λ p. length p.items ≤ 10) }
     {
         let mut values = Payload::new();
@@ -132,7 +132,7 @@ impl<'a> Words<'a> {
     /// A handler of the machine, by its name.
     #[tactic(auto, unfolding(crate::specs::Words::a_handler))]
     pub fn handler(&mut self, desc: &Description) -> Result<HandlerId, Cause>
-        ensures value { Reads (λ h. h) (a_handler desc.now) (words_of self.old) result (words_of self.new) }
+        ensures value { ReadsWords (λ h. h) (a_handler desc.now) (split_words self.old) result (split_words self.new) }
         ensures below { IfOk result (λ h. h.0 < length desc.now.handlers.items) }
     {
         let word = self.plain()?;
@@ -142,7 +142,7 @@ impl<'a> Words<'a> {
     /// A version that is newer than `newest`.
     #[tactic(auto, unfolding(crate::specs::Words::a_version))]
     pub fn version(&mut self, newest: u32) -> Result<u32, Cause>
-        ensures value { Reads (λ v. v) (a_version newest) (words_of self.old) result (words_of self.new) }
+        ensures value { ReadsWords (λ v. v) (a_version newest) (split_words self.old) result (split_words self.new) }
         ensures low { IfOk result (λ v. 1 ≤ v) }
         ensures high { IfOk result (λ v. v ≤ 4294967295) }
         ensures newer { IfOk result (λ v. newest < v) }
@@ -154,7 +154,7 @@ impl<'a> Words<'a> {
     /// The number of a context of the machine.
     #[tactic(auto, unfolding(crate::specs::Words::a_context))]
     pub fn context(&mut self, desc: &Description) -> Result<ContextId, Cause>
-        ensures value { Reads (λ c. c) (a_context desc.now) (words_of self.old) result (words_of self.new) }
+        ensures value { ReadsWords (λ c. c) (a_context desc.now) (split_words self.old) result (split_words self.new) }
         ensures below { IfOk result (λ c. c.0 < context_count desc.now) }
     {
         let last = (desc.contexts() - 1) as u64;
@@ -262,7 +262,7 @@ fn with_digit(number: u64, digit: u8) -> Option<u64>
 
 // The number from `low` to `high` that the word spells.
 fn number_in(word: &[u8], low: u64, high: u64, outside: Cause) -> Result<u64, Cause>
-    ensures value { result ≡ within low high outside (number_of word.now) }
+    ensures value { result ≡ within low high outside (number_read word.now) }
     ensures low { IfOk result (λ n. low ≤ n) }
     ensures high { IfOk result (λ n. n ≤ high) }
 {
@@ -280,7 +280,7 @@ fn number_in(word: &[u8], low: u64, high: u64, outside: Cause) -> Result<u64, Ca
 }
 
 fn value_in(word: &[u8]) -> Result<i16, Cause>
-    ensures { result ≡ value_of word.now }
+    ensures { result ≡ value_read word.now }
 {
     match word {
         [] => Err(Cause::Number),
@@ -294,7 +294,7 @@ fn value_in(word: &[u8]) -> Result<i16, Cause>
 
 // What the word spells behind a minus.
 fn negative_in(digits: &[u8]) -> Result<i16, Cause>
-    ensures { result ≡ signed (λ n. neg_ℤ (pos n)) (within 0 32768 Cause.Range (number_of digits.now)) }
+    ensures { result ≡ signed (λ n. neg_ℤ (pos n)) (within 0 32768 Cause.Range (number_read digits.now)) }
 {
     let size = number_in(digits, 0, 32_768, Cause::Range)?;
     Ok((-(size as i32)) as i16)

@@ -9,8 +9,8 @@ use Rattle.vm_desc.specs.declared.settings.TrickleSet.{TrickleSet}
 use Rattle.vm_desc.specs.Limits.{is_trickle}
 use Rattle.trickle_timer.specs.declared.timer.Fire.{Fire}
 use Rattle.trickle_timer.specs.declared.timer.Fire.TheVariants.{Send, Keep}
-use Rattle.trickle_timer.specs.Intervals.{Interval, Happening, Event, Consistent, Inconsistent, Reset, Again, Expired, Start, stream, lcg_word, interval, next_length, count, intervals_from, intervals, at_point}
-use Rattle.trickle_timer.specs.Timer.{Timer, begun, started_timer, counted, after, IsTimerOf, TimerContinues, Decides}
+use Rattle.trickle_timer.specs.Intervals.{Interval, TimerHappening, TimerEvent, Consistent, Inconsistent, Reset, Again, Expired, Start, stream, lcg_word, interval, next_length, count, intervals_from, intervals, at_point}
+use Rattle.trickle_timer.specs.Timer.{Timer, begun_timer, started_timer, counted, after_happening, IsTimerOf, TimerContinues, Decides}
 
 -- a list that ends with an item isn't empty
 no_end : (xs : List Interval) (x : Interval) → [] ≡ xs ++ x ∷ [] → ⊥
@@ -28,25 +28,25 @@ not_none_after i None new same left e = left e
 not_none_after i (Some l) new same left e = cc e
 
 -- there is always a running interval
-not_none : (set : TrickleSet) (words : Lcg) (n : ℕ) (i : Interval) (later : List Happening) → intervals_from set words n i later ≡ [] → ⊥
+not_none : (set : TrickleSet) (words : Lcg) (n : ℕ) (i : Interval) (later : List TimerHappening) → intervals_from set words n i later ≡ [] → ⊥
 not_none set words n i [] e = cc e
 not_none set words n i (h ∷ later) e =
     not_none_after i (next_length set i.length h.event) (λ l. intervals_from set words (n + 1) (interval l h.time (lcg_word words n)) later) (intervals_from set words n (record i { heard = count i.heard h.event }) later) (not_none set words n (record i { heard = count i.heard h.event }) later) e
 
 -- what one happening more does to the intervals from the running one on
-abbrev Follows : TrickleSet → Lcg → ℕ → Interval → List Happening → Happening → Type 0
+abbrev Follows : TrickleSet → Lcg → ℕ → Interval → List TimerHappening → TimerHappening → Type 0
 Follows set words n i happened h = (earlier : List Interval) (running : Interval)
     → intervals_from set words n i happened ≡ earlier ++ running ∷ []
     → intervals_from set words n i (happened ++ h ∷ []) ≡ earlier ++ intervals_from set words (n + length earlier) running (h ∷ [])
 
-follows_none : (set : TrickleSet) (words : Lcg) (n : ℕ) (i : Interval) (h : Happening) → Follows set words n i [] h
+follows_none : (set : TrickleSet) (words : Lcg) (n : ℕ) (i : Interval) (h : TimerHappening) → Follows set words n i [] h
 follows_none set words n i h [] running e =
     let same : i ≡ running = heads i running [] [] e in
     let none : n ≡ n + 0 = omega arith in
     ap (λ (r : Interval). intervals_from set words n r (h ∷ [])) same ∙ ap (λ (m : ℕ). intervals_from set words m running (h ∷ [])) none
 follows_none set words n i h (x ∷ xs) running e = absurd (no_end xs running (tails i x [] (xs ++ running ∷ []) e))
 
-follows_new : (set : TrickleSet) (words : Lcg) (n : ℕ) (i new : Interval) (later : List Happening) (h : Happening) (earlier : List Interval) (running : Interval)
+follows_new : (set : TrickleSet) (words : Lcg) (n : ℕ) (i new : Interval) (later : List TimerHappening) (h : TimerHappening) (earlier : List Interval) (running : Interval)
     → Follows set words (n + 1) new later h
     → i ∷ intervals_from set words (n + 1) new later ≡ earlier ++ running ∷ []
     → i ∷ intervals_from set words (n + 1) new (later ++ h ∷ []) ≡ earlier ++ intervals_from set words (n + length earlier) running (h ∷ [])
@@ -54,23 +54,23 @@ follows_new set words n i new later h [] running follows e = absurd (not_none se
 follows_new set words n i new later h (x ∷ xs) running follows e =
     let rest = intervals_from set words (n + 1) new later in
     let same : i ≡ x = heads i x rest (xs ++ running ∷ []) e in
-    let after : intervals_from set words (n + 1) new (later ++ h ∷ []) ≡ xs ++ intervals_from set words (n + 1 + length xs) running (h ∷ []) = follows xs running (tails i x rest (xs ++ running ∷ []) e) in
+    let after_happening : intervals_from set words (n + 1) new (later ++ h ∷ []) ≡ xs ++ intervals_from set words (n + 1 + length xs) running (h ∷ []) = follows xs running (tails i x rest (xs ++ running ∷ []) e) in
     let number : n + 1 + length xs ≡ n + length (x ∷ xs) = omega arith in
     ap (λ (y : Interval). y ∷ intervals_from set words (n + 1) new (later ++ h ∷ [])) same
-    ∙ ap (λ (ys : List Interval). x ∷ ys) after
+    ∙ ap (λ (ys : List Interval). x ∷ ys) after_happening
     ∙ ap (λ (m : ℕ). x ∷ (xs ++ intervals_from set words m running (h ∷ []))) number
 
-follows_step : (set : TrickleSet) (words : Lcg) (n : ℕ) (i : Interval) (g : Happening) (later : List Happening) (h : Happening) (earlier : List Interval) (running : Interval) (next : Option ℕ)
+follows_step : (set : TrickleSet) (words : Lcg) (n : ℕ) (i : Interval) (g : TimerHappening) (later : List TimerHappening) (h : TimerHappening) (earlier : List Interval) (running : Interval) (next : Option ℕ)
     → ((new : Interval) → Follows set words (n + 1) new later h)
     → Follows set words n (record i { heard = count i.heard g.event }) later h
     → option_map_or (λ l. i ∷ intervals_from set words (n + 1) (interval l g.time (lcg_word words n)) later) next (intervals_from set words n (record i { heard = count i.heard g.event }) later) ≡ earlier ++ running ∷ []
     → option_map_or (λ l. i ∷ intervals_from set words (n + 1) (interval l g.time (lcg_word words n)) (later ++ h ∷ [])) next (intervals_from set words n (record i { heard = count i.heard g.event }) (later ++ h ∷ [])) ≡ earlier ++ intervals_from set words (n + length earlier) running (h ∷ [])
 follows_step set words n i g later h earlier running None new same e = same earlier running e
 follows_step set words n i g later h earlier running (Some l) new same e =
-    let begun = interval l g.time (lcg_word words n) in follows_new set words n i begun later h earlier running (new begun) e
+    let begun = interval l g.time (lcg_word words n) in follows_new set words n i begun_timer later h earlier running (new begun_timer) e
 
 -- the intervals of one happening more are those before the running one, and those from it on
-pub intervals_from-append : (set : TrickleSet) (words : Lcg) (n : ℕ) (i : Interval) (happened : List Happening) (h : Happening) (earlier : List Interval) (running : Interval)
+pub intervals_from-append : (set : TrickleSet) (words : Lcg) (n : ℕ) (i : Interval) (happened : List TimerHappening) (h : TimerHappening) (earlier : List Interval) (running : Interval)
     → intervals_from set words n i happened ≡ earlier ++ running ∷ []
     → intervals_from set words n i (happened ++ h ∷ []) ≡ earlier ++ intervals_from set words (n + length earlier) running (h ∷ [])
 intervals_from-append set words n i [] h earlier running e = follows_none set words n i h earlier running e
@@ -87,7 +87,7 @@ IsTimerOf-start s = record {
 }
 
 -- a count that stops goes on as one that doesn't, up to where it stops
-count_stops : (c : ℕ) (e : Event) → min (count (min c 65535) e) 65535 ≡ min (count c e) 65535
+count_stops : (c : ℕ) (e : TimerEvent) → min (count (min c 65535) e) 65535 ≡ min (count c e) 65535
 count_stops c Consistent = omega arith
 count_stops c Inconsistent = omega arith
 count_stops c Reset = omega arith
@@ -103,7 +103,7 @@ shown_timer s earlier running = record {
 }
 
 -- where no interval begins, and where one does
-step_same : (s : Start) (happened : List Happening) (earlier : List Interval) (running : Interval) (e : Event)
+step_same : (s : Start) (happened : List TimerHappening) (earlier : List Interval) (running : Interval) (e : TimerEvent)
     → intervals s happened ≡ earlier ++ record running { heard = count running.heard e } ∷ []
     → IsTimerOf s happened (let t = shown_timer s earlier running in record t { running = counted t.running e })
 step_same s happened earlier running e all =
@@ -116,9 +116,9 @@ step_same s happened earlier running e all =
       shown = ap T (count_stops running.heard e);
     }
 
-step_new : (s : Start) (happened : List Happening) (earlier : List Interval) (running : Interval) (l time : ℕ)
+step_new : (s : Start) (happened : List TimerHappening) (earlier : List Interval) (running : Interval) (l time : ℕ)
     → (let words = stream s.random s.node in intervals s happened ≡ earlier ++ running ∷ interval l time (lcg_word words (1 + length earlier)) ∷ [])
-    → IsTimerOf s happened (let t = shown_timer s earlier running in begun t.set t.words l time)
+    → IsTimerOf s happened (let t = shown_timer s earlier running in begun_timer t.set t.words l time)
 step_new s happened earlier running l time all =
     let words = stream s.random s.node in
     let at = λ (n : ℕ). interval l time (lcg_word words n) in
@@ -133,20 +133,20 @@ step_new s happened earlier running l time all =
       shown = ap T (advance_step (length earlier + 1) words ∙ ap (λ (k : ℕ). advance 64 multiplier_64 (k + 1) words) (sym m));
     }
 
-step_shown : (s : Start) (happened : List Happening) (earlier : List Interval) (running : Interval) (h : Happening) (next : Option ℕ)
+step_shown : (s : Start) (happened : List TimerHappening) (earlier : List Interval) (running : Interval) (h : TimerHappening) (next : Option ℕ)
     → (let words = stream s.random s.node in intervals s happened ≡ earlier ++ option_map_or (λ l. running ∷ interval l h.time (lcg_word words (1 + length earlier)) ∷ []) next (record running { heard = count running.heard h.event } ∷ []))
-    → (let t = shown_timer s earlier running in IsTimerOf s happened (option_map_or (λ l. begun t.set t.words l h.time) next (record t { running = counted t.running h.event })))
+    → (let t = shown_timer s earlier running in IsTimerOf s happened (option_map_or (λ l. begun_timer t.set t.words l h.time) next (record t { running = counted t.running h.event })))
 step_shown s happened earlier running h None all = step_same s happened earlier running h.event all
 step_shown s happened earlier running h (Some l) all = step_new s happened earlier running l h.time all
 
-pub IsTimerOf-after : (s : Start) (happened : List Happening) (t : Timer) (h : Happening) → IsTimerOf s happened t → IsTimerOf s (happened ++ h ∷ []) (after t h)
+pub IsTimerOf-after : (s : Start) (happened : List TimerHappening) (t : Timer) (h : TimerHappening) → IsTimerOf s happened t → IsTimerOf s (happened ++ h ∷ []) (after_happening t h)
 IsTimerOf-after s happened t h held =
     let words = stream s.random s.node in
     let all = intervals_from-append s.set words 1 (interval s.set.imin s.time (lcg_word words 0)) happened h held.earlier held.running held.all in
-    let P : Timer → Type 0 = λ r. IsTimerOf s (happened ++ h ∷ []) (after r h) in
+    let P : Timer → Type 0 = λ r. IsTimerOf s (happened ++ h ∷ []) (after_happening r h) in
     subst P (sym held.shown) (step_shown s (happened ++ h ∷ []) held.earlier held.running h (next_length s.set held.running.length h.event) all)
 
-pub Continues-after : (old new : Timer) (h : Happening) → new ≡ after old h → TimerContinues old new h
+pub Continues-after : (old new : Timer) (h : TimerHappening) → new ≡ after_happening old h → TimerContinues old new h
 Continues-after old new h e = record {
   next = e;
   stands = λ s happened held. let P : Timer → Type 0 = IsTimerOf s (happened ++ h ∷ []) in subst P (sym e) (IsTimerOf-after s happened old h held);

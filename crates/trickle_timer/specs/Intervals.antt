@@ -18,15 +18,15 @@ pub record Interval : Type 0 where
 
 -- what happens to a timer: a consistent or an inconsistent packet is heard, it is reset as by an install, it begins
 -- again as when its node starts, or its interval ends
-pub data Event : Type 0 where
-  Consistent : Event
-  Inconsistent : Event
-  Reset : Event
-  Again : Event
-  Expired : Event
+pub data TimerEvent : Type 0 where
+  Consistent : TimerEvent
+  Inconsistent : TimerEvent
+  Reset : TimerEvent
+  Again : TimerEvent
+  Expired : TimerEvent
 
-pub record Happening : Type 0 where
-  pub event : Event
+pub record TimerHappening : Type 0 where
+  pub event : TimerEvent
   pub time : ℕ
 
 -- what a node's timer is started with
@@ -52,7 +52,7 @@ abbrev pub shortened : TrickleSet → ℕ → Option ℕ
 shortened set i = if nat_lt set.imin i then Some set.imin else None
 
 -- the length of the interval that begins with the event, if one does, where the running one has length i
-abbrev pub next_length : TrickleSet → ℕ → Event → Option ℕ
+abbrev pub next_length : TrickleSet → ℕ → TimerEvent → Option ℕ
 next_length set i Consistent = None
 next_length set i Inconsistent = shortened set i
 next_length set i Reset = shortened set i
@@ -60,7 +60,7 @@ next_length set i Again = Some set.imin
 next_length set i Expired = Some (min (2 * i) (longest set))
 
 -- the packets heard in an interval in which the event happens
-abbrev pub count : ℕ → Event → ℕ
+abbrev pub count : ℕ → TimerEvent → ℕ
 count c Consistent = c + 1
 count c Inconsistent = c
 count c Reset = c
@@ -68,7 +68,7 @@ count c Again = c
 count c Expired = c
 
 -- the intervals from the running one on; it took the words before number n
-abbrev pub intervals_from : TrickleSet → Lcg → ℕ → Interval → List Happening → List Interval
+abbrev pub intervals_from : TrickleSet → Lcg → ℕ → Interval → List TimerHappening → List Interval
 intervals_from set words n i [] = i ∷ []
 intervals_from set words n i (h ∷ later) =
     option_map_or
@@ -77,7 +77,7 @@ intervals_from set words n i (h ∷ later) =
     (intervals_from set words n (record i { heard = count i.heard h.event }) later)
 
 -- all intervals of a node, in order: each takes the next word
-abbrev pub intervals : Start → List Happening → List Interval
+abbrev pub intervals : Start → List TimerHappening → List Interval
 intervals s happened =
     let words = stream s.random s.node in
     intervals_from s.set words 1 (interval s.set.imin s.time (lcg_word words 0)) happened

@@ -27,7 +27,7 @@ pub struct Trickle {
     begin: u32,
     length: u32,
     point: u32,
-    heard: u16,
+    packet_event: u16,
 }
 
 impl Model for Trickle {
@@ -55,7 +55,7 @@ fn draw(words: &mut Lcg64Xsh32, length: u32, now: u32) -> u32
 
 impl Trickle {
     ghost use Rattle.trickle_timer.specs.Intervals.{Start};
-    ghost use Rattle.trickle_timer.specs.Timer.{after, begun, started_timer, heard, TimerContinues, IsTimerOf, IsRightTimer, Decides};
+    ghost use Rattle.trickle_timer.specs.Timer.{after_happening, begun_timer, started_timer, packet_event, TimerContinues, IsTimerOf, IsRightTimer, Decides};
 
     /// The timer of a node: its first interval begins, with the shortest length. Each interval takes the next word of
     /// the generator that begins at `random`, in the stream `2 * node`.
@@ -74,7 +74,7 @@ impl Trickle {
             begin: now,
             length: set.imin,
             point,
-            heard: 0,
+            packet_event: 0,
         }
     }
 
@@ -83,8 +83,8 @@ impl Trickle {
     pub fn hear(&mut self, consistent: bool, now: u32) -> bool
         requires hour { now ≤ 3600000 }
         requires within { self.old.running.begin ≤ now }
-        ensures begun { result ≡ (not consistent && nat_lt self.old.set.imin self.old.running.length) }
-        ensures next { TimerContinues self.old self.new (record { event = heard consistent; time = now }) }
+        ensures begun_timer { result ≡ (not consistent && nat_lt self.old.set.imin self.old.running.length) }
+        ensures next { TimerContinues self.old self.new (record { event = packet_event consistent; time = now }) }
     {
         if consistent {
             self.heard = self.heard.saturating_add(1);
@@ -98,7 +98,7 @@ impl Trickle {
     pub fn reset(&mut self, now: u32) -> bool
         requires hour { now ≤ 3600000 }
         requires within { self.old.running.begin ≤ now }
-        ensures begun { result ≡ nat_lt self.old.set.imin self.old.running.length }
+        ensures begun_timer { result ≡ nat_lt self.old.set.imin self.old.running.length }
         ensures next { TimerContinues self.old self.new (record { event = Reset; time = now }) }
     {
         if self.length > self.set.imin {
@@ -170,7 +170,7 @@ impl Trickle {
         requires hour { now ≤ 3600000 }
         requires least { self.old.set.imin ≤ length }
         requires most { length ≤ longest self.old.set }
-        ensures { self.new ≡ begun self.old.set self.old.words length now }
+        ensures { self.new ≡ begun_timer self.old.set self.old.words length now }
     {
         self.point = draw(&mut self.words, length, now);
         self.begin = now;

@@ -8,7 +8,7 @@ use Rattle.ts_syntax.specs.declared.token.TokenKind.TheVariants as kind
 use Rattle.ts_syntax.specs.declared.word.Word.{Word}
 use Rattle.ts_syntax.specs.Spelling.{kinds}
 use Rattle.ts_syntax.specs.Tree.{Tree, Act, Acts, no_acts, while_do, if_then, if_else, for_next}
-use Rattle.ts_syntax.specs.Code.{code_of}
+use Rattle.ts_syntax.specs.Code.{kind_code}
 use Rattle.ts_syntax.specs.Machine.{Frame, then_part, else_part, for_part, while_part, State, block, nexted, if_ended, while_ended, with_act, word, step_if, step_while}
 use Rattle.ts_syntax.specs.Parsing.{reads, Starts, Lacks, StartsName, LacksName}
 use Rattle.ts_blocks.specs.Blocks.{FrameIn, LacksStmt, Choice, Branch, Repetition, Count}
@@ -33,11 +33,11 @@ for_in k = record { frame = for_part k.var k.from k.to k.step k.before k.frame.f
 
 -- ---- what ends them
 
-only_if : (q : State) (m : TokenKind) → (code_of m ≡ code_of kind.If → ⊥) → step_if m q ≡ None
+only_if : (q : State) (m : TokenKind) → (kind_code m ≡ kind_code kind.If → ⊥) → step_if m q ≡ None
 only_if q kind.If h = absurd (h refl)
 only_if q m h = refl
 
-only_while : (q : State) (m : TokenKind) → (code_of m ≡ code_of kind.While → ⊥) → step_while m q ≡ None
+only_while : (q : State) (m : TokenKind) → (kind_code m ≡ kind_code kind.While → ⊥) → step_while m q ≡ None
 only_while q kind.While h = absurd (h refl)
 only_while q m h = refl
 

@@ -5,8 +5,8 @@ use Rattle.std.specs.Prelude.{pos, ◌%◌}
 use Rattle.std.proofs.lemmas.Bool.{eq-eqb, ne_eqb}
 use Rattle.mate_num.specs.Number.{wrap}
 use Rattle.mate_num.specs.declared.id.FunId.{FunId}
-use Rattle.vm_desc.specs.Limits.{args_of}
-use Rattle.vm_desc.specs.Shapes.{is_send}
+use Rattle.vm_desc.specs.Limits.{function_args}
+use Rattle.vm_desc.specs.Shapes.{sends_buffer}
 use Rattle.vm_desc.specs.declared.function.FunKind.{FunKind}
 use Rattle.ts_syntax.specs.Expression.{Arguments}
 use Rattle.ts_syntax.specs.Seen.{tree_of, trees_of}
@@ -42,18 +42,18 @@ sent_one n place (e ∷ (d ∷ es)) arg o some few is named = absurd (omega (ari
 
 -- the arguments of a function that sends no buffer are counted, and then checked
 pub call_counted : (n : ScriptNames) (allowed : Bool) (w : Word) (es : List Expr) (args : Result Arguments CheckFault) (f : FunId × FunKind)
-    → function n w ≡ Ok f → allowed ≡ true → is_send f.1 ≡ false → length es ≡ args_of f.1
+    → function n w ≡ Ok f → allowed ≡ true → sends_buffer f.1 ≡ false → length es ≡ function_args f.1
     → checked_call n allowed w (trees_of es) args ≡ (args >>= (λ checked. Ok (calls f.0 checked)))
 call_counted n allowed w es args f found here plain same =
-    let counted : (tree_count (trees_of es) == args_of f.1) ≡ true = eq-eqb (tree_count (trees_of es)) (args_of f.1) (tree_count-trees_of es ∙ same) in
+    let counted : (tree_count (trees_of es) == function_args f.1) ≡ true = eq-eqb (tree_count (trees_of es)) (function_args f.1) (tree_count-trees_of es ∙ same) in
     rw (found, here, plain, counted) refl
 
 pub call_miscounted : (n : ScriptNames) (allowed : Bool) (w : Word) (es : List Expr) (args : Result Arguments CheckFault) (f : FunId × FunKind)
-    → function n w ≡ Ok f → allowed ≡ true → is_send f.1 ≡ false → (length es ≡ args_of f.1 → ⊥)
+    → function n w ≡ Ok f → allowed ≡ true → sends_buffer f.1 ≡ false → (length es ≡ function_args f.1 → ⊥)
     → checked_call n allowed w (trees_of es) args ≡ Err (Arity w.place)
 call_miscounted n allowed w es args f found here plain other =
-    let counted : (tree_count (trees_of es) == args_of f.1) ≡ false =
-    ne_eqb (tree_count (trees_of es)) (args_of f.1) (λ e. other (sym (tree_count-trees_of es) ∙ e)) in
+    let counted : (tree_count (trees_of es) == function_args f.1) ≡ false =
+    ne_eqb (tree_count (trees_of es)) (function_args f.1) (λ e. other (sym (tree_count-trees_of es) ∙ e)) in
     rw (found, here, plain, counted) refl
 
 -- a function that isn't found, and a call where none is allowed
@@ -67,6 +67,6 @@ call_barred n allowed w es args f found here = rw (found, here) refl
 
 -- a function that sends a buffer
 pub call_sends : (n : ScriptNames) (allowed : Bool) (w : Word) (es : List Expr) (args : Result Arguments CheckFault) (f : FunId × FunKind)
-    → function n w ≡ Ok f → allowed ≡ true → is_send f.1 ≡ true
+    → function n w ≡ Ok f → allowed ≡ true → sends_buffer f.1 ≡ true
     → checked_call n allowed w (trees_of es) args ≡ (sent n w.place (trees_of es) >>= (λ p. Ok (sends f.0 p)))
 call_sends n allowed w es args f found here sending = rw (found, here, sending) refl

@@ -10,8 +10,8 @@ use Rattle.mate_num.specs.declared.id.FunId.{FunId}
 use Rattle.mate_num.specs.declared.id.BufId.{BufId}
 use Rattle.mate_num.specs.declared.shape.Shape.{Shape}
 use Rattle.mate_num.specs.declared.shape.FunShape.{FunShape}
-use Rattle.vm_desc.specs.Limits.{args_of}
-use Rattle.vm_desc.specs.Shapes.{shape_of, fun_shape, is_send}
+use Rattle.vm_desc.specs.Limits.{function_args}
+use Rattle.vm_desc.specs.Shapes.{shape_of, fun_shape, sends_buffer}
 use Rattle.vm_desc.proofs.DescriptionLemmas.{shape_of-limits}
 use Rattle.vm_desc.specs.declared.description.Description.{Description}
 use Rattle.vm_desc.specs.declared.function.Function.{Function}
@@ -28,7 +28,7 @@ use Rattle.ts_syntax.specs.Tree.{Tree, Trees, no_trees, tree_then, Act, Acts, no
 use Rattle.ts_syntax.specs.Expression.{Expression, Arguments}
 use Rattle.ts_syntax.specs.Statement.{Statement, Block}
 use Rattle.mate_num.specs.Shapes.{is_shape}
-use Rattle.ts_syntax.specs.Right.{is_variable, is_buffer, is_call, is_send as is_send_for, argument_count, is_right_expr, are_right, is_step, is_head, is_right_stmt, is_right_block, is_right}
+use Rattle.ts_syntax.specs.Right.{is_variable, is_buffer, is_call, is_send_of as is_send_for, argument_count, is_right_expr, are_right, is_step, is_head, is_right_stmt, is_right_block, is_right}
 use Rattle.ts_scope.specs.declared.scope.Symbol.{Symbol}
 use Rattle.ts_scope.specs.declared.scope.Symbol.TheVariants.{Variable, Buffer}
 use Rattle.ts_scope.specs.declared.scope.Entry.{Entry}
@@ -127,8 +127,8 @@ record IsFound (i : ℕ) (fs : List FunShape) (f : FunId × FunKind) : Type 0 wh
   pub shape : FunShape
   pub is : f.0.0 ≡ i + place
   pub at : slice_get fs place ≡ Some shape
-  pub args : shape.args ≡ args_of f.1
-  pub send : shape.send ≡ is_send f.1
+  pub args : shape.args ≡ function_args f.1
+  pub send : shape.send ≡ sends_buffer f.1
 
 function_from-found : (i : ℕ) (fs : List Function) (name : List ℕ) → IfSome (function_from i fs name) (IsFound i (map fun_shape fs))
 function_from-found i [] name = tt
@@ -149,8 +149,8 @@ function_from-found i (f ∷ fs) name = chosen (bytes_eq name f.name) (function_
 record IsCalled (s : Shape) (f : FunId × FunKind) : Type 0 where
   pub shape : FunShape
   pub at : slice_get s.functions.items f.0.0 ≡ Some shape
-  pub args : shape.args ≡ args_of f.1
-  pub send : shape.send ≡ is_send f.1
+  pub args : shape.args ≡ function_args f.1
+  pub send : shape.send ≡ sends_buffer f.1
 
 function-right : (s : Shape) (n : ScriptNames) (w : Word) → AreRight s n → IfOk (function n w) (IsCalled s)
 function-right s n w right = told (function_from 0 n.machine.functions.items w.name) (function_from-found 0 n.machine.functions.items w.name) where
@@ -181,33 +181,33 @@ record AreArguments (s : Shape) (allowed : Bool) (es : Trees) (args : Arguments)
 abbrev IsRightCall : Shape → Bool → Called → Type 0
 IsRightCall s allowed c = is_right_expr s allowed (as_expression c) ≡ true
 
-is_call-right : (s : Shape) (f : FunId × FunKind) (count : ℕ) → IsCalled s f → is_send f.1 ≡ false → count ≡ args_of f.1 → is_call s f.0 count ≡ true
+is_call-right : (s : Shape) (f : FunId × FunKind) (count : ℕ) → IsCalled s f → sends_buffer f.1 ≡ false → count ≡ function_args f.1 → is_call s f.0 count ≡ true
 is_call-right s f count h plain same =
     let args : (h.shape.args == count) ≡ true = (let e : h.shape.args ≡ count = h.args ∙ sym same in grind (arith, nat_tests)) in
     rw (h.at, h.send, plain, args) refl
 
-is_send-right : (s : Shape) (f : FunId × FunKind) (p : BufId) → IsCalled s f → is_send f.1 ≡ true → is_buffer s p ≡ true → is_send_for s f.0 p ≡ true
+is_send-right : (s : Shape) (f : FunId × FunKind) (p : BufId) → IsCalled s f → sends_buffer f.1 ≡ true → is_buffer s p ≡ true → is_send_for s f.0 p ≡ true
 is_send-right s f p h sending buffer = rw (h.at, h.send, sending, buffer) refl
 
 called-right : (s : Shape) (n : ScriptNames) (place : ℕ) (f : FunId × FunKind) (allowed : Bool) (es : Trees) (args : Result Arguments CheckFault)
     → AreRight s n → IsCalled s f → allowed ≡ true → IfOk args (AreArguments s allowed es) → IfOk (called_function n place f es args) (IsRightCall s allowed)
-called-right s n place f allowed es args right its here checked = chosen (is_send f.1) refl where
-  sending : is_send f.1 ≡ true → IfOk (sent n place es >>= (λ p. Ok (sends f.0 p))) (IsRightCall s allowed)
+called-right s n place f allowed es args right its here checked = chosen (sends_buffer f.1) refl where
+  sending : sends_buffer f.1 ≡ true → IfOk (sent n place es >>= (λ p. Ok (sends f.0 p))) (IsRightCall s allowed)
   sending so =
       bind_keeps (λ p. is_buffer s p ≡ true) (IsRightCall s allowed) (sent n place es) (λ p. Ok (sends f.0 p)) (sent-right s n place es right)
       (λ p buffer. both allowed (is_send_for s f.0 p) here (is_send-right s f p its so buffer))
 
-  calling : is_send f.1 ≡ false → IfOk (unless_refused (tree_count es == args_of f.1) (Arity place) >>= (λ _. args >>= (λ checked. Ok (calls f.0 checked)))) (IsRightCall s allowed)
+  calling : sends_buffer f.1 ≡ false → IfOk (unless_refused (tree_count es == function_args f.1) (Arity place) >>= (λ _. args >>= (λ checked. Ok (calls f.0 checked)))) (IsRightCall s allowed)
   calling plain =
-      bind_keeps (λ _. (tree_count es == args_of f.1) ≡ true) (IsRightCall s allowed) (unless_refused (tree_count es == args_of f.1) (Arity place))
-      (λ _. args >>= (λ checked. Ok (calls f.0 checked))) (demand_holds (tree_count es == args_of f.1) (Arity place)) (λ _ counted.
+      bind_keeps (λ _. (tree_count es == function_args f.1) ≡ true) (IsRightCall s allowed) (unless_refused (tree_count es == function_args f.1) (Arity place))
+      (λ _. args >>= (λ checked. Ok (calls f.0 checked))) (demand_holds (tree_count es == function_args f.1) (Arity place)) (λ _ counted.
       bind_keeps (AreArguments s allowed es) (IsRightCall s allowed) args (λ checked. Ok (calls f.0 checked)) checked (λ given h.
-      let same : argument_count given ≡ args_of f.1 = (let e : argument_count given ≡ tree_count es = h.count in grind (arith, nat_tests)) in
+      let same : argument_count given ≡ function_args f.1 = (let e : argument_count given ≡ tree_count es = h.count in grind (arith, nat_tests)) in
       both (allowed && is_call s f.0 (argument_count given)) (are_right s allowed given)
       (both allowed (is_call s f.0 (argument_count given)) here (is_call-right s f (argument_count given) its plain same)) h.right))
 
-  chosen : (b : Bool) → is_send f.1 ≡ b → IfOk (if b then sent n place es >>= (λ p. Ok (sends f.0 p))
-      else unless_refused (tree_count es == args_of f.1) (Arity place) >>= (λ _. args >>= (λ checked. Ok (calls f.0 checked)))) (IsRightCall s allowed)
+  chosen : (b : Bool) → sends_buffer f.1 ≡ b → IfOk (if b then sent n place es >>= (λ p. Ok (sends f.0 p))
+      else unless_refused (tree_count es == function_args f.1) (Arity place) >>= (λ _. args >>= (λ checked. Ok (calls f.0 checked)))) (IsRightCall s allowed)
   chosen true e = sending e
   chosen false e = calling e
 

@@ -4,8 +4,8 @@ use Rattle.std.specs.Prelude.{Result, Ok, Err}
 use Rattle.mate_num.specs.Number.{wrap}
 use Rattle.mate_num.specs.declared.id.FunId.{FunId}
 use Rattle.mate_num.specs.declared.id.BufId.{BufId}
-use Rattle.vm_desc.specs.Limits.{args_of}
-use Rattle.vm_desc.specs.Shapes.{is_send}
+use Rattle.vm_desc.specs.Limits.{function_args}
+use Rattle.vm_desc.specs.Shapes.{sends_buffer}
 use Rattle.vm_desc.specs.declared.description.Description.{Description}
 use Rattle.vm_desc.specs.declared.function.FunKind.{FunKind}
 use Rattle.ts_syntax.specs.declared.word.Word.{Word}
@@ -73,8 +73,8 @@ tree_count (tree_then e es) = suc (tree_count es)
 -- a call of a function that was found, with what the checks of its arguments give
 abbrev pub called_function : ScriptNames → ℕ → FunId × FunKind → Trees → Result Arguments CheckFault → Result Called CheckFault
 called_function n place f es args =
-    if is_send f.1 then sent n place es >>= (λ p. Ok (sends f.0 p))
-    else unless_refused (tree_count es == args_of f.1) (Arity place) >>= (λ _. args >>= (λ checked. Ok (calls f.0 checked)))
+    if sends_buffer f.1 then sent n place es >>= (λ p. Ok (sends f.0 p))
+    else unless_refused (tree_count es == function_args f.1) (Arity place) >>= (λ _. args >>= (λ checked. Ok (calls f.0 checked)))
 
 -- a call, where calls are allowed or not
 abbrev pub checked_call : ScriptNames → Bool → Word → Trees → Result Arguments CheckFault → Result Called CheckFault

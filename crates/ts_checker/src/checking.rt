@@ -2,8 +2,8 @@
 
 ghost use Rattle.std.specs.Prelude.{◌≡◌, IfOk};
 ghost use Rattle.vm_desc.specs.Shapes.{shape_of as shape_of_machine};
-ghost use Rattle.ts_syntax.specs.Checked.{shape_of, tree_of};
-ghost use Rattle.ts_syntax.specs.Seen.{source_of};
+ghost use Rattle.ts_syntax.specs.Checked.{checked_shape, tree_of};
+ghost use Rattle.ts_syntax.specs.Seen.{source_seen};
 ghost use Rattle.ts_checker.specs.Answer.{GivesChecked};
 ghost use Rattle.ts_checker.specs.Checks.{checked_source};
 
@@ -17,8 +17,8 @@ use vm_desc::{Description, shape};
 /// first refusal: declarations from left to right, then the statements word by word. `NoMemory` may come in
 /// place of either.
 pub fn check(alloc: Global, desc: &Description, script: &Script) -> Result<Checked, CheckFault>
-    ensures tree { GivesChecked tree_of result (checked_source desc.now (source_of script.now)) }
-    ensures shape { IfOk result (λ checked. shape_of checked ≡ shape_of_machine desc.now) }
+    ensures tree { GivesChecked tree_of result (checked_source desc.now (source_seen script.now)) }
+    ensures shape { IfOk result (λ checked. checked_shape checked ≡ shape_of_machine desc.now) }
 {
     let scope = Scope::of(desc, script.decls.as_slice())?;
     let body = block(alloc, &scope, &script.body)?;

@@ -2,8 +2,8 @@
 
 ghost use Rattle.std.specs.Prelude.{◌≡◌, option_map, pos, true};
 ghost use Rattle.mate_num.specs.Number.{wrap};
-ghost use Rattle.vm_desc.specs.Limits.{args_of};
-ghost use Rattle.vm_desc.specs.Shapes.{is_send};
+ghost use Rattle.vm_desc.specs.Limits.{function_args};
+ghost use Rattle.vm_desc.specs.Shapes.{sends_buffer};
 ghost use Rattle.ts_syntax.specs.Seen.{tree_of, trees_of};
 ghost use Rattle.ts_syntax.specs.Tree as given;
 ghost use Rattle.ts_syntax.specs.TreeOf.{expr_tree};
@@ -193,7 +193,7 @@ fn read(variable: CVar) -> CExpr
 
 // Whether the function sends a buffer.
 fn sends(kind: FunKind) -> bool
-    ensures { result ≡ is_send kind }
+    ensures { result ≡ sends_buffer kind }
 {
     match kind {
         FunKind::Send => true,
@@ -204,7 +204,7 @@ fn sends(kind: FunKind) -> bool
 
 // How many values the function takes.
 fn arg_count(kind: FunKind) -> u8
-    ensures { result ≡ args_of kind }
+    ensures { result ≡ function_args kind }
 {
     match kind {
         FunKind::Act { args } => args,

@@ -3,7 +3,7 @@
 ghost use Rattle.std.specs.Prelude.{◌≡◌, Ok, IfOk};
 ghost use Rattle.mate_code.specs.Code.{decoded};
 ghost use Rattle.mate_code.specs.Table.{table_of};
-ghost use Rattle.ts_syntax.specs.Checked.{shape_of, tree_of};
+ghost use Rattle.ts_syntax.specs.Checked.{checked_shape, tree_of};
 ghost use Rattle.ts_meaning.specs.Laws.{RunsAsItsScript, UsesAsItsScript};
 ghost use Rattle.ts_meaning.specs.Translation.{code_of};
 ghost use Rattle.ts_compiler.specs.Compiled.{Compiles, AreAccepted};
@@ -22,18 +22,18 @@ use ts_syntax::Checked;
 /// needs a stack of more than 16 values, and `TooLong` exactly where it doesn't but its code takes more than
 /// `CODE_MAX` bytes. It takes no memory. One pass measures the script; only code that has room is written.
 pub fn compile(table: &Table, script: &Checked) -> Result<Code, CompileFault>
-    requires { table.now ≡ table_of (shape_of script.now) }
-    ensures gives { Compiles (shape_of script.now) (tree_of script.now) result }
+    requires { table.now ≡ table_of (checked_shape script.now) }
+    ensures gives { Compiles (checked_shape script.now) (tree_of script.now) result }
 
     // The bytes spell the instructions of the script's code, each at its place.
     ensures decodes { IfOk result (λ code. decoded table.now code.items ≡ Ok (code_of (tree_of script.now))) }
 
     // They are verified, with the depth of the stack at each place.
-    ensures verified { IfOk result (λ code. AreAccepted (shape_of script.now) (tree_of script.now) code) }
+    ensures verified { IfOk result (λ code. AreAccepted (checked_shape script.now) (tree_of script.now) code) }
 
     // The code runs as the script, and uses what the script uses.
-    ensures runs { IfOk result (λ _. RunsAsItsScript (shape_of script.now) (tree_of script.now)) }
-    ensures uses { UsesAsItsScript (shape_of script.now) (tree_of script.now) }
+    ensures runs { IfOk result (λ _. RunsAsItsScript (checked_shape script.now) (tree_of script.now)) }
+    ensures uses { UsesAsItsScript (checked_shape script.now) (tree_of script.now) }
 {
     code_is_encodable();
     code_is_verified();

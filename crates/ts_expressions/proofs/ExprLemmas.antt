@@ -12,7 +12,7 @@ use Rattle.ts_syntax.specs.declared.expr.Expr.{Expr}
 use Rattle.ts_syntax.specs.Seen.{tree_of, trees_of}
 use Rattle.std.specs.Result.{IsErrAnd}
 use Rattle.ts_syntax.specs.declared.halt.Halt.{Halt}
-use Rattle.ts_syntax.specs.Code.{code_of}
+use Rattle.ts_syntax.specs.Code.{kind_code}
 use Rattle.ts_syntax.specs.Machine.{Operand, in_negative, first_product, in_product, Inverse, in_inverse, in_and, Conjunction, in_args, in_call, in_do, in_paren, in_item, in_message, State, want, want_inverse, named, opened, call_opened, do_opened, sized, size_opened, size_named, word, message, have_inverse, have_and, have, closed, with_tree, inverse_due, expr_due, give, step, finish, wants_size}
 use Rattle.ts_syntax.specs.Parsing.{reads, Reads, Starts, StartsName, Lacks, Caller, of_operand, of_stmt, of_do, called_open, called_with, called}
 use Rattle.ts_syntax.proofs.Turns.{given_step, given_size}
@@ -23,7 +23,7 @@ use Rattle.ts_syntax.proofs.Reading.{sign_read, name_read, alike_at, alike_end}
 pub not_read : (k : Inverse) {ts rest : List Token} → Starts kind.Not ts rest → reads ts (want_inverse k) ≡ reads rest (want_inverse (in_inverse k))
 not_read k s = sign_read kind.Not s tt (want_inverse k) (want_inverse (in_inverse k)) (λ p. refl)
 
-not_left : (k : Inverse) (m : TokenKind) → (code_of m ≡ code_of kind.Not → ⊥) → (p : ℕ) → step (want_inverse k) m p ≡ step (want (inverse_due k)) m p
+not_left : (k : Inverse) (m : TokenKind) → (kind_code m ≡ kind_code kind.Not → ⊥) → (p : ℕ) → step (want_inverse k) m p ≡ step (want (inverse_due k)) m p
 not_left k kind.Not h p = absurd (h refl)
 not_left k m h p = refl
 
@@ -44,7 +44,7 @@ part_halts {K} {L} ts rest due got due' got' =
 
 -- an operand, from its first token on
 pub starts_at : {m : TokenKind} (x : Token) {ts rest : List Token} → ts ≡ x ∷ rest → x.kind ≡ m → Starts m ts rest
-starts_at x e is = record { token = x; are = e; kind = ap code_of is }
+starts_at x e is = record { token = x; are = e; kind = ap kind_code is }
 
 pub operand_read : (ts rest : List Token) (due : Operand → State) → ((k : Operand) → reads ts (want k) ≡ reads rest (due k))
     → (r : Result (Box Expr Global × Bor (List Token)) Halt) → Reads {X = Box Expr Global} {K = Operand} rest due (λ e k. give k (boxed_tree e)) r → Reads {X = Box Expr Global} {K = Operand} ts (λ k. want k) (λ e k. give k (boxed_tree e)) r
@@ -101,7 +101,7 @@ pub message_closed : (e : Tree) (k : Operand) {ts rest : List Token} → Starts 
 message_closed e k s = sign_read kind.CloseBox s tt (have e (in_message k)) (give k (message_item e)) (λ p. refl)
 
 -- a variable
-variable_left : (w : Word) (k : Operand) (m : TokenKind) → (code_of m ≡ code_of kind.Open → ⊥) → (code_of m ≡ code_of kind.OpenBox → ⊥) → (p : ℕ) → step (named w k) m p ≡ step (give k (variable w)) m p
+variable_left : (w : Word) (k : Operand) (m : TokenKind) → (kind_code m ≡ kind_code kind.Open → ⊥) → (kind_code m ≡ kind_code kind.OpenBox → ⊥) → (p : ℕ) → step (named w k) m p ≡ step (give k (variable w)) m p
 variable_left w k kind.Open h b p = absurd (h refl)
 variable_left w k kind.OpenBox h b p = absurd (b refl)
 variable_left w k m h b p = sym (given_step k (variable w) m p)
@@ -126,7 +126,7 @@ no_arguments (of_operand w k) s = sign_read kind.Close s tt (opened w k) (give k
 no_arguments (of_stmt w a f) s = sign_read kind.Close s tt (call_opened w a f) (closed (call_alone w no_trees) a f) (λ p. refl)
 no_arguments (of_do w a f) s = sign_read kind.Close s tt (do_opened w a f) (closed (run_procedure w no_trees) a f) (λ p. refl)
 
-argument_left : (c : Caller) (m : TokenKind) → (code_of m ≡ code_of kind.Close → ⊥) → (p : ℕ) → step (called_open c) m p ≡ step (expr_due (called_with c no_trees)) m p
+argument_left : (c : Caller) (m : TokenKind) → (kind_code m ≡ kind_code kind.Close → ⊥) → (p : ℕ) → step (called_open c) m p ≡ step (expr_due (called_with c no_trees)) m p
 argument_left c kind.Close h p = absurd (h refl)
 argument_left (of_operand w k) m h p = refl
 argument_left (of_stmt w a f) m h p = refl

@@ -6,7 +6,7 @@ use Rattle.ts_syntax.specs.declared.token.TokenKind.{TokenKind}
 use Rattle.ts_syntax.specs.declared.token.TokenKind.TheVariants as kind
 use Rattle.ts_syntax.specs.Derived.{Holds}
 use Rattle.ts_syntax.specs.Tree.{Tree, two}
-use Rattle.ts_syntax.specs.Code.{code_of}
+use Rattle.ts_syntax.specs.Code.{kind_code}
 use Rattle.ts_syntax.specs.Machine.{Product, first_sum, in_product, in_sum, Sum, first_compare, Inverse, in_compare, Conjunction, first_or, in_or, first_and, first_product, Whole, State, want, want_inverse, sum_due, have_product, have_sum, have_inverse, have_and, have, step, finish}
 use Rattle.ts_syntax.specs.Parsing.{reads, Starts, StartsOperator, Lacks, LacksOperator, product_sign, sum_sign, comparison_sign}
 use Rattle.ts_syntax.proofs.Turns.{summed, summed_size, joined, joined_size}
@@ -25,7 +25,7 @@ a_sign h = cc
 sign_at : (m : TokenKind) → Holds (is_plain m) → {f : TokenKind → Option BinOp} {o p : BinOp} {ts rest : List Token} → (s : StartsOperator f o ts rest) → s.token.kind ≡ m → p ≡ o
     → (q : State) (r : BinOp → State) → ((n : ℕ) → step q m n ≡ Some (r p)) → reads ts q ≡ reads rest (r o)
 sign_at m plain {p = p} {rest = rest} s is same q r e =
-    sign_read m (record { token = s.token; are = s.are; kind = ap code_of is }) plain q (r p) e ∙ ap (λ x. reads rest (r x)) same
+    sign_read m (record { token = s.token; are = s.are; kind = ap kind_code is }) plain q (r p) e ∙ ap (λ x. reads rest (r x)) same
 
 -- `*`, `/` and `%`
 pub product_read : (e : Tree) (k : Product) {o : BinOp} {ts rest : List Token} → StartsOperator product_sign o ts rest → reads ts (have_product e k) ≡ reads rest (want (in_product o e k))
@@ -67,7 +67,7 @@ product_over e k [] h = alike_end (have_product e k) (summed e k) (summed_end e 
 product_over e k (t ∷ ts) h = alike_at t ts (have_product e k) (summed e k) (summed_left e k t.kind h) (summed_size e k)
 
 -- a conjunction that no `and` lengthens
-joined_left : (e : Tree) (k : Conjunction) (m : TokenKind) → (code_of m ≡ code_of kind.And → ⊥) → (p : ℕ) → step (have_and e k) m p ≡ step (joined e k) m p
+joined_left : (e : Tree) (k : Conjunction) (m : TokenKind) → (kind_code m ≡ kind_code kind.And → ⊥) → (p : ℕ) → step (have_and e k) m p ≡ step (joined e k) m p
 joined_left e k kind.And h p = absurd (h refl)
 joined_left e (first_or k) m h p = refl
 joined_left e (in_or l k) m h p = refl

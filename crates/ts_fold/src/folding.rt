@@ -1,7 +1,7 @@
 //! A whole script, folded.
 
 ghost use Rattle.std.specs.Prelude.{◌≡◌, IfOk};
-ghost use Rattle.ts_syntax.specs.Checked.{shape_of, tree_of};
+ghost use Rattle.ts_syntax.specs.Checked.{checked_shape, tree_of};
 ghost use Rattle.ts_fold.specs.Folded.{folded};
 ghost use Rattle.ts_fold.specs.Laws.{RunsAs, UsesNoMore, TakesNoMore};
 
@@ -15,12 +15,12 @@ use ts_syntax::Checked;
 /// other statement and each call, with their parts folded. The script must come from a source, whose limits of depth
 /// bound the recursion. `NoMemory` comes only where memory for the new tree is refused.
 pub fn fold(alloc: Global, script: &Checked) -> Result<Checked, NoMemory>
-    ensures shape { IfOk result (λ new. shape_of new ≡ shape_of script.now) }
+    ensures shape { IfOk result (λ new. checked_shape new ≡ checked_shape script.now) }
     ensures tree { IfOk result (λ new. tree_of new ≡ folded (tree_of script.now)) }
 
     // It runs as the script does, uses nothing more, and takes no more room.
     ensures runs { IfOk result (λ new. RunsAs (tree_of script.now) (tree_of new)) }
-    ensures uses { IfOk result (λ new. UsesNoMore (shape_of script.now) (tree_of script.now) (tree_of new)) }
+    ensures uses { IfOk result (λ new. UsesNoMore (checked_shape script.now) (tree_of script.now) (tree_of new)) }
     ensures room { IfOk result (λ new. TakesNoMore (tree_of script.now) (tree_of new)) }
 {
     let body = block(alloc, script.body())?;

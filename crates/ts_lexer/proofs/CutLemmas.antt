@@ -3,8 +3,8 @@ use Rattle.std.proofs.Common.{◌≡◌, ℕ, ◌+◌, ◌-◌, ◌*◌, ◌<◌
 use Rattle.std.proofs.lemmas.Bool.{false≢true, cond-true, cond-false, or_cases, or_from, or_right, and_parts, and_left, and_right, not-true, not-false, leb-true, eqb-true, lt-leb, lt-ltb, le-ltb, ne_eqb, cases_lt}
 use Rattle.ts_syntax.specs.declared.token.Token.{Token}
 use Rattle.ts_syntax.specs.declared.token.TokenKind.TheVariants as kind
-use Rattle.ts_syntax.specs.Cut.{is_blank, is_digit, begins_name, in_name, word_kind, token, CutFault, bad_byte, big_literal, Mode, between, comment, word, literal, Turn, stop, go, behind, fresh, turn, at_end, with_front, turned, cut_from}
-use Rattle.ts_lexer.specs.Spans.{begins, Begins, Passes, value_of}
+use Rattle.ts_syntax.specs.Cut.{is_blank, is_digit, begins_name, in_name, word_kind, token, CutFault, bad_byte, big_literal, Mode, between, comment, word, literal, CutStep, stop, go, behind, fresh, turn, at_end, with_front, turned, cut_from}
+use Rattle.ts_lexer.specs.Spans.{begins, BeginsWith, Passes, digits_value}
 
 -- the bytes are at their end, or their first one fails the test
 abbrev pub Stops : (ℕ → Bool) → List ℕ → Type 0
@@ -69,7 +69,7 @@ pub with_front-append : (ts us : List Token) (r : Result (List Token) CutFault) 
 with_front-append ts us (Ok vs) = ap (λ z. Ok z) (sym (append_assoc ts us vs))
 with_front-append ts us (Err f) = refl
 
-turned-behind : (rest : Mode → Result (List Token) CutFault) (t : Token) (u : Turn) → turned rest (behind t u) ≡ with_front (t ∷ []) (turned rest u)
+turned-behind : (rest : Mode → Result (List Token) CutFault) (t : Token) (u : CutStep) → turned rest (behind t u) ≡ with_front (t ∷ []) (turned rest u)
 turned-behind rest t (stop f) = refl
 turned-behind rest t (go ts m) = sym (with_front-append (t ∷ []) ts (rest m))
 
@@ -83,7 +83,7 @@ pub cut_from-cons : (i : ℕ) (m : Mode) (b : ℕ) (bs : List ℕ) → cut_from 
 unfolding cut_from
 cut_from-cons i m b bs = refl
 
-pub cut_from-turn : (i : ℕ) (m : Mode) (b : ℕ) (bs : List ℕ) (u : Turn) → turn i m b ≡ u → cut_from i m (b ∷ bs) ≡ turned (λ n. cut_from (i + 1) n bs) u
+pub cut_from-turn : (i : ℕ) (m : Mode) (b : ℕ) (bs : List ℕ) (u : CutStep) → turn i m b ≡ u → cut_from i m (b ∷ bs) ≡ turned (λ n. cut_from (i + 1) n bs) u
 cut_from-turn i m b bs u e = cut_from-cons i m b bs ∙ ap (turned (λ n. cut_from (i + 1) n bs)) e
 
 pub cut_from-go : (i : ℕ) (m n : Mode) (b : ℕ) (bs : List ℕ) → turn i m b ≡ go [] n → cut_from i m (b ∷ bs) ≡ cut_from (i + 1) n bs
@@ -114,7 +114,7 @@ word_end i from w [] h = refl
 word_end i from w (b ∷ bs) h = ends_before i (word from w) (token (word_kind w) from i) b bs (cond-false (in_name b) _ _ h)
 
 -- a name or a keyword, and what follows it
-pub word_cut : (i : ℕ) (xs rest : List ℕ) → Begins begins_name xs → Passes in_name xs → Stops in_name rest → length xs ≤ 16
+pub word_cut : (i : ℕ) (xs rest : List ℕ) → BeginsWith begins_name xs → Passes in_name xs → Stops in_name rest → length xs ≤ 16
     → cut_from i between (xs ++ rest) ≡ with_front (token (word_kind xs) i (i + length xs) ∷ []) (cut_from (i + length xs) between rest)
 word_cut i [] rest b p s short = absurd (false≢true b)
 word_cut i (x ∷ xs) rest b p s short =
@@ -134,7 +134,7 @@ word_over i from w (x ∷ xs) rest p short long = elim (cases_lt (length w) 16) 
 ]
 
 -- a name stops at its 17th byte
-pub long_word : (i : ℕ) (xs rest : List ℕ) → Begins begins_name xs → Passes in_name xs → 16 < length xs → cut_from i between (xs ++ rest) ≡ Err (bad_byte (i + 16))
+pub long_word : (i : ℕ) (xs rest : List ℕ) → BeginsWith begins_name xs → Passes in_name xs → 16 < length xs → cut_from i between (xs ++ rest) ≡ Err (bad_byte (i + 16))
 long_word i [] rest b p long = absurd (false≢true b)
 long_word i (x ∷ xs) rest b p long =
     cut_from-go i between (word i (x ∷ [])) x (xs ++ rest) (fresh-letter i x b)
@@ -146,20 +146,20 @@ long_word i (x ∷ xs) rest b p long =
 literal_step : (i from n b : ℕ) (bs : List ℕ) → is_digit b ≡ true → cut_from i (literal from n) (b ∷ bs) ≡ cut_from (i + 1) (literal from (n * 10 + (b - 48))) bs
 literal_step i from n b bs h = cut_from-go i (literal from n) (literal from (n * 10 + (b - 48))) b bs (cond-true (is_digit b) _ _ h)
 
-literal_run : (i from n : ℕ) (xs rest : List ℕ) → Passes is_digit xs → cut_from i (literal from n) (xs ++ rest) ≡ cut_from (i + length xs) (literal from (value_of n xs)) rest
+literal_run : (i from n : ℕ) (xs rest : List ℕ) → Passes is_digit xs → cut_from i (literal from n) (xs ++ rest) ≡ cut_from (i + length xs) (literal from (digits_value n xs)) rest
 literal_run i from n [] rest p = sym (ap (λ j. cut_from j (literal from n) rest) (add-zero i))
 literal_run i from n (x ∷ xs) rest p =
     literal_step i from n x (xs ++ rest) p.0
     ∙ literal_run (i + 1) from (n * 10 + (x - 48)) xs rest p.1
-    ∙ ap (λ j. cut_from j (literal from (value_of n (x ∷ xs))) rest) (let e : i + 1 + length xs ≡ i + length (x ∷ xs) = omega arith in e)
+    ∙ ap (λ j. cut_from j (literal from (digits_value n (x ∷ xs))) rest) (let e : i + 1 + length xs ≡ i + length (x ∷ xs) = omega arith in e)
 
-literal_begins : (i : ℕ) (xs rest : List ℕ) → Begins is_digit xs → Passes is_digit xs → cut_from i between (xs ++ rest) ≡ cut_from (i + length xs) (literal i (value_of 0 xs)) rest
+literal_begins : (i : ℕ) (xs rest : List ℕ) → BeginsWith is_digit xs → Passes is_digit xs → cut_from i between (xs ++ rest) ≡ cut_from (i + length xs) (literal i (digits_value 0 xs)) rest
 literal_begins i [] rest b p = absurd (false≢true b)
 literal_begins i (x ∷ xs) rest b p =
     cut_from-go i between (literal i (x - 48)) x (xs ++ rest) (fresh-digit i x b)
     ∙ literal_run (i + 1) i (x - 48) xs rest p.1
-    ∙ ap (λ j. cut_from j (literal i (value_of (x - 48) xs)) rest) (let e : i + 1 + length xs ≡ i + length (x ∷ xs) = omega arith in e)
-    ∙ ap (λ n. cut_from (i + length (x ∷ xs)) (literal i (value_of n xs)) rest) (let e : x - 48 ≡ 0 * 10 + (x - 48) = omega arith in e)
+    ∙ ap (λ j. cut_from j (literal i (digits_value (x - 48) xs)) rest) (let e : i + 1 + length xs ≡ i + length (x ∷ xs) = omega arith in e)
+    ∙ ap (λ n. cut_from (i + length (x ∷ xs)) (literal i (digits_value n xs)) rest) (let e : x - 48 ≡ 0 * 10 + (x - 48) = omega arith in e)
 
 literal_big : (i from n : ℕ) (rest : List ℕ) → Stops is_digit rest → 65535 < n → cut_from i (literal from n) rest ≡ Err (big_literal from)
 literal_big i from n [] s big = cut_from-nil i (literal from n) ∙ cond-true (nat_lt 65535 n) _ _ (lt-ltb 65535 n big)
@@ -168,7 +168,7 @@ literal_big i from n (b ∷ bs) s big = cut_from-turn i (literal from n) b bs (s
 letter_no_digit : (b : ℕ) → begins_name b ≡ true → is_digit b ≡ false
 letter_no_digit b h = high_no_digit b (letters_high b h)
 
-literal_letter : (i from n : ℕ) (rest : List ℕ) → Begins begins_name rest → n ≤ 65535 → cut_from i (literal from n) rest ≡ Err (bad_byte i)
+literal_letter : (i from n : ℕ) (rest : List ℕ) → BeginsWith begins_name rest → n ≤ 65535 → cut_from i (literal from n) rest ≡ Err (bad_byte i)
 literal_letter i from n [] b small = absurd (false≢true b)
 literal_letter i from n (x ∷ rest) b small = cut_from-turn i (literal from n) x rest (stop (bad_byte i))
     (cond-false (is_digit x) _ _ (letter_no_digit x b) ∙ cond-false (nat_lt 65535 n) _ _ (le-ltb 65535 n small) ∙ cond-true (begins_name x) _ _ b)
@@ -179,19 +179,19 @@ literal_end i from n (x ∷ rest) d s small = ends_before i (literal from n) (to
     (cond-false (is_digit x) _ _ d ∙ cond-false (nat_lt 65535 n) _ _ (le-ltb 65535 n small) ∙ cond-false (begins_name x) _ _ s)
 
 -- a literal, and what follows it
-pub literal_cut : (i : ℕ) (xs rest : List ℕ) → Begins is_digit xs → Passes is_digit xs → Stops is_digit rest → Stops begins_name rest → value_of 0 xs ≤ 65535
-    → cut_from i between (xs ++ rest) ≡ with_front (token (kind.Num (value_of 0 xs)) i (i + length xs) ∷ []) (cut_from (i + length xs) between rest)
-literal_cut i xs rest b p d s small = literal_begins i xs rest b p ∙ literal_end (i + length xs) i (value_of 0 xs) rest d s small
+pub literal_cut : (i : ℕ) (xs rest : List ℕ) → BeginsWith is_digit xs → Passes is_digit xs → Stops is_digit rest → Stops begins_name rest → digits_value 0 xs ≤ 65535
+    → cut_from i between (xs ++ rest) ≡ with_front (token (kind.Num (digits_value 0 xs)) i (i + length xs) ∷ []) (cut_from (i + length xs) between rest)
+literal_cut i xs rest b p d s small = literal_begins i xs rest b p ∙ literal_end (i + length xs) i (digits_value 0 xs) rest d s small
 
-pub big_literal_cut : (i : ℕ) (xs rest : List ℕ) → Begins is_digit xs → Passes is_digit xs → Stops is_digit rest → 65535 < value_of 0 xs → cut_from i between (xs ++ rest) ≡ Err (big_literal i)
-big_literal_cut i xs rest b p d big = literal_begins i xs rest b p ∙ literal_big (i + length xs) i (value_of 0 xs) rest d big
+pub big_literal_cut : (i : ℕ) (xs rest : List ℕ) → BeginsWith is_digit xs → Passes is_digit xs → Stops is_digit rest → 65535 < digits_value 0 xs → cut_from i between (xs ++ rest) ≡ Err (big_literal i)
+big_literal_cut i xs rest b p d big = literal_begins i xs rest b p ∙ literal_big (i + length xs) i (digits_value 0 xs) rest d big
 
-pub literal_letter_cut : (i : ℕ) (xs rest : List ℕ) → Begins is_digit xs → Passes is_digit xs → Begins begins_name rest → value_of 0 xs ≤ 65535
+pub literal_letter_cut : (i : ℕ) (xs rest : List ℕ) → BeginsWith is_digit xs → Passes is_digit xs → BeginsWith begins_name rest → digits_value 0 xs ≤ 65535
     → cut_from i between (xs ++ rest) ≡ Err (bad_byte (i + length xs))
-literal_letter_cut i xs rest b p s small = literal_begins i xs rest b p ∙ literal_letter (i + length xs) i (value_of 0 xs) rest s small
+literal_letter_cut i xs rest b p s small = literal_begins i xs rest b p ∙ literal_letter (i + length xs) i (digits_value 0 xs) rest s small
 
 -- more digits don't make a value smaller
-pub value_of-ge : (n : ℕ) (xs : List ℕ) → n ≤ value_of n xs
+pub value_of-ge : (n : ℕ) (xs : List ℕ) → n ≤ digits_value n xs
 value_of-ge n [] = omega arith
 value_of-ge n (x ∷ xs) = omega (arith, value_of-ge (n * 10 + (x - 48)) xs)
 
@@ -216,7 +216,7 @@ comment_end i (b ∷ bs) s =
     ∙ sym (cut_from-go i between between b bs (fresh-blank i b (or_right (b == 32 || b == 9 || b == 13) (b == 10) lf)))
 
 -- a comment, and what follows it
-pub comment_cut : (i : ℕ) (xs rest : List ℕ) → Begins (λ b. b == 33) xs → Passes in_line xs → Stops in_line rest → cut_from i between (xs ++ rest) ≡ cut_from (i + length xs) between rest
+pub comment_cut : (i : ℕ) (xs rest : List ℕ) → BeginsWith (λ b. b == 33) xs → Passes in_line xs → Stops in_line rest → cut_from i between (xs ++ rest) ≡ cut_from (i + length xs) between rest
 comment_cut i [] rest b p s = absurd (false≢true b)
 comment_cut i (x ∷ xs) rest b p s =
     cut_from-go i between comment x (xs ++ rest) (let e : x ≡ 33 = eqb-true x 33 b in subst (λ y. fresh i y ≡ go [] comment) (sym e) refl)

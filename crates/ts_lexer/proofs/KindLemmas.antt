@@ -7,8 +7,8 @@ use Rattle.ts_syntax.specs.declared.token.TokenKind.{TokenKind}
 use Rattle.ts_syntax.specs.declared.token.TokenKind.TheVariants as kind
 use Rattle.ts_syntax.specs.Text.{token_text}
 use Rattle.ts_syntax.specs.Spelling.{kinds}
-use Rattle.ts_syntax.specs.Cut.{is_blank, is_digit, begins_name, in_name, sign_of, keywords, keyword_among, word_kind, token, CutFault, Mode, between, comment, word, literal, less, greater, Turn, stop, go, behind, sign_turn, fresh, turn, at_end, with_front, turned, cut_from, cut}
-use Rattle.ts_lexer.specs.Spans.{Begins, Passes}
+use Rattle.ts_syntax.specs.Cut.{is_blank, is_digit, begins_name, in_name, sign_of, keywords, keyword_among, word_kind, token, CutFault, Mode, between, comment, word, literal, less, greater, CutStep, stop, go, behind, sign_turn, fresh, turn, at_end, with_front, turned, cut_from, cut}
+use Rattle.ts_lexer.specs.Spans.{BeginsWith, Passes}
 use Rattle.ts_lexer.specs.Printed.{IsWord, IsKind, AreKinds}
 use Rattle.ts_lexer.proofs.CutLemmas.{cut_from-nil, cut_from-cons}
 
@@ -22,7 +22,7 @@ IsMode (literal from n) = Unit {0}
 IsMode (less from) = Unit {0}
 IsMode (greater from) = Unit {0}
 
-abbrev IsTurn : Turn → Type 0
+abbrev IsTurn : CutStep → Type 0
 IsTurn (stop f) = Unit {0}
 IsTurn (go ts m) = AreKinds (kinds ts) × IsMode m
 
@@ -76,7 +76,7 @@ word_kind-IsKind w h = by (keyword_among keywords w) refl (among_cases keywords 
 grown : (w : List ℕ) (b : ℕ) → IsWord w → in_name b ≡ true → length w < 16 → IsWord (w ++ b ∷ [])
 grown w b h c short = record { begins = first w h.begins; passes = all w h.passes; short = omega (arith, length-append w (b ∷ [])) }
   where
-    first : (v : List ℕ) → Begins begins_name v → Begins begins_name (v ++ b ∷ [])
+    first : (v : List ℕ) → BeginsWith begins_name v → BeginsWith begins_name (v ++ b ∷ [])
     first [] f = absurd (false≢true f)
     first (x ∷ xs) f = f
 
@@ -101,7 +101,7 @@ fresh-IsTurn i b =
     lit : 1 ≤ 16
     lit = omega arith
 
-behind-IsTurn : (t : Token) (u : Turn) → IsKind t.kind → IsTurn u → IsTurn (behind t u)
+behind-IsTurn : (t : Token) (u : CutStep) → IsKind t.kind → IsTurn u → IsTurn (behind t u)
 behind-IsTurn t (stop f) k h = tt
 behind-IsTurn t (go ts m) k h = ((k, h.0), h.1)
 
@@ -135,7 +135,7 @@ AreKinds-append : (ts us : List Token) → AreKinds (kinds ts) → AreKinds (kin
 AreKinds-append [] us p q = q
 AreKinds-append (t ∷ ts) us p q = (p.0, AreKinds-append ts us p.1 q)
 
-turned-IsResult : (rest : Mode → Result (List Token) CutFault) → ((m : Mode) → IsMode m → IsResult (rest m)) → (u : Turn) → IsTurn u → IsResult (turned rest u)
+turned-IsResult : (rest : Mode → Result (List Token) CutFault) → ((m : Mode) → IsMode m → IsResult (rest m)) → (u : CutStep) → IsTurn u → IsResult (turned rest u)
 turned-IsResult rest each (stop f) h = tt
 turned-IsResult rest each (go ts m) h = front (rest m) (each m h.1)
   where

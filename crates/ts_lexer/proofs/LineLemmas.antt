@@ -2,10 +2,10 @@
 use Rattle.std.proofs.Common.{◌≡◌, ℕ, ◌+◌, Bool, true, false, nat_lt, if◌then◌else◌, List, [], ◌∷◌, ◌++◌, Result, Ok, Err, refl, sym, ◌∙◌, ap}
 use Rattle.ts_syntax.specs.declared.token.Token.{Token}
 use Rattle.ts_syntax.specs.declared.token.TokenKind.TheVariants as kind
-use Rattle.ts_syntax.specs.Cut.{token, CutFault, big_literal, Mode, between, comment, word, literal, less, greater, Turn, stop, go, turn, at_end, with_front, turned, cut_from, cut}
+use Rattle.ts_syntax.specs.Cut.{token, CutFault, big_literal, Mode, between, comment, word, literal, less, greater, CutStep, stop, go, turn, at_end, with_front, turned, cut_from, cut}
 use Rattle.ts_lexer.proofs.CutLemmas.{cut_from-nil, cut_from-cons}
 
-turned_same : (f g : Mode → Result (List Token) CutFault) → ((m : Mode) → f m ≡ g m) → (u : Turn) → turned f u ≡ turned g u
+turned_same : (f g : Mode → Result (List Token) CutFault) → ((m : Mode) → f m ≡ g m) → (u : CutStep) → turned f u ≡ turned g u
 turned_same f g each (stop fault) = refl
 turned_same f g each (go ts m) = ap (with_front ts) (each m)
 

@@ -9,7 +9,7 @@ use Rattle.ts_syntax.specs.declared.token.TokenKind.TheVariants as kind
 use Rattle.ts_syntax.specs.Text.{token_text, written, text_of}
 use Rattle.ts_syntax.specs.Spelling.{kinds}
 use Rattle.ts_syntax.specs.Cut.{is_digit, begins_name, in_name, word_kind, token, between, less, greater, go, behind, fresh, turn, with_front, cut_from}
-use Rattle.ts_lexer.specs.Spans.{Begins, Passes, value_of}
+use Rattle.ts_lexer.specs.Spans.{BeginsWith, Passes, digits_value}
 use Rattle.ts_lexer.specs.Printed.{IsKind, AreKinds, IsCutInto}
 use Rattle.ts_lexer.proofs.CutLemmas.{Stops, cut_from-nil, cut_from-go, cut_from-turn, ends_before, word_cut, literal_cut, blank_cut}
 
@@ -32,7 +32,7 @@ passes_from : (p : ℕ → Bool) (bs : List ℕ) → list_all p bs ≡ true → 
 passes_from p [] h = tt
 passes_from p (b ∷ bs) h = let q = and_parts (p b) (list_all p bs) h in (q.0, passes_from p bs q.1)
 
-word_again : (k : TokenKind) (i : ℕ) (text rest : List ℕ) → Begins begins_name text → Passes in_name text → length text ≤ 16 → word_kind text ≡ k → Spaced rest → IsCutAt k i text rest
+word_again : (k : TokenKind) (i : ℕ) (text rest : List ℕ) → BeginsWith begins_name text → Passes in_name text → length text ≤ 16 → word_kind text ≡ k → Spaced rest → IsCutAt k i text rest
 word_again k i text rest b p short e s =
     word_cut i text rest b p (spaced-Stops in_name refl rest s) short
     ∙ ap (λ z. with_front (token z i (i + length text) ∷ []) (cut_from (i + length text) between rest)) e
@@ -40,14 +40,14 @@ word_again k i text rest b p short e s =
 -- literals
 
 record IsNumeral (n : ℕ) (ds : List ℕ) : Type 0 where
-  begins : Begins is_digit ds
+  begins : BeginsWith is_digit ds
   passes : Passes is_digit ds
-  value : value_of 0 ds ≡ n
+  value : digits_value 0 ds ≡ n
 
 is_digit_of : (d : ℕ) → d < 10 → is_digit (48 + d) ≡ true
 is_digit_of d h = and_from (nat_le 48 (48 + d)) (nat_le (48 + d) 57) (le-leb 48 (48 + d) (omega arith)) (le-leb (48 + d) 57 (omega arith))
 
-value_of-push : (n : ℕ) (xs : List ℕ) (c : ℕ) → value_of n (xs ++ c ∷ []) ≡ value_of n xs * 10 + (c - 48)
+value_of-push : (n : ℕ) (xs : List ℕ) (c : ℕ) → digits_value n (xs ++ c ∷ []) ≡ digits_value n xs * 10 + (c - 48)
 value_of-push n [] c = refl
 value_of-push n (x ∷ xs) c = value_of-push (n * 10 + (x - 48)) xs c
 
@@ -57,9 +57,9 @@ numeral_one n h = record { begins = is_digit_of n h; passes = (is_digit_of n h, 
 numeral_more : (n : ℕ) (ds : List ℕ) → 10 ≤ n → IsNumeral (n / 10) ds → IsNumeral n (ds ++ ((48 + n % 10) ∷ []))
 numeral_more n ds h u =
     let last : is_digit (48 + n % 10) ≡ true = is_digit_of (n % 10) (omega arith) in
-    record { begins = first ds u.begins; passes = all ds last u.passes; value = value_of-push 0 ds (48 + n % 10) ∙ sum (value_of 0 ds) u.value }
+    record { begins = first ds u.begins; passes = all ds last u.passes; value = value_of-push 0 ds (48 + n % 10) ∙ sum (digits_value 0 ds) u.value }
   where
-    first : (v : List ℕ) → Begins is_digit v → Begins is_digit (v ++ ((48 + n % 10) ∷ []))
+    first : (v : List ℕ) → BeginsWith is_digit v → BeginsWith is_digit (v ++ ((48 + n % 10) ∷ []))
     first [] f = absurd (false≢true f)
     first (x ∷ xs) f = f
 
@@ -111,7 +111,7 @@ greater_again i rest =
 
 -- each kind
 
-keyword_again : (k : TokenKind) (i : ℕ) (rest : List ℕ) → Begins begins_name (token_text k) → list_all in_name (token_text k) ≡ true → nat_le (length (token_text k)) 16 ≡ true → word_kind (token_text k) ≡ k → Spaced rest → IsCutAt k i (token_text k) rest
+keyword_again : (k : TokenKind) (i : ℕ) (rest : List ℕ) → BeginsWith begins_name (token_text k) → list_all in_name (token_text k) ≡ true → nat_le (length (token_text k)) 16 ≡ true → word_kind (token_text k) ≡ k → Spaced rest → IsCutAt k i (token_text k) rest
 keyword_again k i rest b p short e s = word_again k i (token_text k) rest b (passes_from in_name (token_text k) p) (leb-true (length (token_text k)) 16 short) e s
 
 token_again : (k : TokenKind) → IsKind k → (i : ℕ) (rest : List ℕ) → Spaced rest → IsCutAt k i (token_text k) rest

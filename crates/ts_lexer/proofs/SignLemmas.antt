@@ -10,8 +10,8 @@ use Rattle.ts_syntax.specs.Cut.{is_blank, is_digit, begins_name, sign_of, proced
 use Rattle.ts_lexer.specs.declared.fault.TokenFault.{TokenFault}
 use Rattle.ts_lexer.specs.declared.fault.TokenFault.TheVariants.{NoMemory}
 use Rattle.ts_lexer.specs.declared.scanner.Scanner.{Scanner}
-use Rattle.ts_lexer.specs.Spans.{Begins, begins_sign, less_sign, greater_sign, sign_at}
-use Rattle.ts_lexer.specs.Scanner.{due, Takes, Appends, Steps}
+use Rattle.ts_lexer.specs.Spans.{BeginsWith, begins_sign, less_sign, greater_sign, sign_at}
+use Rattle.ts_lexer.specs.Scanner.{due, TakesBytes, Appends, Steps}
 use Rattle.ts_lexer.proofs.CutLemmas.{cut_from-go, cut_from-turn, ends_before}
 use Rattle.ts_lexer.proofs.StepLemmas.{fault_due, token_steps}
 
@@ -74,7 +74,7 @@ sign_fresh i b h no_less no_greater =
     cond-false (is_blank b) _ _ mark.0 ∙ cond-false (b == 33) _ _ mark.1 ∙ cond-false (begins_name b) _ _ letter.1 ∙ cond-false (is_digit b) _ _ digit.1
     ∙ cond-false (b == 60) _ _ no_less ∙ cond-false (b == 62) _ _ no_greater
 
-sign_cut : (i : ℕ) (bs : List ℕ) → Begins begins_sign bs → IsSignCut i bs (sign_at bs)
+sign_cut : (i : ℕ) (bs : List ℕ) → BeginsWith begins_sign bs → IsSignCut i bs (sign_at bs)
 sign_cut i [] h = absurd (false≢true h)
 sign_cut i (b ∷ bs) h = by (b == 60) refl (b == 62) refl
   where
@@ -157,10 +157,10 @@ sign_stays dialect.Procedures bs k n e = sym (subst SignStays (sym e) (sign_at-S
 pub sign_fits : (bs : List ℕ) (k : TokenKind) (n : ℕ) → Some (k, n) ≡ sign_at bs → n ≤ length bs
 sign_fits bs k n e = (subst (Fits bs) (sym e) (sign_at-Fits bs)).1
 
-pub no_sign_due : (s : Scanner) → Begins begins_sign s.rest.now → None ≡ sign_at s.rest.now → due s ≡ Err (bad_byte s.place)
+pub no_sign_due : (s : Scanner) → BeginsWith begins_sign s.rest.now → None ≡ sign_at s.rest.now → due s ≡ Err (bad_byte s.place)
 no_sign_due s h e = fault_due s (bad_byte s.place) (subst (IsSignCut s.place s.rest.now) (sym e) (sign_cut s.place s.rest.now h))
 
-pub sign_steps : (old mid new : Scanner) (k : TokenKind) (n : ℕ) (r : Result (Unit {0}) TokenFault) → Begins begins_sign old.rest.now → Some (k, n) ≡ sign_at old.rest.now → Takes old mid n
+pub sign_steps : (old mid new : Scanner) (k : TokenKind) (n : ℕ) (r : Result (Unit {0}) TokenFault) → BeginsWith begins_sign old.rest.now → Some (k, n) ≡ sign_at old.rest.now → TakesBytes old mid n
     → MatchResult r (λ _. Appends mid new (token k old.place mid.place)) (λ e. e ≡ NoMemory) → Steps old new r
 sign_steps old mid new k n r h e t a =
     let fits = subst (Fits old.rest.now) (sym e) (sign_at-Fits old.rest.now) in

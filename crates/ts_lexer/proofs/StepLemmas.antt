@@ -14,9 +14,9 @@ use Rattle.ts_syntax.specs.Cut.{is_blank, is_digit, begins_name, in_name, word_k
 use Rattle.ts_lexer.specs.declared.fault.TokenFault.{TokenFault}
 use Rattle.ts_lexer.specs.declared.fault.TokenFault.TheVariants.{BadByte, BigLiteral, NoMemory}
 use Rattle.ts_lexer.specs.declared.scanner.Scanner.{Scanner}
-use Rattle.ts_lexer.specs.Spans.{begins, Begins, Passes, value_of}
+use Rattle.ts_lexer.specs.Spans.{begins, BeginsWith, Passes, digits_value}
 use Rattle.ts_lexer.specs.Answers.{HasFault, CutsIn}
-use Rattle.ts_lexer.specs.Scanner.{due, Takes, Appends, Moves, Steps, EndsScan, LeadsOn}
+use Rattle.ts_lexer.specs.Scanner.{due, TakesBytes, Appends, Moves, Steps, EndsScan, LeadsOn}
 use Rattle.ts_lexer.proofs.CutLemmas.{Stops, in_line, cut_from-nil, with_front-nil, with_front-append, word_cut, long_word, literal_cut, big_literal_cut, literal_letter_cut, comment_cut, blank_cut}
 
 -- the longest front that passes a test
@@ -37,11 +37,11 @@ prefix_stops p (b ∷ bs) = by (p b) refl (prefix_stops p bs)
     by true e rest = subst (λ n. Stops p (drop n (b ∷ bs))) (sym (one-add (prefix_len p bs))) rest
     by false e rest = e
 
-prefix_begins : (p q : ℕ → Bool) → ((b : ℕ) → q b ≡ true → p b ≡ true) → (bs : List ℕ) → Begins q bs → Begins q (take (prefix_len p bs) bs)
+prefix_begins : (p q : ℕ → Bool) → ((b : ℕ) → q b ≡ true → p b ≡ true) → (bs : List ℕ) → BeginsWith q bs → BeginsWith q (take (prefix_len p bs) bs)
 prefix_begins p q pass [] h = absurd (false≢true h)
-prefix_begins p q pass (b ∷ bs) h = subst (λ v. Begins q (take (cond v (1 + prefix_len p bs) 0) (b ∷ bs))) (sym (pass b h)) (subst (λ n. Begins q (take n (b ∷ bs))) (sym (one-add (prefix_len p bs))) h)
+prefix_begins p q pass (b ∷ bs) h = subst (λ v. BeginsWith q (take (cond v (1 + prefix_len p bs) 0) (b ∷ bs))) (sym (pass b h)) (subst (λ n. BeginsWith q (take n (b ∷ bs))) (sym (one-add (prefix_len p bs))) h)
 
-prefix_some : (p q : ℕ → Bool) → ((b : ℕ) → q b ≡ true → p b ≡ true) → (bs : List ℕ) → Begins q bs → 0 < prefix_len p bs
+prefix_some : (p q : ℕ → Bool) → ((b : ℕ) → q b ≡ true → p b ≡ true) → (bs : List ℕ) → BeginsWith q bs → 0 < prefix_len p bs
 prefix_some p q pass [] h = absurd (false≢true h)
 prefix_some p q pass (b ∷ bs) h = subst (λ v. 0 < cond v (1 + prefix_len p bs) 0) (sym (pass b h)) (let e : 0 < 1 + prefix_len p bs = omega arith in e)
 
@@ -59,7 +59,7 @@ marks_pass b h = subst (λ c. in_line c ≡ true) (sym (eqb-true b 33 h)) refl
 cut_split : (i n : ℕ) (bs : List ℕ) → cut_from i between bs ≡ cut_from i between (take n bs ++ drop n bs)
 cut_split i n bs = ap (cut_from i between) (sym (take-append-drop n bs))
 
-word_front : (i : ℕ) (bs : List ℕ) → Begins begins_name bs → prefix_len in_name bs ≤ 16
+word_front : (i : ℕ) (bs : List ℕ) → BeginsWith begins_name bs → prefix_len in_name bs ≤ 16
     → cut_from i between bs ≡ with_front (token (word_kind (take (prefix_len in_name bs) bs)) i (i + prefix_len in_name bs) ∷ []) (cut_from (i + prefix_len in_name bs) between (drop (prefix_len in_name bs) bs))
 word_front i bs b short =
     let n = prefix_len in_name bs in
@@ -69,27 +69,27 @@ word_front i bs b short =
     ∙ word_cut i (take n bs) (drop n bs) (prefix_begins in_name begins_name letters_pass bs b) (prefix_passes in_name bs) (prefix_stops in_name bs) (subst P (sym e) short)
     ∙ ap (λ m. with_front (token (word_kind (take n bs)) i (i + m) ∷ []) (cut_from (i + m) between (drop n bs))) e
 
-long_front : (i : ℕ) (bs : List ℕ) → Begins begins_name bs → 16 < prefix_len in_name bs → cut_from i between bs ≡ Err (bad_byte (i + 16))
+long_front : (i : ℕ) (bs : List ℕ) → BeginsWith begins_name bs → 16 < prefix_len in_name bs → cut_from i between bs ≡ Err (bad_byte (i + 16))
 long_front i bs b long =
     let n = prefix_len in_name bs in
     let P : ℕ → Type 0 = λ m. 16 < m in
     cut_split i n bs
     ∙ long_word i (take n bs) (drop n bs) (prefix_begins in_name begins_name letters_pass bs b) (prefix_passes in_name bs) (subst P (sym (length-prefix_len in_name bs)) long)
 
-digits_front : (i : ℕ) (bs : List ℕ) → Begins is_digit bs → Stops begins_name (drop (prefix_len is_digit bs) bs) → value_of 0 (take (prefix_len is_digit bs) bs) ≤ 65535
-    → cut_from i between bs ≡ with_front (token (kind.Num (value_of 0 (take (prefix_len is_digit bs) bs))) i (i + prefix_len is_digit bs) ∷ []) (cut_from (i + prefix_len is_digit bs) between (drop (prefix_len is_digit bs) bs))
+digits_front : (i : ℕ) (bs : List ℕ) → BeginsWith is_digit bs → Stops begins_name (drop (prefix_len is_digit bs) bs) → digits_value 0 (take (prefix_len is_digit bs) bs) ≤ 65535
+    → cut_from i between bs ≡ with_front (token (kind.Num (digits_value 0 (take (prefix_len is_digit bs) bs))) i (i + prefix_len is_digit bs) ∷ []) (cut_from (i + prefix_len is_digit bs) between (drop (prefix_len is_digit bs) bs))
 digits_front i bs b s small =
     let n = prefix_len is_digit bs in
     cut_split i n bs
     ∙ literal_cut i (take n bs) (drop n bs) (prefix_begins is_digit is_digit digits_pass bs b) (prefix_passes is_digit bs) (prefix_stops is_digit bs) s small
-    ∙ ap (λ m. with_front (token (kind.Num (value_of 0 (take n bs))) i (i + m) ∷ []) (cut_from (i + m) between (drop n bs))) (length-prefix_len is_digit bs)
+    ∙ ap (λ m. with_front (token (kind.Num (digits_value 0 (take n bs))) i (i + m) ∷ []) (cut_from (i + m) between (drop n bs))) (length-prefix_len is_digit bs)
 
-big_front : (i : ℕ) (bs : List ℕ) → Begins is_digit bs → 65535 < value_of 0 (take (prefix_len is_digit bs) bs) → cut_from i between bs ≡ Err (big_literal i)
+big_front : (i : ℕ) (bs : List ℕ) → BeginsWith is_digit bs → 65535 < digits_value 0 (take (prefix_len is_digit bs) bs) → cut_from i between bs ≡ Err (big_literal i)
 big_front i bs b big =
     let n = prefix_len is_digit bs in
     cut_split i n bs ∙ big_literal_cut i (take n bs) (drop n bs) (prefix_begins is_digit is_digit digits_pass bs b) (prefix_passes is_digit bs) (prefix_stops is_digit bs) big
 
-letter_front : (i : ℕ) (bs : List ℕ) → Begins is_digit bs → Begins begins_name (drop (prefix_len is_digit bs) bs) → value_of 0 (take (prefix_len is_digit bs) bs) ≤ 65535
+letter_front : (i : ℕ) (bs : List ℕ) → BeginsWith is_digit bs → BeginsWith begins_name (drop (prefix_len is_digit bs) bs) → digits_value 0 (take (prefix_len is_digit bs) bs) ≤ 65535
     → cut_from i between bs ≡ Err (bad_byte (i + prefix_len is_digit bs))
 letter_front i bs b s small =
     let n = prefix_len is_digit bs in
@@ -97,29 +97,29 @@ letter_front i bs b s small =
     ∙ literal_letter_cut i (take n bs) (drop n bs) (prefix_begins is_digit is_digit digits_pass bs b) (prefix_passes is_digit bs) s small
     ∙ ap (λ m. Err (bad_byte (i + m))) (length-prefix_len is_digit bs)
 
-comment_front : (i : ℕ) (bs : List ℕ) → Begins (λ b. b == 33) bs → cut_from i between bs ≡ cut_from (i + prefix_len in_line bs) between (drop (prefix_len in_line bs) bs)
+comment_front : (i : ℕ) (bs : List ℕ) → BeginsWith (λ b. b == 33) bs → cut_from i between bs ≡ cut_from (i + prefix_len in_line bs) between (drop (prefix_len in_line bs) bs)
 comment_front i bs b =
     let n = prefix_len in_line bs in
     cut_split i n bs
     ∙ comment_cut i (take n bs) (drop n bs) (prefix_begins in_line (λ b. b == 33) marks_pass bs b) (prefix_passes in_line bs) (prefix_stops in_line bs)
     ∙ ap (λ m. cut_from (i + m) between (drop n bs)) (length-prefix_len in_line bs)
 
-blank_front : (i : ℕ) (bs : List ℕ) → Begins is_blank bs → cut_from i between bs ≡ cut_from (i + 1) between (drop 1 bs)
+blank_front : (i : ℕ) (bs : List ℕ) → BeginsWith is_blank bs → cut_from i between bs ≡ cut_from (i + 1) between (drop 1 bs)
 blank_front i [] h = absurd (false≢true h)
 blank_front i (b ∷ bs) h = blank_cut i b bs h
 
 -- steps of a scanner
 
 -- the first byte passes a test
-pub first_begins : (p : ℕ → Bool) (bs : List ℕ) (b : ℕ) → slice_get bs 0 ≡ Some b → p b ≡ true → Begins p bs
+pub first_begins : (p : ℕ → Bool) (bs : List ℕ) (b : ℕ) → slice_get bs 0 ≡ Some b → p b ≡ true → BeginsWith p bs
 first_begins p [] b e h = cc
 first_begins p (x ∷ bs) b e h = let f : x ≡ b = cc in ap p f ∙ h
 
-pub some_left : (p : ℕ → Bool) (bs : List ℕ) → Begins p bs → 1 ≤ length bs
+pub some_left : (p : ℕ → Bool) (bs : List ℕ) → BeginsWith p bs → 1 ≤ length bs
 some_left p [] h = absurd (false≢true h)
 some_left p (b ∷ bs) h = omega arith
 
-shorter_by : (old new : Scanner) (len : ℕ) → Takes old new len → 0 < len → len ≤ length old.rest.now → length new.rest.now < length old.rest.now
+shorter_by : (old new : Scanner) (len : ℕ) → TakesBytes old new len → 0 < len → len ≤ length old.rest.now → length new.rest.now < length old.rest.now
 shorter_by old new len t some fits = omega (arith, ap length t.rest, length-drop len old.rest.now)
 
 -- a fault of the rest is one of the whole
@@ -131,7 +131,7 @@ front_in : (d : Dialect) (t : Token) (r : Result (List Token) CutFault) → all_
 front_in d t (Ok us) = refl
 front_in d t (Err f) = refl
 
-passes_over : (old new : Scanner) (len : ℕ) → Takes old new len → 0 < len → len ≤ length old.rest.now
+passes_over : (old new : Scanner) (len : ℕ) → TakesBytes old new len → 0 < len → len ≤ length old.rest.now
     → cut_from old.place between old.rest.now ≡ cut_from (old.place + len) between (drop len old.rest.now) → Moves old new
 passes_over old new len t some fits e = record {
   same = ap (λ ts. with_front ts (all_in new.dialect (cut_from new.place between new.rest.now))) t.tokens
@@ -142,7 +142,7 @@ passes_over old new len t some fits e = record {
   shorter = shorter_by old new len t some fits;
 }
 
-token_moves : (old mid new : Scanner) (len : ℕ) (k : TokenKind) → Takes old mid len → 0 < len → len ≤ length old.rest.now
+token_moves : (old mid new : Scanner) (len : ℕ) (k : TokenKind) → TakesBytes old mid len → 0 < len → len ≤ length old.rest.now
     → cut_from old.place between old.rest.now ≡ with_front (token k old.place (old.place + len) ∷ []) (cut_from (old.place + len) between (drop len old.rest.now))
     → Appends mid new (token k old.place mid.place) → Moves old new
 token_moves old mid new len k t some fits e a =
@@ -166,7 +166,7 @@ token_moves old mid new len k t some fits e a =
     }
 
 -- a token that was taken and then appended, or not for want of memory
-pub token_steps : (old mid new : Scanner) (len : ℕ) (k : TokenKind) → Takes old mid len → 0 < len → len ≤ length old.rest.now
+pub token_steps : (old mid new : Scanner) (len : ℕ) (k : TokenKind) → TakesBytes old mid len → 0 < len → len ≤ length old.rest.now
     → cut_from old.place between old.rest.now ≡ with_front (token k old.place (old.place + len) ∷ []) (cut_from (old.place + len) between (drop len old.rest.now))
     → (r : Result (Unit {0}) TokenFault) → MatchResult r (λ _. Appends mid new (token k old.place mid.place)) (λ e. e ≡ NoMemory) → Steps old new r
 token_steps old mid new len k t some fits e (Ok u) a = token_moves old mid new len k t some fits e a
@@ -177,24 +177,24 @@ token_steps old mid new len k t some fits e (Err f) a = by f a
     by (BigLiteral place) a = cc
     by NoMemory a = tt
 
-pub blank_steps : (old new : Scanner) → Begins is_blank old.rest.now → Takes old new 1 → Moves old new
+pub blank_steps : (old new : Scanner) → BeginsWith is_blank old.rest.now → TakesBytes old new 1 → Moves old new
 blank_steps old new b t = passes_over old new 1 t (omega arith) (some_left is_blank old.rest.now b) (blank_front old.place old.rest.now b)
 
-pub comment_steps : (old new : Scanner) (len : ℕ) → Begins (λ b. b == 33) old.rest.now → len ≡ prefix_len in_line old.rest.now → Takes old new len → Moves old new
+pub comment_steps : (old new : Scanner) (len : ℕ) → BeginsWith (λ b. b == 33) old.rest.now → len ≡ prefix_len in_line old.rest.now → TakesBytes old new len → Moves old new
 comment_steps old new len b e t =
-    let t' = subst (Takes old new) e t in
+    let t' = subst (TakesBytes old new) e t in
     passes_over old new (prefix_len in_line old.rest.now) t' (prefix_some in_line (λ b. b == 33) marks_pass old.rest.now b) (prefix_len-le-length in_line old.rest.now) (comment_front old.place old.rest.now b)
 
-pub word_steps : (old mid new : Scanner) (len : ℕ) (text : List ℕ) (k : TokenKind) (r : Result (Unit {0}) TokenFault) → Begins begins_name old.rest.now → len ≡ prefix_len in_name old.rest.now → len ≤ 16
-    → Takes old mid len → text ≡ take len old.rest.now → k ≡ word_kind text → MatchResult r (λ _. Appends mid new (token k old.place mid.place)) (λ e. e ≡ NoMemory) → Steps old new r
+pub word_steps : (old mid new : Scanner) (len : ℕ) (text : List ℕ) (k : TokenKind) (r : Result (Unit {0}) TokenFault) → BeginsWith begins_name old.rest.now → len ≡ prefix_len in_name old.rest.now → len ≤ 16
+    → TakesBytes old mid len → text ≡ take len old.rest.now → k ≡ word_kind text → MatchResult r (λ _. Appends mid new (token k old.place mid.place)) (λ e. e ≡ NoMemory) → Steps old new r
 word_steps old mid new len text k r b e short t is named a =
     let n = prefix_len in_name old.rest.now in
     let P : ℕ → Type 0 = λ m. m ≤ 16 in
     let same : k ≡ word_kind (take n old.rest.now) = named ∙ ap word_kind (is ∙ ap (λ m. take m old.rest.now) e) in
-    token_steps old mid new n k (subst (Takes old mid) e t) (prefix_some in_name begins_name letters_pass old.rest.now b) (prefix_len-le-length in_name old.rest.now)
+    token_steps old mid new n k (subst (TakesBytes old mid) e t) (prefix_some in_name begins_name letters_pass old.rest.now b) (prefix_len-le-length in_name old.rest.now)
     (word_front old.place old.rest.now b (subst P e short) ∙ ap (λ z. with_front (token z old.place (old.place + n) ∷ []) (cut_from (old.place + n) between (drop n old.rest.now))) (sym same)) r a
 
-pub long_word_due : (s : Scanner) (len : ℕ) → Begins begins_name s.rest.now → len ≡ prefix_len in_name s.rest.now → 16 < len → due s ≡ Err (bad_byte (s.place + 16))
+pub long_word_due : (s : Scanner) (len : ℕ) → BeginsWith begins_name s.rest.now → len ≡ prefix_len in_name s.rest.now → 16 < len → due s ≡ Err (bad_byte (s.place + 16))
 long_word_due s len b e long = let P : ℕ → Type 0 = λ m. 16 < m in fault_due s (bad_byte (s.place + 16)) (long_front s.place s.rest.now b (subst P e long))
 
 -- what the answer of a literal's value says of it
@@ -213,34 +213,34 @@ value_none n e = by (nat_lt 65535 n) refl e
     by true q e = ltb-true 65535 n q
     by false q e = cc
 
-pub number_steps : (old mid new : Scanner) (len : ℕ) (digits : List ℕ) (v : ℕ) (r : Result (Unit {0}) TokenFault) → Begins is_digit old.rest.now → len ≡ prefix_len is_digit old.rest.now
-    → Takes old mid len → digits ≡ take len old.rest.now → Some v ≡ (if nat_lt 65535 (value_of 0 digits) then None else Some (value_of 0 digits)) → begins begins_name mid.rest.now ≡ false
+pub number_steps : (old mid new : Scanner) (len : ℕ) (digits : List ℕ) (v : ℕ) (r : Result (Unit {0}) TokenFault) → BeginsWith is_digit old.rest.now → len ≡ prefix_len is_digit old.rest.now
+    → TakesBytes old mid len → digits ≡ take len old.rest.now → Some v ≡ (if nat_lt 65535 (digits_value 0 digits) then None else Some (digits_value 0 digits)) → begins begins_name mid.rest.now ≡ false
     → MatchResult r (λ _. Appends mid new (token (kind.Num v) old.place mid.place)) (λ e. e ≡ NoMemory) → Steps old new r
 number_steps old mid new len digits v r b e t is value s a =
     let n = prefix_len is_digit old.rest.now in
-    let p = value_some (value_of 0 digits) v value in
+    let p = value_some (digits_value 0 digits) v value in
     let P : ℕ → Type 0 = λ m. m ≤ 65535 in
     let front : digits ≡ take n old.rest.now = is ∙ ap (λ m. take m old.rest.now) e in
-    let same : v ≡ value_of 0 (take n old.rest.now) = p.0 ∙ ap (value_of 0) front in
-    let t' = subst (Takes old mid) e t in
+    let same : v ≡ digits_value 0 (take n old.rest.now) = p.0 ∙ ap (digits_value 0) front in
+    let t' = subst (TakesBytes old mid) e t in
     token_steps old mid new n (kind.Num v) t' (prefix_some is_digit is_digit digits_pass old.rest.now b) (prefix_len-le-length is_digit old.rest.now)
-    (digits_front old.place old.rest.now b (ap (begins begins_name) (sym t'.rest) ∙ s) (subst P (ap (value_of 0) front) p.1)
+    (digits_front old.place old.rest.now b (ap (begins begins_name) (sym t'.rest) ∙ s) (subst P (ap (digits_value 0) front) p.1)
     ∙ ap (λ z. with_front (token (kind.Num z) old.place (old.place + n) ∷ []) (cut_from (old.place + n) between (drop n old.rest.now))) (sym same)) r a
 
-pub big_literal_due : (s : Scanner) (len : ℕ) (digits : List ℕ) → Begins is_digit s.rest.now → len ≡ prefix_len is_digit s.rest.now → digits ≡ take len s.rest.now
-    → None ≡ (if nat_lt 65535 (value_of 0 digits) then None else Some (value_of 0 digits)) → due s ≡ Err (big_literal s.place)
+pub big_literal_due : (s : Scanner) (len : ℕ) (digits : List ℕ) → BeginsWith is_digit s.rest.now → len ≡ prefix_len is_digit s.rest.now → digits ≡ take len s.rest.now
+    → None ≡ (if nat_lt 65535 (digits_value 0 digits) then None else Some (digits_value 0 digits)) → due s ≡ Err (big_literal s.place)
 big_literal_due s len digits b e is value =
-    let P : List ℕ → Type 0 = λ ds. 65535 < value_of 0 ds in
-    fault_due s (big_literal s.place) (big_front s.place s.rest.now b (subst P (is ∙ ap (λ m. take m s.rest.now) e) (value_none (value_of 0 digits) value)))
+    let P : List ℕ → Type 0 = λ ds. 65535 < digits_value 0 ds in
+    fault_due s (big_literal s.place) (big_front s.place s.rest.now b (subst P (is ∙ ap (λ m. take m s.rest.now) e) (value_none (digits_value 0 digits) value)))
 
-pub letter_due : (old mid : Scanner) (len : ℕ) (digits : List ℕ) (v : ℕ) → Begins is_digit old.rest.now → len ≡ prefix_len is_digit old.rest.now → Takes old mid len → digits ≡ take len old.rest.now
-    → Some v ≡ (if nat_lt 65535 (value_of 0 digits) then None else Some (value_of 0 digits)) → begins begins_name mid.rest.now ≡ true → due old ≡ Err (bad_byte mid.place)
+pub letter_due : (old mid : Scanner) (len : ℕ) (digits : List ℕ) (v : ℕ) → BeginsWith is_digit old.rest.now → len ≡ prefix_len is_digit old.rest.now → TakesBytes old mid len → digits ≡ take len old.rest.now
+    → Some v ≡ (if nat_lt 65535 (digits_value 0 digits) then None else Some (digits_value 0 digits)) → begins begins_name mid.rest.now ≡ true → due old ≡ Err (bad_byte mid.place)
 letter_due old mid len digits v b e t is value s =
     let n = prefix_len is_digit old.rest.now in
-    let t' = subst (Takes old mid) e t in
-    let P : List ℕ → Type 0 = λ ds. value_of 0 ds ≤ 65535 in
+    let t' = subst (TakesBytes old mid) e t in
+    let P : List ℕ → Type 0 = λ ds. digits_value 0 ds ≤ 65535 in
     fault_due old (bad_byte mid.place)
-    (letter_front old.place old.rest.now b (ap (begins begins_name) (sym t'.rest) ∙ s) (subst P (is ∙ ap (λ m. take m old.rest.now) e) (value_some (value_of 0 digits) v value).1)
+    (letter_front old.place old.rest.now b (ap (begins begins_name) (sym t'.rest) ∙ s) (subst P (is ∙ ap (λ m. take m old.rest.now) e) (value_some (digits_value 0 digits) v value).1)
     ∙ ap (λ j. Err (bad_byte j)) (sym t'.place))
 
 pub fits_front : (p : ℕ → Bool) (bs : List ℕ) (n : ℕ) → n ≡ prefix_len p bs → n ≤ length bs

@@ -4,7 +4,7 @@ use Rattle.std.specs.Option.{SomeIff}
 use Rattle.std.proofs.lemmas.Bool.{cond-true, cond-false, and_parts, leb-true, lt-ltb, le-ltb}
 use Rattle.std.proofs.lemmas.List.{drop_more, drop_all}
 use Rattle.ts_syntax.specs.Cut.{is_digit}
-use Rattle.ts_lexer.specs.Spans.{Passes, value_of}
+use Rattle.ts_lexer.specs.Spans.{Passes, digits_value}
 use Rattle.ts_lexer.proofs.CutLemmas.{value_of-ge}
 
 pub digit_at : (ds : List ℕ) (i : ℕ) → Passes is_digit ds → i < length ds → 48 ≤ get_or ds i 0
@@ -14,13 +14,13 @@ digit_at (d ∷ ds) (suc i) p h = digit_at ds i p.1 (omega arith)
 
 -- so many digits were read, and no value over 65535 was met
 pub record IsReadTo (ds : List ℕ) (i v : ℕ) : Type 0 where
-  pub whole : value_of 0 ds ≡ value_of v (drop i ds)
+  pub whole : digits_value 0 ds ≡ digits_value v (drop i ds)
   pub small : v ≤ 65535
 
 -- the value with one more digit is no more than the whole
-value_more : (ds : List ℕ) (i v : ℕ) → IsReadTo ds i v → i < length ds → v * 10 + (get_or ds i 0 - 48) ≤ value_of 0 ds
+value_more : (ds : List ℕ) (i v : ℕ) → IsReadTo ds i v → i < length ds → v * 10 + (get_or ds i 0 - 48) ≤ digits_value 0 ds
 value_more ds i v u h =
-    let e : value_of 0 ds ≡ value_of (v * 10 + (get_or ds i 0 - 48)) (drop (i + 1) ds) = u.whole ∙ ap (value_of v) (drop_more ds i 0 h) in
+    let e : digits_value 0 ds ≡ digits_value (v * 10 + (get_or ds i 0 - 48)) (drop (i + 1) ds) = u.whole ∙ ap (digits_value v) (drop_more ds i 0 h) in
     omega (arith, value_of-ge (v * 10 + (get_or ds i 0 - 48)) (drop (i + 1) ds))
 
 none_since : (o : Option ℕ) (P : Type 0) (w : ℕ) → SomeIff o P w → o ≡ None → P → ⊥
@@ -31,18 +31,18 @@ over : (n : ℕ) (r : Option ℕ) → r ≡ None → 65535 < n → r ≡ (if nat
 over n r e h = e ∙ sym (cond-true (nat_lt 65535 n) None (Some n) (lt-ltb 65535 n h))
 
 pub over_by_product : (ds : List ℕ) (i v : ℕ) (o r : Option ℕ) → IsReadTo ds i v → i < length ds → SomeIff o (v * 10 < 65536) (v * 10) → o ≡ None → r ≡ None
-    → r ≡ (if nat_lt 65535 (value_of 0 ds) then None else Some (value_of 0 ds))
+    → r ≡ (if nat_lt 65535 (digits_value 0 ds) then None else Some (digits_value 0 ds))
 over_by_product ds i v o r u h s e n =
     let no : v * 10 < 65536 → ⊥ = none_since o (v * 10 < 65536) (v * 10) s e in
-    over (value_of 0 ds) r n (omega (arith, value_more ds i v u h))
+    over (digits_value 0 ds) r n (omega (arith, value_more ds i v u h))
 
 pub over_by_sum : (ds : List ℕ) (i v m d : ℕ) (o r : Option ℕ) → IsReadTo ds i v → i < length ds → m ≡ v * 10 → d ≡ get_or ds i 0 - 48 → SomeIff o (m + d < 65536) (m + d) → o ≡ None → r ≡ None
-    → r ≡ (if nat_lt 65535 (value_of 0 ds) then None else Some (value_of 0 ds))
+    → r ≡ (if nat_lt 65535 (digits_value 0 ds) then None else Some (digits_value 0 ds))
 over_by_sum ds i v m d o r u h p q s e n =
     let no : m + d < 65536 → ⊥ = none_since o (m + d < 65536) (m + d) s e in
-    over (value_of 0 ds) r n (omega (arith, value_more ds i v u h))
+    over (digits_value 0 ds) r n (omega (arith, value_more ds i v u h))
 
-pub whole_value : (ds : List ℕ) (i v : ℕ) → IsReadTo ds i v → length ds ≤ i → Some v ≡ (if nat_lt 65535 (value_of 0 ds) then None else Some (value_of 0 ds))
+pub whole_value : (ds : List ℕ) (i v : ℕ) → IsReadTo ds i v → length ds ≤ i → Some v ≡ (if nat_lt 65535 (digits_value 0 ds) then None else Some (digits_value 0 ds))
 whole_value ds i v u h =
-    let e : value_of 0 ds ≡ v = u.whole ∙ ap (value_of v) (drop_all i ds h) in
-    ap (λ n. Some n) (sym e) ∙ sym (cond-false (nat_lt 65535 (value_of 0 ds)) None (Some (value_of 0 ds)) (le-ltb 65535 (value_of 0 ds) (let P : ℕ → Type 0 = λ n. n ≤ 65535 in subst P (sym e) u.small)))
+    let e : digits_value 0 ds ≡ v = u.whole ∙ ap (digits_value v) (drop_all i ds h) in
+    ap (λ n. Some n) (sym e) ∙ sym (cond-false (nat_lt 65535 (digits_value 0 ds)) None (Some (digits_value 0 ds)) (le-ltb 65535 (digits_value 0 ds) (let P : ℕ → Type 0 = λ n. n ≤ 65535 in subst P (sym e) u.small)))

@@ -8,11 +8,11 @@ use Rattle.ts_syntax.specs.Cut.{begins_name, in_name, word_kind, cut}
 use Rattle.ts_syntax.specs.Spelling.{kinds}
 use Rattle.ts_syntax.specs.Faults.{Spells}
 use Rattle.ts_lexer.specs.Bare.{bare}
-use Rattle.ts_lexer.specs.Spans.{Begins, Passes}
+use Rattle.ts_lexer.specs.Spans.{BeginsWith, Passes}
 
 -- a text that can stand in a name token or a keyword: at most 16 letters, digits and `_`, of which the first is no digit
 pub record IsWord (w : List ℕ) : Type 0 where
-  pub begins : Begins begins_name w
+  pub begins : BeginsWith begins_name w
   pub passes : Passes in_name w
   pub short : length w ≤ 16
 

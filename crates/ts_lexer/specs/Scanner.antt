@@ -11,7 +11,7 @@ abbrev pub due : Scanner → Result (List Token) CutFault
 due s = with_front s.tokens (all_in s.dialect (cut_from s.place between s.rest.now))
 
 -- so many bytes were taken off the rest
-pub record Takes (old new : Scanner) (len : ℕ) : Type 0 where
+pub record TakesBytes (old new : Scanner) (len : ℕ) : Type 0 where
   pub rest : new.rest.now ≡ drop len old.rest.now
   pub place : new.place ≡ old.place + len
   pub tokens : new.tokens ≡ old.tokens
@@ -35,9 +35,9 @@ Steps old new (Ok u) = Moves old new
 Steps old new (Err f) = HasFault (due old) f
 
 -- a scanner of a text that is cut so, or the text's first fault
-abbrev pub Begins : Result (List Token) CutFault → Result Scanner TokenFault → Type 0
-Begins cut (Ok s) = due s ≡ cut
-Begins cut (Err f) = HasFault cut f
+abbrev pub BeginsScan : Result (List Token) CutFault → Result Scanner TokenFault → Type 0
+BeginsScan cut (Ok s) = due s ≡ cut
+BeginsScan cut (Err f) = HasFault cut f
 
 -- all tokens, or the first fault
 abbrev pub EndsScan : Result (List Token) CutFault → Result (List Token) TokenFault → Type 0

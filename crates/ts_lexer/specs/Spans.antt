@@ -10,8 +10,8 @@ abbrev pub begins : (ℕ → Bool) → List ℕ → Bool
 begins p [] = false
 begins p (b ∷ bs) = p b
 
-abbrev pub Begins : (ℕ → Bool) → List ℕ → Type 0
-Begins p bs = begins p bs ≡ true
+abbrev pub BeginsWith : (ℕ → Bool) → List ℕ → Type 0
+BeginsWith p bs = begins p bs ≡ true
 
 -- each byte passes the test
 abbrev pub Passes : (ℕ → Bool) → List ℕ → Type 0
@@ -23,9 +23,9 @@ abbrev pub begins_sign : ℕ → Bool
 begins_sign b = not (is_blank b || b == 33 || begins_name b || is_digit b)
 
 -- the value of digits, behind others of the value n
-abbrev pub value_of : ℕ → List ℕ → ℕ
-value_of n [] = n
-value_of n (b ∷ bs) = value_of (n * 10 + (b - 48)) bs
+abbrev pub digits_value : ℕ → List ℕ → ℕ
+digits_value n [] = n
+digits_value n (b ∷ bs) = digits_value (n * 10 + (b - 48)) bs
 
 -- the sign that begins with `<`, by the bytes behind it, and its length
 abbrev pub less_sign : List ℕ → TokenKind × ℕ

@@ -3,7 +3,7 @@
 ghost use Rattle.std.specs.Prelude.{◌≡◌, ◌≤◌, length};
 ghost use Rattle.ts_syntax.specs.Cut.{cut_in};
 ghost use Rattle.ts_lexer.specs.Answers.{Cuts, CutsIn};
-ghost use Rattle.ts_lexer.specs.Scanner.{Begins};
+ghost use Rattle.ts_lexer.specs.Scanner.{BeginsScan};
 
 use crate::fault::TokenFault;
 use crate::scanner::Scanner;
@@ -36,7 +36,7 @@ pub fn first_tokens(
     count: usize,
 ) -> Result<Scanner<'_>, TokenFault>
     requires { length bytes.now ≤ 1048576 }
-    ensures { Begins (cut_in dialect bytes.now) result }
+    ensures { BeginsScan (cut_in dialect bytes.now) result }
 {
     let mut scanner = Scanner::new(alloc, dialect, bytes);
     while scanner.tokens.len() < count {

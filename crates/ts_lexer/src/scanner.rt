@@ -29,8 +29,8 @@ impl<'a> Scanner<'a> {
     ghost use Rattle.std.specs.Prelude.{◌≡◌, ◌≤◌, ◌==◌, length, Some, slice_get, take, MatchResult};
     ghost use Rattle.ts_syntax.specs.Cut.{is_blank, begins_name, is_digit, token, kind_in, cut_in};
     ghost use Rattle.ts_syntax.specs.declared.token.TokenKind.{TokenKind as Kind};
-    ghost use Rattle.ts_lexer.specs.Spans.{Begins, begins_sign};
-    ghost use Rattle.ts_lexer.specs.Scanner.{due, Takes, Appends, Moves, Steps, EndsScan, LooksThrough, Forgets};
+    ghost use Rattle.ts_lexer.specs.Spans.{BeginsWith, begins_sign};
+    ghost use Rattle.ts_lexer.specs.Scanner.{due, TakesBytes, Appends, Moves, Steps, EndsScan, LooksThrough, Forgets};
 
     /// The whole text, and no token yet.
     pub(crate) fn new(alloc: Global, dialect: Dialect, bytes: &'a [u8]) -> Scanner<'a>
@@ -116,7 +116,7 @@ impl<'a> Scanner<'a> {
 
     /// Passes over a blank.
     fn blank(&mut self)
-        requires { Begins is_blank self.old.rest.now }
+        requires { BeginsWith is_blank self.old.rest.now }
         ensures { Moves self.old self.new }
     {
         self.take(1);
@@ -124,7 +124,7 @@ impl<'a> Scanner<'a> {
 
     /// Passes over a comment. The LF behind it stays, as a blank.
     fn comment(&mut self)
-        requires { Begins (λ b. b == 33) self.old.rest.now }
+        requires { BeginsWith (λ b. b == 33) self.old.rest.now }
         ensures { Moves self.old self.new }
     {
         let len = line_len(self.rest);
@@ -133,7 +133,7 @@ impl<'a> Scanner<'a> {
 
     /// Reads a name or a keyword.
     fn word(&mut self) -> Result<(), TokenFault>
-        requires { Begins begins_name self.old.rest.now }
+        requires { BeginsWith begins_name self.old.rest.now }
         ensures { Steps self.old self.new result }
     {
         let from = self.place;
@@ -148,7 +148,7 @@ impl<'a> Scanner<'a> {
 
     /// Reads a literal.
     fn number(&mut self) -> Result<(), TokenFault>
-        requires { Begins is_digit self.old.rest.now }
+        requires { BeginsWith is_digit self.old.rest.now }
         ensures { Steps self.old self.new result }
     {
         let from = self.place;
@@ -164,7 +164,7 @@ impl<'a> Scanner<'a> {
 
     /// Reads a sign.
     fn sign(&mut self) -> Result<(), TokenFault>
-        requires { Begins begins_sign self.old.rest.now }
+        requires { BeginsWith begins_sign self.old.rest.now }
         ensures { Steps self.old self.new result }
     {
         let from = self.place;
@@ -179,7 +179,7 @@ impl<'a> Scanner<'a> {
     fn take(&mut self, len: usize) -> &'a [u8]
         requires { len ≤ length self.old.rest.now }
         ensures bytes { result.now ≡ take len self.old.rest.now }
-        ensures takes { Takes self.old self.new len }
+        ensures takes { TakesBytes self.old self.new len }
     {
         let (taken, rest) = self.rest.split_at(len);
         self.rest = rest;

@@ -3,7 +3,7 @@
 ghost use Rattle.std.specs.Prelude.{◌≡◌, ◌<◌, ◌≤◌, ◌==◌, not, length, nat_lt, if◌then◌else◌, Some, None};
 ghost use Rattle.std.specs.List.{prefix_len};
 ghost use Rattle.ts_syntax.specs.Cut.{is_blank, begins_name, in_name, is_digit, sign_of, word_kind, kind_in, procedure_kind};
-ghost use Rattle.ts_lexer.specs.Spans.{begins, Passes, value_of, sign_at};
+ghost use Rattle.ts_lexer.specs.Spans.{begins, Passes, digits_value, sign_at};
 
 use mate_num::Name;
 use ts_syntax::{Dialect, TokenKind};
@@ -73,7 +73,7 @@ pub fn line_len(bytes: &[u8]) -> usize
 /// The value of digits; None exactly where it is over 65535.
 pub fn literal_value(digits: &[u8]) -> Option<u16>
     requires { Passes is_digit digits.now }
-    ensures { result ≡ (if nat_lt 65535 (value_of 0 digits.now) then None else Some (value_of 0 digits.now)) }
+    ensures { result ≡ (if nat_lt 65535 (digits_value 0 digits.now) then None else Some (digits_value 0 digits.now)) }
 {
     let mut value = 0u16;
     for byte in digits {

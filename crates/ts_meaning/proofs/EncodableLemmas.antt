@@ -19,7 +19,7 @@ use Rattle.mate_code.proofs.CodeLemmas.{length-code_bytes}
 use Rattle.ts_syntax.specs.Expression.{Expression, Arguments, no_arguments, argument, Num, Shared, Private, Item, Size, MsgItem, MsgSize, Call, SendBuf, Neg, Not, Two}
 use Rattle.ts_syntax.specs.Statement.{Statement, Block, no_statements, statement, Set, SetItem, Append, Take, Clear, Do, DoSend, If, IfElse, For, While}
 use Rattle.mate_num.specs.Shapes.{is_shape}
-use Rattle.ts_syntax.specs.Right.{is_buffer, is_variable, takes, sends, is_call, is_send, is_right_expr, are_right, is_step, is_head, is_right_stmt, is_right_block, is_right, argument_count}
+use Rattle.ts_syntax.specs.Right.{is_buffer, is_variable, takes, sends, is_call, is_send_of, is_right_expr, are_right, is_step, is_head, is_right_stmt, is_right_block, is_right, argument_count}
 use Rattle.ts_syntax.specs.declared.bin_op.BinOp.{BinOp}
 use Rattle.ts_syntax.specs.declared.bin_op.BinOp.TheVariants as op
 use Rattle.ts_syntax.specs.declared.checked_stmt.CVar.{CVar}
@@ -102,7 +102,7 @@ module _ (shape : Shape) where
   in-call : (f : FunId) (count : ℕ) → is_call shape f count ≡ true → InTable (instr.Fun f)
   in-call f count e = function_named shape f false (takes-sends (slice_get shape.functions.items f.0) count e)
 
-  in-send : (f : FunId) (p : BufId) → is_send shape f p ≡ true → InTable (instr.FunBuf f p)
+  in-send : (f : FunId) (p : BufId) → is_send_of shape f p ≡ true → InTable (instr.FunBuf f p)
   in-send f p e =
       function_named shape f true (sends-sends (slice_get shape.functions.items f.0) (and_parts (sends (slice_get shape.functions.items f.0)) (is_buffer shape p) e).0)
 
@@ -123,7 +123,7 @@ module _ (shape : Shape) where
         let h = and_parts (calls && is_call shape f (argument_count args)) (are_right shape calls args) right in
         let k = and_parts calls (is_call shape f (argument_count args)) h.0 in
         in-push (args_code args) (instr.Fun f) (in-args calls args h.1) (in-call f (argument_count args) k.1)
-    in-expr calls (SendBuf f p) right = (in-send f p (and_parts calls (is_send shape f p) right).1, tt)
+    in-expr calls (SendBuf f p) right = (in-send f p (and_parts calls (is_send_of shape f p) right).1, tt)
     in-expr calls (Neg e) right = in-push (expr_code e) instr.Neg (in-expr calls e right) tt
     in-expr calls (Not e) right = in-push (expr_code e) instr.Not (in-expr calls e right) tt
     in-expr calls (Two o a b) right =

@@ -15,7 +15,7 @@ use Rattle.mate_code.specs.Instr.{size_of}
 use Rattle.mate_code.specs.Run.{Code}
 use Rattle.mate_code.specs.Verification.{Depth, Marks}
 use Rattle.ts_syntax.specs.Expression.{Expression, Arguments, no_arguments, argument, Num, Shared, Private, Item, Size, MsgItem, MsgSize, Call, SendBuf, Neg, Not, Two}
-use Rattle.ts_syntax.specs.Right.{is_buffer, takes, sends, is_call, is_send, is_right_expr, are_right, argument_count}
+use Rattle.ts_syntax.specs.Right.{is_buffer, takes, sends, is_call, is_send_of, is_right_expr, are_right, argument_count}
 use Rattle.ts_syntax.specs.declared.bin_op.BinOp.{BinOp}
 use Rattle.ts_syntax.specs.declared.bin_op.BinOp.TheVariants as op
 use Rattle.ts_meaning.specs.Translation.{size_of_instrs, number_code, operator_code, expr_code, args_code, expr_need, args_need, expr_size}
@@ -79,7 +79,7 @@ call_is_plain : (shape : Shape) (f : FunId) (count : ℕ) → is_call shape f co
 call_is_plain shape f count e =
     record { next = refl; in_range = refl; pops_are = takes-args (slice_get shape.functions.items f.0) count e; pushes_are = refl }
 
-send_is_plain : (shape : Shape) (f : FunId) (p : BufId) → is_send shape f p ≡ true → IsPlain shape (instr.FunBuf f p) 0 1
+send_is_plain : (shape : Shape) (f : FunId) (p : BufId) → is_send_of shape f p ≡ true → IsPlain shape (instr.FunBuf f p) 0 1
 send_is_plain shape f p e =
     record { next = refl; in_range = (and_parts (sends (slice_get shape.functions.items f.0)) (is_buffer shape p) e).1; pops_are = refl; pushes_are = refl }
 
@@ -152,7 +152,7 @@ module _ (shape : Shape) (code : Code) where
         (over_to refl (omega arith) (over_args calls args place depth 0 h.1 (omega arith) (here ∙ ap Depth e) (blank_part place (args_code args) (instr.Fun f ∷ []) blank)))
         (omega arith) blank (omega arith))
     over_expr calls (SendBuf f p) place depth right room here blank =
-        leaf place depth (send_is_plain shape f p (and_parts calls (is_send shape f p) right).1) room here blank
+        leaf place depth (send_is_plain shape f p (and_parts calls (is_send_of shape f p) right).1) room here blank
     over_expr calls (Neg e) place depth right room here blank =
         let n = need_is_some e in
         unary place depth record { next = refl; in_range = refl; pops_are = refl; pushes_are = refl } (omega arith)

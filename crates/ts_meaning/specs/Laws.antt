@@ -10,7 +10,7 @@ use Rattle.mate_code.specs.Table.{AreInTable, table_of}
 use Rattle.mate_code.specs.Verification.{Marks, IsVerified}
 use Rattle.ts_syntax.specs.Statement.{Block}
 use Rattle.ts_meaning.specs.Meaning.{run_of}
-use Rattle.ts_meaning.specs.Uses.{uses_of}
+use Rattle.ts_meaning.specs.Uses.{script_uses}
 use Rattle.ts_meaning.specs.Translation.{code_of, script_code, script_size}
 
 -- the code runs as the script does, whatever the store, the message, the answers and the turns are
@@ -21,7 +21,7 @@ RunsAsItsScript shape tree =
 
 -- the code reads and writes what the script does
 abbrev pub UsesAsItsScript : Shape → Block → Type 0
-UsesAsItsScript shape tree = code_uses shape (code_of tree) ≡ uses_of shape tree
+UsesAsItsScript shape tree = code_uses shape (code_of tree) ≡ script_uses shape tree
 
 -- the code is verified, with some marks
 abbrev pub IsVerifiedScript : Shape → Block → Type 0

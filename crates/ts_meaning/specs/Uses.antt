@@ -110,8 +110,8 @@ abbrev mutual
   block_writes shape (statement x b) r = stmt_writes shape x r || block_writes shape b r
 
 -- what a script reads and writes on a machine of this shape
-abbrev pub uses_of : Shape → Block → Uses
-uses_of shape b = record { reads = block_reads b; writes = block_writes shape b }
+abbrev pub script_uses : Shape → Block → Uses
+script_uses shape b = record { reads = block_reads b; writes = block_writes shape b }
 
 -- every shared variable and every buffer outside w is the same in both stores
 pub record IsSameOutside (w : Resource → Bool) (old new : Store) : Type 0 where

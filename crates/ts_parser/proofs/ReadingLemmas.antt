@@ -11,7 +11,7 @@ use Rattle.ts_syntax.specs.Cut.{CutFault, cut_in}
 use Rattle.ts_syntax.specs.Depth.{first_deep}
 use Rattle.ts_syntax.specs.Faults.{StopsIn, place_of, IsUnexpectedIn, IsTooDeepIn, Spells}
 use Rattle.ts_syntax.specs.Script.{BeginsScriptIn}
-use Rattle.ts_syntax.specs.Seen.{source_of, procedure_source_of}
+use Rattle.ts_syntax.specs.Seen.{source_seen, procedure_source_of}
 use Rattle.ts_syntax.specs.Spelling.{kinds}
 use Rattle.ts_lexer.specs.Answers.{HasFault}
 use Rattle.ts_lexer.specs.Scanner.{due}
@@ -20,7 +20,7 @@ use Rattle.ts_lexer.specs.declared.fault.TokenFault.TheVariants as cutting
 use Rattle.ts_lexer.specs.declared.scanner.Scanner.{Scanner}
 use Rattle.ts_lexer.proofs.StepLemmas.{reads_front}
 use Rattle.ts_parser.specs.Cutting.{SourceCuts, source_fault_of}
-use Rattle.ts_parser.specs.Reading.{ReadsSource, cuts, fails, ReadsIn, Reads, Stays, is_at_end}
+use Rattle.ts_parser.specs.Reading.{ReadsSource, cuts, fails, ReadsIn, ReadsScript, Stays, is_at_end}
 use Rattle.ts_parser.specs.Verdict.{Answers, AnswersIn}
 use Rattle.ts_parser.specs.declared.fault.SourceFault.{SourceFault}
 use Rattle.ts_parser.specs.declared.fault.SourceFault.TheVariants as fault
@@ -85,11 +85,11 @@ same_refusal tokens len (fault.Unexpected p) h = h
 same_refusal tokens len (fault.TooDeep p) h = h
 same_refusal tokens len fault.NoMemory h = h
 
-pub plain_script : (bytes : List ℕ) (p : ProcScript) (s : Script) → s ≡ record { decls = p.decls; body = p.body } → ReadsIn dialect.Plain bytes (Ok p) → Reads bytes (Ok s)
+pub plain_script : (bytes : List ℕ) (p : ProcScript) (s : Script) → s ≡ record { decls = p.decls; body = p.body } → ReadsIn dialect.Plain bytes (Ok p) → ReadsScript bytes (Ok s)
 plain_script bytes p s is (cuts tokens c a) =
-    cuts tokens c (subst (λ (z : Script). Spells tokens (source_of z)) (sym is) (spells_plain tokens (procedure_source_of p) a))
+    cuts tokens c (subst (λ (z : Script). Spells tokens (source_seen z)) (sym is) (spells_plain tokens (procedure_source_of p) a))
 plain_script bytes p s is (fails f h e) = cc
 
-pub plain_refusal : (bytes : List ℕ) (f : SourceFault) → ReadsIn dialect.Plain bytes (Err f) → Reads bytes (Err f)
+pub plain_refusal : (bytes : List ℕ) (f : SourceFault) → ReadsIn dialect.Plain bytes (Err f) → ReadsScript bytes (Err f)
 plain_refusal bytes f (cuts tokens c a) = cuts tokens c (same_refusal tokens (length bytes) f a)
 plain_refusal bytes f (fails g h e) = let is : f ≡ g = cc in fails g h (ap (λ z. Err z) is)

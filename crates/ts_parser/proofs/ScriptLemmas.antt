@@ -13,7 +13,7 @@ use Rattle.ts_syntax.specs.Seen.{acts_of, procedure_source_of}
 use Rattle.ts_syntax.specs.Spelling.{kinds}
 use Rattle.ts_syntax.specs.Tree.{Acts, no_acts, Procedure}
 use Rattle.ts_syntax.specs.Derived.{Holds}
-use Rattle.ts_syntax.specs.Code.{code_of}
+use Rattle.ts_syntax.specs.Code.{kind_code}
 use Rattle.ts_syntax.specs.Machine.{top, State, decls, decl_name, decl_more, declared, block, word, step, step_frame, takes, places_after, first_place, finish, going, run, start, main, proc_part, dialect_of, procedures, proc_word, proc_named, proc_opened, param_read, param_due, read_script, ending, procedure, proc_ended, step_proc}
 use Rattle.ts_syntax.specs.Parsing.{noted_then, Gives, reads, Starts, Lacks, Takes, StartsName, LacksName, TakesName, Reads}
 use Rattle.ts_blocks.specs.Blocks.{LacksStmt, FrameIn}
@@ -66,7 +66,7 @@ no_sign : {a : DeclKind} → None ≡ Some a → ⊥
 no_sign h = cc
 
 decl_at : (m : TokenKind) → Holds (is_plain m) → {k p : DeclKind} {ts us : List Token} → (s : StartsDecl k ts us) → s.token.kind ≡ m → p ≡ k → (q : State) (r : DeclKind → State) → ((n : ℕ) → step q m n ≡ Some (r p)) → reads ts q ≡ reads us (r k)
-decl_at m plain {p = p} {us = us} s is same q r e = sign_read m (record { token = s.token; are = s.are; kind = ap code_of is }) plain q (r p) e ∙ ap (λ x. reads us (r x)) same
+decl_at m plain {p = p} {us = us} s is same q r e = sign_read m (record { token = s.token; are = s.are; kind = ap kind_code is }) plain q (r p) e ∙ ap (λ x. reads us (r x)) same
 
 -- the keyword of a declaration
 pub decl_begins : {k : DeclKind} {ts us : List Token} → StartsDecl k ts us → (d : Dialect) (ds : List Decl) → reads ts (decls d ds) ≡ reads us (decl_name d k true ds)
@@ -153,7 +153,7 @@ routine_ends a w ws ds ps m h = refl
 abbrev pub routine_in : Routine → FrameIn dialect.Procedures
 routine_in k = record { frame = proc_part k.header.name k.params k.header.decls k.header.procs; speaks = refl }
 
-only_proc : (q : State) (m : TokenKind) → (code_of m ≡ code_of kind.Proc → ⊥) → step_proc m q ≡ None
+only_proc : (q : State) (m : TokenKind) → (kind_code m ≡ kind_code kind.Proc → ⊥) → step_proc m q ≡ None
 only_proc q kind.Proc h = absurd (h refl)
 only_proc q m h = refl
 

@@ -19,8 +19,8 @@ SourceCuts d bytes (Err (fault.TooDeep place)) = ⊥
 SourceCuts d bytes (Err fault.NoMemory) = Unit {0}
 
 -- the same in plain TinyScript
-abbrev pub Cuts : List ℕ → Result (List Token) SourceFault → Type 0
-Cuts bytes result = SourceCuts dialect.Plain bytes result
+abbrev pub CutsScript : List ℕ → Result (List Token) SourceFault → Type 0
+CutsScript bytes result = SourceCuts dialect.Plain bytes result
 
 -- a fault of the cut as one of a source
 abbrev pub source_fault_of : TokenFault → SourceFault

@@ -21,8 +21,8 @@ abbrev pub ReadsIn : Dialect → List ℕ → Result ProcScript SourceFault → 
 ReadsIn d bytes result = ReadsSource d bytes (λ tokens. AnswersIn d tokens (length bytes)) result
 
 -- the same in plain TinyScript
-abbrev pub Reads : List ℕ → Result Script SourceFault → Type 0
-Reads bytes result = ReadsSource dialect.Plain bytes (λ tokens. Answers tokens (length bytes)) result
+abbrev pub ReadsScript : List ℕ → Result Script SourceFault → Type 0
+ReadsScript bytes result = ReadsSource dialect.Plain bytes (λ tokens. Answers tokens (length bytes)) result
 
 -- ---- on the way
 

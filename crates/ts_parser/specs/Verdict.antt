@@ -5,14 +5,14 @@ use Rattle.ts_syntax.specs.declared.script.Script.{Script}
 use Rattle.ts_syntax.specs.declared.procedure.ProcScript.{ProcScript}
 use Rattle.ts_syntax.specs.declared.token.Token.{Token}
 use Rattle.ts_syntax.specs.Faults.{Spells, IsUnexpected, IsTooDeep, SpellsIn, IsUnexpectedIn, IsTooDeepIn}
-use Rattle.ts_syntax.specs.Seen.{source_of, procedure_source_of}
+use Rattle.ts_syntax.specs.Seen.{source_seen, procedure_source_of}
 use Rattle.ts_syntax.specs.Tree.{Source, ProcedureSource}
 use Rattle.ts_parser.specs.declared.fault.SourceFault.{SourceFault}
 use Rattle.ts_parser.specs.declared.fault.SourceFault.TheVariants as fault
 
 -- the script that the tokens spell, or the first fault of those that spell none; bytes are no matter of a parse
 abbrev pub Answers : List Token → ℕ → Result Script SourceFault → Type 0
-Answers tokens len (Ok s) = Spells tokens (source_of s)
+Answers tokens len (Ok s) = Spells tokens (source_seen s)
 Answers tokens len (Err (fault.BadByte place)) = ⊥
 Answers tokens len (Err (fault.BigLiteral place)) = ⊥
 Answers tokens len (Err (fault.Unexpected place)) = IsUnexpected tokens len place

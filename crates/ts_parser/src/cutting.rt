@@ -1,7 +1,7 @@
 //! The tokens of a source, with its faults as those of a source.
 
 ghost use Rattle.std.specs.Prelude.{◌≡◌, ◌≤◌, length};
-ghost use Rattle.ts_parser.specs.Cutting.{Cuts, SourceCuts, source_fault_of};
+ghost use Rattle.ts_parser.specs.Cutting.{CutsScript, SourceCuts, source_fault_of};
 
 use crate::fault::SourceFault;
 use std::alloc::Global;
@@ -13,7 +13,7 @@ use ts_syntax::{Dialect, Tokens};
 /// `NoMemory` comes for want of memory only.
 pub fn tokens(alloc: Global, bytes: &[u8]) -> Result<Tokens, SourceFault>
     requires { length bytes.now ≤ 1048576 }
-    ensures { Cuts bytes.now result }
+    ensures { CutsScript bytes.now result }
 {
     tokens_in(alloc, Dialect::Plain, bytes)
 }

@@ -4,7 +4,7 @@ ghost use Rattle.std.specs.Prelude.{◌≡◌, ◌≤◌, length, IfSome};
 ghost use Rattle.ts_syntax.specs.Cut.{cut_in};
 ghost use Rattle.ts_syntax.specs.declared.dialect.Dialect.TheVariants.{Procedures};
 ghost use Rattle.ts_lexer.specs.Scanner.{due};
-ghost use Rattle.ts_parser.specs.Reading.{Reads, ReadsIn, Stays, is_at_end};
+ghost use Rattle.ts_parser.specs.Reading.{ReadsScript, ReadsIn, Stays, is_at_end};
 
 use crate::cutting::source_fault;
 use crate::fault::SourceFault;
@@ -21,7 +21,7 @@ const FIRST: usize = 4096;
 /// only.
 pub fn read(alloc: Global, bytes: &[u8]) -> Result<Script, SourceFault>
     requires { length bytes.now ≤ 1048576 }
-    ensures { Reads bytes.now result }
+    ensures { ReadsScript bytes.now result }
 {
     match read_in(alloc, Dialect::Plain, bytes) {
         Ok(script) => Ok(Script {

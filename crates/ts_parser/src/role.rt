@@ -2,7 +2,7 @@
 
 ghost use Rattle.std.specs.Prelude.{◌≡◌};
 ghost use Rattle.ts_parser.specs.Depths.{role_seen};
-ghost use Rattle.ts_syntax.specs.Depth.{role, is_end};
+ghost use Rattle.ts_syntax.specs.Depth.{role, is_end_token};
 
 use ts_syntax::TokenKind;
 
@@ -40,7 +40,7 @@ pub fn role_of(kind: &TokenKind) -> Role
 
 /// Whether the kind is the keyword `end`.
 pub fn ends(kind: &TokenKind) -> bool
-    ensures { result ≡ is_end kind.now }
+    ensures { result ≡ is_end_token kind.now }
 {
     match kind {
         TokenKind::End => true,

@@ -1,7 +1,7 @@
 //! The run of a whole script.
 
 ghost use Rattle.std.specs.Prelude.{◌≡◌, IfOk};
-ghost use Rattle.ts_syntax.specs.Checked.{shape_of, tree_of};
+ghost use Rattle.ts_syntax.specs.Checked.{checked_shape, tree_of};
 ghost use Rattle.ts_meaning.specs.Meaning.{run_of};
 ghost use Rattle.ts_meaning.specs.Uses.{IsSameOutside, block_writes};
 
@@ -27,7 +27,7 @@ pub fn play(
         IfOk result (λ outcome. outcome ≡ run) }
 
     // What the script doesn't write stays as it was.
-    ensures outside { let written = block_writes (shape_of script.now) (tree_of script.now) in
+    ensures outside { let written = block_writes (checked_shape script.now) (tree_of script.now) in
         IfOk result (λ outcome. IsSameOutside written store.now outcome.store) }
 {
     let mut evaluator = Evaluator::new(alloc, store.copy(), msg, answers, turns);

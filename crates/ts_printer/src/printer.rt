@@ -5,7 +5,7 @@ ghost use Rattle.mate_files.specs.Sink.{Puts};
 ghost use Rattle.ts_syntax.specs.declared.token.TokenKind.{TokenKind};
 ghost use Rattle.ts_syntax.specs.declared.token.TokenKind.TheVariants as kind;
 ghost use Rattle.ts_printer.specs.Print.{PrintsTokens, comma_before, head_spelled, closing};
-ghost use Rattle.ts_syntax.specs.Seen.{tree_of, trees_of, act_of, acts_of, source_of};
+ghost use Rattle.ts_syntax.specs.Seen.{tree_of, trees_of, act_of, acts_of, source_seen};
 ghost use Rattle.ts_syntax.specs.Spelling.{sign, name, decl_keyword, decl_start, spelled, args_spelled, minus_spelled, step_spelled};
 ghost use Rattle.ts_syntax.specs.Spelling.{act_spelled, acts_spelled, decls_spelled, source_spelled};
 ghost use Rattle.ts_syntax.specs.Text.{space, token_text, text_of};
@@ -407,7 +407,7 @@ impl Printer {
 /// decimal. Parentheses are kept. It takes no memory; a refusal leaves a prefix of the text in the sink.
 pub fn print<S: Sink>(script: &Script, out: &mut S) -> Result<(), SinkFault>
     ensures { Puts (S.written out.old) (S.faults out.old) (S.written out.new) (S.faults out.new) result
-        (text_of (source_spelled (source_of script.now))) }
+        (text_of (source_spelled (source_seen script.now))) }
 {
     let mut printer = Printer {
         pen: Pen::new(),

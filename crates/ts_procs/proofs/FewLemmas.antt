@@ -7,7 +7,7 @@ use Rattle.ts_syntax.specs.declared.token.Token.{Token}
 use Rattle.ts_syntax.specs.declared.token.TokenKind.{TokenKind}
 use Rattle.ts_syntax.specs.declared.token.TokenKind.TheVariants as kind
 use Rattle.ts_syntax.specs.declared.word.Word.{Word}
-use Rattle.ts_syntax.specs.Cut.{CutFault, Mode, between, comment, word, literal, less, greater, Turn, stop, go, behind, sign_turn, sign_of, fresh, turn, at_end, with_front, turned, cut_from, cut, cut_in, all_in, token_in, is_blank, begins_name, is_digit, in_name}
+use Rattle.ts_syntax.specs.Cut.{CutFault, Mode, between, comment, word, literal, less, greater, CutStep, stop, go, behind, sign_turn, sign_of, fresh, turn, at_end, with_front, turned, cut_from, cut, cut_in, all_in, token_in, is_blank, begins_name, is_digit, in_name}
 use Rattle.ts_syntax.specs.Spelling.{decls_spelled, acts_spelled, params_spelled, other_params_spelled, procedure_spelled, procedures_spelled, procedure_source_spelled, kinds}
 use Rattle.ts_syntax.specs.Tree.{Procedure, ProcedureSource}
 use Rattle.ts_lexer.proofs.CutLemmas.{cut_from-nil, cut_from-cons}
@@ -22,7 +22,7 @@ owed (literal from n) = 1
 owed (less from) = 1
 owed (greater from) = 1
 
-abbrev pub TurnWithin : ℕ → Turn → Type 0
+abbrev pub TurnWithin : ℕ → CutStep → Type 0
 TurnWithin n (stop f) = ⊤
 TurnWithin n (go ts m) = length ts + owed m ≤ n
 
@@ -30,7 +30,7 @@ abbrev pub Few : ℕ → Result (List Token) CutFault → Type 0
 Few n (Ok ts) = length ts ≤ n
 Few n (Err f) = ⊤
 
-either : (n : ℕ) (b : Bool) (x y : Turn) → TurnWithin n x → TurnWithin n y → TurnWithin n (if b then x else y)
+either : (n : ℕ) (b : Bool) (x y : CutStep) → TurnWithin n x → TurnWithin n y → TurnWithin n (if b then x else y)
 either n true x y p q = p
 either n false x y p q = q
 
@@ -47,7 +47,7 @@ fresh_within i b =
     (either 1 (b == 60) (go [] (less i)) _ (omega arith)
     (either 1 (b == 62) (go [] (greater i)) (sign_turn i (sign_of b)) (omega arith) (signed_within i (sign_of b)))))))
 
-behind_within : (t : Token) (u : Turn) → TurnWithin 1 u → TurnWithin 2 (behind t u)
+behind_within : (t : Token) (u : CutStep) → TurnWithin 1 u → TurnWithin 2 (behind t u)
 behind_within t (stop f) h = tt
 behind_within t (go ts m) h = omega (arith, h)
 
@@ -79,7 +79,7 @@ front_few : (n k : ℕ) (ts : List Token) (r : Result (List Token) CutFault) (o 
 front_few n k ts (Err f) o h more = tt
 front_few n k ts (Ok us) o h more = omega (arith, h, more, length-append ts us)
 
-turned_few : (n k : ℕ) (rest : Mode → Result (List Token) CutFault) (u : Turn) → TurnWithin n u → ((m : Mode) → Few (owed m + k) (rest m)) → Few (n + k) (turned rest u)
+turned_few : (n k : ℕ) (rest : Mode → Result (List Token) CutFault) (u : CutStep) → TurnWithin n u → ((m : Mode) → Few (owed m + k) (rest m)) → Few (n + k) (turned rest u)
 turned_few n k rest (stop f) h more = tt
 turned_few n k rest (go ts m) h more = front_few n k ts (rest m) (owed m) h (more m)
 

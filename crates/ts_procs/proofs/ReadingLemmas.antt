@@ -21,7 +21,7 @@ use Rattle.proc_names.specs.declared.named.PScript.{PScript}
 use Rattle.proc_names.specs.Named.{written_of, IsNamedScript}
 use Rattle.proc_names.specs.NameFaults.{name_fault}
 use Rattle.proc_names.proofs.FaultLemmas.{named_alone}
-use Rattle.ts_procs.specs.Reading.{Reads, IsProcedureText, IsMisnamed, proc_fault_of}
+use Rattle.ts_procs.specs.Reading.{ReadsProcedures, IsProcedureText, IsMisnamed, proc_fault_of}
 
 of_cut : CutFault → ProcFault
 of_cut (bad_byte place) = BadByte place
@@ -50,12 +50,12 @@ none_named : (o : Option ProcFault) → IsTrue (is_none o) → o ≡ None
 none_named None h = refl
 none_named (Some fault) h = absurd (false≢true h)
 
-read_so : (bytes : List ℕ) (s : PScript) → Reads bytes (Ok s) → Reading bytes (Ok (written_of s))
+read_so : (bytes : List ℕ) (s : PScript) → ReadsProcedures bytes (Ok s) → Reading bytes (Ok (written_of s))
 unfolding of_names of_verdict
 read_so bytes s h =
     judged h.tokens (spelled (written_of s)) h.cuts h.spells (ap (of_names (written_of s)) (sym (none_named (name_fault (written_of s)) s.named)))
 
-refused_so : (bytes : List ℕ) (fault : ProcFault) → Reads bytes (Err fault) → (fault ≡ NoMemory → ⊥) → Reading bytes (Err fault)
+refused_so : (bytes : List ℕ) (fault : ProcFault) → ReadsProcedures bytes (Err fault) → (fault ≡ NoMemory → ⊥) → Reading bytes (Err fault)
 unfolding of_cut of_names of_verdict
 refused_so bytes (BadByte place) h told = uncut (bad_byte place) h refl
 refused_so bytes (BigLiteral place) h told = uncut (big_literal place) h refl
@@ -77,17 +77,17 @@ same_reading bytes x y (judged ts v e so a) (judged us w h to b) =
     let is : us ≡ ts = cc in
     a ∙ ap of_verdict (one_verdict_in Procedures ts (length bytes) v w so (subst (λ (zs : List Token). IsSoIn Procedures zs (length bytes) w) is to)) ∙ sym b
 
-pub one_script : (bytes : List ℕ) (a b : PScript) → Reads bytes (Ok a) → Reads bytes (Ok b) → written_of a ≡ written_of b
+pub one_script : (bytes : List ℕ) (a b : PScript) → ReadsProcedures bytes (Ok a) → ReadsProcedures bytes (Ok b) → written_of a ≡ written_of b
 one_script bytes a b p q = let e = same_reading bytes (Ok (written_of a)) (Ok (written_of b)) (read_so bytes a p) (read_so bytes b q) in cc
 
-pub one_refusal : (bytes : List ℕ) (f g : ProcFault) → Reads bytes (Err f) → Reads bytes (Err g) → (f ≡ NoMemory → ⊥) → (g ≡ NoMemory → ⊥) → f ≡ g
+pub one_refusal : (bytes : List ℕ) (f g : ProcFault) → ReadsProcedures bytes (Err f) → ReadsProcedures bytes (Err g) → (f ≡ NoMemory → ⊥) → (g ≡ NoMemory → ⊥) → f ≡ g
 one_refusal bytes f g p q told told' = let e = same_reading bytes (Err f) (Err g) (refused_so bytes f p told) (refused_so bytes g q told') in cc
 
-pub not_both : (bytes : List ℕ) (a : PScript) (f : ProcFault) → Reads bytes (Ok a) → Reads bytes (Err f) → (f ≡ NoMemory → ⊥) → ⊥
+pub not_both : (bytes : List ℕ) (a : PScript) (f : ProcFault) → ReadsProcedures bytes (Ok a) → ReadsProcedures bytes (Err f) → (f ≡ NoMemory → ⊥) → ⊥
 not_both bytes a f p q told = let e = same_reading bytes (Ok (written_of a)) (Err f) (read_so bytes a p) (refused_so bytes f q told) in cc
 
 -- the names of a script decide what its text is read as
-pub named_read : (bytes : List ℕ) (s : ProcedureSource) (result : Result PScript ProcFault) → IsProcedureText bytes s → IsNamedScript s result → Reads bytes result
+pub named_read : (bytes : List ℕ) (s : ProcedureSource) (result : Result PScript ProcFault) → IsProcedureText bytes s → IsNamedScript s result → ReadsProcedures bytes result
 named_read bytes s (Ok script) text is = subst (IsProcedureText bytes) (sym is) text
 named_read bytes s (Err (NoProc name place)) text is = record { source = s; written = text; names = is }
 named_read bytes s (Err (Params place)) text is = record { source = s; written = text; names = is }
@@ -106,20 +106,20 @@ pub text_of_script : (bytes : List ℕ) (s : ProcScript) → ReadsIn Procedures 
 text_of_script bytes s (cuts tokens c a) = record { tokens = tokens; cuts = c; spells = a }
 text_of_script bytes s (fails f h e) = cc
 
-by_tokens : (bytes : List ℕ) (tokens : List Token) (f : SourceFault) → cut_in Procedures bytes ≡ Ok tokens → AnswersIn Procedures tokens (length bytes) (Err f) → Reads bytes (Err (proc_fault_of f))
+by_tokens : (bytes : List ℕ) (tokens : List Token) (f : SourceFault) → cut_in Procedures bytes ≡ Ok tokens → AnswersIn Procedures tokens (length bytes) (Err f) → ReadsProcedures bytes (Err (proc_fault_of f))
 by_tokens bytes tokens (text.BadByte place) c a = absurd a
 by_tokens bytes tokens (text.BigLiteral place) c a = absurd a
 by_tokens bytes tokens (text.Unexpected place) c a = record { tokens = tokens; cuts = c; stops = a }
 by_tokens bytes tokens (text.TooDeep place) c a = record { tokens = tokens; cuts = c; deep = a }
 by_tokens bytes tokens text.NoMemory c a = tt
 
-by_bytes : (bytes : List ℕ) (f : SourceFault) → SourceCuts Procedures bytes (Err f) → Reads bytes (Err (proc_fault_of f))
+by_bytes : (bytes : List ℕ) (f : SourceFault) → SourceCuts Procedures bytes (Err f) → ReadsProcedures bytes (Err (proc_fault_of f))
 by_bytes bytes (text.BadByte place) h = h
 by_bytes bytes (text.BigLiteral place) h = h
 by_bytes bytes (text.Unexpected place) h = absurd h
 by_bytes bytes (text.TooDeep place) h = absurd h
 by_bytes bytes text.NoMemory h = tt
 
-pub text_refused : (bytes : List ℕ) (f : SourceFault) → ReadsIn Procedures bytes (Err f) → Reads bytes (Err (proc_fault_of f))
+pub text_refused : (bytes : List ℕ) (f : SourceFault) → ReadsIn Procedures bytes (Err f) → ReadsProcedures bytes (Err (proc_fault_of f))
 text_refused bytes f (cuts tokens c a) = by_tokens bytes tokens f c a
-text_refused bytes f (fails g h e) = let is : g ≡ f = cc in subst (λ z. Reads bytes (Err (proc_fault_of z))) is (by_bytes bytes g h)
+text_refused bytes f (fails g h e) = let is : g ≡ f = cc in subst (λ z. ReadsProcedures bytes (Err (proc_fault_of z))) is (by_bytes bytes g h)

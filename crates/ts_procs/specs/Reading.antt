@@ -38,19 +38,19 @@ pub record IsMisnamed (bytes : List ℕ) (fault : ProcFault) : Type 0 where
   pub names : name_fault source ≡ Some fault
 
 -- the script, or the first refusal: the bytes come before the grammar, and the grammar before the names; want of memory tells nothing
-abbrev pub Reads : List ℕ → Result PScript ProcFault → Type 0
-Reads bytes (Ok script) = IsProcedureText bytes (written_of script)
-Reads bytes (Err (BadByte place)) = cut_in Procedures bytes ≡ Err (bad_byte place)
-Reads bytes (Err (BigLiteral place)) = cut_in Procedures bytes ≡ Err (big_literal place)
-Reads bytes (Err (Unexpected place)) = StopsGrammarAt bytes place
-Reads bytes (Err (TooDeep place)) = IsDeepAt bytes place
-Reads bytes (Err (NoProc name place)) = IsMisnamed bytes (NoProc name place)
-Reads bytes (Err (Params place)) = IsMisnamed bytes (Params place)
-Reads bytes (Err (Again name place)) = IsMisnamed bytes (Again name place)
-Reads bytes (Err (Reserved place)) = IsMisnamed bytes (Reserved place)
-Reads bytes (Err (TooLarge count)) = ⊥
-Reads bytes (Err (TooNested depth)) = ⊥
-Reads bytes (Err NoMemory) = ⊤
+abbrev pub ReadsProcedures : List ℕ → Result PScript ProcFault → Type 0
+ReadsProcedures bytes (Ok script) = IsProcedureText bytes (written_of script)
+ReadsProcedures bytes (Err (BadByte place)) = cut_in Procedures bytes ≡ Err (bad_byte place)
+ReadsProcedures bytes (Err (BigLiteral place)) = cut_in Procedures bytes ≡ Err (big_literal place)
+ReadsProcedures bytes (Err (Unexpected place)) = StopsGrammarAt bytes place
+ReadsProcedures bytes (Err (TooDeep place)) = IsDeepAt bytes place
+ReadsProcedures bytes (Err (NoProc name place)) = IsMisnamed bytes (NoProc name place)
+ReadsProcedures bytes (Err (Params place)) = IsMisnamed bytes (Params place)
+ReadsProcedures bytes (Err (Again name place)) = IsMisnamed bytes (Again name place)
+ReadsProcedures bytes (Err (Reserved place)) = IsMisnamed bytes (Reserved place)
+ReadsProcedures bytes (Err (TooLarge count)) = ⊥
+ReadsProcedures bytes (Err (TooNested depth)) = ⊥
+ReadsProcedures bytes (Err NoMemory) = ⊤
 
 -- a fault of the text, as a refusal
 abbrev pub proc_fault_of : SourceFault → ProcFault

@@ -1,7 +1,7 @@
 //! The whole way from bytes to a script with procedures.
 
 ghost use Rattle.std.specs.Prelude.{◌≡◌, ◌≤◌, length};
-ghost use Rattle.ts_procs.specs.Reading.{Reads, proc_fault_of as named_fault};
+ghost use Rattle.ts_procs.specs.Reading.{ReadsProcedures, proc_fault_of as named_fault};
 
 use proc_names::{PScript, ProcFault};
 use std::alloc::Global;
@@ -11,7 +11,7 @@ use ts_parser::{SourceFault, read_procedures};
 /// text, then of its grammar and depth, then of its names. `NoMemory` may come in place of any answer.
 pub fn read(alloc: Global, bytes: &[u8]) -> Result<PScript, ProcFault>
     requires { length bytes.now ≤ 1048576 }
-    ensures { Reads bytes.now result }
+    ensures { ReadsProcedures bytes.now result }
 {
     match read_procedures(alloc, bytes) {
         Ok(script) => PScript::new(alloc, script),

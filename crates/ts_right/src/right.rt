@@ -2,7 +2,7 @@
 
 ghost use Rattle.std.specs.Prelude.{◌≡◌, ◌&&◌};
 ghost use Rattle.ts_syntax.specs.Expression.{arguments};
-ghost use Rattle.ts_syntax.specs.Right.{is_right as is_right_for, argument_count, is_shared, is_buffer, is_variable, is_call, is_send, is_step, is_head, is_right_expr, are_right, is_right_stmt, is_right_block};
+ghost use Rattle.ts_syntax.specs.Right.{is_right as is_right_for, argument_count, is_shared, is_buffer, is_variable, is_call, is_send_of, is_step, is_head, is_right_expr, are_right, is_right_stmt, is_right_block};
 ghost use Rattle.ts_syntax.specs.TreeOf.{expr_tree, args_trees, stmt_tree, block_tree};
 
 use crate::shape::shape_is_right;
@@ -49,7 +49,7 @@ fn count_is_right(shape: &Shape, fun: FunId, count: usize) -> bool
 }
 
 fn send_is_right(shape: &Shape, fun: FunId, buffer: BufId) -> bool
-    ensures { result ≡ is_send shape.now fun buffer }
+    ensures { result ≡ is_send_of shape.now fun buffer }
 {
     match shape.functions.as_slice().get(fun.0 as usize) {
         None => false,

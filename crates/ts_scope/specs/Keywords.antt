@@ -5,4 +5,4 @@ use Rattle.ts_syntax.specs.Text.{token_text}
 use Rattle.ts_syntax.specs.Cut as script
 
 abbrev pub KeywordsAreTheSame : Type 0
-KeywordsAreTheSame = map token_text script.keywords ≡ machine.keywords
+KeywordsAreTheSame = map token_text script.keywords ≡ machine.reserved_words

@@ -2,7 +2,7 @@
 use Rattle.std.proofs.Common.{◌≡◌, List, [], ◌∷◌, ◌++◌, refl, sym, ◌∙◌, ap, subst, append_assoc, append-nil}
 use Rattle.ts_syntax.specs.declared.token.TokenKind.{TokenKind}
 use Rattle.ts_syntax.specs.declared.token.TokenKind.TheVariants as kind
-use Rattle.ts_syntax.specs.Grammar.{Rule, script, decl, stmt, pscript, proc, pstmt, expr, andx, notx, cmp, sum, prod, neg, atom, Part, nothing, NAME, NUM, key, rule, ◌▸◌, ◌∣◌, many, Whole, w_nothing, w_name, w_number, w_key, w_rule, w_then, w_left, w_right, w_end, w_more, Begins, b_none, b_name, b_number, b_key, b_rule, b_first, b_second, b_left, b_right, b_here, b_later}
+use Rattle.ts_syntax.specs.Grammar.{Rule, script, decl, stmt, pscript, proc, pstmt, expr, andx, notx, cmp, sum, prod, neg, atom, Part, nothing, NAME, NUM, key, rule, ◌▸◌, ◌∣◌, many, Whole, w_nothing, w_name, w_number, w_key, w_rule, w_then, w_left, w_right, w_end, w_more, BeginsPart, b_none, b_name, b_number, b_key, b_rule, b_first, b_second, b_left, b_right, b_here, b_later}
 
 -- some tokens that are the whole part
 record Made (p : Part) : Type 0 where
@@ -98,7 +98,7 @@ later_completed : {p : Part} {ms xs ys : List TokenKind} → Whole p xs → Comp
 later_completed {xs} {ys} w c e = record { rest = c.rest; whole = w_more w c.whole (ap (λ zs. zs ++ c.rest) e ∙ append_assoc xs ys c.rest) }
 
 -- what begins a part can be completed
-pub completed : {p : Part} {ms : List TokenKind} → Begins p ms → Completed p ms
+pub completed : {p : Part} {ms : List TokenKind} → BeginsPart p ms → Completed p ms
 completed (b_none {p}) = record { rest = (made p).tokens; whole = (made p).whole }
 completed b_name = record { rest = []; whole = w_name }
 completed b_number = record { rest = []; whole = w_number }
@@ -126,17 +126,17 @@ split (x ∷ xs) ys [] rest e = within (x ∷ xs) refl
 split (x ∷ xs) ys (m ∷ ms) rest e = split_cons x m (cc) (split xs ys ms rest (cc))
 
 -- a front of one token is nothing or the token
-front_of_one : {p : Part} {k : TokenKind} (ms rest : List TokenKind) → Begins p (k ∷ []) → k ∷ [] ≡ ms ++ rest → Begins p ms
+front_of_one : {p : Part} {k : TokenKind} (ms rest : List TokenKind) → BeginsPart p (k ∷ []) → k ∷ [] ≡ ms ++ rest → BeginsPart p ms
 front_of_one [] rest b e = b_none
-front_of_one {p} (m ∷ []) rest b e = subst (λ x. Begins p (x ∷ [])) (cc) b
+front_of_one {p} (m ∷ []) rest b e = subst (λ x. BeginsPart p (x ∷ [])) (cc) b
 front_of_one (m ∷ n ∷ ms) rest b e = absurd (cc)
 
-front_of_none : {p : Part} (ms rest : List TokenKind) → [] ≡ ms ++ rest → Begins p ms
+front_of_none : {p : Part} (ms rest : List TokenKind) → [] ≡ ms ++ rest → BeginsPart p ms
 front_of_none [] rest e = b_none
 front_of_none (m ∷ ms) rest e = absurd (cc)
 
 -- a front of whole tokens begins the part
-pub begun : {p : Part} {zs : List TokenKind} → Whole p zs → (ms rest : List TokenKind) → zs ≡ ms ++ rest → Begins p ms
+pub begun : {p : Part} {zs : List TokenKind} → Whole p zs → (ms rest : List TokenKind) → zs ≡ ms ++ rest → BeginsPart p ms
 begun w_nothing ms rest e = front_of_none ms rest e
 begun w_name ms rest e = front_of_one ms rest b_name e
 begun w_number ms rest e = front_of_one ms rest b_number e

@@ -3,7 +3,7 @@ use Rattle.std.proofs.Common.{◌≡◌, ℕ, nat_lt, List, [], ◌∷◌, get_o
 use Rattle.ts_syntax.specs.declared.token.TokenKind.{TokenKind}
 use Rattle.ts_syntax.specs.declared.token.TokenKind.TheVariants as kind
 use Rattle.ts_syntax.specs.Derived.{Holds}
-use Rattle.ts_syntax.specs.Code.{code_of, is_sign}
+use Rattle.ts_syntax.specs.Code.{kind_code, is_sign}
 
 signs : List TokenKind
 signs = kind.Shared ∷ kind.Private ∷ kind.Buffer ∷ kind.If ∷ kind.Then ∷ kind.Else ∷ kind.End ∷ kind.For ∷ kind.To ∷ kind.Step ∷ kind.Next ∷ kind.While ∷ kind.And ∷ kind.Or ∷ kind.Not ∷ kind.Size ∷ kind.Clear ∷ kind.Msg ∷ kind.Semi ∷ kind.Comma ∷ kind.Open ∷ kind.Close ∷ kind.OpenBox ∷ kind.CloseBox ∷ kind.Eq ∷ kind.Ne ∷ kind.Lt ∷ kind.Gt ∷ kind.Le ∷ kind.Ge ∷ kind.Plus ∷ kind.Minus ∷ kind.Star ∷ kind.Slash ∷ kind.Percent ∷ kind.Proc ∷ kind.Do ∷ []
@@ -11,11 +11,11 @@ signs = kind.Shared ∷ kind.Private ∷ kind.Buffer ∷ kind.If ∷ kind.Then �
 kind_at : ℕ → TokenKind
 kind_at n = get_or signs n (kind.Name [])
 
-by_code : (k : TokenKind) → Holds (is_sign k) → kind_at (code_of k) ≡ k
+by_code : (k : TokenKind) → Holds (is_sign k) → kind_at (kind_code k) ≡ k
 unfolding kind_at signs
 by_code (kind.Name n) h = absurd h
 by_code (kind.Num n) h = absurd h
 by_code _ h = refl
 
-pub same_code : (a b : TokenKind) → Holds (is_sign b) → code_of a ≡ code_of b → a ≡ b
+pub same_code : (a b : TokenKind) → Holds (is_sign b) → kind_code a ≡ kind_code b → a ≡ b
 same_code a b h e = sym (by_code a (subst (λ n. Holds (nat_lt n 37)) (sym e) h)) ∙ ap kind_at e ∙ by_code b h

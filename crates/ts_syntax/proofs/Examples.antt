@@ -8,7 +8,7 @@ use Rattle.ts_syntax.specs.declared.token.TokenKind.TheVariants as kind
 use Rattle.ts_syntax.specs.Tree.{number, two}
 use Rattle.ts_syntax.specs.Spelling.{spelled}
 use Rattle.ts_syntax.specs.Derived.{Derived}
-use Rattle.ts_syntax.specs.Grammar.{script, stmt, rule, Whole, w_name, w_key, w_rule, w_then, w_left, w_right, w_end, Begins, b_key, b_name, b_rule, b_first, b_second, b_left, b_right, b_here}
+use Rattle.ts_syntax.specs.Grammar.{script, stmt, rule, Whole, w_name, w_key, w_rule, w_then, w_left, w_right, w_end, BeginsPart, b_key, b_name, b_rule, b_first, b_second, b_left, b_right, b_here}
 use Rattle.ts_syntax.specs.Depth.{first_deep}
 use Rattle.ts_syntax.specs.Text.{written, text_of}
 use Rattle.ts_syntax.specs.Cut.{bad_byte, big_literal, token, word_kind, cut_from, cut}
@@ -17,23 +17,23 @@ abbrev a : TokenKind
 a = kind.Name (codes "a")
 
 -- `shared` begins a script: it begins the first declaration
-shared_begins : Begins (rule script) (kind.Shared ∷ [])
+shared_begins : BeginsPart (rule script) (kind.Shared ∷ [])
 shared_begins = b_rule (b_first (b_here (b_rule (b_first (b_left b_key)))))
 
 -- `shared a` begins a script: the keyword is whole, and the name begins what follows
-shared_name_begins : Begins (rule script) (kind.Shared ∷ a ∷ [])
+shared_name_begins : BeginsPart (rule script) (kind.Shared ∷ a ∷ [])
 shared_name_begins = b_rule (b_first (b_here (b_rule (b_second (w_left w_key) (b_first b_name) refl))))
 
 -- `clear (` begins a script: there is no declaration, and it begins a statement
-clear_begins : Begins (rule script) (kind.Clear ∷ kind.Open ∷ [])
+clear_begins : BeginsPart (rule script) (kind.Clear ∷ kind.Open ∷ [])
 clear_begins = b_rule (b_second w_end (b_here (b_rule (b_right (b_right (b_right (b_right (b_left (b_second w_key (b_first b_key) refl)))))))) refl)
 
 -- `if` begins a script
-if_begins : Begins (rule script) (kind.If ∷ [])
+if_begins : BeginsPart (rule script) (kind.If ∷ [])
 if_begins = b_rule (b_second w_end (b_here (b_rule (b_right (b_right (b_right (b_right (b_right (b_right (b_left (b_first b_key)))))))))) refl)
 
 -- `a = p [` begins a script by two statements: a taking, and an assignment of an item
-taking_begins : Begins (rule script) (a ∷ kind.Eq ∷ a ∷ kind.OpenBox ∷ [])
+taking_begins : BeginsPart (rule script) (a ∷ kind.Eq ∷ a ∷ kind.OpenBox ∷ [])
 taking_begins = b_rule (b_second w_end (b_here (b_rule (b_right (b_left
     (b_second w_name (b_second w_key (b_second w_name (b_first b_key) refl) refl) refl))))) refl)
 

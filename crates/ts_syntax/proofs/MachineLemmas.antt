@@ -6,13 +6,13 @@ use Rattle.ts_syntax.specs.Tree.{ProcedureSource}
 use Rattle.ts_syntax.specs.Spelling.{procedure_source_spelled, procedure_source_places}
 use Rattle.ts_syntax.specs.Derived.{IsDerivedIn}
 use Rattle.ts_syntax.specs.Machine.{run, start}
-use Rattle.ts_syntax.specs.Answers.{Taken}
+use Rattle.ts_syntax.specs.Answers.{IsTakenWhole}
 use Rattle.ts_syntax.proofs.Placed.{source_left, source_placed}
 use Rattle.ts_syntax.proofs.Places.{IsMore, source_takes}
 use Rattle.ts_syntax.proofs.CompleteStmt.{source_read}
 use Rattle.ts_syntax.proofs.Exact.{Reads, read_is_script, whole, whole_same, left_same}
 
-pub taken : (d : Dialect) (s : ProcedureSource) (places : List ℕ) → IsDerivedIn d s → Taken d (procedure_source_spelled s) places
+pub taken : (d : Dialect) (s : ProcedureSource) (places : List ℕ) → IsDerivedIn d s → IsTakenWhole d (procedure_source_spelled s) places
 taken l s ps d = record { source = source_placed s ps; left = source_left s ps; reads = source_read l s d ps }
 
 pub read_derived : (d : Dialect) (ks : List TokenKind) (ps left : List ℕ) (s : ProcedureSource) → run ks ps (start d) ≡ Ok (s, left) → IsDerivedIn d s × (procedure_source_spelled s ≡ ks)

@@ -4,13 +4,13 @@ use Rattle.ts_syntax.specs.declared.token.Token.{Token}
 use Rattle.ts_syntax.specs.declared.token.TokenKind.{TokenKind}
 use Rattle.ts_syntax.specs.declared.token.TokenKind.TheVariants as kind
 use Rattle.ts_syntax.specs.declared.word.Word.{Word}
-use Rattle.ts_syntax.specs.Code.{code_of}
+use Rattle.ts_syntax.specs.Code.{kind_code}
 use Rattle.ts_syntax.specs.Machine.{State, step_open, step_close, step_open_box, step_eq, step_semi, step_name}
 use Rattle.ts_syntax.specs.Parsing.{Lacks, LacksName}
 
 -- another kind, by its number
 abbrev pub IsOther : TokenKind → TokenKind → Type 0
-IsOther k m = code_of m ≡ code_of k → ⊥
+IsOther k m = kind_code m ≡ kind_code k → ⊥
 
 pub lacks_first : (k : TokenKind) (ts : List Token) → Lacks k ts → (t : Token) (rest : List Token) → ts ≡ t ∷ rest → IsOther k t.kind
 lacks_first k ts l t rest e = let h : Lacks k (t ∷ rest) = subst (λ z. Lacks k z) e l in h

@@ -8,7 +8,7 @@ use Rattle.ts_syntax.specs.Faults.{StopsIn}
 use Rattle.ts_syntax.specs.Machine.{run, start}
 
 -- the machine reads the tokens as a whole script
-pub record Taken (d : Dialect) (ks : List TokenKind) (places : List ℕ) : Type 0 where
+pub record IsTakenWhole (d : Dialect) (ks : List TokenKind) (places : List ℕ) : Type 0 where
   pub source : ProcedureSource
   pub left : List ℕ
   pub reads : run ks places (start d) ≡ Ok (source, left)

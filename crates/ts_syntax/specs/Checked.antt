@@ -5,8 +5,8 @@ use Rattle.ts_syntax.specs.TreeOf.{block_tree}
 use Rattle.ts_syntax.specs.declared.checked.Checked.{Checked}
 
 -- the shape of the machine for which the script was checked
-abbrev pub shape_of : Checked → Shape
-shape_of c = c.shape
+abbrev pub checked_shape : Checked → Shape
+checked_shape c = c.shape
 
 -- the script's statements
 abbrev pub tree_of : Checked → Block

@@ -3,47 +3,47 @@ use Rattle.std.specs.Prelude.{ℕ, Bool, nat_lt}
 use Rattle.ts_syntax.specs.declared.token.TokenKind.{TokenKind}
 use Rattle.ts_syntax.specs.declared.token.TokenKind.TheVariants as kind
 
-abbrev pub code_of : TokenKind → ℕ
-code_of kind.Shared = 0
-code_of kind.Private = 1
-code_of kind.Buffer = 2
-code_of kind.If = 3
-code_of kind.Then = 4
-code_of kind.Else = 5
-code_of kind.End = 6
-code_of kind.For = 7
-code_of kind.To = 8
-code_of kind.Step = 9
-code_of kind.Next = 10
-code_of kind.While = 11
-code_of kind.And = 12
-code_of kind.Or = 13
-code_of kind.Not = 14
-code_of kind.Size = 15
-code_of kind.Clear = 16
-code_of kind.Msg = 17
-code_of kind.Semi = 18
-code_of kind.Comma = 19
-code_of kind.Open = 20
-code_of kind.Close = 21
-code_of kind.OpenBox = 22
-code_of kind.CloseBox = 23
-code_of kind.Eq = 24
-code_of kind.Ne = 25
-code_of kind.Lt = 26
-code_of kind.Gt = 27
-code_of kind.Le = 28
-code_of kind.Ge = 29
-code_of kind.Plus = 30
-code_of kind.Minus = 31
-code_of kind.Star = 32
-code_of kind.Slash = 33
-code_of kind.Percent = 34
-code_of kind.Proc = 35
-code_of kind.Do = 36
-code_of (kind.Name n) = 37
-code_of (kind.Num n) = 38
+abbrev pub kind_code : TokenKind → ℕ
+kind_code kind.Shared = 0
+kind_code kind.Private = 1
+kind_code kind.Buffer = 2
+kind_code kind.If = 3
+kind_code kind.Then = 4
+kind_code kind.Else = 5
+kind_code kind.End = 6
+kind_code kind.For = 7
+kind_code kind.To = 8
+kind_code kind.Step = 9
+kind_code kind.Next = 10
+kind_code kind.While = 11
+kind_code kind.And = 12
+kind_code kind.Or = 13
+kind_code kind.Not = 14
+kind_code kind.Size = 15
+kind_code kind.Clear = 16
+kind_code kind.Msg = 17
+kind_code kind.Semi = 18
+kind_code kind.Comma = 19
+kind_code kind.Open = 20
+kind_code kind.Close = 21
+kind_code kind.OpenBox = 22
+kind_code kind.CloseBox = 23
+kind_code kind.Eq = 24
+kind_code kind.Ne = 25
+kind_code kind.Lt = 26
+kind_code kind.Gt = 27
+kind_code kind.Le = 28
+kind_code kind.Ge = 29
+kind_code kind.Plus = 30
+kind_code kind.Minus = 31
+kind_code kind.Star = 32
+kind_code kind.Slash = 33
+kind_code kind.Percent = 34
+kind_code kind.Proc = 35
+kind_code kind.Do = 36
+kind_code (kind.Name n) = 37
+kind_code (kind.Num n) = 38
 
 -- a sign or a keyword
 abbrev pub is_sign : TokenKind → Bool
-is_sign k = nat_lt (code_of k) 37
+is_sign k = nat_lt (kind_code k) 37

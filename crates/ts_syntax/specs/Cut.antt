@@ -69,21 +69,21 @@ pub data Mode : Type 0 where
   greater : (from : ℕ) → Mode
 
 -- what a byte does: a fault, or the tokens that end before or with it, and what the next byte stands in
-pub data Turn : Type 0 where
-  stop : CutFault → Turn
-  go : List Token → Mode → Turn
+pub data CutStep : Type 0 where
+  stop : CutFault → CutStep
+  go : List Token → Mode → CutStep
 
 -- a token that ends before the byte
-abbrev pub behind : Token → Turn → Turn
+abbrev pub behind : Token → CutStep → CutStep
 behind t (stop f) = stop f
 behind t (go ts m) = go (t ∷ ts) m
 
-abbrev pub sign_turn : ℕ → Option TokenKind → Turn
+abbrev pub sign_turn : ℕ → Option TokenKind → CutStep
 sign_turn i None = stop (bad_byte i)
 sign_turn i (Some k) = go (token k i (i + 1) ∷ []) between
 
 -- a byte at place i that begins a token, a comment or a blank
-abbrev pub fresh : ℕ → ℕ → Turn
+abbrev pub fresh : ℕ → ℕ → CutStep
 fresh i b =
     if is_blank b then go [] between else
     if b == 33 then go [] comment else
@@ -93,7 +93,7 @@ fresh i b =
     if b == 62 then go [] (greater i) else sign_turn i (sign_of b)
 
 -- a byte at place i
-abbrev pub turn : ℕ → Mode → ℕ → Turn
+abbrev pub turn : ℕ → Mode → ℕ → CutStep
 turn i between b = fresh i b
 turn i comment b = if b == 10 then go [] between else go [] comment
 turn i (word from w) b =
@@ -124,7 +124,7 @@ with_front ts (Ok us) = Ok (ts ++ us)
 with_front ts (Err f) = Err f
 
 -- the rest of the text behind a turn, where rest gives the tokens of a mode there
-abbrev pub turned : (Mode → Result (List Token) CutFault) → Turn → Result (List Token) CutFault
+abbrev pub turned : (Mode → Result (List Token) CutFault) → CutStep → Result (List Token) CutFault
 turned rest (stop f) = Err f
 turned rest (go ts m) = with_front ts (rest m)
 

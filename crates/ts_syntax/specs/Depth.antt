@@ -53,9 +53,9 @@ pub record Depth : Type 0 where
 abbrev pub shallow : Depth
 shallow = record { blocks = 0; counted = 0; ended = false }
 
-abbrev pub is_end : TokenKind → Bool
-is_end kind.End = true
-is_end _ = false
+abbrev pub is_end_token : TokenKind → Bool
+is_end_token kind.End = true
+is_end_token _ = false
 
 -- a token lies too deep: a 33rd block inside 32 open ones, or a 65th counted token
 abbrev pub role_is_deep : Depth → Role → Bool
@@ -84,7 +84,7 @@ counted_after d bystander = d.counted
 
 -- the depth behind a token
 abbrev pub after : Depth → TokenKind → Depth
-after d k = record { blocks = blocks_after d (role k); counted = counted_after d (role k); ended = is_end k }
+after d k = record { blocks = blocks_after d (role k); counted = counted_after d (role k); ended = is_end_token k }
 
 -- the position of the first token that lies too deep
 abbrev pub deep_from : Depth → List TokenKind → Option ℕ

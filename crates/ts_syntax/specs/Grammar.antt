@@ -105,15 +105,15 @@ pub data Whole : Part → List TokenKind → Type 0 where
 
 -- tokens begin a part: none begin every part, and one begins what it is; a part and then another is begun in the
 -- first, or in the second behind the whole first; `{ x }` in its first x, or later behind a whole one
-pub data Begins : Part → List TokenKind → Type 0 where
-  b_none : {p : Part} → Begins p []
-  b_name : {n : List ℕ} → Begins NAME (kind.Name n ∷ [])
-  b_number : {n : ℕ} → Begins NUM (kind.Num n ∷ [])
-  b_key : {k : TokenKind} → Begins (key k) (k ∷ [])
-  b_rule : {r : Rule} {ms : List TokenKind} → Begins (rules r) ms → Begins (rule r) ms
-  b_first : {p q : Part} {ms : List TokenKind} → Begins p ms → Begins (p ▸ q) ms
-  b_second : {p q : Part} {ms xs ys : List TokenKind} → Whole p xs → Begins q ys → ms ≡ xs ++ ys → Begins (p ▸ q) ms
-  b_left : {p q : Part} {ms : List TokenKind} → Begins p ms → Begins (p ∣ q) ms
-  b_right : {p q : Part} {ms : List TokenKind} → Begins q ms → Begins (p ∣ q) ms
-  b_here : {p : Part} {ms : List TokenKind} → Begins p ms → Begins (many p) ms
-  b_later : {p : Part} {ms xs ys : List TokenKind} → Whole p xs → Begins (many p) ys → ms ≡ xs ++ ys → Begins (many p) ms
+pub data BeginsPart : Part → List TokenKind → Type 0 where
+  b_none : {p : Part} → BeginsPart p []
+  b_name : {n : List ℕ} → BeginsPart NAME (kind.Name n ∷ [])
+  b_number : {n : ℕ} → BeginsPart NUM (kind.Num n ∷ [])
+  b_key : {k : TokenKind} → BeginsPart (key k) (k ∷ [])
+  b_rule : {r : Rule} {ms : List TokenKind} → BeginsPart (rules r) ms → BeginsPart (rule r) ms
+  b_first : {p q : Part} {ms : List TokenKind} → BeginsPart p ms → BeginsPart (p ▸ q) ms
+  b_second : {p q : Part} {ms xs ys : List TokenKind} → Whole p xs → BeginsPart q ys → ms ≡ xs ++ ys → BeginsPart (p ▸ q) ms
+  b_left : {p q : Part} {ms : List TokenKind} → BeginsPart p ms → BeginsPart (p ∣ q) ms
+  b_right : {p q : Part} {ms : List TokenKind} → BeginsPart q ms → BeginsPart (p ∣ q) ms
+  b_here : {p : Part} {ms : List TokenKind} → BeginsPart p ms → BeginsPart (many p) ms
+  b_later : {p : Part} {ms xs ys : List TokenKind} → Whole p xs → BeginsPart (many p) ys → ms ≡ xs ++ ys → BeginsPart (many p) ms

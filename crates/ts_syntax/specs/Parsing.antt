@@ -12,7 +12,7 @@ use Rattle.ts_syntax.specs.Spelling.{kinds, note}
 use Rattle.ts_syntax.specs.Derived.{Holds}
 use Rattle.ts_syntax.specs.declared.halt.Halt.{Halt}
 use Rattle.ts_syntax.specs.declared.halt.Halt.TheVariants as halt
-use Rattle.ts_syntax.specs.Code.{code_of}
+use Rattle.ts_syntax.specs.Code.{kind_code}
 use Rattle.ts_syntax.specs.Tree.{Trees, Acts, call, call_alone, run_procedure}
 use Rattle.ts_syntax.specs.Machine.{Operand, Frame, Whole, in_args, in_call, in_do, State, opened, call_opened, do_opened, closed, give, Outcome, run}
 
@@ -45,12 +45,12 @@ Head P (t ∷ ts) = Holds (P t.kind)
 pub record Starts (k : TokenKind) (tokens rest : List Token) : Type 0 where
   pub token : Token
   pub are : tokens ≡ token ∷ rest
-  pub kind : code_of token.kind ≡ code_of k
+  pub kind : kind_code token.kind ≡ kind_code k
 
 -- the first token, where there is one, is of another kind
 abbrev pub Lacks : TokenKind → List Token → Type 0
 Lacks k [] = Unit {0}
-Lacks k (t ∷ ts) = code_of t.kind ≡ code_of k → ⊥
+Lacks k (t ∷ ts) = kind_code t.kind ≡ kind_code k → ⊥
 
 -- a token of this kind is taken
 abbrev pub Takes : TokenKind → List Token → Result (Bor (List Token)) Halt → Type 0

@@ -38,8 +38,8 @@ sends (Some f) = f.send
 abbrev pub is_call : Shape → FunId → ℕ → Bool
 is_call s f count = takes (slice_get s.functions.items f.0) count
 
-abbrev pub is_send : Shape → FunId → BufId → Bool
-is_send s f p = sends (slice_get s.functions.items f.0) && is_buffer s p
+abbrev pub is_send_of : Shape → FunId → BufId → Bool
+is_send_of s f p = sends (slice_get s.functions.items f.0) && is_buffer s p
 
 abbrev pub argument_count : Arguments → ℕ
 argument_count no_arguments = zero
@@ -56,7 +56,7 @@ abbrev mutual
   is_right_expr s calls (MsgItem e) = is_right_expr s calls e
   is_right_expr s calls MsgSize = true
   is_right_expr s calls (Call f args) = calls && is_call s f (argument_count args) && are_right s calls args
-  is_right_expr s calls (SendBuf f p) = calls && is_send s f p
+  is_right_expr s calls (SendBuf f p) = calls && is_send_of s f p
   is_right_expr s calls (Neg e) = is_right_expr s calls e
   is_right_expr s calls (Not e) = is_right_expr s calls e
   is_right_expr s calls (Two op l r) = is_right_expr s calls l && is_right_expr s calls r
@@ -84,7 +84,7 @@ abbrev mutual
   is_right_stmt s (Take x p) = is_variable s x && is_buffer s p
   is_right_stmt s (Clear p) = is_buffer s p
   is_right_stmt s (Do f args) = is_call s f (argument_count args) && are_right s true args
-  is_right_stmt s (DoSend f p) = is_send s f p
+  is_right_stmt s (DoSend f p) = is_send_of s f p
   is_right_stmt s (If e a) = is_right_expr s true e && is_right_block s a
   is_right_stmt s (IfElse e a b) = is_right_expr s true e && is_right_block s a && is_right_block s b
   is_right_stmt s (For x from to step a) = is_head s x from to step && is_right_block s a

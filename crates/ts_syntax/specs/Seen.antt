@@ -68,8 +68,8 @@ abbrev pub acts_of : List Stmt → Acts
 acts_of more = acts (map act_of more)
 
 -- a script
-abbrev pub source_of : Script → Source
-source_of s = record { decls = s.decls; body = acts_of s.body }
+abbrev pub source_seen : Script → Source
+source_seen s = record { decls = s.decls; body = acts_of s.body }
 
 -- a procedure, and a script with procedures
 abbrev pub procedure_of : Proc → Procedure

@@ -28,21 +28,21 @@ impl Drop for Checked {
 
 impl Checked {
     ghost use Rattle.std.specs.Prelude.{◌≡◌, IsTrue};
-    ghost use Rattle.ts_syntax.specs.Checked.{shape_of, tree_of};
+    ghost use Rattle.ts_syntax.specs.Checked.{checked_shape, tree_of};
     ghost use Rattle.ts_syntax.specs.Right.{is_right};
     ghost use Rattle.ts_syntax.specs.TreeOf.{block_tree};
 
     /// A body with the shape for which it is right, as `is_right` tells. It takes no memory.
     pub fn new(shape: Shape, body: CBlock) -> Checked
         requires { IsTrue (is_right shape (block_tree body)) }
-        ensures shape { shape_of result ≡ shape }
+        ensures shape { checked_shape result ≡ shape }
         ensures body { tree_of result ≡ block_tree body }
     {
         Checked { shape, body }
     }
 
     pub fn shape(&self) -> &Shape
-        ensures { result.now ≡ shape_of self.now }
+        ensures { result.now ≡ checked_shape self.now }
     {
         &self.shape
     }

@@ -1,14 +1,14 @@
 //! Numbers for the kinds of tokens.
 
 ghost use Rattle.std.specs.Prelude.{◌≡◌};
-ghost use Rattle.ts_syntax.specs.Code.{code_of};
+ghost use Rattle.ts_syntax.specs.Code.{kind_code};
 
 use crate::TokenKind;
 
 /// The number of a kind, by which kinds are compared: each sign and keyword has its own, and all names share one, as
 /// all literals do.
 pub fn code(kind: &TokenKind) -> u8
-    ensures { result ≡ code_of kind.now }
+    ensures { result ≡ kind_code kind.now }
 {
     match kind {
         TokenKind::Shared => 0,

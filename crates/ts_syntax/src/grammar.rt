@@ -3,7 +3,7 @@
 ghost use Rattle.std.specs.Prelude.{List, ◌↔◌};
 ghost use Rattle.ts_syntax.specs.declared.token.TokenKind.{TokenKind};
 ghost use Rattle.ts_syntax.specs.declared.dialect.Dialect.TheVariants.{Procedures};
-ghost use Rattle.ts_syntax.specs.Grammar.{rule, script, pscript, Whole, Begins};
+ghost use Rattle.ts_syntax.specs.Grammar.{rule, script, pscript, Whole, BeginsPart};
 ghost use Rattle.ts_syntax.specs.Script.{IsScript, BeginsScript, IsProcedureScript, BeginsScriptIn};
 
 /// The law of the grammar: the tokens that it derives a whole script from are those that some derived tree
@@ -11,7 +11,7 @@ ghost use Rattle.ts_syntax.specs.Script.{IsScript, BeginsScript, IsProcedureScri
 /// procedures likewise.
 pub fn grammar_law()
     ensures whole { (ms : List TokenKind) → Whole (rule script) ms ↔ IsScript ms }
-    ensures begins { (ms : List TokenKind) → Begins (rule script) ms ↔ BeginsScript ms }
+    ensures begins { (ms : List TokenKind) → BeginsPart (rule script) ms ↔ BeginsScript ms }
     ensures procedures_whole { (ms : List TokenKind) → Whole (rule pscript) ms ↔ IsProcedureScript ms }
-    ensures procedures_begin { (ms : List TokenKind) → Begins (rule pscript) ms ↔ BeginsScriptIn Procedures ms }
+    ensures procedures_begin { (ms : List TokenKind) → BeginsPart (rule pscript) ms ↔ BeginsScriptIn Procedures ms }
 {}

@@ -8,13 +8,13 @@ use Rattle.std.specs.List.{list_all}
 use Rattle.mate_num.specs.declared.shape.FunShape.{FunShape}
 use Rattle.mate_num.specs.declared.shape.Shape.{Shape}
 use Rattle.mate_num.specs.Shapes.{is_device, is_fun_shape, is_shape}
-use Rattle.vm_desc.specs.Limits.{Parts, is_valid, are_handlers, are_functions, are_names, are_variables, are_settings, is_handler, is_kind, is_function, is_trickle, is_radio, round_time, longest, duplicate_of, context_sum, args_of}
+use Rattle.vm_desc.specs.Limits.{Parts, is_valid, are_handlers, are_functions, are_names, are_variables, are_settings, is_handler, is_kind, is_function, is_trickle, is_radio, round_time, longest, duplicate_of, context_sum, function_args}
 use Rattle.vm_desc.specs.Names.{between, is_name}
 use Rattle.vm_desc.specs.Contexts.{first_context, handler_of}
 use Rattle.std.proofs.Math.Bool.{Bool-set}
 use Rattle.vm_desc.specs.Whole.{described, parts_of, context_count}
 use Rattle.vm_desc.specs.Bounds.{HasBounds, HasItems}
-use Rattle.vm_desc.specs.Shapes.{shape_of, fun_shape, is_send}
+use Rattle.vm_desc.specs.Shapes.{shape_of, fun_shape, sends_buffer}
 use Rattle.vm_desc.specs.declared.description.Description.{Description}
 use Rattle.vm_desc.specs.declared.settings.TrickleSet.{TrickleSet}
 use Rattle.vm_desc.specs.declared.function.Function.{Function}
@@ -194,7 +194,7 @@ bounds_of d =
 pub trickle_rules : (d : Description) → IsTrue (is_trickle d.trickle)
 trickle_rules d = (setting_tests (parts_of d) (tests_of (parts_of d) d.valid).settings).trickle
 
-args_fit : (kind : FunKind) → nat_le (args_of kind) 4 ≡ true → (nat_le (args_of kind) 4 && (not (is_send kind) || args_of kind == 0)) ≡ true
+args_fit : (kind : FunKind) → nat_le (function_args kind) 4 ≡ true → (nat_le (function_args kind) 4 && (not (sends_buffer kind) || function_args kind == 0)) ≡ true
 args_fit Sense h = refl
 args_fit (Act args) h = rw h refl
 args_fit Send h = refl
@@ -211,9 +211,9 @@ fun_shape-limits : (devices : ℕ) (fs : List Function) → devices ≤ 8 → li
 fun_shape-limits devices [] few h = refl
 fun_shape-limits devices (f ∷ fs) few h =
     let (here, more) = and_parts (is_function devices f) (list_all (is_function devices) fs) h in
-    let (parts, latency) = and_parts ((is_name f.name && nat_le (args_of f.kind) 4) && is_device devices f.device) (between 1 60000 f.latency) here in
-    let (form, device) = and_parts (is_name f.name && nat_le (args_of f.kind) 4) (is_device devices f.device) parts in
-    let (name, args) = and_parts (is_name f.name) (nat_le (args_of f.kind) 4) form in
+    let (parts, latency) = and_parts ((is_name f.name && nat_le (function_args f.kind) 4) && is_device devices f.device) (between 1 60000 f.latency) here in
+    let (form, device) = and_parts (is_name f.name && nat_le (function_args f.kind) 4) (is_device devices f.device) parts in
+    let (name, args) = and_parts (is_name f.name) (nat_le (function_args f.kind) 4) form in
     let this : is_fun_shape (fun_shape f) ≡ true = rw (args_fit f.kind args, device_fits devices f.device few device) refl in
     rw (this, fun_shape-limits devices fs few more) refl
 

@@ -36,16 +36,16 @@ abbrev pub is_handler : Handler → Bool
 is_handler h = (is_name h.name && is_kind h.kind) && between 1 4 h.contexts
 
 -- how many values a function takes, other than a buffer
-abbrev pub args_of : FunKind → ℕ
-args_of Sense = 0
-args_of (Act args) = args
-args_of Send = 0
-args_of Id = 0
-args_of Rand = 0
-args_of Clock = 0
+abbrev pub function_args : FunKind → ℕ
+function_args Sense = 0
+function_args (Act args) = args
+function_args Send = 0
+function_args Id = 0
+function_args Rand = 0
+function_args Clock = 0
 
 abbrev pub is_function : ℕ → Function → Bool
-is_function devices f = ((is_name f.name && nat_le (args_of f.kind) 4) && is_device devices f.device) && between 1 60000 f.latency
+is_function devices f = ((is_name f.name && nat_le (function_args f.kind) 4) && is_device devices f.device) && between 1 60000 f.latency
 
 -- the longest interval, in ms
 abbrev pub longest : TrickleSet → ℕ

@@ -16,13 +16,13 @@ abbrev pub continues_name : ℕ → Bool
 continues_name c = begins_name c || between 48 57 c
 
 -- the keywords of scripts, which name nothing
-abbrev pub keywords : List (List ℕ)
-keywords =
+abbrev pub reserved_words : List (List ℕ)
+reserved_words =
     codes "shared" ∷ codes "private" ∷ codes "buffer" ∷ codes "if" ∷ codes "then" ∷ codes "else" ∷ codes "end" ∷ codes "for" ∷ codes "to"
     ∷ codes "step" ∷ codes "next" ∷ codes "while" ∷ codes "and" ∷ codes "or" ∷ codes "not" ∷ codes "size" ∷ codes "clear" ∷ codes "msg" ∷ []
 
 abbrev pub is_keyword : List ℕ → Bool
-is_keyword word = list_any (λ keyword. bytes_eq word keyword) keywords
+is_keyword word = list_any (λ keyword. bytes_eq word keyword) reserved_words
 
 -- 1 to 16 bytes: a letter or `_`, then letters, digits or `_`
 abbrev pub has_form : List ℕ → Bool

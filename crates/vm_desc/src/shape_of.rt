@@ -2,7 +2,7 @@
 
 ghost use Rattle.std.specs.Prelude.{◌≡◌, IsTrue};
 ghost use Rattle.mate_num.specs.Shapes.{is_shape};
-ghost use Rattle.vm_desc.specs.Limits.{args_of};
+ghost use Rattle.vm_desc.specs.Limits.{function_args};
 ghost use Rattle.vm_desc.specs.Shapes.{fun_shape, shape_of};
 
 use crate::description::Description;

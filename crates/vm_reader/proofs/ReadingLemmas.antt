@@ -7,7 +7,7 @@ use Rattle.std.specs.List.{list_all}
 use Rattle.std.specs.Str.{is_utf8}
 use Rattle.toml.specs.Parse.{parse_document}
 use Rattle.vm_desc.specs.Names.{is_name}
-use Rattle.vm_desc.specs.Limits.{Parts, is_valid, is_handler, is_kind, is_function, args_of, is_trickle, is_radio, context_sum, duplicate_of, round_time, longest}
+use Rattle.vm_desc.specs.Limits.{Parts, is_valid, is_handler, is_kind, is_function, function_args, is_trickle, is_radio, context_sum, duplicate_of, round_time, longest}
 use Rattle.vm_reader.specs.Text.{description_of, of_document, ReadsDescription}
 use Rattle.vm_desc.specs.declared.fault.DescFault.TheVariants.{NotToml, BadField, OverLimit, Duplicate, SlowImax, NoMemory}
 use Rattle.vm_desc.specs.declared.fault.DescFault.{DescFault}
@@ -97,7 +97,7 @@ refused_rules P (Err d) e is = tt
 pub is_handler-from : (h : Handler) → is_name h.name ≡ true → is_kind h.kind ≡ true → 1 ≤ h.contexts → h.contexts ≤ 4 → is_handler h ≡ true
 is_handler-from h name kind low high = and_from _ _ (and_from _ _ name kind) (and_from _ _ (le-leb _ _ low) (le-leb _ _ high))
 
-pub is_function-from : (devices : ℕ) (f : Function) → is_name f.name ≡ true → args_of f.kind ≤ 4 → is_device devices f.device ≡ true → 1 ≤ f.latency → f.latency ≤ 60000
+pub is_function-from : (devices : ℕ) (f : Function) → is_name f.name ≡ true → function_args f.kind ≤ 4 → is_device devices f.device ≡ true → 1 ≤ f.latency → f.latency ≤ 60000
     → is_function devices f ≡ true
 is_function-from devices f name args device low high =
     and_from _ _ (and_from _ _ (and_from _ _ name (le-leb _ _ args)) device) (and_from _ _ (le-leb _ _ low) (le-leb _ _ high))

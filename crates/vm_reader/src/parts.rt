@@ -5,7 +5,7 @@ ghost use Rattle.std.specs.List.{list_all, position};
 ghost use Rattle.std.specs.Str.{bytes_eq};
 ghost use Rattle.toml.specs.View.{array_view, table_view};
 ghost use Rattle.mate_num.specs.Shapes.{is_device};
-ghost use Rattle.vm_desc.specs.Limits.{is_kind, is_handler, args_of, is_function, is_trickle, is_radio};
+ghost use Rattle.vm_desc.specs.Limits.{is_kind, is_handler, function_args, is_function, is_trickle, is_radio};
 ghost use Rattle.vm_reader.specs.Fields.{GivesField, field, word_as, each, seen, seen_table, tables_in, are_tables};
 ghost use Rattle.vm_reader.specs.Reading.{handler_kind, with_period, handler_at, handlers_at, fun_kind, with_args, device, function_at, functions_at, trickle_at, radio_at};
 
@@ -190,7 +190,7 @@ fn fun_kind_of(word: &str) -> Option<FunKind>
 
 fn with_args(kind: FunKind, value: Option<&Value>) -> Result<FunKind, DescFault>
     ensures value { result ≡ with_args kind (seen value.entry) }
-    ensures rules { IfOk result (λ k. args_of k ≤ 4) }
+    ensures rules { IfOk result (λ k. function_args k ≤ 4) }
 {
     match (kind, value) {
         (FunKind::Act { .. }, _) => {

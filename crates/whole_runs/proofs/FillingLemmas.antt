@@ -8,7 +8,7 @@ use Rattle.mate_num.specs.Store.{payload, buffer_at, set_buffer, appended}
 use Rattle.mate_num.specs.declared.call.FaultKind.{FaultKind}
 use Rattle.mate_num.specs.declared.call.FaultKind.TheVariants.{BufferFull}
 use Rattle.mate_num.specs.declared.store.Store.{Store}
-use Rattle.node_heap.specs.Changes.{Changes}
+use Rattle.node_heap.specs.Changes.{ChangesBuffer}
 
 -- the first list over the front of the second
 abbrev pub overlaid : {A : Type 0} → List A → List A → List A
@@ -41,15 +41,15 @@ length-overlaid (x ∷ xs) (y ∷ ys) le = ap suc (length-overlaid xs ys (omega 
 
 -- one more value finds room
 pub append-more : (s : Store) (b : ℕ) (xs : List ℤ) (i : ℕ) (x d : ℤ) (result : Result ⊤ FaultKind) (old new : Store) → b < length s.buffers.items → i < length xs → length xs ≤ 10 → x ≡ get_or xs i d
-    → old ≡ set_buffer s b (take i xs) → Changes old b (appended (buffer_at old b) x) result new → (result ≡ Ok tt) × (new ≡ set_buffer s b (take (i + 1) xs))
+    → old ≡ set_buffer s b (take i xs) → ChangesBuffer old b (appended (buffer_at old b) x) result new → (result ≡ Ok tt) × (new ≡ set_buffer s b (take (i + 1) xs))
 append-more s b xs i x d result old new below within few is old_is changes =
     let v : List ℤ = take i xs in
-    let O : Store → Type 0 = λ o. Changes o b (appended (buffer_at o b) x) result new in
+    let O : Store → Type 0 = λ o. ChangesBuffer o b (appended (buffer_at o b) x) result new in
     let before : buffer_at (set_buffer s b v) b ≡ v = ap (λ (p : ArrayVec ℤ). p.items) (get_or-set_same s.buffers.items b (payload v) (payload []) below) in
-    let B : List ℤ → Type 0 = λ ys. Changes (set_buffer s b v) b (appended ys x) result new in
+    let B : List ℤ → Type 0 = λ ys. ChangesBuffer (set_buffer s b v) b (appended ys x) result new in
     let long : length v ≡ i = length-take-le i xs (omega arith) in
     let room : nat_lt (length v) 10 ≡ true = rw long (grind (arith, nat_tests)) in
-    let R : Bool → Type 0 = λ w. Changes (set_buffer s b v) b (if w then Ok (v ++ x ∷ []) else Err BufferFull) result new in
+    let R : Bool → Type 0 = λ w. ChangesBuffer (set_buffer s b v) b (if w then Ok (v ++ x ∷ []) else Err BufferFull) result new in
     let done = subst R room (subst B before (subst O old_is changes)) in
     let more : v ++ x ∷ [] ≡ take (i + 1) xs = ap (λ (y : ℤ). v ++ y ∷ []) is ∙ sym (take_more xs i d within) in (
       done.0,

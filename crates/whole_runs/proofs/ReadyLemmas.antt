@@ -32,7 +32,7 @@ use Rattle.vm_desc.specs.Shapes.{shape_of}
 use Rattle.vm_desc.specs.declared.description.Description.{Description}
 use Rattle.mate_journal.specs.Machine.{HeldProgram, Meaning}
 use Rattle.mate_journal.specs.declared.program.Program.{Program}
-use Rattle.node_invariant.specs.Meaning.{code_of, code_in}
+use Rattle.node_invariant.specs.Meaning.{image_code, code_in}
 use Rattle.node_programs.specs.Right.{IsSourceOf, IsRightProgram, AreRightPrograms}
 use Rattle.node_programs.specs.Sources.{meaning_by}
 use Rattle.node_programs.proofs.MeaningLemmas.{meaning_by-right}
@@ -62,7 +62,7 @@ code-if false n shape code marks (Err (CutShort place)) is = cc
 
 -- the code of the capsule is that of the image
 pub IsImageCode-verified : (d : Description) (p : Program) (right : IsRightProgram d p) (code : List ℕ) (v : VerifiedCode) → code ≡ right.capsule.code → IsVerificationOf (shape_of d) code v → IsImageCode d p.image v
-unfolding code_of
+unfolding image_code
 IsImageCode-verified d p right code v same is =
     let shape : Shape = shape_of d in
     let S : Shape → Type 0 = λ s. bytes_verification s v.bytes ≡ Ok (v.code, marks_of v) in

@@ -2,11 +2,11 @@
 use Rattle.std.specs.Prelude.{◌≡◌, ℕ}
 use Rattle.arrayvec.specs.ArrayVec.{ArrayVec}
 use Rattle.code_verifier.specs.Verified.{VerifiedCode}
-use Rattle.node_invariant.specs.Meaning.{code_of}
+use Rattle.node_invariant.specs.Meaning.{image_code}
 use Rattle.vm_desc.specs.Shapes.{shape_of}
 use Rattle.vm_desc.specs.declared.description.Description.{Description}
 
 -- it is the image's code, verified by the description's shape
 pub record IsImageCode (d : Description) (image : ArrayVec ℕ) (v : VerifiedCode) : Type 0 where
   pub shape : v.shape ≡ shape_of d
-  pub code : v.code ≡ code_of (shape_of d) image
+  pub code : v.code ≡ image_code (shape_of d) image

@@ -2,7 +2,7 @@
 
 ghost use Rattle.std.specs.Prelude.{◌≡◌, ◌<◌, ◌≤◌, length};
 ghost use Rattle.mate_num.specs.Store.{appended, buffer_at, set_buffer, set_value};
-ghost use Rattle.node_heap.specs.Changes.{Changes};
+ghost use Rattle.node_heap.specs.Changes.{ChangesBuffer};
 
 use mate_num::{BufId, FaultKind, Payload, Store, VarId};
 use node_heap::Heap;
@@ -66,7 +66,7 @@ fn put_value(heap: &mut Heap, variable: VarId, value: &i16)
 /// A buffer gets one value more.
 fn append_value(heap: &mut Heap, buffer: BufId, value: &i16) -> Result<(), FaultKind>
     requires { buffer.0 < length heap.old.buffers.items }
-    ensures { Changes heap.old buffer.0 (appended (buffer_at heap.old buffer.0) value.now) result heap.new }
+    ensures { ChangesBuffer heap.old buffer.0 (appended (buffer_at heap.old buffer.0) value.now) result heap.new }
 {
     heap.append(buffer, *value)
 }

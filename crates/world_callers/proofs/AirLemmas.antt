@@ -15,8 +15,8 @@ use Rattle.radio_sim.specs.Radio.{Ether}
 use Rattle.radio_sim.specs.declared.event.Event.TheVariants as event
 use Rattle.world_rules.specs.World.{World, called_kind}
 use Rattle.world_rules.specs.State.{messages}
-use Rattle.world_air.specs.Air.{SendsAll}
-use Rattle.world_air.specs.Changes.{stays}
+use Rattle.sim_air.specs.Air.{SendsAll}
+use Rattle.sim_air.specs.Changes.{stays}
 
 no_message : (w : World) (n : ℕ) (f : FunId) (args : ArrayVec ℤ) → called_kind w f ≡ kind.Sense → messages w (Asked n f args ∷ []) ≡ []
 no_message w n f args e = rw e refl

@@ -2,8 +2,8 @@
 use Rattle.std.proofs.Common.{◌≡◌, inl, inr, ℕ, List, [], None, Result, Ok, Err, refl}
 use Rattle.std.specs.Prelude.{codes, IfErr}
 use Rattle.vm_desc.specs.declared.description.Description.{Description}
-use Rattle.script_reader.specs.Lines.{words_of}
-use Rattle.script_reader.specs.Words.{Reading, Taken, a_number}
+use Rattle.script_reader.specs.Lines.{split_words}
+use Rattle.script_reader.specs.Words.{WordReading, TakenWords, a_number}
 use Rattle.script_reader.specs.declared.fault.Cause.{Cause}
 use Rattle.script_reader.specs.declared.fault.Cause.TheVariants.{Node, Range}
 use Rattle.world_script.specs.declared.world.What.TheVariants.{Show}
@@ -15,29 +15,29 @@ use Rattle.world_lines.specs.WorldLines.{WorldSaid, SaysPlanned, a_link, a_far_e
 use Rattle.world_lines.specs.WorldWords.{a_node, a_time}
 use Rattle.world_callers.specs.Lines.{linked_world, RefusesLine}
 
-pub refused_line : (cause : Cause) (reading : Reading WorldSaid) (before after : List (List ℕ)) (r : Result Command Refusal) → reading before ≡ Err cause
+pub refused_line : (cause : Cause) (reading : WordReading WorldSaid) (before after : List (List ℕ)) (r : Result Command Refusal) → reading before ≡ Err cause
     → ReadsWithMemory world_said_of reading before r after → RefusesLine cause r
 refused_line cause reading before after (Ok c) refused reads = cc
 refused_line cause reading before after (Err (refusal.Bad why)) refused reads = inl cc
 refused_line cause reading before after (Err refusal.NoMemory) refused reads = inr refl
 
-pub taken_line : (taken : Taken WorldSaid) (reading : Reading WorldSaid) (before after : List (List ℕ)) (r : Result Command Refusal) → reading before ≡ Ok taken
+pub taken_line : (taken : TakenWords WorldSaid) (reading : WordReading WorldSaid) (before after : List (List ℕ)) (r : Result Command Refusal) → reading before ≡ Ok taken
     → ReadsWithMemory world_said_of reading before r after → IfErr r (λ why. why ≡ refusal.NoMemory)
 taken_line taken reading before after (Ok c) is reads = tt
 taken_line taken reading before after (Err (refusal.Bad why)) is reads = cc
 taken_line taken reading before after (Err refusal.NoMemory) is reads = refl
 
-pub linked_already : (d : Description) → a_world_line d linked_world (words_of (codes "link 0 1 5")) ≡ Err Range
+pub linked_already : (d : Description) → a_world_line d linked_world (split_words (codes "link 0 1 5")) ≡ Err Range
 unfolding a_world_line a_setting a_link a_far_end a_node a_number
 linked_already d = refl
 
-pub no_node : (d : Description) → a_world_line d linked_world (words_of (codes "link 1 3 5")) ≡ Err Node
+pub no_node : (d : Description) → a_world_line d linked_world (split_words (codes "link 1 3 5")) ≡ Err Node
 unfolding a_world_line a_setting a_link a_far_end a_node a_number
 no_node d = refl
 
-abbrev pub shown : Taken WorldSaid
+abbrev pub shown : TakenWords WorldSaid
 shown = record { value = SaysPlanned (record { time = 5; node = 0; what = Show }) None; rest = [] }
 
-pub shown_then : (d : Description) → a_world_line d linked_world (words_of (codes "at 5 show 0")) ≡ Ok shown
+pub shown_then : (d : Description) → a_world_line d linked_world (split_words (codes "at 5 show 0")) ≡ Ok shown
 unfolding a_world_line a_setting an_event behind_time at_node a_time a_node a_number
 shown_then d = refl

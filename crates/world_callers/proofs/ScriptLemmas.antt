@@ -5,7 +5,7 @@ use Rattle.vm_desc.specs.declared.description.Description.{Description}
 use Rattle.vm_desc.specs.declared.function.Function.{Function}
 use Rattle.vm_desc.specs.declared.function.FunKind.TheVariants.{Sense}
 use Rattle.vm_desc.specs.declared.handler.Handler.{Handler}
-use Rattle.script_reader.specs.Script.{Answers}
+use Rattle.script_reader.specs.Script.{AnswersScript}
 use Rattle.script_reader.specs.Words.{a_number, a_value, a_handler, a_version, handler_from}
 use Rattle.script_reader.specs.declared.fault.Cause.{Cause}
 use Rattle.script_reader.specs.declared.fault.Cause.TheVariants.{OldVersion, TimeBack}
@@ -18,7 +18,7 @@ use Rattle.world_reader.specs.WorldScript.{after_world_line, world_script_in}
 use Rattle.world_rules.specs.World.{series_in}
 use Rattle.world_callers.specs.Lines.{RefusesWorld, backwards, injected_again, two_series}
 
-pub refused_script : (line : ℕ) (cause : Cause) (script answer : Result World ScriptFault) → script ≡ Err (BadLine line cause) → Answers answer script → RefusesWorld line cause answer
+pub refused_script : (line : ℕ) (cause : Cause) (script answer : Result World ScriptFault) → script ≡ Err (BadLine line cause) → AnswersScript answer script → RefusesWorld line cause answer
 refused_script line cause script (Ok w) is answers = cc
 refused_script line cause script (Err (BadLine l c)) is answers = inl cc
 refused_script line cause script (Err NoMemory) is answers = inr refl
@@ -27,7 +27,7 @@ refused_script line cause script (Err NoMemory) is answers = inr refl
 abbrev pub HasValues : Result World ScriptFault → Type 0
 HasValues r = IfOk r (λ w. series_in w.series 0 1 ≡ pos 2 ∷ pos 3 ∷ [])
 
-pub read_values : (script answer : Result World ScriptFault) → HasValues script → Answers answer script → HasValues answer
+pub read_values : (script answer : Result World ScriptFault) → HasValues script → AnswersScript answer script → HasValues answer
 read_values script (Ok w) values answers = subst HasValues answers values
 read_values script (Err (BadLine l c)) values answers = tt
 read_values script (Err NoMemory) values answers = tt

@@ -6,13 +6,13 @@ ghost use Rattle.event_queue.specs.Agenda.{due_at};
 ghost use Rattle.radio_sim.specs.declared.event.Event.TheVariants as event;
 ghost use Rattle.mate_journal.specs.Log.{Log};
 ghost use Rattle.world_rules.specs.World.{World, called_kind};
-ghost use Rattle.world_air.specs.Air.{IsAirOf, air_room};
+ghost use Rattle.sim_air.specs.Air.{IsAirOf, air_room};
 
 use mate_journal::{Entry, Stamped};
 use mate_num::{FunId, NoMemory, Payload, Stamp};
 use radio_sim::Radio;
 use vm_desc::Description;
-use world_air::{Ends, cancel, schedule_interval, send_messages};
+use sim_air::{Ends, cancel, schedule_interval, send_messages};
 
 /// What a sensor is called with is no message.
 pub fn a_sensor_sends_nothing(

@@ -2,17 +2,17 @@
 
 ghost use Rattle.std.specs.Prelude.{◌≡◌, ◌≤◌, ℕ, List, [], length};
 ghost use Rattle.arrayvec.specs.ArrayVec.{ArrayVec};
-ghost use Rattle.packet_codec.specs.Packet.{IsRight};
+ghost use Rattle.packet_codec.specs.Packet.{IsRightPacket};
 ghost use Rattle.packet_codec.specs.declared.packet.Packet.TheVariants.{Vector};
 ghost use Rattle.trickle_timer.specs.Intervals.{Consistent, at_point};
 ghost use Rattle.trickle_timer.specs.declared.timer.Fire.TheVariants.{Keep};
 ghost use Rattle.capsule_exchange.specs.Happenings.{Happening, held_versions};
 ghost use Rattle.capsule_exchange.specs.Knowledge.{knowledge};
-ghost use Rattle.world_step.specs.Motes.{timed};
+ghost use Rattle.sim_mote.specs.Motes.{timed};
 
 use mate_num::Stamp;
 use packet_codec::Packet;
-use world_step::{Effect, Mote};
+use sim_mote::{Effect, Mote};
 
 pub fn a_silent_point_sends_nothing(mote: &mut Mote, suppress: bool) -> Effect
     ensures { (n : ℕ) (hs : List Happening) → mote.old.exchange ≡ knowledge n hs
@@ -24,7 +24,7 @@ pub fn a_silent_point_sends_nothing(mote: &mut Mote, suppress: bool) -> Effect
 }
 
 pub fn a_consistent_vector_counts(mote: &mut Mote, packet: &Packet, at: Stamp) -> Effect
-    requires right { IsRight (length mote.old.exchange.handlers) packet.now }
+    requires right { IsRightPacket (length mote.old.exchange.handlers) packet.now }
     requires hour { at.time ≤ 3600000 }
     requires within { mote.old.timer.running.begin ≤ at.time }
     ensures { (n : ℕ) (hs : List Happening) (versions : ArrayVec ℕ) → mote.old.exchange ≡ knowledge n hs → packet.now ≡ Vector versions

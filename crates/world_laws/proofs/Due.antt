@@ -7,7 +7,7 @@ use Rattle.std.proofs.lemmas.Bool.Decides.{eqb_tells}
 use Rattle.std.proofs.lemmas.List.{append-nil}
 use Rattle.arrayvec.specs.ArrayVec.{ArrayVec}
 use Rattle.mate_num.specs.declared.id.FunId.{FunId}
-use Rattle.mate_journal.specs.Journal.{Told, Posted, Dropped, Started, Asked, Answered, Ended, Installed, Reset, Seen, Void, Reading}
+use Rattle.mate_journal.specs.Journal.{JournalEntry, Posted, Dropped, Started, Asked, Answered, Ended, Installed, Reset, Seen, Void, NodeState}
 use Rattle.world_rules.specs.Cause.{Cause}
 use Rattle.world_rules.specs.Cause as event
 use Rattle.world_rules.specs.World.{World, links_from, period_of, latency_of}
@@ -110,14 +110,14 @@ kind (event.Pump node) = 4
 kind (event.Due node c inv value) = 5
 kind (event.Deliver link number packet) = 6
 
-abbrev pub answer_scheduled : World → ℕ → ℕ → Reading → List FunId → ℕ → FunId → Scheduled
+abbrev pub answer_scheduled : World → ℕ → ℕ → NodeState → List FunId → ℕ → FunId → Scheduled
 answer_scheduled w node time r called n f =
     at (time + latency_of w f) (event.Due node (r.invocations n).context n (answer_at w node called f (time + latency_of w f)))
 
 -- the answer to one of the entries' calls, where these were called before
-pub record AnswerOf (w : World) (node time : ℕ) (r : Reading) (called : List FunId) (told : List Told) (x : Scheduled) : Type 0 where
-  pub front : List Told
-  pub rest : List Told
+pub record AnswerOf (w : World) (node time : ℕ) (r : NodeState) (called : List FunId) (told : List JournalEntry) (x : Scheduled) : Type 0 where
+  pub front : List JournalEntry
+  pub rest : List JournalEntry
   pub invocation : ℕ
   pub fun : FunId
   pub args : ArrayVec ℤ
@@ -172,7 +172,7 @@ pump_source w s m x false h = absurd h
 pump_source w s m x true h = pump (one x (at (m.time + w.description.radio.gap) (event.Pump (event_node w m.cause))) h)
 
 -- behind an entry that is no call
-behind_entry : (w : World) (node time : ℕ) (r : Reading) (called : List FunId) (told : List Told) (x : Scheduled) (t : Told) → ((front : List Told) → calls_in front ≡ calls_in (t ∷ front))
+behind_entry : (w : World) (node time : ℕ) (r : NodeState) (called : List FunId) (told : List JournalEntry) (x : Scheduled) (t : JournalEntry) → ((front : List JournalEntry) → calls_in front ≡ calls_in (t ∷ front))
     → AnswerOf w node time r called told x → AnswerOf w node time r called (t ∷ told) x
 behind_entry w node time r called told x t skips a = record {
   front = t ∷ a.front;
@@ -180,11 +180,11 @@ behind_entry w node time r called told x t skips a = record {
   invocation = a.invocation;
   fun = a.fun;
   args = a.args;
-  told_is = ap (λ (ts : List Told). t ∷ ts) a.told_is;
+  told_is = ap (λ (ts : List JournalEntry). t ∷ ts) a.told_is;
   is = a.is ∙ ap (λ (fs : List FunId). answer_scheduled w node time r (called ++ fs) a.invocation a.fun) (skips a.front);
 }
 
-answer-of : (w : World) (node time : ℕ) (r : Reading) (called : List FunId) (told : List Told) (x : Scheduled) → Among x (answers_due w node time r called told) → AnswerOf w node time r called told x
+answer-of : (w : World) (node time : ℕ) (r : NodeState) (called : List FunId) (told : List JournalEntry) (x : Scheduled) → Among x (answers_due w node time r called told) → AnswerOf w node time r called told x
 answer-of w node time r called [] x h = absurd h
 answer-of w node time r called (Posted n g c payload ∷ told) x h = behind_entry w node time r called told x (Posted n g c payload) (λ front. refl) (answer-of w node time r called told x h)
 answer-of w node time r called (Dropped g cause ∷ told) x h = behind_entry w node time r called told x (Dropped g cause) (λ front. refl) (answer-of w node time r called told x h)
@@ -206,7 +206,7 @@ answer-of w node time r called (Asked n f args ∷ told) x (inr h) =
       invocation = a.invocation;
       fun = a.fun;
       args = a.args;
-      told_is = ap (λ (ts : List Told). Asked n f args ∷ ts) a.told_is;
+      told_is = ap (λ (ts : List JournalEntry). Asked n f args ∷ ts) a.told_is;
       is = a.is ∙ ap (λ (fs : List FunId). answer_scheduled w node time r fs a.invocation a.fun) (append_assoc called (f ∷ []) (calls_in a.front));
     }
 answer-of w node time r called (Answered n value ∷ told) x h = behind_entry w node time r called told x (Answered n value) (λ front. refl) (answer-of w node time r called told x h)

@@ -13,8 +13,8 @@ use Rattle.mate_num.specs.declared.call.End.{End}
 use Rattle.mate_num.specs.declared.call.End.TheVariants as end
 use Rattle.mate_num.specs.declared.call.Stamp.{Stamp}
 use Rattle.mate_journal.specs.Machine.{Machine, HeldProgram}
-use Rattle.mate_journal.specs.Journal.{Told, Posted, Dropped, Started, Asked, Answered, Ended, Installed, Reset, Seen, Void, Reading, heard, heard_told, told_by, whole_run}
-use Rattle.mate_journal.specs.Journal.{Event as Entered}
+use Rattle.mate_journal.specs.Journal.{JournalEntry, Posted, Dropped, Started, Asked, Answered, Ended, Installed, Reset, Seen, Void, NodeState, next_state, state_after_entries, untimed, whole_run}
+use Rattle.mate_journal.specs.Journal.{TimedEntry as Entered}
 use Rattle.mate_journal.proofs.JournalLemmas.{told_by-at}
 use Rattle.mate_journal.specs.Grants.{IsStart}
 use Rattle.mate_journal.specs.Pace.{Pace, paced_all}
@@ -30,10 +30,10 @@ use Rattle.world_laws.specs.Given.{Given, GivesOccasion, GivesInstall, SeesItsSt
 -- ---- entries of turns
 
 -- an entry that gives nothing
-abbrev IsOwn : Told → Type 0
+abbrev IsOwn : JournalEntry → Type 0
 IsOwn t = given_in t ≡ None
 
-start-own : (t : Told) → IsStart t → IsOwn t
+start-own : (t : JournalEntry) → IsStart t → IsOwn t
 start-own (Posted n h c payload) a = absurd a
 start-own (Dropped h cause) a = absurd a
 start-own (Started n) a = refl
@@ -45,7 +45,7 @@ start-own Reset a = absurd a
 start-own (Seen store) a = absurd a
 start-own (Void cause) a = absurd a
 
-starts-own : (told : List Told) → All IsStart told → All IsOwn told
+starts-own : (told : List JournalEntry) → All IsStart told → All IsOwn told
 starts-own [] all = All-nil IsOwn
 starts-own (t ∷ told) all = All-cons IsOwn t told (start-own t (All-head IsStart t told all)) (starts-own told (All-tail IsStart t told all))
 
@@ -54,52 +54,52 @@ mark-own n end.Halt = refl
 mark-own n (end.Fault kind) = refl
 mark-own n (end.Wants f args) = refl
 
-own-made : (xs ys : List Told) → xs ≡ ys → All IsOwn ys → All IsOwn xs
-own-made xs ys is own = subst (λ (told : List Told). All IsOwn told) (sym is) own
+own-made : (xs ys : List JournalEntry) → xs ≡ ys → All IsOwn ys → All IsOwn xs
+own-made xs ys is own = subst (λ (told : List JournalEntry). All IsOwn told) (sym is) own
 
-turn-own : (m : Machine) (r : Reading) (p : Pace) (n : ℕ) (t : Turn) → IsTurn m r p n t → All IsOwn t.told
+turn-own : (m : Machine) (r : NodeState) (p : Pace) (n : ℕ) (t : Turn) → IsTurn m r p n t → All IsOwn t.told
 turn-own m r p n t is = elim (cases_lt (p.counts t.invocation + n) (mark_of m r t.invocation)) [
   | inl low ↦ own-made t.told [] (is.short low) (All-nil IsOwn)
   | inr high ↦ own-made t.told (entry_at t.invocation (whole_run m r t.invocation).end ∷ (is.reached high).starts) (is.reached high).told_is
       (All-cons IsOwn (entry_at t.invocation (whole_run m r t.invocation).end) (is.reached high).starts (mark-own t.invocation (whole_run m r t.invocation).end) (starts-own (is.reached high).starts (is.reached high).are_starts))
 ]
 
-turns-own : (m : Machine) (r : Reading) (p : Pace) (ts : List Turn) → AreTurns m r p ts → All IsOwn (told_in ts)
+turns-own : (m : Machine) (r : NodeState) (p : Pace) (ts : List Turn) → AreTurns m r p ts → All IsOwn (told_in ts)
 turns-own m r p [] are = All-nil IsOwn
 turns-own m r p (t ∷ ts) are =
-    All-append IsOwn t.told (told_in ts) (turn-own m r p m.quantum t are.1) (turns-own m (heard_told m r t.told) (after_turn m r p t) ts are.2)
+    All-append IsOwn t.told (told_in ts) (turn-own m r p m.quantum t are.1) (turns-own m (state_after_entries m r t.told) (after_turn m r p t) ts are.2)
 
-settles-own : (m : Machine) (r : Reading) (p : Pace) (told : List Told) (q : Pace) → Settles m r p told q → All IsOwn told
+settles-own : (m : Machine) (r : NodeState) (p : Pace) (told : List JournalEntry) (q : Pace) → Settles m r p told q → All IsOwn told
 settles-own m r p told q is = own-made told (told_in is.turns) is.made (turns-own m r p is.turns is.are_turns)
 
-own-gives : (told : List Told) → All IsOwn told → filter_map given_in told ≡ []
+own-gives : (told : List JournalEntry) → All IsOwn told → filter_map given_in told ≡ []
 own-gives [] all = refl
 own-gives (t ∷ told) all = ap (λ (o : Option Given). cons_option o (filter_map given_in told)) (All-head IsOwn t told all) ∙ own-gives told (All-tail IsOwn t told all)
 
 -- ---- deeds
 
-occasion-gives : (m : Machine) (r : Reading) (h : HandlerId) (payload : ArrayVec ℤ) (told : List Told) → Occasion m r h payload told → filter_map given_in told ≡ GivesOccasion h ∷ []
+occasion-gives : (m : Machine) (r : NodeState) (h : HandlerId) (payload : ArrayVec ℤ) (told : List JournalEntry) → Occasion m r h payload told → filter_map given_in told ≡ GivesOccasion h ∷ []
 occasion-gives m r h payload told (inl a) = ap (filter_map given_in) a.made
 occasion-gives m r h payload told (inr (inl a)) = ap (filter_map given_in) a.made
 occasion-gives m r h payload told (inr (inr a)) = ap (filter_map given_in) a.made ∙ ap (λ (gs : List Given). GivesOccasion h ∷ gs) (own-gives a.starts (starts-own a.starts a.are_starts))
 
-occasions-give : (m : Machine) (payload : ArrayVec ℤ) (hs : List HandlerId) (r : Reading) (p : Pace) (told : List Told) → Occasions m payload hs r p told → filter_map given_in told ≡ map GivesOccasion hs
+occasions-give : (m : Machine) (payload : ArrayVec ℤ) (hs : List HandlerId) (r : NodeState) (p : Pace) (told : List JournalEntry) → Occasions m payload hs r p told → filter_map given_in told ≡ map GivesOccasion hs
 occasions-give m payload [] r p told is = ap (filter_map given_in) is
 occasions-give m payload (h ∷ hs) r p told both =
     ap (filter_map given_in) both.made
     ∙ filter_map-append given_in both.front both.rest
     ∙ ap (λ (gs : List Given). gs ++ filter_map given_in both.rest) (occasion-gives m r h payload both.front both.by_first)
-    ∙ ap (λ (gs : List Given). GivesOccasion h ∷ gs) (occasions-give m payload hs (heard_told m r both.front) (paced_all p both.front) both.rest both.by_second)
+    ∙ ap (λ (gs : List Given). GivesOccasion h ∷ gs) (occasions-give m payload hs (state_after_entries m r both.front) (paced_all p both.front) both.rest both.by_second)
 
 -- behind an install
-rest-gives : (m : Machine) (r : Reading) (q : Pace) (p : HeldProgram) (told : List Told) (is : DeedMakes m (Installing p) r q told)
+rest-gives : (m : Machine) (r : NodeState) (q : Pace) (p : HeldProgram) (told : List JournalEntry) (is : DeedMakes m (Installing p) r q told)
     → filter_map given_in is.rest ≡ (if m.runs_once p.handler then GivesOccasion p.handler ∷ [] else [])
 rest-gives m r q p told is = elim (cases_Bool (m.runs_once p.handler)) [
-  | inl once ↦ occasion-gives m (heard m r (Installed p)) p.handler (record { items = [] }) is.rest (is.once once) ∙ ap (λ (b : Bool). if b then GivesOccasion p.handler ∷ [] else []) (sym once)
+  | inl once ↦ occasion-gives m (next_state m r (Installed p)) p.handler (record { items = [] }) is.rest (is.once once) ∙ ap (λ (b : Bool). if b then GivesOccasion p.handler ∷ [] else []) (sym once)
   | inr never ↦ ap (filter_map given_in) (is.else never) ∙ ap (λ (b : Bool). if b then GivesOccasion p.handler ∷ [] else []) (sym never)
 ]
 
-deed-gives : (m : Machine) (d : Deed) (r : Reading) (q : Pace) (told : List Told) → DeedMakes m d r q told → filter_map given_in told ≡ given_by m d
+deed-gives : (m : Machine) (d : Deed) (r : NodeState) (q : Pace) (told : List JournalEntry) → DeedMakes m d r q told → filter_map given_in told ≡ given_by m d
 deed-gives m Nothing r q told is = ap (filter_map given_in) is
 deed-gives m (Installing p) r q told is = ap (filter_map given_in) is.made ∙ ap (λ (gs : List Given). SeesItsStore ∷ GivesInstall p ∷ gs) (rest-gives m r q p told is)
 deed-gives m (Posting hs payload) r q told is = occasions-give m payload hs r q told is
@@ -114,18 +114,18 @@ events_give_theirs w before m come =
     ap (filter_map given_in) makes.made
     ∙ filter_map-append given_in makes.front makes.rest
     ∙ ap (λ (gs : List Given). filter_map given_in makes.front ++ gs)
-    (own-gives makes.rest (settles-own w.machine (heard_told w.machine (node_at w s m).reading makes.front) (paced_all (node_at w s m).pace makes.front) makes.rest m.pace makes.by_second))
+    (own-gives makes.rest (settles-own w.machine (state_after_entries w.machine (node_at w s m).reading makes.front) (paced_all (node_at w s m).pace makes.front) makes.rest m.pace makes.by_second))
     ∙ append-nil (filter_map given_in makes.front)
     ∙ deed-gives w.machine (effect_at w s m).deed (node_at w s m).reading (node_at w s m).pace makes.front makes.by_first
 
 -- ---- journals
 
 -- what a journal tells with one event more
-told-more : (w : World) (k : ℕ) (m : Moment) (before : List Moment) → told_by (journal w k (m ∷ before)) ≡ told_by (journal w k before) ++ (if k == event_node w m.cause then m.told else [])
+told-more : (w : World) (k : ℕ) (m : Moment) (before : List Moment) → untimed (journal w k (m ∷ before)) ≡ untimed (journal w k before) ++ (if k == event_node w m.cause then m.told else [])
 told-more w k m before =
     map-append (λ (e : Entered). e.told) (journal w k before) (if k == event_node w m.cause then map (λ t. record { stamp = stamp_of m before; told = t }) m.told else [])
-    ∙ ap (λ (ts : List Told). told_by (journal w k before) ++ ts) (by (k == event_node w m.cause)) where
-      by : (b : Bool) → told_by (if b then map (λ t. record { stamp = stamp_of m before; told = t }) m.told else []) ≡ (if b then m.told else [])
+    ∙ ap (λ (ts : List JournalEntry). untimed (journal w k before) ++ ts) (by (k == event_node w m.cause)) where
+      by : (b : Bool) → untimed (if b then map (λ t. record { stamp = stamp_of m before; told = t }) m.told else []) ≡ (if b then m.told else [])
       by true = told_by-at (stamp_of m before) m.told
       by false = refl
 
@@ -133,7 +133,7 @@ pub journals_tell_what_came : (w : World) → JournalsTellWhatCame w
 journals_tell_what_came w k [] come = refl
 journals_tell_what_came w k (m ∷ before) come =
     ap (filter_map given_in) (told-more w k m before)
-    ∙ filter_map-append given_in (told_by (journal w k before)) (if k == event_node w m.cause then m.told else [])
+    ∙ filter_map-append given_in (untimed (journal w k before)) (if k == event_node w m.cause then m.told else [])
     ∙ ap (λ (gs : List Given). gs ++ filter_map given_in (if k == event_node w m.cause then m.told else [])) (journals_tell_what_came w k before come.0)
     ∙ ap (λ (gs : List Given). given_to w k before ++ gs) (by (k == event_node w m.cause) (events_give_theirs w before m come)) where
       by : (b : Bool) → filter_map given_in m.told ≡ given_by w.machine (effect_at w (state w before) m).deed
@@ -143,7 +143,7 @@ journals_tell_what_came w k (m ∷ before) come =
 
 -- ---- payloads
 
-own-payload : (pl : ArrayVec ℤ) (t : Told) → IsOwn t → HasPayload pl t
+own-payload : (pl : ArrayVec ℤ) (t : JournalEntry) → IsOwn t → HasPayload pl t
 own-payload pl (Posted n h c payload) own = cc
 own-payload pl (Dropped h cause) own = tt
 own-payload pl (Started n) own = tt
@@ -155,34 +155,34 @@ own-payload pl Reset own = tt
 own-payload pl (Seen store) own = tt
 own-payload pl (Void cause) own = tt
 
-own-payloads : (pl : ArrayVec ℤ) (told : List Told) → All IsOwn told → All (HasPayload pl) told
+own-payloads : (pl : ArrayVec ℤ) (told : List JournalEntry) → All IsOwn told → All (HasPayload pl) told
 own-payloads pl [] all = All-nil (HasPayload pl)
 own-payloads pl (t ∷ told) all = All-cons (HasPayload pl) t told (own-payload pl t (All-head IsOwn t told all)) (own-payloads pl told (All-tail IsOwn t told all))
 
-made-payloads : (pl : ArrayVec ℤ) (xs ys : List Told) → xs ≡ ys → All (HasPayload pl) ys → All (HasPayload pl) xs
-made-payloads pl xs ys is all = subst (λ (told : List Told). All (HasPayload pl) told) (sym is) all
+made-payloads : (pl : ArrayVec ℤ) (xs ys : List JournalEntry) → xs ≡ ys → All (HasPayload pl) ys → All (HasPayload pl) xs
+made-payloads pl xs ys is all = subst (λ (told : List JournalEntry). All (HasPayload pl) told) (sym is) all
 
-occasion-payload : (m : Machine) (r : Reading) (h : HandlerId) (payload : ArrayVec ℤ) (told : List Told) → Occasion m r h payload told → All (HasPayload payload) told
+occasion-payload : (m : Machine) (r : NodeState) (h : HandlerId) (payload : ArrayVec ℤ) (told : List JournalEntry) → Occasion m r h payload told → All (HasPayload payload) told
 occasion-payload m r h payload told (inl a) = made-payloads payload told _ a.made (All-cons (HasPayload payload) _ [] tt (All-nil (HasPayload payload)))
 occasion-payload m r h payload told (inr (inl a)) = made-payloads payload told _ a.made (All-cons (HasPayload payload) _ [] tt (All-nil (HasPayload payload)))
 occasion-payload m r h payload told (inr (inr a)) = made-payloads payload told _ a.made (All-cons (HasPayload payload) _ a.starts refl (own-payloads payload a.starts (starts-own a.starts a.are_starts)))
 
-occasions-payload : (m : Machine) (payload : ArrayVec ℤ) (hs : List HandlerId) (r : Reading) (p : Pace) (told : List Told) → Occasions m payload hs r p told → All (HasPayload payload) told
+occasions-payload : (m : Machine) (payload : ArrayVec ℤ) (hs : List HandlerId) (r : NodeState) (p : Pace) (told : List JournalEntry) → Occasions m payload hs r p told → All (HasPayload payload) told
 occasions-payload m payload [] r p told is = made-payloads payload told [] is (All-nil (HasPayload payload))
 occasions-payload m payload (h ∷ hs) r p told both =
     made-payloads payload told (both.front ++ both.rest) both.made
-    (All-append (HasPayload payload) both.front both.rest (occasion-payload m r h payload both.front both.by_first) (occasions-payload m payload hs (heard_told m r both.front) (paced_all p both.front) both.rest both.by_second))
+    (All-append (HasPayload payload) both.front both.rest (occasion-payload m r h payload both.front both.by_first) (occasions-payload m payload hs (state_after_entries m r both.front) (paced_all p both.front) both.rest both.by_second))
 
 abbrev no_payload : ArrayVec ℤ
 no_payload = record { items = [] }
 
-rest-payload : (m : Machine) (r : Reading) (q : Pace) (p : HeldProgram) (told : List Told) (is : DeedMakes m (Installing p) r q told) → All (HasPayload no_payload) is.rest
+rest-payload : (m : Machine) (r : NodeState) (q : Pace) (p : HeldProgram) (told : List JournalEntry) (is : DeedMakes m (Installing p) r q told) → All (HasPayload no_payload) is.rest
 rest-payload m r q p told is = elim (cases_Bool (m.runs_once p.handler)) [
-  | inl once ↦ occasion-payload m (heard m r (Installed p)) p.handler no_payload is.rest (is.once once)
+  | inl once ↦ occasion-payload m (next_state m r (Installed p)) p.handler no_payload is.rest (is.once once)
   | inr never ↦ made-payloads no_payload is.rest [] (is.else never) (All-nil (HasPayload no_payload))
 ]
 
-deed-payload : (m : Machine) (d : Deed) (r : Reading) (q : Pace) (told : List Told) → DeedMakes m d r q told → All (HasPayload (payload_given d)) told
+deed-payload : (m : Machine) (d : Deed) (r : NodeState) (q : Pace) (told : List JournalEntry) → DeedMakes m d r q told → All (HasPayload (payload_given d)) told
 deed-payload m Nothing r q told is = made-payloads no_payload told [] is (All-nil (HasPayload no_payload))
 deed-payload m (Installing p) r q told is =
     made-payloads no_payload told (Seen is.seen ∷ Installed p ∷ is.rest) is.made
@@ -202,7 +202,7 @@ posts_have_their_payload w before m come =
     made-payloads pl m.told (makes.front ++ makes.rest) makes.made
     (All-append (HasPayload pl) makes.front makes.rest
     (deed-payload w.machine (effect_at w s m).deed (node_at w s m).reading (node_at w s m).pace makes.front makes.by_first)
-    (own-payloads pl makes.rest (settles-own w.machine (heard_told w.machine (node_at w s m).reading makes.front) (paced_all (node_at w s m).pace makes.front) makes.rest m.pace makes.by_second)))
+    (own-payloads pl makes.rest (settles-own w.machine (state_after_entries w.machine (node_at w s m).reading makes.front) (paced_all (node_at w s m).pace makes.front) makes.rest m.pace makes.by_second)))
 
 -- ---- calls
 
@@ -212,12 +212,12 @@ called_are_told w k (m ∷ before) = elim (eqb_tells k (event_node w m.cause)) [
   | inl same ↦ ap (λ (j : ℕ). ((state w (m ∷ before)).nodes j).called) same.1 ∙ ap (λ (n : Node). n.called) (nodes-here w (state w before) m)
       ∙ ap (λ (j : ℕ). ((state w before).nodes j).called ++ calls_in m.told) (sym same.1)
       ∙ ap (λ (fs : List FunId). fs ++ calls_in m.told) (called_are_told w k before)
-      ∙ sym (filter_map-append asked_by (told_by (journal w k before)) m.told)
-      ∙ ap (λ (b : Bool). calls_in (told_by (journal w k before) ++ (if b then m.told else []))) (sym same.0)
+      ∙ sym (filter_map-append asked_by (untimed (journal w k before)) m.told)
+      ∙ ap (λ (b : Bool). calls_in (untimed (journal w k before) ++ (if b then m.told else []))) (sym same.0)
       ∙ ap calls_in (sym (told-more w k m before))
   | inr other ↦ ap (λ (n : Node). n.called) (nodes-other w (state w before) m k other.1)
       ∙ called_are_told w k before
-      ∙ ap calls_in (sym (append-nil (told_by (journal w k before))))
-      ∙ ap (λ (b : Bool). calls_in (told_by (journal w k before) ++ (if b then m.told else []))) (sym other.0)
+      ∙ ap calls_in (sym (append-nil (untimed (journal w k before))))
+      ∙ ap (λ (b : Bool). calls_in (untimed (journal w k before) ++ (if b then m.told else []))) (sym other.0)
       ∙ ap calls_in (sym (told-more w k m before))
 ]

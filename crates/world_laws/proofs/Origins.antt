@@ -5,7 +5,7 @@ use Rattle.std.specs.List.{flat_map, range_with_len}
 use Rattle.std.proofs.lemmas.List.{append-nil}
 use Rattle.arrayvec.specs.ArrayVec.{ArrayVec}
 use Rattle.mate_num.specs.declared.id.FunId.{FunId}
-use Rattle.mate_journal.specs.Journal.{Told, Posted, Dropped, Started, Asked, Answered, Ended, Installed, Reset, Seen, Void, Reading}
+use Rattle.mate_journal.specs.Journal.{JournalEntry, Posted, Dropped, Started, Asked, Answered, Ended, Installed, Reset, Seen, Void, NodeState}
 use Rattle.packet_codec.specs.declared.packet.Packet.{Packet}
 use Rattle.trickle_timer.specs.Timer.{Timer}
 use Rattle.world_rules.specs.Cause.{Cause}
@@ -72,7 +72,7 @@ came-from w before x come later = elim (origin w before x.time x.cause (among-ne
 -- ---- answers
 
 -- a call's answer is among those that fall due
-answer-among : (w : World) (node time : ℕ) (r : Reading) (called : List FunId) (front rest : List Told) (n : ℕ) (f : FunId) (args : ArrayVec ℤ)
+answer-among : (w : World) (node time : ℕ) (r : NodeState) (called : List FunId) (front rest : List JournalEntry) (n : ℕ) (f : FunId) (args : ArrayVec ℤ)
     → Among (answer_scheduled w node time r (called ++ calls_in front) n f) (answers_due w node time r called (front ++ Asked n f args ∷ rest))
 answer-among w node time r called [] rest n f args = inl (ap (λ (fs : List FunId). answer_scheduled w node time r fs n f) (sym (append-nil called)))
 answer-among w node time r called (Posted k g c payload ∷ front) rest n f args = answer-among w node time r called front rest n f args
@@ -88,7 +88,7 @@ answer-among w node time r called (Reset ∷ front) rest n f args = answer-among
 answer-among w node time r called (Seen store ∷ front) rest n f args = answer-among w node time r called front rest n f args
 answer-among w node time r called (Void cause ∷ front) rest n f args = answer-among w node time r called front rest n f args
 
-answer-scheduled : (w : World) (s : WorldState) (m : Moment) (front rest : List Told) (n : ℕ) (f : FunId) (args : ArrayVec ℤ) → m.told ≡ front ++ Asked n f args ∷ rest
+answer-scheduled : (w : World) (s : WorldState) (m : Moment) (front rest : List JournalEntry) (n : ℕ) (f : FunId) (args : ArrayVec ℤ) → m.told ≡ front ++ Asked n f args ∷ rest
     → Among (at (m.time + latency_of w f) (answer_for w s m front n f)) (schedules w s m)
 answer-scheduled w s m front rest n f args is =
     among-right x (next_period w m.cause m.time) _ (among-right x (new_interval (event_node w m.cause) (begun_length (node_at w s m) (effect_at w s m)) (node_after w (node_at w s m) m).timer) _
@@ -98,7 +98,7 @@ answer-scheduled w s m front rest n f args is =
       x = at (m.time + latency_of w f) (answer_for w s m front n f)
 
       own : Among (at (m.time + latency_of w f) (answer_for w s m front n f)) (answers_due w (event_node w m.cause) m.time (node_after w (node_at w s m) m).reading (node_at w s m).called m.told)
-      own = subst (λ (told : List Told). Among (at (m.time + latency_of w f) (answer_for w s m front n f)) (answers_due w (event_node w m.cause) m.time (node_after w (node_at w s m) m).reading (node_at w s m).called told)) (sym is)
+      own = subst (λ (told : List JournalEntry). Among (at (m.time + latency_of w f) (answer_for w s m front n f)) (answers_due w (event_node w m.cause) m.time (node_after w (node_at w s m) m).reading (node_at w s m).called told)) (sym is)
           (answer-among w (event_node w m.cause) m.time (node_after w (node_at w s m) m).reading (node_at w s m).called front rest n f args)
 
 -- what is scheduled comes, or is cancelled

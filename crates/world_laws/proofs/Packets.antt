@@ -5,7 +5,7 @@ use Rattle.std.specs.Option.{option_map_or}
 use Rattle.std.proofs.lemmas.Bool.Decides.{eqb_tells}
 use Rattle.mate_num.specs.declared.id.HandlerId.{HandlerId}
 use Rattle.mate_journal.specs.Machine.{HeldProgram}
-use Rattle.mate_journal.specs.Journal.{Told, Posted, Dropped, Started, Asked, Answered, Ended, Installed, Reset, Seen, Void}
+use Rattle.mate_journal.specs.Journal.{JournalEntry, Posted, Dropped, Started, Asked, Answered, Ended, Installed, Reset, Seen, Void}
 use Rattle.packet_codec.specs.declared.packet.Packet.{Packet}
 use Rattle.packet_codec.specs.declared.packet.Packet.TheVariants.{Vector, Status, Fragment, App}
 use Rattle.trickle_timer.specs.Intervals as trickle
@@ -75,12 +75,12 @@ split-at x [] a = absurd a
 split-at {X} x (y ∷ ys) (inl e) = ([], ys, ap (λ (z : X). z ∷ ys) e)
 split-at {X} x (y ∷ ys) (inr a) = let s = split-at x ys a in (y ∷ s.0, s.1, ap (λ (zs : List X). y ∷ zs) s.2)
 
-message-for : (w : World) (s : WorldState) (m : Moment) (p : Packet) (t : Told) → message_in w t ≡ Some p → Among t m.told → SendsFor w s m p
+message-for : (w : World) (s : WorldState) (m : Moment) (p : Packet) (t : JournalEntry) → message_in w t ≡ Some p → Among t m.told → SendsFor w s m p
 message-for w s m p (Posted n h c payload) is a = cc
 message-for w s m p (Dropped h cause) is a = cc
 message-for w s m p (Started n) is a = cc
 message-for w s m p (Asked n f args) is a = by (is_send_kind (called_kind w f)) refl is (split-at (Asked n f args) m.told a) where
-  by : (b : Bool) → is_send_kind (called_kind w f) ≡ b → (if b then Some (App args) else None) ≡ Some p → (front : List Told) × (rest : List Told) × (m.told ≡ front ++ Asked n f args ∷ rest) → SendsFor w s m p
+  by : (b : Bool) → is_send_kind (called_kind w f) ≡ b → (if b then Some (App args) else None) ≡ Some p → (front : List JournalEntry) × (rest : List JournalEntry) × (m.told ≡ front ++ Asked n f args ∷ rest) → SendsFor w s m p
   by true sends given at_place = IsMessage at_place.0 at_place.1 n f args at_place.2 sends (let same : p ≡ App args = cc in same)
   by false sends given at_place = cc
 message-for w s m p (Answered n value) is a = cc

@@ -9,7 +9,7 @@ use Rattle.vm_desc.specs.declared.settings.TrickleSet.{TrickleSet}
 use Rattle.vm_desc.specs.Limits.{longest}
 use Rattle.rand_pcg.specs.Pcg.{pcg32}
 use Rattle.trickle_timer.specs.Intervals as trickle
-use Rattle.trickle_timer.specs.Timer.{Timer, begun}
+use Rattle.trickle_timer.specs.Timer.{Timer, begun_timer}
 use Rattle.world_rules.specs.Cause.{Cause}
 use Rattle.world_rules.specs.Cause as event
 use Rattle.world_rules.specs.World.{World, PlannedLine, period_of, handlers}
@@ -97,14 +97,14 @@ end-in i k t timer (inr (inr h)) = absurd h
 
 -- what the timer of the event's node is when an interval begins
 begun-timer : (w : World) (s : WorldState) (m : Moment) (l : ℕ) → begun_length (node_at w s m) (effect_at w s m) ≡ Some l
-    → (node_after w (node_at w s m) m).timer ≡ begun (node_at w s m).timer.set (node_at w s m).timer.words l m.time
+    → (node_after w (node_at w s m) m).timer ≡ begun_timer (node_at w s m).timer.set (node_at w s m).timer.words l m.time
 begun-timer w s m l is = timer_begun (node_at w s m) (effect_at w s m) m.time l is
 
 -- the point of an interval isn't before its beginning
-point-ahead : (t : Timer) (set : TrickleSet) (words : _) (l time : ℕ) → t ≡ begun set words l time → time ≤ t.running.point
+point-ahead : (t : Timer) (set : TrickleSet) (words : _) (l time : ℕ) → t ≡ begun_timer set words l time → time ≤ t.running.point
 point-ahead t set words l time is = subst (λ (u : Timer). time ≤ u.running.point) (sym is) (omega arith)
 
-end-ahead : (t : Timer) (set : TrickleSet) (words : _) (l time : ℕ) → t ≡ begun set words l time → time ≤ t.running.begin + t.running.length
+end-ahead : (t : Timer) (set : TrickleSet) (words : _) (l time : ℕ) → t ≡ begun_timer set words l time → time ≤ t.running.begin + t.running.length
 end-ahead t set words l time is = subst (λ (u : Timer). time ≤ u.running.begin + u.running.length) (sym is) (omega arith)
 
 in_interval-ahead : (i : ℕ) (x : Scheduled) (t : Timer) (time : ℕ) → time ≤ t.running.point → time ≤ t.running.begin + t.running.length → Among x (of_interval i t) → time ≤ x.time
@@ -237,7 +237,7 @@ timed-new w s m last l right may timed is = record {
   here_is : ((after_moment w s m).nodes N).timer ≡ (node_after w (node_at w s m) m).timer
   here_is = ap (λ (n : Node). n.timer) (nodes-here w s m)
 
-  timer_is : ((after_moment w s m).nodes N).timer ≡ begun old.set old.words l m.time
+  timer_is : ((after_moment w s m).nodes N).timer ≡ begun_timer old.set old.words l m.time
   timer_is = here_is ∙ begun-timer w s m l is
 
   length_is : ((after_moment w s m).nodes N).timer.running.length ≡ l
@@ -252,7 +252,7 @@ timed-new w s m last l right may timed is = record {
   two : 2 ≤ l
   two = omega (arith, bounds.0, right.low)
 
-  inside : (m.time + l / 2 ≤ (begun old.set old.words l m.time).running.point) × ((begun old.set old.words l m.time).running.point < m.time + l)
+  inside : (m.time + l / 2 ≤ (begun_timer old.set old.words l m.time).running.point) × ((begun_timer old.set old.words l m.time).running.point < m.time + l)
   inside = interval_bounds l m.time (pcg32 old.words).0 two
 
   only : (t : ℕ) → Among (event.Expire N) ((after_moment w s m).due t) → t ≡ (node_after w (node_at w s m) m).timer.running.begin + (node_after w (node_at w s m) m).timer.running.length
@@ -339,7 +339,7 @@ ontime-new w s m l by is two whole short = pointed waits (omega (arith, below, w
   here_is : ((after_moment w s m).nodes N).timer ≡ (node_after w (node_at w s m) m).timer
   here_is = ap (λ (n : Node). n.timer) (nodes-here w s m)
 
-  timer_is : ((after_moment w s m).nodes N).timer ≡ begun (node_at w s m).timer.set (node_at w s m).timer.words l m.time
+  timer_is : ((after_moment w s m).nodes N).timer ≡ begun_timer (node_at w s m).timer.set (node_at w s m).timer.words l m.time
   timer_is = here_is ∙ begun-timer w s m l is
 
   length_is : ((after_moment w s m).nodes N).timer.running.length ≡ l

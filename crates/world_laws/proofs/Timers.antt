@@ -7,7 +7,7 @@ use Rattle.mate_num.specs.declared.id.HandlerId.{HandlerId}
 use Rattle.packet_codec.specs.declared.packet.Packet.{Packet}
 use Rattle.packet_codec.specs.declared.packet.Packet.TheVariants.{Vector, Status, Fragment, App}
 use Rattle.trickle_timer.specs.Intervals as trickle
-use Rattle.trickle_timer.specs.Timer.{Timer, begun, heard}
+use Rattle.trickle_timer.specs.Timer.{Timer, begun_timer, packet_event}
 use Rattle.trickle_timer.specs.declared.timer.Fire.{Fire}
 use Rattle.trickle_timer.specs.declared.timer.Fire.TheVariants as fire
 use Rattle.capsule_exchange.specs.Happenings.{Happening, completed_by, next_slot}
@@ -27,22 +27,22 @@ pub record IsSameInterval (s t : Timer) : Type 0 where
 -- no interval begins
 pub timer_kept : (n : Node) (e : NodeEffect) (time : ℕ) → begun_length n e ≡ None → IsSameInterval n.timer (timer_after n e time)
 timer_kept n e time none = by e.timer none where
-  kept : (t : trickle.Event) (l : Option ℕ) → l ≡ None → IsSameInterval n.timer (option_map_or (λ length. begun n.timer.set n.timer.words length time) l (record n.timer { running = record n.timer.running { heard = min (trickle.count n.timer.running.heard t) 65535 } }))
+  kept : (t : trickle.TimerEvent) (l : Option ℕ) → l ≡ None → IsSameInterval n.timer (option_map_or (λ length. begun_timer n.timer.set n.timer.words length time) l (record n.timer { running = record n.timer.running { heard = min (trickle.count n.timer.running.heard t) 65535 } }))
   kept t None is = record { set = refl; begin = refl; length = refl; point = refl }
   kept t (Some l) is = cc
 
-  by : (o : Option trickle.Event) → begun_length n (record e { timer = o }) ≡ None → IsSameInterval n.timer (timer_after n (record e { timer = o }) time)
+  by : (o : Option trickle.TimerEvent) → begun_length n (record e { timer = o }) ≡ None → IsSameInterval n.timer (timer_after n (record e { timer = o }) time)
   by None is = record { set = refl; begin = refl; length = refl; point = refl }
   by (Some t) is = kept t (trickle.next_length n.timer.set n.timer.running.length t) is
 
 -- one begins
-pub timer_begun : (n : Node) (e : NodeEffect) (time l : ℕ) → begun_length n e ≡ Some l → timer_after n e time ≡ begun n.timer.set n.timer.words l time
+pub timer_begun : (n : Node) (e : NodeEffect) (time l : ℕ) → begun_length n e ≡ Some l → timer_after n e time ≡ begun_timer n.timer.set n.timer.words l time
 timer_begun n e time l some = by e.timer some where
-  new : (t : trickle.Event) (o : Option ℕ) → o ≡ Some l → option_map_or (λ length. begun n.timer.set n.timer.words length time) o (record n.timer { running = record n.timer.running { heard = min (trickle.count n.timer.running.heard t) 65535 } }) ≡ begun n.timer.set n.timer.words l time
+  new : (t : trickle.TimerEvent) (o : Option ℕ) → o ≡ Some l → option_map_or (λ length. begun_timer n.timer.set n.timer.words length time) o (record n.timer { running = record n.timer.running { heard = min (trickle.count n.timer.running.heard t) 65535 } }) ≡ begun_timer n.timer.set n.timer.words l time
   new t None is = cc
-  new t (Some k) is = let same : k ≡ l = cc in ap (λ (x : ℕ). begun n.timer.set n.timer.words x time) same
+  new t (Some k) is = let same : k ≡ l = cc in ap (λ (x : ℕ). begun_timer n.timer.set n.timer.words x time) same
 
-  by : (o : Option trickle.Event) → begun_length n (record e { timer = o }) ≡ Some l → timer_after n (record e { timer = o }) time ≡ begun n.timer.set n.timer.words l time
+  by : (o : Option trickle.TimerEvent) → begun_length n (record e { timer = o }) ≡ Some l → timer_after n (record e { timer = o }) time ≡ begun_timer n.timer.set n.timer.words l time
   by None is = cc
   by (Some t) is = new t (trickle.next_length n.timer.set n.timer.running.length t) is
 
@@ -58,7 +58,7 @@ why_begun n e l some = by e.timer refl some where
   short true is given = shortened (grind (arith, is)) (cc)
   short false is given = cc
 
-  by : (o : Option trickle.Event) → e.timer ≡ o → begun_length n (record e { timer = o }) ≡ Some l → Begins n e l
+  by : (o : Option trickle.TimerEvent) → e.timer ≡ o → begun_length n (record e { timer = o }) ≡ Some l → Begins n e l
   by None is given = cc
   by (Some trickle.Consistent) is given = cc
   by (Some trickle.Inconsistent) is given = short (nat_lt n.timer.set.imin n.timer.running.length) refl given
@@ -78,7 +78,7 @@ few_none c e none = (λ is. cc, λ is. cc)
 few_reset : (c : Cause) (e : NodeEffect) → e.timer ≡ Some trickle.Reset → AreFew c e
 few_reset c e none = (λ is. cc, λ is. cc)
 
-few_heard : (c : Cause) (e : NodeEffect) (b : Bool) → e.timer ≡ Some (heard b) → AreFew c e
+few_heard : (c : Cause) (e : NodeEffect) (b : Bool) → e.timer ≡ Some (packet_event b) → AreFew c e
 few_heard c e true none = (λ is. cc, λ is. cc)
 few_heard c e false none = (λ is. cc, λ is. cc)
 

@@ -2,7 +2,7 @@
 use Rattle.std.specs.Prelude.{◌≡◌, ℕ, ◌+◌, ℤ, List, ◌∷◌, ◌++◌, ◌⊎◌}
 use Rattle.arrayvec.specs.ArrayVec.{ArrayVec}
 use Rattle.mate_num.specs.declared.id.FunId.{FunId}
-use Rattle.mate_journal.specs.Journal.{Told, Asked}
+use Rattle.mate_journal.specs.Journal.{JournalEntry, Asked}
 use Rattle.world_rules.specs.Cause.{Cause}
 use Rattle.world_rules.specs.Cause as event
 use Rattle.world_rules.specs.World.{World, latency_of}
@@ -12,14 +12,14 @@ use Rattle.world_rules.specs.Run.{HaveCome, IsDone}
 use Rattle.world_laws.specs.Causes.{HasEvent, IsCancelled}
 
 -- the answer to a call of f by invocation n in the event, behind these entries of it
-abbrev pub answer_for : World → WorldState → Moment → List Told → ℕ → FunId → Cause
+abbrev pub answer_for : World → WorldState → Moment → List JournalEntry → ℕ → FunId → Cause
 answer_for w s m front n f =
     event.Due (event_node w m.cause) ((node_after w (node_at w s m) m).reading.invocations n).context n
     (answer_at w (event_node w m.cause) ((node_at w s m).called ++ calls_in front) f (m.time + latency_of w f))
 
 -- a call has its answer then, or an event before cuts its invocation
 abbrev pub CallsAreAnswered : World → Type 0
-CallsAreAnswered w = (before later : List Moment) (m : Moment) (front rest : List Told) (n : ℕ) (f : FunId) (args : ArrayVec ℤ)
+CallsAreAnswered w = (before later : List Moment) (m : Moment) (front rest : List JournalEntry) (n : ℕ) (f : FunId) (args : ArrayVec ℤ)
     → HaveCome w (later ++ (m ∷ before))
     → m.told ≡ front ++ Asked n f args ∷ rest → IsDone (state w (later ++ (m ∷ before))) (m.time + latency_of w f)
     → HasEvent later (m.time + latency_of w f) (answer_for w (state w before) m front n f)
@@ -31,8 +31,8 @@ pub record WasCalled (w : World) (ms : List Moment) (x : Moment) : Type 0 where
   pub moment : Moment
   pub older : List Moment
   pub split : ms ≡ newer ++ moment ∷ older
-  pub front : List Told
-  pub rest : List Told
+  pub front : List JournalEntry
+  pub rest : List JournalEntry
   pub invocation : ℕ
   pub fun : FunId
   pub args : ArrayVec ℤ

@@ -5,7 +5,7 @@ use Rattle.std.specs.List.{filter_map}
 use Rattle.arrayvec.specs.ArrayVec.{ArrayVec}
 use Rattle.mate_num.specs.declared.id.HandlerId.{HandlerId}
 use Rattle.mate_journal.specs.Machine.{Machine, HeldProgram}
-use Rattle.mate_journal.specs.Journal.{Told, Posted, Dropped, Started, Asked, Answered, Ended, Installed, Reset, Seen, Void, told_by}
+use Rattle.mate_journal.specs.Journal.{JournalEntry, Posted, Dropped, Started, Asked, Answered, Ended, Installed, Reset, Seen, Void, untimed}
 use Rattle.world_rules.specs.World.{World}
 use Rattle.world_rules.specs.Effect.{Deed, Nothing, Installing, Posting, Answering, Showing, Resetting, event_node}
 use Rattle.world_rules.specs.State.{Moment, calls_in, effect_at, state}
@@ -22,7 +22,7 @@ pub data Given : Type 0 where
   Refuses : Given
 
 -- starts, calls and ends are an invocation's own
-abbrev pub given_in : Told → Option Given
+abbrev pub given_in : JournalEntry → Option Given
 given_in (Posted n h c payload) = Some (GivesOccasion h)
 given_in (Dropped h cause) = Some (GivesOccasion h)
 given_in (Started n) = None
@@ -57,10 +57,10 @@ given_to w k (m ∷ before) = given_to w k before ++ (if k == event_node w m.cau
 
 -- and so does the journal of each node
 abbrev pub JournalsTellWhatCame : World → Type 0
-JournalsTellWhatCame w = (k : ℕ) (ms : List Moment) → HaveCome w ms → filter_map given_in (told_by (journal w k ms)) ≡ given_to w k ms
+JournalsTellWhatCame w = (k : ℕ) (ms : List Moment) → HaveCome w ms → filter_map given_in (untimed (journal w k ms)) ≡ given_to w k ms
 
 -- a post's payload is that of its occasion: a message's or a line's values, or none
-abbrev pub HasPayload : ArrayVec ℤ → Told → Type 0
+abbrev pub HasPayload : ArrayVec ℤ → JournalEntry → Type 0
 HasPayload given (Posted n h c payload) = payload ≡ given
 HasPayload given (Dropped h cause) = Unit {0}
 HasPayload given (Started n) = Unit {0}
@@ -86,4 +86,4 @@ PostsHaveTheirPayload w = (before : List Moment) (m : Moment) → HaveCome w (m 
 
 -- the calls by whose places answers are chosen are all calls that the node's journal tells
 abbrev pub CalledAreTold : World → Type 0
-CalledAreTold w = (k : ℕ) (ms : List Moment) → ((state w ms).nodes k).called ≡ calls_in (told_by (journal w k ms))
+CalledAreTold w = (k : ℕ) (ms : List Moment) → ((state w ms).nodes k).called ≡ calls_in (untimed (journal w k ms))

@@ -3,7 +3,7 @@ use Rattle.std.specs.Prelude.{◌≡◌, ◌==◌, if◌then◌else◌, true, �
 use Rattle.arrayvec.specs.ArrayVec.{ArrayVec}
 use Rattle.mate_num.specs.declared.id.FunId.{FunId}
 use Rattle.mate_journal.specs.Machine.{HeldProgram}
-use Rattle.mate_journal.specs.Journal.{Told, Asked}
+use Rattle.mate_journal.specs.Journal.{JournalEntry, Asked}
 use Rattle.packet_codec.specs.declared.packet.Packet.{Packet}
 use Rattle.packet_codec.specs.declared.packet.Packet.TheVariants.{Vector, App}
 use Rattle.trickle_timer.specs.Intervals as trickle
@@ -24,7 +24,7 @@ pub data SendsFor (w : World) (s : WorldState) (m : Moment) (p : Packet) : Type 
       → slice_get (asks_after (handlers w) heard (node_at w s m).exchange) i ≡ Some p → SendsFor w s m p
   OwesFragment : (node slot : ℕ) → m.cause ≡ event.Pump node → next_slot (handlers w) (node_at w s m).exchange ≡ Some slot
       → p ≡ fragment_for (node_at w s m).exchange slot → SendsFor w s m p
-  IsMessage : (front rest : List Told) (n : ℕ) (f : FunId) (args : ArrayVec ℤ) → m.told ≡ front ++ Asked n f args ∷ rest
+  IsMessage : (front rest : List JournalEntry) (n : ℕ) (f : FunId) (args : ArrayVec ℤ) → m.told ≡ front ++ Asked n f args ∷ rest
       → is_send_kind (called_kind w f) ≡ true → p ≡ App args → SendsFor w s m p
 
 -- each packet is sent for one of these

@@ -7,12 +7,12 @@ use Rattle.world_rules.specs.Effect.{event_node}
 use Rattle.world_rules.specs.State.{Moment, effect_at, state}
 
 -- what an event does to a timer, and when
-abbrev pub timed_happening : ℕ → Option trickle.Event → List trickle.Happening
+abbrev pub timed_happening : ℕ → Option trickle.TimerEvent → List trickle.TimerHappening
 timed_happening time None = []
 timed_happening time (Some e) = record { event = e; time = time } ∷ []
 
 -- all that happened to a node's timer, in order
-abbrev pub timer_happenings : World → ℕ → List Moment → List trickle.Happening
+abbrev pub timer_happenings : World → ℕ → List Moment → List trickle.TimerHappening
 timer_happenings w k [] = []
 timer_happenings w k (m ∷ before) = timer_happenings w k before
     ++ (if k == event_node w m.cause then timed_happening m.time (effect_at w (state w before) m).timer else [])

@@ -7,7 +7,7 @@ use Rattle.world_script.specs.declared.world.World.{World}
 use Rattle.world_script.specs.declared.world.Series.{Series}
 use Rattle.world_script.specs.declared.world.Planned.{Planned}
 use Rattle.world_script.specs.World.{IsRightLink, AreOtherLinks, IsRightSeries, AreOtherSeries, IsRightPlanned, IfInjects, Follow}
-use Rattle.script_reader.specs.Words.{Reading}
+use Rattle.script_reader.specs.Words.{WordReading}
 use Rattle.script_reader.specs.NodeReader.{files_after}
 use Rattle.world_lines.specs.declared.stage.Stage.{Stage}
 use Rattle.world_lines.specs.declared.stage.Stage.TheVariants as stage
@@ -20,7 +20,7 @@ use Rattle.world_lines.specs.WorldLines.{WorldSaid, SaysNodes, SaysRandom, SaysU
 use Rattle.world_lines.specs.WorldLines.{WorldProgress, is_free, is_linked}
 
 -- what a function returned, seen by view, and the words that it left are what the reading gives, where memory was not refused
-abbrev pub ReadsWithMemory : {X Y : Type 0} → (X → Y) → Reading Y → List (List ℕ) → Result X Refusal → List (List ℕ) → Type 0
+abbrev pub ReadsWithMemory : {X Y : Type 0} → (X → Y) → WordReading Y → List (List ℕ) → Result X Refusal → List (List ℕ) → Type 0
 ReadsWithMemory view reading before (Ok x) after = reading before ≡ Ok (record { value = view x; rest = after })
 ReadsWithMemory view reading before (Err (refusal.Bad cause)) after = reading before ≡ Err cause
 ReadsWithMemory view reading before (Err refusal.NoMemory) after = ⊤

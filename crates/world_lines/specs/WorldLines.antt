@@ -12,7 +12,7 @@ use Rattle.world_script.specs.declared.world.Series.{Series}
 use Rattle.world_script.specs.declared.world.Planned.{Planned}
 use Rattle.world_script.specs.declared.world.What.{What}
 use Rattle.world_script.specs.declared.world.What.TheVariants as what
-use Rattle.script_reader.specs.Words.{Reading, ◌>>=◌, give, found, a_word, nothing_more, a_number, a_payload, a_handler, a_version}
+use Rattle.script_reader.specs.Words.{WordReading, ◌>>=◌, give, found, a_word, nothing_more, a_number, a_payload, a_handler, a_version}
 use Rattle.world_lines.specs.declared.stage.Stage.{Stage}
 use Rattle.world_lines.specs.declared.stage.Stage.TheVariants as stage
 use Rattle.world_lines.specs.WorldWords.{a_node, a_time, a_sensor, some_values, some_noise}
@@ -43,7 +43,7 @@ switch_of w =
     else Err Word
 
 -- behind `suppress`
-unfoldable pub a_switch : Reading Bool
+unfoldable pub a_switch : WordReading Bool
 a_switch = a_word >>= (λ w. found (switch_of w))
 
 abbrev pub is_linked : ℕ → ℕ → List Link → Bool
@@ -53,13 +53,13 @@ is_linked from to links = list_any (λ l. (l.from == from) && (l.to == to)) link
 abbrev pub is_free : List Link → Bool → ℕ → ℕ → Bool
 is_free links both from to = not (from == to) && (not (is_linked from to links) && not (both && is_linked to from links))
 
-unfoldable pub a_far_end : World → Bool → ℕ → Reading ℕ
+unfoldable pub a_far_end : World → Bool → ℕ → WordReading ℕ
 a_far_end w both from = do
   to ← a_node w.nodes
   found (if is_free w.links both from to then Ok to else Err Range)
 
 -- `link A B LOSS`, `both A B LOSS`
-unfoldable pub a_link : World → Bool → Reading WorldSaid
+unfoldable pub a_link : World → Bool → WordReading WorldSaid
 a_link w both = do
   from ← a_node w.nodes
   to ← a_far_end w both from
@@ -67,7 +67,7 @@ a_link w both = do
   give (SaysLink (record { from = from; to = to; loss = loss }) both)
 
 -- `series NODE FUN V ..`
-unfoldable pub a_series : Description → World → Reading WorldSaid
+unfoldable pub a_series : Description → World → WordReading WorldSaid
 a_series d w = do
   node ← a_node w.nodes
   fun ← a_sensor d
@@ -80,7 +80,7 @@ abbrev pub planned : ℕ → ℕ → What → Planned
 planned time node what = record { time = time; node = node; what = what }
 
 -- `inject NODE HANDLER VERSION FILE`
-unfoldable pub an_injection : Description → WorldProgress → ℕ → Reading WorldSaid
+unfoldable pub an_injection : Description → WorldProgress → ℕ → WordReading WorldSaid
 an_injection d p time = do
   node ← a_node p.world.nodes
   handler ← a_handler d
@@ -89,7 +89,7 @@ an_injection d p time = do
   give (SaysPlanned (planned time node (what.Inject (length p.world.files) handler version)) (Some file))
 
 -- `post NODE HANDLER V ..`
-unfoldable pub a_posting : Description → World → ℕ → Reading WorldSaid
+unfoldable pub a_posting : Description → World → ℕ → WordReading WorldSaid
 a_posting d w time = do
   node ← a_node w.nodes
   handler ← a_handler d
@@ -97,19 +97,19 @@ a_posting d w time = do
   give (SaysPlanned (planned time node (what.Post handler payload)) None)
 
 -- `noise NODE HEX`
-unfoldable pub a_noise : Description → World → ℕ → Reading WorldSaid
+unfoldable pub a_noise : Description → World → ℕ → WordReading WorldSaid
 a_noise d w time = do
   node ← a_node w.nodes
   bytes ← some_noise d
   give (SaysPlanned (planned time node (what.Noise bytes)) None)
 
 -- `show NODE`, `reset NODE`
-unfoldable pub at_node : World → ℕ → What → Reading WorldSaid
+unfoldable pub at_node : World → ℕ → What → WordReading WorldSaid
 at_node w time what = do
   node ← a_node w.nodes
   give (SaysPlanned (planned time node what) None)
 
-unfoldable pub behind_time : Description → WorldProgress → ℕ → List ℕ → Reading WorldSaid
+unfoldable pub behind_time : Description → WorldProgress → ℕ → List ℕ → WordReading WorldSaid
 behind_time d p time verb =
     if bytes_eq verb (codes "inject") then an_injection d p time
     else if bytes_eq verb (codes "post") then a_posting d p.world time
@@ -119,7 +119,7 @@ behind_time d p time verb =
     else found (Err Word)
 
 -- behind the word `at`
-unfoldable pub an_event : Description → WorldProgress → Reading WorldSaid
+unfoldable pub an_event : Description → WorldProgress → WordReading WorldSaid
 an_event d p = do
   time ← a_time p.world.until p.time
   verb ← a_word
@@ -128,20 +128,20 @@ an_event d p = do
 -- ---- a whole line
 
 -- where the first word is the one that has to come
-abbrev pub by_its_verb : {A : Type 0} → List ℕ → List ℕ → Reading A → Reading A
+abbrev pub by_its_verb : {A : Type 0} → List ℕ → List ℕ → WordReading A → WordReading A
 by_its_verb verb wanted reading = if bytes_eq verb wanted then reading else found (Err Word)
 
 -- `nodes N`, `random S` and `until MS`
-unfoldable pub some_nodes : List ℕ → Reading ℕ
+unfoldable pub some_nodes : List ℕ → WordReading ℕ
 some_nodes verb = by_its_verb verb (codes "nodes") (a_number 1 64 Range)
 
-unfoldable pub a_random : List ℕ → Reading ℕ
+unfoldable pub a_random : List ℕ → WordReading ℕ
 a_random verb = by_its_verb verb (codes "random") (a_number 0 (2 ^ 64 - 1) Range)
 
-unfoldable pub an_until : List ℕ → Reading ℕ
+unfoldable pub an_until : List ℕ → WordReading ℕ
 an_until verb = by_its_verb verb (codes "until") (a_number 1 3600000 Range)
 
-unfoldable pub a_setting : Description → WorldProgress → List ℕ → Reading WorldSaid
+unfoldable pub a_setting : Description → WorldProgress → List ℕ → WordReading WorldSaid
 a_setting d p verb =
     if bytes_eq verb (codes "suppress") then (a_switch >>= (λ on. give (SaysSuppress on)))
     else if bytes_eq verb (codes "link") then a_link p.world false
@@ -150,14 +150,14 @@ a_setting d p verb =
     else by_its_verb verb (codes "at") (an_event d p)
 
 -- what stands behind a line's first word
-abbrev pub behind_verb : Description → WorldProgress → Stage → List ℕ → Reading WorldSaid
+abbrev pub behind_verb : Description → WorldProgress → Stage → List ℕ → WordReading WorldSaid
 behind_verb d p stage.Nodes verb = some_nodes verb >>= (λ nodes. give (SaysNodes nodes))
 behind_verb d p stage.Random verb = a_random verb >>= (λ random. give (SaysRandom random))
 behind_verb d p stage.Until verb = an_until verb >>= (λ until. give (SaysUntil until))
 behind_verb d p stage.Settings verb = a_setting d p verb
 behind_verb d p stage.Events verb = by_its_verb verb (codes "at") (an_event d p)
 
-unfoldable pub a_world_line : Description → WorldProgress → Reading WorldSaid
+unfoldable pub a_world_line : Description → WorldProgress → WordReading WorldSaid
 a_world_line d p = do
   verb ← a_word
   said ← behind_verb d p p.stage verb

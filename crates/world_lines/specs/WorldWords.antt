@@ -13,17 +13,17 @@ use Rattle.capsule_codec.specs.HexText.{image_in}
 use Rattle.packet_codec.specs.Reading.{is_noise}
 use Rattle.script_reader.specs.declared.fault.Cause.{Cause}
 use Rattle.script_reader.specs.declared.fault.Cause.TheVariants.{Word, Number, Range, TimeBack, Name, Node, Packet}
-use Rattle.script_reader.specs.Words.{Reading, ◌>>=◌, found, a_word, a_number, values_from}
+use Rattle.script_reader.specs.Words.{WordReading, ◌>>=◌, found, a_word, a_number, values_from}
 
 -- one of so many nodes
-unfoldable pub a_node : ℕ → Reading ℕ
+unfoldable pub a_node : ℕ → WordReading ℕ
 a_node nodes = a_number 0 (nodes - 1) Node
 
 -- a time up to the last one of the run, and not before the last one so far
 abbrev pub not_back : ℕ → ℕ → Result ℕ Cause
 not_back last time = if nat_le last time then Ok time else Err TimeBack
 
-unfoldable pub a_time : ℕ → ℕ → Reading ℕ
+unfoldable pub a_time : ℕ → ℕ → WordReading ℕ
 a_time until last = a_number 0 until Range >>= (λ time. found (not_back last time))
 
 abbrev pub if_senses : ℕ → FunKind → Result FunId Cause
@@ -42,11 +42,11 @@ sensor_from w n (f ∷ functions) = if bytes_eq f.name w then if_senses n f.kind
 abbrev pub sensor_of : Description → List ℕ → Result FunId Cause
 sensor_of d w = sensor_from w 0 d.functions.items
 
-unfoldable pub a_sensor : Description → Reading FunId
+unfoldable pub a_sensor : Description → WordReading FunId
 a_sensor d = a_word >>= (λ w. found (sensor_of d w))
 
 -- one value or more, to the end of the line
-abbrev pub some_values : Reading (List ℤ)
+abbrev pub some_values : WordReading (List ℤ)
 some_values [] = Err Word
 some_values (w ∷ words) = found (values_from [] (w ∷ words)) []
 
@@ -64,5 +64,5 @@ noise_bytes d (Ok bytes) = if_noise d bytes.items
 noise_bytes d (Err BadHex) = Err Number
 noise_bytes d (Err TooLong) = Err Range
 
-unfoldable pub some_noise : Description → Reading (ArrayVec ℕ)
+unfoldable pub some_noise : Description → WordReading (ArrayVec ℕ)
 some_noise d = a_word >>= (λ w. found (noise_bytes d (image_in w)))

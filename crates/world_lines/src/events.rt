@@ -1,8 +1,8 @@
 //! What the events of a world's script say.
 
 ghost use Rattle.std.specs.Prelude.{◌≡◌, ◌<◌, ◌≤◌, ◌^◌, codes, length, None, IfOk, slice_index};
-ghost use Rattle.script_reader.specs.Lines.{words_of};
-ghost use Rattle.script_reader.specs.Words.{Reads};
+ghost use Rattle.script_reader.specs.Lines.{split_words};
+ghost use Rattle.script_reader.specs.Words.{ReadsWords};
 ghost use Rattle.world_script.specs.World.{IsRightWhat, IfInjects};
 ghost use Rattle.world_lines.specs.WorldLines.{SaysPlanned, an_injection, a_posting, a_noise, at_node, behind_time, an_event, by_its_verb};
 ghost use Rattle.world_lines.specs.Draft.{world_progress_of, world_said_of, IsRightWorldSaid, KeepsWorld};
@@ -24,8 +24,8 @@ impl Draft {
     ) -> Result<Command<'a>, Cause>
         requires keeps { KeepsWorld desc.now (world_progress_of self.now) }
         requires files { length self.now.world.files < 2 ^ 32 }
-        ensures value { Reads world_said_of (by_its_verb verb.now (codes "at") (an_event desc.now (world_progress_of self.now)))
-            (words_of words.old) result (words_of words.new) }
+        ensures value { ReadsWords world_said_of (by_its_verb verb.now (codes "at") (an_event desc.now (world_progress_of self.now)))
+            (split_words words.old) result (split_words words.new) }
         ensures right { IfOk result (λ c. IsRightWorldSaid desc.now (world_progress_of self.now) (world_said_of c)) }
     {
         if verb == "at" {
@@ -39,8 +39,8 @@ impl Draft {
     fn timed<'a>(&self, desc: &Description, words: &mut Words<'a>) -> Result<Command<'a>, Cause>
         requires keeps { KeepsWorld desc.now (world_progress_of self.now) }
         requires files { length self.now.world.files < 2 ^ 32 }
-        ensures value { Reads world_said_of (an_event desc.now (world_progress_of self.now)) (words_of words.old) result
-            (words_of words.new) }
+        ensures value { ReadsWords world_said_of (an_event desc.now (world_progress_of self.now)) (split_words words.old) result
+            (split_words words.new) }
         ensures right { IfOk result (λ c. IsRightWorldSaid desc.now (world_progress_of self.now) (world_said_of c)) }
     {
         let time = time_in(self.world.until, self.time, words)?;
@@ -61,8 +61,8 @@ impl Draft {
         requires files { length self.now.world.files < 2 ^ 32 }
         requires low { self.now.time ≤ time }
         requires high { time ≤ self.now.world.until }
-        ensures value { Reads world_said_of (behind_time desc.now (world_progress_of self.now) time verb.now) (words_of words.old) result
-            (words_of words.new) }
+        ensures value { ReadsWords world_said_of (behind_time desc.now (world_progress_of self.now) time verb.now) (split_words words.old) result
+            (split_words words.new) }
         ensures right { IfOk result (λ c. IsRightWorldSaid desc.now (world_progress_of self.now) (world_said_of c)) }
     {
         if verb == "inject" {
@@ -91,8 +91,8 @@ impl Draft {
         requires files { length self.now.world.files < 2 ^ 32 }
         requires low { self.now.time ≤ time }
         requires high { time ≤ self.now.world.until }
-        ensures value { Reads world_said_of (an_injection desc.now (world_progress_of self.now) time) (words_of words.old) result
-            (words_of words.new) }
+        ensures value { ReadsWords world_said_of (an_injection desc.now (world_progress_of self.now) time) (split_words words.old) result
+            (split_words words.new) }
         ensures right { IfOk result (λ c. IsRightWorldSaid desc.now (world_progress_of self.now) (world_said_of c)) }
     {
         let node = node_in(self.world.nodes, words)?;
@@ -120,7 +120,7 @@ impl Draft {
         requires keeps { KeepsWorld desc.now (world_progress_of self.now) }
         requires low { self.now.time ≤ time }
         requires high { time ≤ self.now.world.until }
-        ensures value { Reads world_said_of (a_posting desc.now self.now.world time) (words_of words.old) result (words_of words.new) }
+        ensures value { ReadsWords world_said_of (a_posting desc.now self.now.world time) (split_words words.old) result (split_words words.new) }
         ensures right { IfOk result (λ c. IsRightWorldSaid desc.now (world_progress_of self.now) (world_said_of c)) }
     {
         let node = node_in(self.world.nodes, words)?;
@@ -139,7 +139,7 @@ impl Draft {
         requires keeps { KeepsWorld desc.now (world_progress_of self.now) }
         requires low { self.now.time ≤ time }
         requires high { time ≤ self.now.world.until }
-        ensures value { Reads world_said_of (a_noise desc.now self.now.world time) (words_of words.old) result (words_of words.new) }
+        ensures value { ReadsWords world_said_of (a_noise desc.now self.now.world time) (split_words words.old) result (split_words words.new) }
         ensures right { IfOk result (λ c. IsRightWorldSaid desc.now (world_progress_of self.now) (world_said_of c)) }
     {
         let node = node_in(self.world.nodes, words)?;
@@ -161,7 +161,7 @@ impl Draft {
         requires high { time ≤ self.now.world.until }
         requires right { IsRightWhat desc.now (length self.now.world.files) what }
         requires newer { IfInjects what (λ handler version. slice_index (world_progress_of self.now).newest handler.0 < version) }
-        ensures value { Reads world_said_of (at_node self.now.world time what) (words_of words.old) result (words_of words.new) }
+        ensures value { ReadsWords world_said_of (at_node self.now.world time what) (split_words words.old) result (split_words words.new) }
         ensures right { IfOk result (λ c. IsRightWorldSaid desc.now (world_progress_of self.now) (world_said_of c)) }
     {
         let node = node_in(self.world.nodes, words)?;

@@ -1,8 +1,8 @@
 //! What a whole line says, by the world so far.
 
 ghost use Rattle.std.specs.Prelude.{◌<◌, ◌≤◌, ◌^◌, length, IfOk};
-ghost use Rattle.script_reader.specs.Lines.{words_of};
-ghost use Rattle.script_reader.specs.Words.{Reads};
+ghost use Rattle.script_reader.specs.Lines.{split_words};
+ghost use Rattle.script_reader.specs.Words.{ReadsWords};
 ghost use Rattle.world_lines.specs.WorldLines.{some_nodes, a_random, an_until, behind_verb, a_world_line};
 ghost use Rattle.world_lines.specs.Draft.{ReadsWithMemory, world_progress_of, world_said_of, IsRightWorldSaid, KeepsWorld, AreTables};
 
@@ -25,8 +25,8 @@ impl Draft {
         requires keeps { KeepsWorld desc.now (world_progress_of self.now) }
         requires tables { AreTables self.now.linked self.now.places self.now.world }
         requires files { length self.now.world.files < 2 ^ 32 }
-        ensures value { ReadsWithMemory world_said_of (a_world_line desc.now (world_progress_of self.now)) (words_of words.old) result
-            (words_of words.new) }
+        ensures value { ReadsWithMemory world_said_of (a_world_line desc.now (world_progress_of self.now)) (split_words words.old) result
+            (split_words words.new) }
         ensures right { IfOk result (λ c. IsRightWorldSaid desc.now (world_progress_of self.now) (world_said_of c)) }
     {
         let verb = words.word()?;
@@ -46,7 +46,7 @@ impl Draft {
         requires tables { AreTables self.now.linked self.now.places self.now.world }
         requires files { length self.now.world.files < 2 ^ 32 }
         ensures value { ReadsWithMemory world_said_of (behind_verb desc.now (world_progress_of self.now) self.now.stage verb.now)
-            (words_of words.old) result (words_of words.new) }
+            (split_words words.old) result (split_words words.new) }
         ensures right { IfOk result (λ c. IsRightWorldSaid desc.now (world_progress_of self.now) (world_said_of c)) }
     {
         match self.stage {
@@ -61,7 +61,7 @@ impl Draft {
 
 #[tactic(auto, unfolding(crate::specs::WorldLines::some_nodes))]
 fn nodes_in(verb: &str, words: &mut Words<'_>) -> Result<u8, Cause>
-    ensures value { Reads (λ n. n) (some_nodes verb.now) (words_of words.old) result (words_of words.new) }
+    ensures value { ReadsWords (λ n. n) (some_nodes verb.now) (split_words words.old) result (split_words words.new) }
     ensures low { IfOk result (λ n. 1 ≤ n) }
     ensures high { IfOk result (λ n. n ≤ 64) }
 {
@@ -75,7 +75,7 @@ fn nodes_in(verb: &str, words: &mut Words<'_>) -> Result<u8, Cause>
 
 #[tactic(auto, unfolding(crate::specs::WorldLines::a_random))]
 fn random_in(verb: &str, words: &mut Words<'_>) -> Result<u64, Cause>
-    ensures { Reads (λ n. n) (a_random verb.now) (words_of words.old) result (words_of words.new) }
+    ensures { ReadsWords (λ n. n) (a_random verb.now) (split_words words.old) result (split_words words.new) }
 {
     if verb == "random" {
         let random = words.number(0, u64::MAX, Cause::Range)?;
@@ -87,7 +87,7 @@ fn random_in(verb: &str, words: &mut Words<'_>) -> Result<u64, Cause>
 
 #[tactic(auto, unfolding(crate::specs::WorldLines::an_until))]
 fn until_in(verb: &str, words: &mut Words<'_>) -> Result<u32, Cause>
-    ensures value { Reads (λ n. n) (an_until verb.now) (words_of words.old) result (words_of words.new) }
+    ensures value { ReadsWords (λ n. n) (an_until verb.now) (split_words words.old) result (split_words words.new) }
     ensures low { IfOk result (λ n. 1 ≤ n) }
     ensures high { IfOk result (λ n. n ≤ 3600000) }
 {

@@ -1,8 +1,8 @@
 //! What the settings of a world's script say.
 
 ghost use Rattle.std.specs.Prelude.{◌≡◌, ◌<◌, ◌≤◌, ◌^◌, length, true, IfOk};
-ghost use Rattle.script_reader.specs.Lines.{words_of};
-ghost use Rattle.script_reader.specs.Words.{Reads};
+ghost use Rattle.script_reader.specs.Lines.{split_words};
+ghost use Rattle.script_reader.specs.Words.{ReadsWords};
 ghost use Rattle.world_lines.specs.declared.stage.Stage.TheVariants as stages;
 ghost use Rattle.world_lines.specs.WorldLines.{a_switch, is_free, is_linked, a_far_end, a_link, a_series, a_setting};
 ghost use Rattle.world_lines.specs.Draft.{ReadsWithMemory, world_progress_of, world_said_of, IsRightWorldSaid, KeepsWorld, AreTables};
@@ -28,8 +28,8 @@ impl Draft {
         requires tables { AreTables self.now.linked self.now.places self.now.world }
         requires files { length self.now.world.files < 2 ^ 32 }
         requires stage { self.now.stage ≡ stages.Settings }
-        ensures value { ReadsWithMemory world_said_of (a_setting desc.now (world_progress_of self.now) verb.now) (words_of words.old)
-            result (words_of words.new) }
+        ensures value { ReadsWithMemory world_said_of (a_setting desc.now (world_progress_of self.now) verb.now) (split_words words.old)
+            result (split_words words.new) }
         ensures right { IfOk result (λ c. IsRightWorldSaid desc.now (world_progress_of self.now) (world_said_of c)) }
     {
         if verb == "suppress" {
@@ -55,7 +55,7 @@ impl Draft {
         requires keeps { KeepsWorld desc.now (world_progress_of self.now) }
         requires tables { AreTables self.now.linked self.now.places self.now.world }
         requires stage { self.now.stage ≡ stages.Settings }
-        ensures value { Reads world_said_of (a_link self.now.world both) (words_of words.old) result (words_of words.new) }
+        ensures value { ReadsWords world_said_of (a_link self.now.world both) (split_words words.old) result (split_words words.new) }
         ensures right { IfOk result (λ c. IsRightWorldSaid desc.now (world_progress_of self.now) (world_said_of c)) }
     {
         let from = node_in(self.world.nodes, words)?;
@@ -76,7 +76,7 @@ impl Draft {
         requires low { 1 ≤ self.now.world.nodes }
         requires high { self.now.world.nodes ≤ 64 }
         requires tables { AreTables self.now.linked self.now.places self.now.world }
-        ensures value { Reads (λ n. n) (a_far_end self.now.world both from) (words_of words.old) result (words_of words.new) }
+        ensures value { ReadsWords (λ n. n) (a_far_end self.now.world both from) (split_words words.old) result (split_words words.new) }
         ensures below { IfOk result (λ to. to < self.now.world.nodes) }
         ensures free { IfOk result (λ to. is_free self.now.world.links both from to ≡ true) }
     {
@@ -111,7 +111,7 @@ impl Draft {
     fn series<'a>(&self, desc: &Description, words: &mut Words<'a>) -> Result<Command<'a>, Refusal>
         requires keeps { KeepsWorld desc.now (world_progress_of self.now) }
         requires stage { self.now.stage ≡ stages.Settings }
-        ensures value { ReadsWithMemory world_said_of (a_series desc.now self.now.world) (words_of words.old) result (words_of words.new) }
+        ensures value { ReadsWithMemory world_said_of (a_series desc.now self.now.world) (split_words words.old) result (split_words words.new) }
         ensures right { IfOk result (λ c. IsRightWorldSaid desc.now (world_progress_of self.now) (world_said_of c)) }
     {
         let node = node_in(self.world.nodes, words)?;
@@ -123,7 +123,7 @@ impl Draft {
 
 #[tactic(auto, unfolding(crate::specs::WorldLines::a_switch))]
 fn switch_in(words: &mut Words<'_>) -> Result<bool, Cause>
-    ensures { Reads (λ on. on) a_switch (words_of words.old) result (words_of words.new) }
+    ensures { ReadsWords (λ on. on) a_switch (split_words words.old) result (split_words words.new) }
 {
     let word = words.word()?;
     if word == "on" {

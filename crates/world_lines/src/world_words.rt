@@ -3,8 +3,8 @@
 ghost use Rattle.std.specs.Prelude.{◌≡◌, ◌<◌, ◌≤◌, length, IfOk, slice_get};
 ghost use Rattle.std.specs.Option.{IsSomeAnd};
 ghost use Rattle.vm_desc.specs.declared.function.FunKind.TheVariants as kinds;
-ghost use Rattle.script_reader.specs.Lines.{words_of};
-ghost use Rattle.script_reader.specs.Words.{Reads};
+ghost use Rattle.script_reader.specs.Lines.{split_words};
+ghost use Rattle.script_reader.specs.Words.{ReadsWords};
 ghost use Rattle.world_script.specs.World.{IsRightNoise};
 ghost use Rattle.world_lines.specs.WorldWords.{a_node, a_time, not_back, if_senses, sensor_of, a_sensor, some_values, if_noise, some_noise};
 ghost use Rattle.world_lines.specs.Draft.{ReadsWithMemory};
@@ -21,7 +21,7 @@ use world_script::Values;
 #[tactic(auto, unfolding(crate::specs::WorldWords::a_node))]
 pub fn node_in(nodes: u8, words: &mut Words<'_>) -> Result<u8, Cause>
     requires { 1 ≤ nodes }
-    ensures value { Reads (λ n. n) (a_node nodes) (words_of words.old) result (words_of words.new) }
+    ensures value { ReadsWords (λ n. n) (a_node nodes) (split_words words.old) result (split_words words.new) }
     ensures below { IfOk result (λ n. n < nodes) }
 {
     let node = words.number(0, u64::from(nodes - 1), Cause::Node)?;
@@ -31,7 +31,7 @@ pub fn node_in(nodes: u8, words: &mut Words<'_>) -> Result<u8, Cause>
 /// A time up to `until`, and not before `last`.
 #[tactic(auto, unfolding(crate::specs::WorldWords::a_time))]
 pub fn time_in(until: u32, last: u32, words: &mut Words<'_>) -> Result<u32, Cause>
-    ensures value { Reads (λ t. t) (a_time until last) (words_of words.old) result (words_of words.new) }
+    ensures value { ReadsWords (λ t. t) (a_time until last) (split_words words.old) result (split_words words.new) }
     ensures high { IfOk result (λ t. t ≤ until) }
     ensures later { IfOk result (λ t. last ≤ t) }
 {
@@ -54,7 +54,7 @@ fn not_back(last: u32, time: u32) -> Result<u32, Cause>
 /// A function of the machine that reads a sensor.
 #[tactic(auto, unfolding(crate::specs::WorldWords::a_sensor))]
 pub fn sensor_in(desc: &Description, words: &mut Words<'_>) -> Result<FunId, Cause>
-    ensures value { Reads (λ f. f) (a_sensor desc.now) (words_of words.old) result (words_of words.new) }
+    ensures value { ReadsWords (λ f. f) (a_sensor desc.now) (split_words words.old) result (split_words words.new) }
     ensures senses { IfOk result (λ fun. IsSomeAnd (slice_get desc.now.functions.items fun.0) (λ f. f.kind ≡ kinds.Sense)) }
 {
     let word = words.word()?;
@@ -89,7 +89,7 @@ fn if_senses(number: u8, kind: FunKind) -> Result<FunId, Cause>
 
 /// One value or more, to the end of the line.
 pub fn values_in(alloc: Global, words: &mut Words<'_>) -> Result<Values, Refusal>
-    ensures value { ReadsWithMemory (λ vs. vs) some_values (words_of words.old) result (words_of words.new) }
+    ensures value { ReadsWithMemory (λ vs. vs) some_values (split_words words.old) result (split_words words.new) }
     ensures some { IfOk result (λ vs. 1 ≤ length vs) }
 {
     if words.is_done() {
@@ -106,7 +106,7 @@ pub fn values_in(alloc: Global, words: &mut Words<'_>) -> Result<Values, Refusal
 /// Bytes that are no packet of the machine, 1 to 64, in hexadecimal digits.
 #[tactic(auto, unfolding(crate::specs::WorldWords::some_noise))]
 pub fn noise_in(desc: &Description, words: &mut Words<'_>) -> Result<PacketBytes, Cause>
-    ensures value { Reads (λ b. b) (some_noise desc.now) (words_of words.old) result (words_of words.new) }
+    ensures value { ReadsWords (λ b. b) (some_noise desc.now) (split_words words.old) result (split_words words.new) }
     ensures right { IfOk result (λ b. IsRightNoise desc.now b.items) }
 {
     let word = words.word()?;

@@ -7,7 +7,7 @@ use Rattle.mate_steps.specs.Parts.{Folder, file}
 use Rattle.mate_steps.specs.Steps.{◌▸◌}
 use Rattle.script_programs.specs.Programs.{script_programs}
 use Rattle.script_programs.specs.Scripts.{script_text}
-use Rattle.script_reader.specs.Lines.{lines, words_of, is_skipped}
+use Rattle.script_reader.specs.Lines.{lines, split_words, is_skipped}
 use Rattle.vm_desc.specs.declared.description.Description.{Description}
 use Rattle.world_programs.specs.Injected.{world_programs}
 use Rattle.world_programs.specs.WorldFiles.{world_text}
@@ -20,7 +20,7 @@ begins_world (word ∷ words) = bytes_eq word (codes "nodes")
 -- so does the first line that says something
 abbrev pub are_of_world : List (List ℕ) → Bool
 are_of_world [] = false
-are_of_world (line ∷ more) = if is_skipped (words_of line) then are_of_world more else begins_world (words_of line)
+are_of_world (line ∷ more) = if is_skipped (split_words line) then are_of_world more else begins_world (split_words line)
 
 -- the script is a world's
 abbrev pub is_of_world : List ℕ → Bool

@@ -5,7 +5,7 @@ ghost use Rattle.mate_files.specs.declared.files.TheConstants.{FILE_MAX};
 ghost use Rattle.mate_steps.specs.Parts.{ReadsFiles};
 ghost use Rattle.node_programs.specs.Right.{AreRightPrograms};
 ghost use Rattle.world_programs.specs.Named.{is_of_world, begins_world, programs_by, programs_named};
-ghost use Rattle.script_reader.specs.Lines.{words_of};
+ghost use Rattle.script_reader.specs.Lines.{split_words};
 
 use crate::injected::programs_of_world;
 use crate::world_file::world_in;
@@ -95,7 +95,7 @@ fn is_of_world(bytes: &[u8]) -> bool
 
 /// Whether the first of these words is `nodes`.
 fn begins_world(mut words: Words<'_>) -> bool
-    ensures { result ≡ begins_world (words_of words.entry) }
+    ensures { result ≡ begins_world (split_words words.entry) }
 {
     match words.word() {
         Ok(word) => word == "nodes",

@@ -22,7 +22,7 @@ use Rattle.world_script.specs.declared.world.What.TheVariants as what
 use Rattle.world_script.specs.World.{IsRightLink, AreOtherLinks, IsRightSeries, AreOtherSeries, IsRightWhat, IsRightPlanned, IfInjects, Follow, IsRightWorld}
 use Rattle.script_reader.specs.NodeScript.{with_file}
 use Rattle.script_reader.specs.NodeReader.{files_after}
-use Rattle.script_reader.specs.Script.{Answers}
+use Rattle.script_reader.specs.Script.{AnswersScript}
 use Rattle.script_reader.proofs.StepLemmas.{length-with_file, files_grow}
 use Rattle.world_lines.specs.declared.stage.Stage.{Stage}
 use Rattle.world_lines.specs.declared.stage.Stage.TheVariants as stage
@@ -376,7 +376,7 @@ right_at_end d stage.Until number p k few = tt
 right_at_end d stage.Settings number p k few = right_world d p k few
 right_at_end d stage.Events number p k few = right_world d p k few
 
-pub answers_at_end : (s : Stage) (number : ℕ) (p : WorldProgress) → Answers (world_at_end s number p) (world_at_end s number p)
+pub answers_at_end : (s : Stage) (number : ℕ) (p : WorldProgress) → AnswersScript (world_at_end s number p) (world_at_end s number p)
 answers_at_end stage.Nodes number p = refl
 answers_at_end stage.Random number p = refl
 answers_at_end stage.Until number p = refl

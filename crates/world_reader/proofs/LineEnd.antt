@@ -3,8 +3,8 @@ use Rattle.std.proofs.Common.{◌≡◌, ℕ, ◌+◌, ◌<◌, ◌≤◌, false
 use Rattle.vm_desc.specs.declared.description.Description.{Description}
 use Rattle.script_reader.specs.declared.fault.ScriptFault.{ScriptFault}
 use Rattle.script_reader.specs.declared.fault.ScriptFault.TheVariants.{BadLine, NoMemory}
-use Rattle.script_reader.specs.Lines.{lines, words_of, is_skipped}
-use Rattle.script_reader.specs.Script.{Follows}
+use Rattle.script_reader.specs.Lines.{lines, split_words, is_skipped}
+use Rattle.script_reader.specs.Script.{FollowsLine}
 use Rattle.script_reader.proofs.LineLemmas.{IsAt, goes_on}
 use Rattle.script_reader.proofs.StepLemmas.{length-with_file, few_files}
 use Rattle.world_lines.specs.WorldLines.{WorldSaid, SaysNodes, SaysRandom, SaysUntil, SaysSuppress, SaysLink, SaysSeries, SaysPlanned, WorldProgress, a_world_line}
@@ -30,7 +30,7 @@ grown n p (SaysPlanned e file) b =
 
 -- what a line's end leaves
 pub record IsWorldLineEnd (d : Description) (n : ℕ) (old new : WorldProgress) (words : List (List ℕ)) (r : Result (Unit {0}) ScriptFault) : Type 0 where
-  pub value : Follows (after_world_line d old words) n r new
+  pub value : FollowsLine (after_world_line d old words) n r new
   pub count : OnOk r (length new.world.events ≤ n)
   pub files : OnOk r (length new.world.files ≤ n)
   pub keeps : OnOk r (KeepsWorld d new)
@@ -67,7 +67,7 @@ world_at_start d bytes p e small =
     subst P (sym e) begun
 
 pub world_at_next : (d : Description) (bytes : List ℕ) (n : ℕ) (p after : WorldProgress) (line rest new : List ℕ) → IsAtWorldLine d bytes n p rest → lines rest ≡ line ∷ lines new → length new < length rest
-    → Follows (after_world_line d p (words_of line)) n (Ok tt) after → length after.world.events ≤ n → length after.world.files ≤ n → KeepsWorld d after → IsAtWorldLine d bytes (n + 1) after new
+    → FollowsLine (after_world_line d p (split_words line)) n (Ok tt) after → length after.world.events ≤ n → length after.world.files ≤ n → KeepsWorld d after → IsAtWorldLine d bytes (n + 1) after new
 world_at_next d bytes n p after line rest new at next shorter ended events files keeps = record {
   at = goes_on (after_world_line d) (λ number (p : WorldProgress). world_at_end p.stage number p) (world_script_in d bytes) n p after line rest new at.at next shorter ended;
   before = record { events = omega arith; files = omega arith };

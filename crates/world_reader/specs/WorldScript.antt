@@ -12,7 +12,7 @@ use Rattle.world_script.specs.declared.world.What.{What}
 use Rattle.world_script.specs.declared.world.What.TheVariants as what
 use Rattle.script_reader.specs.Lines.{lines, is_skipped}
 use Rattle.script_reader.specs.Script.{script_from}
-use Rattle.script_reader.specs.Words.{Taken}
+use Rattle.script_reader.specs.Words.{TakenWords}
 use Rattle.script_reader.specs.NodeScript.{with_file}
 use Rattle.world_lines.specs.declared.stage.Stage.{Stage}
 use Rattle.world_lines.specs.declared.stage.Stage.TheVariants as stage
@@ -53,7 +53,7 @@ with_told p (SaysPlanned event file) = record {
   newest = newest_with p.newest event.what;
 }
 
-abbrev pub when_told : WorldProgress → Result (Taken WorldSaid) Cause → Result WorldProgress Cause
+abbrev pub when_told : WorldProgress → Result (TakenWords WorldSaid) Cause → Result WorldProgress Cause
 when_told p (Ok t) = Ok (with_told p t.value)
 when_told p (Err cause) = Err cause
 

@@ -1,8 +1,8 @@
 //! The reader of the scripts of worlds.
 
 ghost use Rattle.std.specs.Prelude.{◌≡◌, ◌<◌, ◌≤◌, ◌^◌, false, length, IfOk, OnOk, replicate};
-ghost use Rattle.script_reader.specs.Lines.{words_of};
-ghost use Rattle.script_reader.specs.Script.{Answers, Follows};
+ghost use Rattle.script_reader.specs.Lines.{split_words};
+ghost use Rattle.script_reader.specs.Script.{AnswersScript, FollowsLine};
 ghost use Rattle.world_script.specs.World.{IsRightWorld};
 ghost use Rattle.world_lines.specs.Draft.{world_progress_of, KeepsWorld, AreTables};
 ghost use Rattle.world_reader.specs.WorldScript.{after_world_line, world_script_in, world_at_end, no_world};
@@ -23,7 +23,7 @@ use world_script::{SeriesList, World};
 /// `at T noise NODE HEX`).
 pub fn world_script(alloc: Global, desc: &Description, bytes: &[u8]) -> Result<World, ScriptFault>
     requires { length bytes.now ≤ 1048576 }
-    ensures value { Answers result (world_script_in desc.now bytes.now) }
+    ensures value { AnswersScript result (world_script_in desc.now bytes.now) }
     ensures right { IfOk result (λ world. IsRightWorld desc.now world) }
 {
     let mut draft = begun(alloc);
@@ -74,7 +74,7 @@ fn read_line(
     requires small { number < 2 ^ 32 }
     requires keeps { KeepsWorld desc.now (world_progress_of draft.old) }
     requires tables { AreTables draft.old.linked draft.old.places draft.old.world }
-    ensures value { Follows (after_world_line desc.now (world_progress_of draft.old) (words_of line.now)) number result
+    ensures value { FollowsLine (after_world_line desc.now (world_progress_of draft.old) (split_words line.now)) number result
         (world_progress_of draft.new) }
     ensures count { OnOk result (length draft.new.world.events ≤ number) }
     ensures files { OnOk result (length draft.new.world.files ≤ number) }

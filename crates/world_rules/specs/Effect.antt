@@ -6,14 +6,14 @@ use Rattle.arrayvec.specs.ArrayVec.{ArrayVec}
 use Rattle.mate_num.specs.declared.id.HandlerId.{HandlerId}
 use Rattle.mate_num.specs.declared.id.FunId.{FunId}
 use Rattle.mate_journal.specs.Machine.{HeldProgram}
-use Rattle.mate_journal.specs.Journal.{Reading}
+use Rattle.mate_journal.specs.Journal.{NodeState}
 use Rattle.mate_journal.specs.Pace.{Pace}
 use Rattle.mate_journal.specs.declared.air.Air.{Air}
 use Rattle.mate_journal.specs.declared.air.Air.TheVariants as air
 use Rattle.packet_codec.specs.declared.packet.Packet.{Packet}
 use Rattle.packet_codec.specs.declared.packet.Packet.TheVariants.{Vector, Status, Fragment, App}
 use Rattle.trickle_timer.specs.Intervals as trickle
-use Rattle.trickle_timer.specs.Timer.{Timer, heard}
+use Rattle.trickle_timer.specs.Timer.{Timer, packet_event}
 use Rattle.trickle_timer.specs.declared.timer.Fire.{Fire}
 use Rattle.trickle_timer.specs.declared.timer.Fire.TheVariants as fire
 use Rattle.capsule_exchange.specs.Happenings.{Happening, Hears, Sends, Installs, Forgets, held_versions, target_version, collected_image}
@@ -27,7 +27,7 @@ use Rattle.world_rules.specs.World.{World, PlannedLine, Want, Inject, Post, Show
 -- first, whether a
 -- pump is due, and the functions that it called, in order
 pub record Node : Type 0 where
-  pub reading : Reading
+  pub reading : NodeState
   pub pace : Pace
   pub timer : Timer
   pub exchange : List Happening
@@ -49,7 +49,7 @@ pub record NodeEffect : Type 0 where
   pub first : List Air
   pub deed : Deed
   pub happened : List Happening
-  pub timer : Option trickle.Event
+  pub timer : Option trickle.TimerEvent
   pub sends : List Packet
 
 abbrev pub no_effect : NodeEffect
@@ -85,7 +85,7 @@ of_fragment packet before (Some h) =
 abbrev pub of_packet : World → List Happening → Packet → NodeEffect
 of_packet w before (Vector versions) = record no_effect {
   happened = Hears (Vector versions) ∷ [];
-  timer = Some (heard (bytes_eq versions.items (held_versions (handlers w) before)));
+  timer = Some (packet_event (bytes_eq versions.items (held_versions (handlers w) before)));
   sends = asks_after (handlers w) (Vector versions) before;
 }
 of_packet w before (Status g version missing) = record no_effect { happened = Hears (Status g version missing) ∷ [] }
@@ -127,7 +127,7 @@ event_node w (event.Deliver link number packet) = receiver w link
 -- the length of the Trickle interval that begins, where one does
 abbrev pub begun_length : Node → NodeEffect → Option ℕ
 begun_length n e = of_event e.timer where
-  of_event : Option trickle.Event → Option ℕ
+  of_event : Option trickle.TimerEvent → Option ℕ
   of_event None = None
   of_event (Some t) = trickle.next_length n.timer.set n.timer.running.length t
 

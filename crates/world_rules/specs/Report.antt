@@ -1,8 +1,8 @@
 -- The report of a world.
 use Rattle.std.specs.Prelude.{◌≡◌, ℕ, ◌<◌, List, length, slice_get, IsSomeAnd}
 use Rattle.mate_journal.specs.Log.{Log}
-use Rattle.mate_journal.specs.Journal.{journal_of, nothing_heard}
-use Rattle.mate_journal.specs.Journal.{Event as Entered}
+use Rattle.mate_journal.specs.Journal.{journal_of, first_state}
+use Rattle.mate_journal.specs.Journal.{TimedEntry as Entered}
 use Rattle.mate_journal.specs.WellFormed.{IsWellFormed}
 use Rattle.mate_journal.specs.Serial.{IsSerial}
 use Rattle.mate_journal.specs.Stores.{ShowsStores}
@@ -20,10 +20,10 @@ use Rattle.world_rules.specs.Run.{HaveCome, IsAtEnd, airs, IsJournalOf}
 -- their ends, give what it tells; it shows stores as they are; an invocation waits to start only for conflicting ones; and
 -- in each era the calls to a device are in order.
 pub record IsRightJournal (w : World) (es : List Entered) : Type 0 where
-  pub well_formed : IsWellFormed w.machine (nothing_heard w.machine) es
-  pub serial : IsSerial w.machine (nothing_heard w.machine) es
-  pub stores : ShowsStores w.machine (nothing_heard w.machine) es
-  pub grants : GrantsInOrder w.machine (nothing_heard w.machine) 0 es
+  pub well_formed : IsWellFormed w.machine (first_state w.machine) es
+  pub serial : IsSerial w.machine (first_state w.machine) es
+  pub stores : ShowsStores w.machine (first_state w.machine) es
+  pub grants : GrantsInOrder w.machine (first_state w.machine) 0 es
   pub devices : AsksDevicesInOrder w.machine.device_of es
 
 -- a node's log tells its journal in this run, which is right, and is tidy

@@ -5,8 +5,8 @@ use Rattle.arrayvec.specs.ArrayVec.{ArrayVec}
 use Rattle.mate_num.specs.declared.id.HandlerId.{HandlerId}
 use Rattle.mate_num.specs.declared.call.Stamp.{Stamp}
 use Rattle.mate_journal.specs.Machine.{Machine}
-use Rattle.mate_journal.specs.Journal.{Told, Answered, Reading, heard_told}
-use Rattle.mate_journal.specs.Journal.{Event as Entered}
+use Rattle.mate_journal.specs.Journal.{JournalEntry, Answered, NodeState, state_after_entries}
+use Rattle.mate_journal.specs.Journal.{TimedEntry as Entered}
 use Rattle.mate_journal.specs.Pace.{Pace, paced_all}
 use Rattle.mate_journal.specs.Turns.{Settles}
 use Rattle.mate_journal.specs.NodeScript.{Occasion, Installs, ShowsOnce, Resets, RunEnd, Whole, Full, Cut, records_max}
@@ -19,15 +19,15 @@ use Rattle.world_rules.specs.State.{Moment, WorldState, node_at, effect_at, air_
 
 -- which entries may be made, at what was heard before them and the pace before them
 abbrev pub MakingRule : Type 1
-MakingRule = Reading → Pace → List Told → Type 0
+MakingRule = NodeState → Pace → List JournalEntry → Type 0
 
 -- one after the other; no instruction is executed in the first
-pub record FirstThen (m : Machine) (first second : MakingRule) (r : Reading) (p : Pace) (told : List Told) : Type 0 where
-  pub front : List Told
-  pub rest : List Told
+pub record FirstThen (m : Machine) (first second : MakingRule) (r : NodeState) (p : Pace) (told : List JournalEntry) : Type 0 where
+  pub front : List JournalEntry
+  pub rest : List JournalEntry
   pub made : told ≡ front ++ rest
   pub by_first : first r p front
-  pub by_second : second (heard_told m r front) (paced_all p front) rest
+  pub by_second : second (state_after_entries m r front) (paced_all p front) rest
 
 -- an occasion for each of the handlers, in order
 abbrev pub Occasions : Machine → ArrayVec ℤ → List HandlerId → MakingRule
@@ -94,7 +94,7 @@ journal w k (m ∷ before) = journal w k before ++ (if k == event_node w m.cause
 
 -- a whole run ends with the store of each node seen, under the next number, at the last time
 pub record SeesStore (w : World) (k : ℕ) (ms : List Moment) (last : List Entered) : Type 0 where
-  pub told : List Told
+  pub told : List JournalEntry
   pub shown : ShowsOnce w.machine ((state w ms).nodes k).reading ((state w ms).nodes k).pace told
   pub stamped : last ≡ map (λ t. record { stamp = record { event = suc (length ms); time = w.until }; told = t }) told
 

@@ -7,8 +7,8 @@ use Rattle.arrayvec.specs.ArrayVec.{ArrayVec}
 use Rattle.mate_num.specs.declared.id.FunId.{FunId}
 use Rattle.vm_desc.specs.declared.function.FunKind.{FunKind}
 use Rattle.vm_desc.specs.declared.function.FunKind.TheVariants as fun
-use Rattle.mate_journal.specs.Journal.{Told, Posted, Dropped, Started, Asked, Answered, Ended, Installed, Reset, Seen, Void, Reading}
-use Rattle.mate_journal.specs.Journal.{heard_told, nothing_heard}
+use Rattle.mate_journal.specs.Journal.{JournalEntry, Posted, Dropped, Started, Asked, Answered, Ended, Installed, Reset, Seen, Void, NodeState}
+use Rattle.mate_journal.specs.Journal.{state_after_entries, first_state}
 use Rattle.mate_journal.specs.Pace.{Pace, no_pace}
 use Rattle.mate_journal.specs.declared.air.Air.{Air}
 use Rattle.mate_journal.specs.declared.air.Air.TheVariants as air
@@ -16,7 +16,7 @@ use Rattle.packet_codec.specs.declared.packet.Packet.{Packet}
 use Rattle.packet_codec.specs.declared.packet.Packet.TheVariants.{App}
 use Rattle.packet_codec.specs.Bytes.{packet_bytes}
 use Rattle.trickle_timer.specs.Intervals as trickle
-use Rattle.trickle_timer.specs.Timer.{Timer, after, started_timer}
+use Rattle.trickle_timer.specs.Timer.{Timer, after_happening, started_timer}
 use Rattle.world_rules.specs.Cause.{Cause}
 use Rattle.world_rules.specs.Cause as event
 use Rattle.world_rules.specs.World.{World, PlannedLine, handlers, stream_word, receiver, links_from, loss, period_of, called_kind}
@@ -27,7 +27,7 @@ use Rattle.world_rules.specs.Effect.{Node, NodeEffect, node_effect, event_node, 
 pub record Moment : Type 0 where
   pub time : ℕ
   pub cause : Cause
-  pub told : List Told
+  pub told : List JournalEntry
   pub pace : Pace
 
 -- what is due at each time, in the order in which it was scheduled; the nodes; and who sent each packet so far
@@ -51,7 +51,7 @@ of_time t xs = filter_map (at_this t) xs
 
 -- ---- calls
 
-abbrev pub asked_by : Told → Option FunId
+abbrev pub asked_by : JournalEntry → Option FunId
 asked_by (Posted n h c payload) = None
 asked_by (Dropped h cause) = None
 asked_by (Started n) = None
@@ -64,7 +64,7 @@ asked_by (Seen store) = None
 asked_by (Void cause) = None
 
 -- the functions that the entries call
-abbrev pub calls_in : List Told → List FunId
+abbrev pub calls_in : List JournalEntry → List FunId
 calls_in told = filter_map asked_by told
 
 abbrev pub is_send_kind : FunKind → Bool
@@ -83,7 +83,7 @@ is_rand_kind fun.Id = false
 is_rand_kind fun.Rand = true
 is_rand_kind fun.Clock = false
 
-abbrev pub message_in : World → Told → Option Packet
+abbrev pub message_in : World → JournalEntry → Option Packet
 message_in w (Posted n h c payload) = None
 message_in w (Dropped h cause) = None
 message_in w (Started n) = None
@@ -96,7 +96,7 @@ message_in w (Seen store) = None
 message_in w (Void cause) = None
 
 -- the messages that the entries send
-abbrev pub messages : World → List Told → List Packet
+abbrev pub messages : World → List JournalEntry → List Packet
 messages w told = filter_map (message_in w) told
 
 -- the i-th value of a series, whose last one goes on; 0 for none
@@ -115,11 +115,11 @@ answer_at w node called f time = by (called_kind w f) where
   by fun.Clock = pos (time / 1000 % 32768)
 
 -- the answers that fall due
-abbrev pub answers_due : World → ℕ → ℕ → Reading → List FunId → List Told → List Scheduled
+abbrev pub answers_due : World → ℕ → ℕ → NodeState → List FunId → List JournalEntry → List Scheduled
 answers_due w node time r called [] = []
 answers_due w node time r called (t ∷ told) = option_map_or (λ (a : FunId × ℕ). due_for a.0 a.1
     ∷ answers_due w node time r (called ++ a.0 ∷ []) told) (call_in t) (answers_due w node time r called told) where
-      call_in : Told → Option (FunId × ℕ)
+      call_in : JournalEntry → Option (FunId × ℕ)
       call_in (Posted n h c payload) = None
       call_in (Dropped h cause) = None
       call_in (Started n) = None
@@ -191,7 +191,7 @@ air_made w s m =
     ++ flat_map (air_of_sending w node) (sendings w s node (packets_of w s m))
 
 abbrev pub timer_after : Node → NodeEffect → ℕ → Timer
-timer_after n e time = option_map_or (λ (t : trickle.Event). after n.timer (record { event = t; time = time })) e.timer n.timer
+timer_after n e time = option_map_or (λ (t : trickle.TimerEvent). after_happening n.timer (record { event = t; time = time })) e.timer n.timer
 
 abbrev pub is_pump : Cause → Bool
 is_pump (event.Planned line) = false
@@ -210,7 +210,7 @@ abbrev pub node_after : World → Node → Moment → Node
 node_after w n m =
     let e = node_effect w n m.cause in
     record {
-      reading = heard_told w.machine n.reading m.told;
+      reading = state_after_entries w.machine n.reading m.told;
       pace = m.pace;
       timer = timer_after n e m.time;
       exchange = e.happened ++ n.exchange;
@@ -291,7 +291,7 @@ after_moment w s m =
 
 abbrev pub start_node : World → ℕ → Node
 start_node w node = record {
-  reading = nothing_heard w.machine;
+  reading = first_state w.machine;
   pace = no_pace;
   timer = started_timer (record { set = w.description.trickle; random = w.random; node = node; time = 0 });
   exchange = [];

@@ -13,7 +13,7 @@ use Rattle.world_rules.specs.Cause.{Cause, Period, Expire, Pump}
 use Rattle.world_rules.specs.Effect.{NodeEffect}
 use Rattle.world_rules.specs.State.{Scheduled, WorldState, is_kept, of_time, next_period, new_interval, new_pump, sendings, air_of_sending, sent_bytes}
 use Rattle.world_rules.specs.World.{World, period_of}
-use Rattle.world_air.specs.Air.{radio_event}
+use Rattle.sim_air.specs.Air.{radio_event}
 
 -- the old end is cancelled
 pub end_is_gone : (node : ℕ) (e : NodeEffect) (begins same : Bool) (due : List Cause) → begins ≡ true → same ≡ false → due ≡ Expire node ∷ []

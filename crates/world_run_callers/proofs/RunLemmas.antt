@@ -2,7 +2,7 @@
 use Rattle.std.proofs.Common.{◌≡◌, ◌≤◌, ◌<◌, ℕ, suc, false, List, [], ◌∷◌, ◌++◌, map, length, Option, Some, None, Result, Ok, Err, sym, ap, ◌∙◌, subst, arith}
 use Rattle.std.specs.Prelude.{slice_get, IsSomeAnd, IfOk, IfErr}
 use Rattle.mate_num.specs.declared.call.Stamp.{Stamp}
-use Rattle.mate_journal.specs.Journal.{Event, Told, Seen}
+use Rattle.mate_journal.specs.Journal.{TimedEntry, JournalEntry, Seen}
 use Rattle.mate_journal.specs.Log.{Log}
 use Rattle.mate_journal.specs.NodeScript.{RunEnd, Full, Whole, Cut}
 use Rattle.mate_journal.specs.declared.program.Program.{Program}
@@ -21,7 +21,7 @@ use Rattle.mate_files.specs.Sink.{SentPart, SentShort}
 use Rattle.report_text.specs.Text.{lines}
 use Rattle.run_writing.specs.Writing.{RunsInto, written_text}
 use Rattle.world_sim.specs.Promise.{IsReportOfWorld, WorldRunGives}
-use Rattle.world_states.specs.SourceWorld.{source_world}
+use Rattle.world_state_laws.specs.SourceWorld.{source_world}
 use Rattle.world_run_callers.specs.Runs.{CameWithRoom, EndsSeen, IsFullBehind}
 
 of_report : (w : World) (r report : Report) → LogFull r ≡ LogFull report → IsWorldReport w Full r → IsFullBehind w report.events
@@ -54,11 +54,11 @@ of_log : (w : World) (ms : List Moment) (events : ℕ) (l : Log) → events ≡ 
 of_log w ms events l count told =
     let sees = told.journal.ends in
     let stamp : Stamp = record { event = suc (length ms); time = w.until } in
-    let stamped : Told → Event = λ t. record { stamp = stamp; told = t } in
+    let stamped : JournalEntry → Event = λ t. record { stamp = stamp; told = t } in
     record {
       before = journal w 0 ms;
       store = sees.shown.seen;
-      is = told.journal.journal_is ∙ ap (λ (last : List Event). journal w 0 ms ++ last) (sees.stamped ∙ ap (map stamped) sees.shown.made)
+      is = told.journal.journal_is ∙ ap (λ (last : List TimedEntry). journal w 0 ms ++ last) (sees.stamped ∙ ap (map stamped) sees.shown.made)
           ∙ ap (λ (n : ℕ). journal w 0 ms ++ record { stamp = record { event = n; time = w.until }; told = Seen sees.shown.seen } ∷ []) (sym count);
     }
 

@@ -2,7 +2,7 @@
 use Rattle.std.specs.Prelude.{◌≡◌, ◌+◌, ◌≤◌, ℕ, not, ◌&&◌, true, [], ◌∷◌, None, length, All}
 use Rattle.std.specs.List.{flat_map}
 use Rattle.vm_desc.specs.declared.description.Description.{Description}
-use Rattle.packet_codec.specs.Packet.{IsRight}
+use Rattle.packet_codec.specs.Packet.{IsRightPacket}
 use Rattle.packet_codec.specs.declared.packet.Packet.{Packet}
 use Rattle.world_script.specs.World.{IsRightWorld}
 use Rattle.world_script.specs.declared.world.World.{World as Script}
@@ -12,10 +12,10 @@ use Rattle.world_rules.specs.Effect.{event_node, begun_length, is_owing}
 use Rattle.world_rules.specs.State.{Moment, WorldState, node_at, effect_at, node_after, still_pumps, next_period, deliveries, sendings}
 use Rattle.world_rules.specs.State.{packets_of, left_due}
 use Rattle.world_rules.specs.World.{World}
-use Rattle.world_air.specs.Air.{radio_event}
-use Rattle.world_event.specs.Finishing.{IsTakenFrom, HasSettled}
-use Rattle.world_step.specs.declared.effect.Effect.{Effect}
-use Rattle.world_step.specs.declared.mote.Mote.{Mote}
+use Rattle.sim_air.specs.Air.{radio_event}
+use Rattle.sim_event.specs.Finishing.{IsTakenFrom, HasSettled}
+use Rattle.sim_mote.specs.declared.effect.Effect.{Effect}
+use Rattle.sim_mote.specs.declared.mote.Mote.{Mote}
 
 -- the event of a node can end at this time; its entries are those from a position on
 pub record MayFinish (d : Description) (script : Script) (radio : Ether) (x : Mote) (number : ℕ) (r : Effect) (from time : ℕ) : Type 0 where
@@ -28,7 +28,7 @@ pub record MayFinish (d : Description) (script : Script) (radio : Ether) (x : Mo
   pub hour : time ≤ 3600000
   pub few : length radio.air ≤ 1000000
   pub wires : length (wires_of radio number) ≤ 4096
-  pub right : All (IsRight (length d.handlers.items)) r.sends.items
+  pub right : All (IsRightPacket (length d.handlers.items)) r.sends.items
   pub interval : r.begins ≡ true → time ≤ x.timer.running.begin
   pub counts : length x.calls.counts.items ≡ length d.functions.items
 

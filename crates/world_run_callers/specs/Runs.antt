@@ -2,7 +2,7 @@
 use Rattle.std.specs.Prelude.{◌≡◌, ℕ, ◌≤◌, ◌<◌, List, [], ◌∷◌, ◌++◌, length}
 use Rattle.mate_num.specs.declared.store.Store.{Store}
 use Rattle.mate_journal.specs.Log.{Log}
-use Rattle.mate_journal.specs.Journal.{Event, Seen, journal_of}
+use Rattle.mate_journal.specs.Journal.{TimedEntry, Seen, journal_of}
 use Rattle.world_rules.specs.Run.{HaveCome}
 use Rattle.world_rules.specs.State.{Moment, state}
 use Rattle.world_rules.specs.World.{World}
@@ -23,6 +23,6 @@ pub record CameWithRoom (w : World) (events : ℕ) : Type 0 where
 
 -- the log's last entry shows a store, under this number and at this time
 pub record EndsSeen (event time : ℕ) (l : Log) : Type 0 where
-  pub before : List Event
+  pub before : List TimedEntry
   pub store : Store
   pub is : journal_of l ≡ before ++ record { stamp = record { event = event; time = time }; told = Seen store } ∷ []

@@ -11,16 +11,16 @@ ghost use Rattle.radio_sim.specs.declared.event.Event.TheVariants as radio_kind;
 ghost use Rattle.world_rules.specs.Cause.{Period, Expire};
 ghost use Rattle.world_rules.specs.State.{Moment, WorldState, sent_bytes, schedules, of_time};
 ghost use Rattle.world_rules.specs.World.{period_of};
-ghost use Rattle.world_air.specs.Air.{aired_at};
-ghost use Rattle.world_states.specs.Coming.{code_world};
+ghost use Rattle.sim_air.specs.Air.{aired_at};
+ghost use Rattle.world_state_laws.specs.Coming.{code_world};
 ghost use Rattle.world_run_callers.specs.Ends.{MayFinish, IsMoment, IsMomentBefore, IsPumpFirst, SendsAlone};
 
 use mate_num::{NoMemory, Stamp};
 use radio_sim::{Event, Radio};
 use vm_desc::Description;
-use world_event::finish::finish;
+use sim_event::finish::finish;
 use world_script::World;
-use world_step::{Effect, Mote};
+use sim_mote::{Effect, Mote};
 
 /// After an event the end of the interval before comes no more where one begins; where the next period and a delivery fall on one
 /// time the period comes first, and of a pump and an answer the pump; and a packet that the exchange asks for is sent before the

@@ -14,17 +14,17 @@ ghost use Rattle.world_rules.specs.Cause.{Planned, Deliver};
 ghost use Rattle.world_rules.specs.Effect.{Node as NodeState};
 ghost use Rattle.world_rules.specs.State.{sent_bytes};
 ghost use Rattle.world_rules.specs.World.{Inject, handlers};
-ghost use Rattle.world_step.specs.Motes.{IsTellable};
-ghost use Rattle.world_states.specs.Coming.{code_world, MayComeTo};
-ghost use Rattle.world_handling.specs.Handling.{IsMoteOf, IsOpenExchange, IsPaced};
+ghost use Rattle.sim_mote.specs.Motes.{IsTellable};
+ghost use Rattle.world_state_laws.specs.Coming.{code_world, MayComeTo};
+ghost use Rattle.sim_handling.specs.Handling.{IsMoteOf, IsOpenExchange, IsPaced};
 
 use mate_journal::Programs;
 use mate_num::{NoMemory, PacketBytes, Stamp};
 use radio_sim::Event;
 use vm_desc::Description;
-use world_handling::handle;
+use sim_handling::handle;
 use world_script::World;
-use world_step::{Effect, Mote};
+use sim_mote::{Effect, Mote};
 
 /// The program of the script's first line is installed as its own version.
 pub fn an_injection_has_its_own_version(

@@ -24,13 +24,13 @@ use Rattle.run_writing.specs.Writing.{OfRun, IsEnded}
 use Rattle.world_laws.proofs.Among.{all-at}
 use Rattle.world_rules.specs.World.{World}
 use Rattle.world_rules.specs.State.{Moment}
-use Rattle.world_step.specs.declared.mote.Mote.{Mote}
-use Rattle.world_text.specs.EventText.{ShowTheirStores}
-use Rattle.world_simulation.specs.Keeping.{IsWhole, HaveForgotten, LetsGo}
-use Rattle.world_simulation.specs.Reporting.{ShowStores, mote_logs, told_report}
-use Rattle.world_simulation.specs.Telling.{AddsEvent}
-use Rattle.world_simulation.specs.declared.simulation.Simulation.{Simulation}
-use Rattle.world_simulation.proofs.MoteLemmas.{first-mote, at-mote}
+use Rattle.sim_mote.specs.declared.mote.Mote.{Mote}
+use Rattle.world_text_laws.specs.EventText.{ShowTheirStores}
+use Rattle.sim_run.specs.Keeping.{IsWhole, HaveForgotten, LetsGo}
+use Rattle.sim_run.specs.Reporting.{ShowStores, mote_logs, told_report}
+use Rattle.sim_run.specs.Telling.{AddsEvent}
+use Rattle.sim_run.specs.declared.simulation.Simulation.{Simulation}
+use Rattle.sim_run.proofs.MoteLemmas.{first-mote, at-mote}
 use Rattle.world_sim.specs.Counting.{IsCounted, IsCountedBehind, CountsHand, AreCounted, IsTallied, IsTalliedBefore, IsSmallTally, MayCount}
 use Rattle.world_sim.proofs.HandLemmas.{at-hand-now}
 use Rattle.world_sim.proofs.RecordingLemmas.{mote-low, one-mote, store-behind}

@@ -7,8 +7,8 @@ use Rattle.std.proofs.lemmas.List.{length-map, length-append}
 use Rattle.std.proofs.lemmas.List.Elements.{All-nil, All-cons}
 use Rattle.mate_num.specs.declared.call.Stamp.{Stamp}
 use Rattle.mate_journal.specs.Log.{Log}
-use Rattle.mate_journal.specs.Journal.{Told, Seen, told_of, journal_of}
-use Rattle.mate_journal.specs.Journal.{Event as Entered}
+use Rattle.mate_journal.specs.Journal.{JournalEntry, Seen, journal_entry, journal_of}
+use Rattle.mate_journal.specs.Journal.{TimedEntry as Entered}
 use Rattle.mate_journal.specs.NodeScript.{Whole, Cut}
 use Rattle.mate_journal.specs.OpenLog.{Gone, nothing_gone}
 use Rattle.mate_journal.specs.Ranges.{HasAiredRanges, HasReportRanges}
@@ -17,7 +17,7 @@ use Rattle.mate_journal.specs.Tidy.{NumbersInOrder, below}
 use Rattle.mate_files.specs.Sink.{Puts}
 use Rattle.mate_files.specs.declared.sink.SinkFault.{SinkFault}
 use Rattle.run_record.specs.declared.record.Record.{Record}
-use Rattle.run_writing.specs.Writing.{HasWritten, PutsLast, WritesReport, lines_before, last_line, write_fault_of}
+use Rattle.run_writing.specs.Writing.{HasWritten, PutsLastLine, WritesReport, lines_before, last_line, write_fault_of}
 use Rattle.run_writing.specs.declared.pass.Pass.{Pass}
 use Rattle.run_writing.specs.declared.write_fault.WriteFault.{WriteFault}
 use Rattle.run_writing.proofs.WritingLemmas.{written-nothing, written-more, stopped-within, ended-whole}
@@ -31,31 +31,31 @@ use Rattle.world_rules.specs.World.{World}
 use Rattle.world_rules.specs.State.{Moment}
 use Rattle.world_rules.specs.Run.{journal, airs, IsJournalOf}
 use Rattle.world_rules.specs.Report.{IsWorldReport}
-use Rattle.world_text.specs.EventText.{so_far, TellJournals, ShowTheirStores, StartsWithIntervals, StoresAddTheirLines, store_lines}
-use Rattle.world_simulation.specs.Reporting.{mote_logs, told_report, ShowStores}
+use Rattle.world_text_laws.specs.EventText.{so_far, TellJournals, ShowTheirStores, StartsWithIntervals, StoresAddTheirLines, store_lines}
+use Rattle.sim_run.specs.Reporting.{mote_logs, told_report, ShowStores}
 use Rattle.world_script.specs.declared.world.World.{World as Script}
-use Rattle.world_states.specs.Coming.{code_world}
-use Rattle.world_event.specs.Performing.{IsMoteAfter}
-use Rattle.world_step.specs.declared.mote.Mote.{Mote}
-use Rattle.world_simulation.specs.Running.{StandsAfter}
-use Rattle.world_simulation.specs.Keeping.{IsWhole, HaveForgotten}
-use Rattle.world_simulation.specs.Ranging.{AreInRange}
-use Rattle.world_simulation.proofs.RangeLemmas.{shown-ranges, forgotten-ranges}
-use Rattle.world_simulation.specs.Telling.{report_now, LogsAreKept}
+use Rattle.world_state_laws.specs.Coming.{code_world}
+use Rattle.sim_event.specs.Performing.{IsMoteAfter}
+use Rattle.sim_mote.specs.declared.mote.Mote.{Mote}
+use Rattle.sim_run.specs.Running.{StandsAfter}
+use Rattle.sim_run.specs.Keeping.{IsWhole, HaveForgotten}
+use Rattle.sim_run.specs.Ranging.{AreInRange}
+use Rattle.sim_run.proofs.RangeLemmas.{shown-ranges, forgotten-ranges}
+use Rattle.sim_run.specs.Telling.{report_now, LogsAreKept}
 use Rattle.world_sim.specs.Recording.{IsRecorded}
 use Rattle.world_sim.specs.Writing.{HasWrittenNow, StandsAtEnd, WritesRecorded}
 use Rattle.mate_journal.specs.NodeScript.{RunEnd}
-use Rattle.world_simulation.specs.declared.simulation.Simulation.{Simulation}
-use Rattle.world_simulation.proofs.WorldLemmas.{some-at, of-machine, shown-machine, whole-log, whole-report}
-use Rattle.world_simulation.proofs.MoteLemmas.{log-at, long-logs, first-mote, tell, keeps-all}
-use Rattle.world_simulation.proofs.KeepingLemmas.{forgotten-motes, forgotten-kept}
+use Rattle.sim_run.specs.declared.simulation.Simulation.{Simulation}
+use Rattle.sim_run.proofs.WorldLemmas.{some-at, of-machine, shown-machine, whole-log, whole-report}
+use Rattle.sim_run.proofs.MoteLemmas.{log-at, long-logs, first-mote, tell, keeps-all}
+use Rattle.sim_run.proofs.KeepingLemmas.{forgotten-motes, forgotten-kept}
 use Rattle.world_sim.proofs.WritingLemmas.{cut-report}
 
 -- a whole journal ends with one entry of the next number
 seen-last : (w : World) (ms : List Moment) (k : ℕ) (es : List Entered) → IsJournalOf w Whole ms k es → (e : Entered) × (es ≡ journal w k ms ++ e ∷ []) × (e.stamp.event ≡ suc (length ms))
 seen-last w ms k es j =
     let stamp : Stamp = record { event = suc (length ms); time = w.until } in
-    let entered : Told → Entered = λ t. record { stamp = stamp; told = t } in
+    let entered : JournalEntry → Entered = λ t. record { stamp = stamp; told = t } in
     (entered (Seen j.ends.shown.seen), j.journal_is ∙ ap (λ (xs : List Entered). journal w k ms ++ xs) (j.ends.stamped ∙ ap (map entered) j.ends.shown.made), refl)
 
 pub shows-stores : (w : World) (ms : List Moment) (olds news : List Log) → length news ≡ length olds → TellJournals w ms olds → All NumbersInOrder olds → All NumbersInOrder news
@@ -90,7 +90,7 @@ module _ (w : World) (d : Description) (law : StoresAddTheirLines w) (ms : List 
       subst P (sym (same ∙ air)) (subst Q (sym air) (subst N (sym number) (law ms (mote_logs s.motes.items) (mote_logs new.motes.items) shows d).1))
 
   -- their lines were written, and the last line was put
-  pub ends-whole : (pass : Pass) (kept : Option Record) → IsRecorded kept new → (out f mid fm out' f' out0 f0 : _) → HasWrittenNow d s out0 f0 out f → Puts {T = Unit {0}} out f mid fm (Ok tt) Stores → PutsLast R mid fm out' f' pass
+  pub ends-whole : (pass : Pass) (kept : Option Record) → IsRecorded kept new → (out f mid fm out' f' out0 f0 : _) → HasWrittenNow d s out0 f0 out f → Puts {T = Unit {0}} out f mid fm (Ok tt) Stores → PutsLastLine R mid fm out' f' pass
       → WritesRecorded d (IsWorldReport w) out0 out' f0 f' pass kept
   ends-whole pass kept recorded out f mid fm out' f' out0 f0 written stores last = subst (λ (p : Pass). WritesRecorded d (IsWorldReport w) out0 out' f0 f' p kept) (sym last.is) (record {
     ended = new;
@@ -132,7 +132,7 @@ start-of w law d s [] none air count each m found =
     let long = long-logs s.motes.items in
     let low = first.0 in
     let logs : List Log = mote_logs s.motes.items in
-    let empty : All (λ (l : Log). l.entries ≡ []) logs = λ k l below. map-nil (λ (e : _). record { stamp = e.stamp; told = told_of (get_or logs k l) e.entry }) (get_or logs k l).entries (tell w [] s.motes.items w.nodes count each k l below) in
+    let empty : All (λ (l : Log). l.entries ≡ []) logs = λ k l below. map-nil (λ (e : _). record { stamp = e.stamp; told = journal_entry (get_or logs k l) e.entry }) (get_or logs k l).entries (tell w [] s.motes.items w.nodes count each k l below) in
     let P : List Aired → Type 0 = λ xs. lines d (so_far logs xs) ≡ event_piece d xs m.node.log 0 0 in
     subst P (sym air) (law d logs m.node.log empty (omega (arith, low, long)) (log-at s.motes.items 0 m.node.log m low ∙ ap (λ (x : Mote). x.node.log) first.1))
 
@@ -211,7 +211,7 @@ ended-ranges at s mid new f shows air gone has =
 
 -- each node has told something then
 length-told : (l : Log) → length (journal_of l) ≡ length l.entries
-length-told l = length-map l.entries (λ (e : _). record { stamp = e.stamp; told = told_of l e.entry })
+length-told l = length-map l.entries (λ (e : _). record { stamp = e.stamp; told = journal_entry l e.entry })
 
 -- each node told something behind what is gone
 pub some-told : (w : World) (ms : List Moment) (at : Stamp) (olds news : List Mote) (nodes : ℕ) → length olds ≡ nodes → ((k : ℕ) → k < nodes → IsSomeAnd (slice_get olds k) (IsMoteAfter w ms k)) → AreAtHand olds → ShowStores at (length olds) olds news

@@ -17,15 +17,15 @@ use Rattle.mate_journal.specs.declared.entry.Stamped.{Stamped}
 use Rattle.open_node.proofs.KeptLemmas.{count-kept}
 use Rattle.radio_sim.specs.Radio.{Ether}
 use Rattle.report_reading.proofs.BackLemmas.{all_lines_same}
-use Rattle.report_text.specs.Words.{stamp_words, handler_name, number, word, image_word, image_of, seen_words, entry_words}
+use Rattle.report_text.specs.Words.{stamp_words, handler_name, number, word, image_word, image_text, seen_words, entry_words}
 use Rattle.report_text.specs.Text.{air_line, entry_line, event_piece, lines}
 use Rattle.run_writing.proofs.WritingLemmas.{written-as}
-use Rattle.world_step.specs.declared.mote.Mote.{Mote}
-use Rattle.world_simulation.specs.Keeping.{LetsGo}
-use Rattle.world_simulation.specs.Reporting.{mote_logs}
-use Rattle.world_simulation.specs.Telling.{report_now, AddsEvent}
+use Rattle.sim_mote.specs.declared.mote.Mote.{Mote}
+use Rattle.sim_run.specs.Keeping.{LetsGo}
+use Rattle.sim_run.specs.Reporting.{mote_logs}
+use Rattle.sim_run.specs.Telling.{report_now, AddsEvent}
 use Rattle.world_sim.specs.Writing.{HasWrittenNow}
-use Rattle.world_simulation.specs.declared.simulation.Simulation.{Simulation}
+use Rattle.sim_run.specs.declared.simulation.Simulation.{Simulation}
 use Rattle.event_queue.proofs.WheelLemmas.{slice_get_set_same}
 use Rattle.world_sim.proofs.RecordingLemmas.{go-logs}
 
@@ -51,7 +51,7 @@ module _ (d : Description) (v : OpenView) (kept : Log) (is : IsKept v kept) (nod
   words-same (entry.Install h version image) =
       let same : slice_get v.all.images (v.gone.images + image) ≡ slice_get kept.images image =
       sym (slice_get-drop v.gone.images v.all.images image) ∙ ap (λ (xs : List (ArrayVec ℕ)). slice_get xs image) is.images in
-      ap (λ (o : _). codes " install" ++ word (handler_name d h) ++ number version ++ word (image_word (image_of o))) same
+      ap (λ (o : _). codes " install" ++ word (handler_name d h) ++ number version ++ word (image_word (image_text o))) same
   words-same entry.Reset = refl
   words-same (entry.Seen store) =
       let same : slice_get v.all.stores (v.gone.stores + store) ≡ slice_get kept.stores store =

@@ -14,8 +14,8 @@ use Rattle.journal_laws.proofs.GoesOnLemmas.{GoesOn-journal}
 use Rattle.mate_num.specs.declared.call.Stamp.{Stamp}
 use Rattle.mate_num.specs.declared.store.Store.{Store}
 use Rattle.mate_journal.specs.Log.{Log, IsSameLog, IsEmpty, GoesOn}
-use Rattle.mate_journal.specs.Journal.{journal_of, told_of}
-use Rattle.mate_journal.specs.Journal.{Event as Entered}
+use Rattle.mate_journal.specs.Journal.{journal_of, journal_entry}
+use Rattle.mate_journal.specs.Journal.{TimedEntry as Entered}
 use Rattle.mate_journal.specs.OpenLog.{Gone, nothing_gone, gone_of, joined, IsKept}
 use Rattle.mate_journal.specs.Tidy.{NumbersInOrder, image_named, store_named, names_in, below}
 use Rattle.mate_journal.specs.declared.air.Aired.{Aired}
@@ -31,14 +31,14 @@ use Rattle.run_record.proofs.RecordLemmas.{same-self, same-then, all-self, all-t
 use Rattle.world_rules.specs.World.{World}
 use Rattle.world_rules.specs.State.{Moment}
 use Rattle.world_rules.specs.Run.{journal}
-use Rattle.world_step.specs.declared.mote.Mote.{Mote}
-use Rattle.world_text.specs.EventText.{ShowTheirStores}
-use Rattle.world_simulation.specs.Keeping.{IsWhole, HaveForgotten, LetsGo}
-use Rattle.world_simulation.specs.Reporting.{ShowStores, mote_logs}
-use Rattle.world_simulation.specs.Telling.{AddsEvent}
-use Rattle.world_simulation.specs.declared.simulation.Simulation.{Simulation}
-use Rattle.world_simulation.proofs.MoteLemmas.{long-logs, set-log, first-mote, at-mote}
-use Rattle.world_simulation.proofs.KeepingLemmas.{alike}
+use Rattle.sim_mote.specs.declared.mote.Mote.{Mote}
+use Rattle.world_text_laws.specs.EventText.{ShowTheirStores}
+use Rattle.sim_run.specs.Keeping.{IsWhole, HaveForgotten, LetsGo}
+use Rattle.sim_run.specs.Reporting.{ShowStores, mote_logs}
+use Rattle.sim_run.specs.Telling.{AddsEvent}
+use Rattle.sim_run.specs.declared.simulation.Simulation.{Simulation}
+use Rattle.sim_run.proofs.MoteLemmas.{long-logs, set-log, first-mote, at-mote}
+use Rattle.sim_run.proofs.KeepingLemmas.{alike}
 use Rattle.world_sim.specs.Recording.{IsRecordOf, IsRecordBefore, HasStoreBehind, HaveStoresBehind, IsRecorded, IsRecordedBefore, AreStoresBefore, StaysRecorded}
 
 -- ---- lists of logs that are the same but for their room
@@ -321,7 +321,7 @@ few-more a b on na nb one =
           omega (arith, sum, long, p, q)
 
 long-journal : (l : Log) → length (journal_of l) ≡ length l.entries
-long-journal l = length-map l.entries (λ (e : Stamped). let v : Entered = record { stamp = e.stamp; told = told_of l e.entry } in v)
+long-journal l = length-map l.entries (λ (e : Stamped). let v : Entered = record { stamp = e.stamp; told = journal_entry l e.entry } in v)
 
 -- each node has its store at hand, behind the log that it had
 module _ (w : World) (ms : List Moment) (at : Stamp) (olds mids news : List Mote) (f : HaveForgotten (length olds) olds mids) (shows : ShowStores at (length mids) mids news)

@@ -20,10 +20,10 @@ use Rattle.mate_journal.specs.declared.program.Program.{Program}
 use Rattle.node_programs.specs.WorldPrograms.{AreProgramsOfWorld}
 use Rattle.run_record.specs.declared.record.Record.{Record}
 use Rattle.run_writing.specs.declared.pass.Pass.{Pass}
-use Rattle.world_promise.specs.Promise.{IsReportOfWorld}
+use Rattle.world_run_laws.specs.Promise.{IsReportOfWorld}
 use Rattle.world_script.specs.declared.world.World.{World as Script}
-use Rattle.world_simulation.specs.Reporting.{told_report}
-use Rattle.world_states.specs.Coming.{code_world}
+use Rattle.sim_run.specs.Reporting.{told_report}
+use Rattle.world_state_laws.specs.Coming.{code_world}
 use Rattle.world_sim.specs.Writing.{WritesRecorded}
 use Rattle.run_writing.specs.Writing.{OfRun, IsWrittenPart, IsWrittenShort, IsNothingRun, WritesReport, last_event, lines_before, written_text}
 use Rattle.run_writing.specs.declared.write_fault.WriteFault.{WriteFault}
@@ -32,7 +32,7 @@ use Rattle.vm_desc.specs.declared.description.Description.{Description}
 use Rattle.world_rules.specs.World.{World}
 use Rattle.world_rules.specs.State.{Moment}
 use Rattle.world_rules.specs.Report.{IsLogOf, IsWorldReport}
-use Rattle.world_simulation.proofs.KeepingLemmas.{alike, tidy-as}
+use Rattle.sim_run.proofs.KeepingLemmas.{alike, tidy-as}
 
 -- ---- it is a report of the same run
 

@@ -13,12 +13,12 @@ use Rattle.mate_files.specs.declared.sink.SinkFault.{SinkFault}
 use Rattle.report_reading.specs.Parts.{IsSameReport}
 use Rattle.run_record.specs.declared.record.Record.{Record}
 use Rattle.run_record.proofs.RecordLemmas.{all-self}
-use Rattle.run_writing.specs.Writing.{OfRun, PutsLast, lines_before, write_fault_of, WritesRun}
+use Rattle.run_writing.specs.Writing.{OfRun, PutsLastLine, lines_before, write_fault_of, WritesRun}
 use Rattle.run_writing.specs.declared.pass.Pass.{Pass}
 use Rattle.run_writing.specs.declared.write_fault.WriteFault.{WriteFault}
 use Rattle.run_writing.specs.declared.write_fault.WriteFault.TheVariants.{NoMemory}
 use Rattle.run_writing.proofs.WritingLemmas.{written-more, stopped-within, cut-short, ended-full}
-use Rattle.world_text.proofs.EventLemmas.{all_stand, store_lines-next, store_lines-both}
+use Rattle.world_text_laws.proofs.EventLemmas.{all_stand, store_lines-next, store_lines-both}
 use Rattle.mate_journal.specs.declared.air.Aired.{Aired}
 use Rattle.mate_journal.specs.declared.program.Program.{Program}
 use Rattle.mate_journal.specs.declared.report.Report.{Report}
@@ -31,23 +31,23 @@ use Rattle.world_rules.specs.State.{Moment, state}
 use Rattle.world_rules.specs.Run.{HaveCome, IsAtEnd, airs, journal}
 use Rattle.world_rules.specs.Report.{IsLogOf, IsWorldReport}
 use Rattle.world_script.specs.declared.world.World.{World as Script}
-use Rattle.world_states.specs.Coming.{code_world}
-use Rattle.world_event.specs.Performing.{IsMoteAfter}
-use Rattle.world_step.specs.declared.mote.Mote.{Mote}
-use Rattle.world_text.specs.EventText.{so_far, TellJournals, store_lines}
-use Rattle.world_simulation.specs.Reporting.{mote_logs, told_report}
-use Rattle.world_simulation.specs.Ranging.{AreInRange}
-use Rattle.world_simulation.specs.Running.{StandsAfter}
-use Rattle.world_simulation.specs.Telling.{report_now, LogsAreKept, AddsEvent}
+use Rattle.world_state_laws.specs.Coming.{code_world}
+use Rattle.sim_event.specs.Performing.{IsMoteAfter}
+use Rattle.sim_mote.specs.declared.mote.Mote.{Mote}
+use Rattle.world_text_laws.specs.EventText.{so_far, TellJournals, store_lines}
+use Rattle.sim_run.specs.Reporting.{mote_logs, told_report}
+use Rattle.sim_run.specs.Ranging.{AreInRange}
+use Rattle.sim_run.specs.Running.{StandsAfter}
+use Rattle.sim_run.specs.Telling.{report_now, LogsAreKept, AddsEvent}
 use Rattle.world_sim.proofs.SameLemmas.{gives-as}
-use Rattle.world_simulation.proofs.RangeLemmas.{report-ranges}
-use Rattle.world_simulation.proofs.MoteLemmas.{log-at, long-logs, first-mote, tell, keeps-all}
-use Rattle.world_promise.specs.Promise.{IsReportOfWorld}
+use Rattle.sim_run.proofs.RangeLemmas.{report-ranges}
+use Rattle.sim_run.proofs.MoteLemmas.{log-at, long-logs, first-mote, tell, keeps-all}
+use Rattle.world_run_laws.specs.Promise.{IsReportOfWorld}
 use Rattle.node_programs.specs.WorldPrograms.{AreProgramsOfWorld}
 use Rattle.world_sim.specs.Recording.{IsRecorded}
 use Rattle.world_sim.specs.Writing.{HasWrittenNow, StandsAtEnd, WritesRecorded}
-use Rattle.world_simulation.specs.declared.simulation.Simulation.{Simulation}
-use Rattle.world_simulation.proofs.WorldLemmas.{some-at, of-machine, full-report}
+use Rattle.sim_run.specs.declared.simulation.Simulation.{Simulation}
+use Rattle.sim_run.proofs.WorldLemmas.{some-at, of-machine, full-report}
 
 -- ---- the report of what stands
 
@@ -134,7 +134,7 @@ module _ (d : Description) (script : Script) (ps : List Program) where
 
   -- the log is full, and the last line was put
   pub full-ends : (s : Simulation) (events : ℕ) (b : StandsAtEnd W Full events s) → AreInRange s → events < 2 ^ 64 → (pass : Pass) (kept : Option Record) → IsRecorded kept s → (out f out' f' out0 f0 : _) → HasWrittenNow d s out0 f0 out f
-      → PutsLast (told_report s events false) out f out' f' pass → WritesRecorded d Is out0 out' f0 f' pass kept
+      → PutsLastLine (told_report s events false) out f out' f' pass → WritesRecorded d Is out0 out' f0 f' pass kept
   full-ends s events b has few pass kept recorded out f out' f' out0 f0 written last =
       let r : Report = told_report s events false in
       subst (λ (p : Pass). WritesRecorded d Is out0 out' f0 f' p kept) (sym last.is) (record {

@@ -4,11 +4,11 @@ use Rattle.report_summary.specs.Tally.{IsLogTally, IsAirTally, IsUpTo, IsAirTall
 use Rattle.report_summary.specs.declared.summary.RunTally.{RunTally}
 use Rattle.report_summary.specs.declared.tally.LogTally.{LogTally}
 use Rattle.world_rules.specs.World.{World}
-use Rattle.world_step.specs.declared.mote.Mote.{Mote}
-use Rattle.world_simulation.specs.Ranging.{AreInRange}
-use Rattle.world_simulation.specs.Running.{StandsAfter}
-use Rattle.world_simulation.specs.Telling.{LogsAreKept}
-use Rattle.world_simulation.specs.declared.simulation.Simulation.{Simulation}
+use Rattle.sim_mote.specs.declared.mote.Mote.{Mote}
+use Rattle.sim_run.specs.Ranging.{AreInRange}
+use Rattle.sim_run.specs.Running.{StandsAfter}
+use Rattle.sim_run.specs.Telling.{LogsAreKept}
+use Rattle.sim_run.specs.declared.simulation.Simulation.{Simulation}
 
 -- all that the node told was counted, for so many handlers; or all but what it has at hand
 abbrev pub IsCounted : ℕ → LogTally → Mote → Type 0

@@ -8,9 +8,9 @@ use Rattle.mate_journal.specs.Tidy.{NumbersInOrder}
 use Rattle.mate_journal.specs.declared.air.Aired.{Aired}
 use Rattle.run_record.specs.Records.{HasLog, IsSameRecord}
 use Rattle.run_record.specs.declared.record.Record.{Record}
-use Rattle.world_step.specs.declared.mote.Mote.{Mote}
-use Rattle.world_simulation.specs.Reporting.{mote_logs}
-use Rattle.world_simulation.specs.declared.simulation.Simulation.{Simulation}
+use Rattle.sim_mote.specs.declared.mote.Mote.{Mote}
+use Rattle.sim_run.specs.Reporting.{mote_logs}
+use Rattle.sim_run.specs.declared.simulation.Simulation.{Simulation}
 
 -- the record has these logs, but for their room, and this air
 pub record IsRecordOf (r : Record) (told : List Log) (aired : List Aired) : Type 0 where

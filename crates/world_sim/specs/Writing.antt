@@ -12,14 +12,14 @@ use Rattle.world_rules.specs.World.{World}
 use Rattle.world_rules.specs.State.{Moment, state}
 use Rattle.world_rules.specs.Run.{HaveCome, IsAtEnd, airs}
 use Rattle.world_rules.specs.Report.{IsWorldReport}
-use Rattle.world_event.specs.Performing.{IsMoteAfter}
-use Rattle.world_simulation.specs.Keeping.{IsWhole}
-use Rattle.world_simulation.specs.Ranging.{AreInRange}
-use Rattle.world_simulation.specs.Reporting.{told_report}
-use Rattle.world_simulation.specs.Telling.{report_now, LogsAreKept}
-use Rattle.world_simulation.specs.Running.{StandsAfter}
+use Rattle.sim_event.specs.Performing.{IsMoteAfter}
+use Rattle.sim_run.specs.Keeping.{IsWhole}
+use Rattle.sim_run.specs.Ranging.{AreInRange}
+use Rattle.sim_run.specs.Reporting.{told_report}
+use Rattle.sim_run.specs.Telling.{report_now, LogsAreKept}
+use Rattle.sim_run.specs.Running.{StandsAfter}
 use Rattle.world_sim.specs.Recording.{IsRecorded}
-use Rattle.world_simulation.specs.declared.simulation.Simulation.{Simulation}
+use Rattle.sim_run.specs.declared.simulation.Simulation.{Simulation}
 
 -- ---- what a part of a run writes
 

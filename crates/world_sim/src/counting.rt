@@ -6,12 +6,12 @@ ghost use Rattle.mate_journal.specs.NodeScript.{Whole};
 ghost use Rattle.node_programs.specs.WorldPrograms.{AreProgramsOfWorld};
 ghost use Rattle.report_summary.specs.Runs.{IsRunSummary};
 ghost use Rattle.report_summary.specs.Tally.{IsUpTo};
-ghost use Rattle.world_promise.specs.Promise.{IsReportOfWorld};
-ghost use Rattle.world_simulation.specs.Ranging.{AreInRange};
-ghost use Rattle.world_simulation.specs.Running.{StandsAfter, StandsAtNext};
-ghost use Rattle.world_simulation.specs.Telling.{LogsAreKept};
-ghost use Rattle.world_states.specs.Coming.{code_world};
-ghost use Rattle.world_step.specs.Motes.{plain_effect};
+ghost use Rattle.world_run_laws.specs.Promise.{IsReportOfWorld};
+ghost use Rattle.sim_run.specs.Ranging.{AreInRange};
+ghost use Rattle.sim_run.specs.Running.{StandsAfter, StandsAtNext};
+ghost use Rattle.sim_run.specs.Telling.{LogsAreKept};
+ghost use Rattle.world_state_laws.specs.Coming.{code_world};
+ghost use Rattle.sim_mote.specs.Motes.{plain_effect};
 ghost use Rattle.world_sim.specs.Counting.{IsCounted, IsCountedBehind, AreCounted, CountsHand, IsTallied, IsTalliedBefore, IsSmallTally};
 ghost use Rattle.world_sim.specs.Counting.{MayCount, StartsCounted};
 ghost use Rattle.world_sim.specs.Writing.{StandsAtEnd};
@@ -23,11 +23,11 @@ use radio_sim::Event;
 use report_summary::{LogTally, RunTally, Summary};
 use std::alloc::Global;
 use vm_desc::Description;
-use world_promise::reports_keep_the_promise;
+use world_run_laws::reports_keep_the_promise;
 use world_script::World;
-use world_simulation::{Simulation, Written, forget_all, see_stores};
-use world_states::states_are_sound;
-use world_step::{Effect, Mote};
+use sim_run::{Simulation, Written, forget_all, see_stores};
+use world_state_laws::states_are_sound;
+use sim_mote::{Effect, Mote};
 
 /// Runs a world as `run` does, and gives the summary of its report. What a node told in an event, and what happened on the air in it, is
 /// counted and then forgotten before the next one, so that a long run takes no more memory than its nodes and its longest event.

@@ -2,14 +2,14 @@
 
 ghost use Rattle.std.specs.Prelude.{◌≡◌, ◌<◌, ◌≤◌, length, MatchResult};
 ghost use Rattle.run_record.specs.Records.{IsSameRecord};
-ghost use Rattle.world_simulation.specs.Reporting.{mote_logs};
+ghost use Rattle.sim_run.specs.Reporting.{mote_logs};
 ghost use Rattle.world_sim.specs.Recording.{IsRecordOf, IsRecordBefore, HaveStoresBehind, IsRecorded, IsRecordedBefore, AreStoresBefore};
 ghost use Rattle.world_sim.specs.Recording.{StaysRecorded, has_record};
 
 use mate_num::NoMemory;
 use run_record::Record;
-use world_simulation::Simulation;
-use world_step::Mote;
+use sim_run::Simulation;
+use sim_mote::Mote;
 
 /// How many entries a node's log has at most in a record.
 const ENTRIES_MAX: usize = 4000000000;

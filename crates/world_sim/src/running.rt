@@ -1,17 +1,17 @@
 //! The run of a world.
 
 ghost use Rattle.node_programs.specs.WorldPrograms.{AreProgramsOfWorld};
-ghost use Rattle.world_promise.specs.Promise.{WorldRunGives};
+ghost use Rattle.world_run_laws.specs.Promise.{WorldRunGives};
 
 use mate_journal::{NodeLog, NodeLogs, Programs, RECORDS_MAX, Report, RunFault};
 use mate_num::Stamp;
 use std::alloc::Global;
 use vm_desc::Description;
-use world_promise::reports_keep_the_promise;
+use world_run_laws::reports_keep_the_promise;
 use world_script::World;
-use world_simulation::{Simulation, Written, report_of, see_stores};
-use world_states::states_are_sound;
-use world_step::Effect;
+use sim_run::{Simulation, Written, report_of, see_stores};
+use world_state_laws::states_are_sound;
+use sim_mote::Effect;
 
 /// Runs a world on nodes of this machine, with the programs of its files: each event is the next that is due, and at the end
 /// each node's store is seen. `LogFull` comes exactly where 1,000,000 records stand or more and an event is left, with the

@@ -5,22 +5,22 @@ ghost use Rattle.mate_files.specs.Sink.{Puts};
 ghost use Rattle.mate_journal.specs.Log.{IsEmpty};
 ghost use Rattle.mate_journal.specs.NodeScript.{Whole, Full};
 ghost use Rattle.report_text.specs.Text.{event_piece};
-ghost use Rattle.run_writing.specs.Writing.{PutsLast, RunsInto, WritesRun, last_line};
+ghost use Rattle.run_writing.specs.Writing.{PutsLastLine, RunsInto, WritesRun, last_line};
 ghost use Rattle.run_writing.specs.declared.write_fault.WriteFault.TheVariants.{NoMemory as OutOfMemory};
 ghost use Rattle.world_rules.specs.Report.{IsWorldReport};
-ghost use Rattle.world_states.specs.Coming.{code_world};
+ghost use Rattle.world_state_laws.specs.Coming.{code_world};
 ghost use Rattle.node_programs.specs.WorldPrograms.{AreProgramsOfWorld};
-ghost use Rattle.world_step.specs.Motes.{plain_effect};
-ghost use Rattle.world_step.specs.declared.mote.Mote.{Mote as MoteState};
-ghost use Rattle.world_promise.specs.Promise.{IsReportOfWorld};
-ghost use Rattle.world_simulation.specs.Keeping.{IsWhole};
-ghost use Rattle.world_simulation.specs.Ranging.{AreInRange};
-ghost use Rattle.world_simulation.specs.Reporting.{mote_logs, told_report};
-ghost use Rattle.world_simulation.specs.Running.{StandsAfter, StandsAtNext};
-ghost use Rattle.world_simulation.specs.Telling.{LogsAreKept};
+ghost use Rattle.sim_mote.specs.Motes.{plain_effect};
+ghost use Rattle.sim_mote.specs.declared.mote.Mote.{Mote as MoteState};
+ghost use Rattle.world_run_laws.specs.Promise.{IsReportOfWorld};
+ghost use Rattle.sim_run.specs.Keeping.{IsWhole};
+ghost use Rattle.sim_run.specs.Ranging.{AreInRange};
+ghost use Rattle.sim_run.specs.Reporting.{mote_logs, told_report};
+ghost use Rattle.sim_run.specs.Running.{StandsAfter, StandsAtNext};
+ghost use Rattle.sim_run.specs.Telling.{LogsAreKept};
 ghost use Rattle.world_sim.specs.Recording.{IsRecorded, has_record};
 ghost use Rattle.world_sim.specs.Writing.{EndsSo, IsStartWritten, IsStepWritten, StandsAtEnd, StartsRecorded, WritesRecorded};
-ghost use Rattle.world_text.specs.EventText.{store_lines};
+ghost use Rattle.world_text_laws.specs.EventText.{store_lines};
 
 use crate::recording::{add_event, record_event, record_stores};
 use mate_files::{Sink, SinkFault};
@@ -33,12 +33,12 @@ use run_record::Record;
 use run_writing::{Pass, WriteFault, ended, nothing_run, stopped};
 use std::alloc::Global;
 use vm_desc::Description;
-use world_promise::reports_keep_the_promise;
+use world_run_laws::reports_keep_the_promise;
 use world_script::World;
-use world_simulation::{Simulation, Written, forget_all, see_stores};
-use world_states::states_are_sound;
-use world_step::{Effect, Mote};
-use world_text::text_grows_by_events;
+use sim_run::{Simulation, Written, forget_all, see_stores};
+use world_state_laws::states_are_sound;
+use sim_mote::{Effect, Mote};
+use world_text_laws::text_grows_by_events;
 
 /// Runs a world as `run` does, and writes each event's lines when it ends, and then the last line. After a fault of the sink no
 /// further event is begun; the report then has the events that ended.
@@ -339,7 +339,7 @@ fn write_stores<S: Sink>(desc: &Description, motes: &[Mote], out: &mut S) -> Res
 #[inline(never)]
 fn write_last<S: Sink>(sim: &Simulation, events: u64, whole: bool, out: &mut S) -> Pass
     requires { length sim.now.motes.items ≤ 64 }
-    ensures { PutsLast (told_report sim.now events whole) (S.written out.old) (S.faults out.old) (S.written out.new) (S.faults out.new)
+    ensures { PutsLastLine (told_report sim.now events whole) (S.written out.old) (S.faults out.old) (S.written out.new) (S.faults out.new)
         result }
 {
     let put = put_last(sim, events, whole, out);

@@ -1,8 +1,8 @@
 use Rattle.std.proofs.Common.{◌≡◌, ◌<◌, ◌∙◌, ℕ, List, length, ap, subst}
 use Rattle.std.specs.Prelude.{slice_index_or}
 use Rattle.std.proofs.lemmas.List.{get_or_default}
-use Rattle.mate_journal.specs.Grants.{start_of}
-use Rattle.mate_journal.specs.Journal.{Told, journal_of, told_of}
+use Rattle.mate_journal.specs.Grants.{started_number}
+use Rattle.mate_journal.specs.Journal.{JournalEntry, journal_of, journal_entry}
 use Rattle.mate_journal.specs.declared.entry.Stamped.{Stamped}
 use Rattle.audit_finite.specs.Granting.{is_granted, grants_in_order}
 use Rattle.audit_finite.specs.Roll as told
@@ -17,7 +17,7 @@ use Rattle.audit_grants.proofs.GrantLemmas.{refused, granted, ended}
 use Rattle.audit_grants.proofs.granting.grants_in_order.Goals as goal
 
 -- the entry that a slice shows at a place
-entry-told : (t : Trial) (ys : List Stamped) (place : ℕ) (r : Stamped) → ys ≡ t.log.now.entries → place < length ys → told_of t.log.now (slice_index_or ys place r).entry ≡ told_at t place
+entry-told : (t : Trial) (ys : List Stamped) (place : ℕ) (r : Stamped) → ys ≡ t.log.now.entries → place < length ys → journal_entry t.log.now (slice_index_or ys place r).entry ≡ told_at t place
 entry-told t ys place r same within =
     let below : place < length t.log.now.entries = subst (λ (es : List Stamped). place < length es) same within in
     entry-at t place (slice_index_or ys place r) below
@@ -40,7 +40,7 @@ returns-then-not-is_granted c =
     let told = entry-told t ys place c.index-entries-place.result c.entries-entries.ensures c.loop-place-test.true in
     let below : place < length t.log.now.entries = subst (λ (es : List Stamped). place < length es) c.entries-entries.ensures c.loop-place-test.true in
     refused t place x c.loop-place.last (grants_in_order (conflict_of t.desc.now) nobody 0 (journal_of t.log.now)) below c.loop-place.invariant.rest
-    (c.if-not-is_granted.ensures ∙ ap (λ (g : Told). is_granted (conflict_of t.desc.now) x c.loop-place.last g) told)
+    (c.if-not-is_granted.ensures ∙ ap (λ (g : JournalEntry). is_granted (conflict_of t.desc.now) x c.loop-place.last g) told)
 
 pub hear-requires-clause-within : goal.hear-requires-clause-within
 hear-requires-clause-within c = subst (λ (es : List Stamped). c.loop-place.place < length es) c.entries-entries.ensures c.loop-place-test.true
@@ -56,8 +56,8 @@ loop-place-preserved c =
     record {
       read = c.in_ok-hear.ensures.read;
       rest = granted t place x c.loop-place.last (grants_in_order (conflict_of t.desc.now) nobody 0 (journal_of t.log.now)) (roll_in t.log.now.images c.hear.new.self.roll) c.start_of-last.result below c.loop-place.invariant.rest
-          (c.if-not-is_granted.ensures ∙ ap (λ (g : Told). is_granted (conflict_of t.desc.now) x c.loop-place.last g) told)
-          c.in_ok-hear.ensures.roll (c.start_of-last.ensures t.log.now ∙ ap start_of told);
+          (c.if-not-is_granted.ensures ∙ ap (λ (g : JournalEntry). is_granted (conflict_of t.desc.now) x c.loop-place.last g) told)
+          c.in_ok-hear.ensures.roll (c.start_of-last.ensures t.log.now ∙ ap started_number told);
     }
 
 pub all_held_back-requires : goal.all_held_back-requires

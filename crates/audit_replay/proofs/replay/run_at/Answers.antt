@@ -1,6 +1,6 @@
 use Rattle.std.proofs.Common.{◌≡◌, sym, subst}
 use Rattle.std.specs.Prelude.{IfOk, IsTrue}
-use Rattle.mate_journal.specs.Journal.{told_of}
+use Rattle.mate_journal.specs.Journal.{journal_entry}
 use Rattle.mate_journal.specs.declared.entry.Entry.{Entry}
 use Rattle.audit_finite.specs.Rerun.{runs_right, serial_after}
 use Rattle.audit_finite.specs.Shown.{HasLengthsOf}
@@ -17,6 +17,6 @@ returns-in-Fault c =
     let x = roll_in t.log.now.images c.args.roll.now.roll in
     let store = c.args.store.now in
     let next = c.end_at-in-Fault.new.store in
-    let E : Entry → Type 0 = λ e. IfOk c.end_at-in-Fault.result (λ right. (right ≡ runs_right m conflict x store (told_of t.log.now e))
-    × (IsTrue right → (next ≡ serial_after m x store (told_of t.log.now e)) × HasLengthsOf m next)) in
+    let E : Entry → Type 0 = λ e. IfOk c.end_at-in-Fault.result (λ right. (right ≡ runs_right m conflict x store (journal_entry t.log.now e))
+    × (IsTrue right → (next ≡ serial_after m x store (journal_entry t.log.now e)) × HasLengthsOf m next)) in
     subst E (sym c.in-Fault.is) c.end_at-in-Fault.ensures

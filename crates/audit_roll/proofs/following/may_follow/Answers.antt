@@ -1,7 +1,7 @@
 use Rattle.std.proofs.Common.{◌≡◌, ℕ, Bool, true, false, List, None, refl, sym, ◌∙◌, ap, subst}
 use Rattle.std.specs.Prelude.{not, ◌&&◌, is_some, slice_index_or}
 use Rattle.std.specs.List.{list_any}
-use Rattle.mate_journal.specs.Journal.{told_of}
+use Rattle.mate_journal.specs.Journal.{journal_entry}
 use Rattle.mate_journal.specs.Log.{Log}
 use Rattle.mate_journal.specs.Machine.{Machine}
 use Rattle.mate_journal.specs.Described.{machine_of}
@@ -19,8 +19,8 @@ and-true : (b : Bool) → (b && true) ≡ b
 and-true true = refl
 and-true false = refl
 
-by_entry : (m : Machine) (l : Log) (x : told.Roll) (e f : Entry) (b : Bool) → e ≡ f → b ≡ may_follow m x (told_of l f) → b ≡ may_follow m x (told_of l e)
-by_entry m l x e f b is h = subst (λ (g : Entry). b ≡ may_follow m x (told_of l g)) (sym is) h
+by_entry : (m : Machine) (l : Log) (x : told.Roll) (e f : Entry) (b : Bool) → e ≡ f → b ≡ may_follow m x (journal_entry l f) → b ≡ may_follow m x (journal_entry l e)
+by_entry m l x e f b is h = subst (λ (g : Entry). b ≡ may_follow m x (journal_entry l g)) (sym is) h
 
 pub returns-then-is_context_of : goal.returns-then-is_context_of
 returns-then-is_context_of c =

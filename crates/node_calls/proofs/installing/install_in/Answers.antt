@@ -1,7 +1,7 @@
 -- The bytes are a capsule or are refused, and so is its code.
 use Rattle.std.proofs.Common.{◌≡◌, ℕ, List, Result, refl, ◌∙◌, ap, subst}
 use Rattle.std.specs.Prelude.{IfOk}
-use Rattle.capsule_codec.specs.Image.{capsule_parts, image_of, IsOfMachine}
+use Rattle.capsule_codec.specs.Image.{capsule_parts, capsule_image, IsOfMachine}
 use Rattle.capsule_codec.specs.declared.capsule.Capsule.{Capsule}
 use Rattle.capsule_codec.specs.declared.decoding.CapsuleFault.{CapsuleFault}
 use Rattle.capsule_codec.specs.Reading.{GivesCapsule, capsule_in}
@@ -22,14 +22,14 @@ verify-requires c = c.of-table.ensures ∙ ap table_of c.shape.ensures.value
 pub known_program-program-requires-clause-read : goal.known_program-program-requires-clause-read
 known_program-program-requires-clause-read c =
     let P : Result Capsule CapsuleFault → Type 0 = λ r. GivesCapsule r (capsule_in c.args.description.now c.args.bytes.now) in
-    let Q : Result Capsule CapsuleFault → Type 0 = λ r. IfOk r (λ x. (c.args.bytes.now ≡ image_of (capsule_parts x)) × IsOfMachine c.args.description.now (capsule_parts x)) in
+    let Q : Result Capsule CapsuleFault → Type 0 = λ r. IfOk r (λ x. (c.args.bytes.now ≡ capsule_image (capsule_parts x)) × IsOfMachine c.args.description.now (capsule_parts x)) in
     let image = subst Q c.in-Ok.is c.decode-decoded.ensures.image in
     record { decoded = subst P c.in-Ok.is c.decode-decoded.ensures.value; image = image.0; of_machine = image.1 }
 
 pub install_code-requires-clause-read : goal.install_code-requires-clause-read
 install_code-requires-clause-read c =
     let P : Result Capsule CapsuleFault → Type 0 = λ r. GivesCapsule r (capsule_in c.args.description.now c.args.bytes.now) in
-    let Q : Result Capsule CapsuleFault → Type 0 = λ r. IfOk r (λ x. (c.args.bytes.now ≡ image_of (capsule_parts x)) × IsOfMachine c.args.description.now (capsule_parts x)) in
+    let Q : Result Capsule CapsuleFault → Type 0 = λ r. IfOk r (λ x. (c.args.bytes.now ≡ capsule_image (capsule_parts x)) × IsOfMachine c.args.description.now (capsule_parts x)) in
     let image = subst Q c.in-Ok.is c.decode-decoded.ensures.image in
     record { decoded = subst P c.in-Ok.is c.decode-decoded.ensures.value; image = image.0; of_machine = image.1 }
 

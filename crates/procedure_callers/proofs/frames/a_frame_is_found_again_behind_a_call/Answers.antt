@@ -2,7 +2,7 @@ use Rattle.std.proofs.Common.{refl, subst}
 use Rattle.std.specs.Int.{int_wrap}
 use Rattle.mate_num.specs.declared.call.End.TheVariants.{Fault}
 use Rattle.mate_num.specs.declared.call.FaultKind.TheVariants.{DivZero}
-use Rattle.proc_meaning.specs.FrameLaw.{RunsAsExpanded}
+use Rattle.proc_laws.specs.FrameLaw.{RunsAsExpanded}
 use Rattle.procedure_callers.specs.Ends.{FramesEndIn}
 use Rattle.procedure_callers.specs.Procedures.{inner_call}
 use Rattle.procedure_callers.proofs.EndsLemmas.{ends_as_frames}

@@ -2,7 +2,7 @@ use Rattle.std.proofs.Common.{refl, arith, inl, inr}
 use Rattle.std.proofs.lemmas.Int.{to_z-of_z}
 use Rattle.std.specs.Int.{w16}
 use Rattle.mate_journal.specs.declared.entry.VoidCause.TheVariants as void
-use Rattle.mate_journal.specs.NodeScript.{Answer as AnswerStep, Answers}
+use Rattle.mate_journal.specs.NodeScript.{Answer as AnswerStep, AnswersCall}
 use Rattle.open_node.specs.View.{heard_of}
 use Rattle.open_node.specs.Calls.{Pacing}
 use Rattle.run_steps.specs.Running.{MakesOn}
@@ -21,7 +21,7 @@ void-requires-clause-room c = (ready-still c.args.node.now c.answer.new.self c.a
 
 pub returns-in-Ok : goal.returns-in-Ok
 returns-in-Ok c =
-    Tells-by c.args.node.now c.answer.new.self c.args.at (Pacing (λ _. Answers (heard_of c.args.node.now) c.args.ctx c.args.value)) (MakesOn c.args.node.now (AnswerStep c.args.ctx c.args.value))
+    Tells-by c.args.node.now c.answer.new.self c.args.at (Pacing (λ _. AnswersCall (heard_of c.args.node.now) c.args.ctx c.args.value)) (MakesOn c.args.node.now (AnswerStep c.args.ctx c.args.value))
     (λ p told q x. (inl x.0, x.1)) (rw (to_z-of_z w16 c.args.value c.ranges.value) at c.in-Ok.ensures)
 
 pub returns-in-Err : goal.returns-in-Err

@@ -1,6 +1,6 @@
 use Rattle.std.proofs.Common.{◌≡◌, ℕ, Ok, None, refl, subst, sym}
 use Rattle.arrayvec.specs.ArrayVec.{ArrayVec}
-use Rattle.capsule_codec.specs.Image.{capsule_parts, image_of}
+use Rattle.capsule_codec.specs.Image.{capsule_parts, capsule_image}
 use Rattle.mate_journal.specs.declared.program.Program.{Program}
 use Rattle.mate_steps.specs.CapsuleFiles.{capsule}
 use Rattle.mate_steps.specs.declared.capsule_file.VerifiedCapsule.{VerifiedCapsule}
@@ -52,14 +52,14 @@ returns-in_err-image-clause-does g c =
     let same : c.deref.result.now ≡ c.in_ok-held.held.value = cc in
     let Is : VerifiedCapsule → Type 0 = λ h. capsule f c.args.desc.now c.args.name.now (Ok (h.capsule, h.code)) in
     goes_on (held.capsule, held.code) (subst Is (sym same) c.in_ok-held.ensures.does)
-    (obtained-stops (λ (i : ArrayVec ℕ). i.items ≡ image_of (capsule_parts held.capsule)) (IsLoaded held.capsule) c.in_err-image.field-0.0 c.from_residual-in_err-image.result c.in_err-image.ensures.image
+    (obtained-stops (λ (i : ArrayVec ℕ). i.items ≡ capsule_image (capsule_parts held.capsule)) (IsLoaded held.capsule) c.in_err-image.field-0.0 c.from_residual-in_err-image.result c.in_err-image.ensures.image
     c.from_residual-in_err-image.ensures.1)
 
 pub returns-in_err-image-clause-reads : goal.returns-in_err-image-clause-reads
 returns-in_err-image-clause-reads g c =
     let held : VerifiedCapsule = c.deref.result.now in
     reads-as c.in_ok-held.ensures.reads (obtained-read (IsLoaded held.capsule) c.from_residual-in_err-image.result
-    (obtained-stops (λ (i : ArrayVec ℕ). i.items ≡ image_of (capsule_parts held.capsule)) (IsLoaded held.capsule) c.in_err-image.field-0.0 c.from_residual-in_err-image.result c.in_err-image.ensures.image
+    (obtained-stops (λ (i : ArrayVec ℕ). i.items ≡ capsule_image (capsule_parts held.capsule)) (IsLoaded held.capsule) c.in_err-image.field-0.0 c.from_residual-in_err-image.result c.in_err-image.ensures.image
     c.from_residual-in_err-image.ensures.1))
 
 pub returns-in_err-image-clause-right : goal.returns-in_err-image-clause-right

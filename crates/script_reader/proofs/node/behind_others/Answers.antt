@@ -1,5 +1,5 @@
 use Rattle.std.proofs.Common.{Ok, refl, sym, ap, ◌∙◌}
-use Rattle.script_reader.specs.Lines.{words_of}
+use Rattle.script_reader.specs.Lines.{split_words}
 use Rattle.script_reader.specs.NodeScript.{Said, behind_others}
 use Rattle.script_reader.specs.NodeReader.{said_of}
 use Rattle.script_reader.specs.declared.steps.Step.TheVariants as step
@@ -10,7 +10,7 @@ pub returns-then-spells-clause-value : goal.returns-then-spells-clause-value
 unfolding behind_others
 returns-then-spells-clause-value c =
     let run = sym c.spells.ensures ∙ c.if-spells.true in
-    rw run (ap (λ (said : Said). Ok (record { value = said; rest = words_of c.args.words.now })) (sym c.alone.ensures))
+    rw run (ap (λ (said : Said). Ok (record { value = said; rest = split_words c.args.words.now })) (sym c.alone.ensures))
 
 pub returns-then-spells-2-clause-value : goal.returns-then-spells-2-clause-value
 unfolding behind_others
@@ -25,7 +25,7 @@ returns-then-spells-3-clause-value c =
     let run = sym c.spells.ensures ∙ c.if-spells.false in
     let answer = sym c.spells-else-spells.ensures ∙ c.if-spells-2.false in
     let show = sym c.spells-else-spells-2.ensures ∙ c.if-spells-3.true in
-    rw (run, answer, show) (ap (λ (said : Said). Ok (record { value = said; rest = words_of c.args.words.now })) (sym c.alone-then-spells-3.ensures))
+    rw (run, answer, show) (ap (λ (said : Said). Ok (record { value = said; rest = split_words c.args.words.now })) (sym c.alone-then-spells-3.ensures))
 
 pub returns-then-spells-4-clause-value : goal.returns-then-spells-4-clause-value
 unfolding behind_others
@@ -34,7 +34,7 @@ returns-then-spells-4-clause-value c =
     let answer = sym c.spells-else-spells.ensures ∙ c.if-spells-2.false in
     let show = sym c.spells-else-spells-2.ensures ∙ c.if-spells-3.false in
     let reset = sym c.spells-else-spells-3.ensures ∙ c.if-spells-4.true in
-    rw (run, answer, show, reset) (ap (λ (said : Said). Ok (record { value = said; rest = words_of c.args.words.now })) (sym c.alone-then-spells-4.ensures))
+    rw (run, answer, show, reset) (ap (λ (said : Said). Ok (record { value = said; rest = split_words c.args.words.now })) (sym c.alone-then-spells-4.ensures))
 
 pub returns-else-spells-4-clause-value : goal.returns-else-spells-4-clause-value
 unfolding behind_others

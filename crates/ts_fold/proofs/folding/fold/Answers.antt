@@ -1,7 +1,7 @@
 use Rattle.std.proofs.Common.{◌≡◌, ◌∙◌, ap, sym, subst}
 use Rattle.std.specs.Prelude.{IsTrue}
 use Rattle.mate_num.specs.declared.shape.Shape.{Shape}
-use Rattle.ts_syntax.specs.Checked.{shape_of, tree_of}
+use Rattle.ts_syntax.specs.Checked.{checked_shape, tree_of}
 use Rattle.ts_syntax.specs.Right.{is_right}
 use Rattle.ts_syntax.specs.Statement.{Block, block}
 use Rattle.ts_syntax.specs.TreeOf.{block_tree}
@@ -14,10 +14,10 @@ pub new-requires : goal.new-requires
 new-requires c =
     let tree : Block = tree_of c.args.script.now in
     let seen : block_tree c.in_ok-body.body ≡ folded tree = ap block c.in_ok-body.ensures ∙ ap folded c.body.ensures in
-    let shape : c.copy.result ≡ shape_of c.args.script.now = c.copy.ensures ∙ c.shape.ensures in
+    let shape : c.copy.result ≡ checked_shape c.args.script.now = c.copy.ensures ∙ c.shape.ensures in
     let P : Block → Type 0 = λ t. IsTrue (is_right c.copy.result t) in
     let Q : Shape → Type 0 = λ s. IsTrue (is_right s (folded tree)) in
-    subst P (sym seen) (subst Q (sym shape) (right-folded (shape_of c.args.script.now) tree c.args.script.now.right))
+    subst P (sym seen) (subst Q (sym shape) (right-folded (checked_shape c.args.script.now) tree c.args.script.now.right))
 
 pub returns-clause-runs : goal.returns-clause-runs
 returns-clause-runs c =
@@ -30,8 +30,8 @@ pub returns-clause-uses : goal.returns-clause-uses
 returns-clause-uses c =
     let tree : Block = tree_of c.args.script.now in
     let seen : tree_of c.new.result ≡ folded tree = c.new.ensures.body ∙ ap block c.in_ok-body.ensures ∙ ap folded c.body.ensures in
-    let P : Block → Type 0 = λ t. UsesNoMore (shape_of c.args.script.now) tree t in
-    subst P (sym seen) (UsesNoMore-folded (shape_of c.args.script.now) tree)
+    let P : Block → Type 0 = λ t. UsesNoMore (checked_shape c.args.script.now) tree t in
+    subst P (sym seen) (UsesNoMore-folded (checked_shape c.args.script.now) tree)
 
 pub returns-clause-room : goal.returns-clause-room
 returns-clause-room c =

@@ -2,7 +2,7 @@ use Rattle.std.proofs.Common.{arith, ◌≤◌, length, Err, sym, subst}
 use Rattle.ts_syntax.specs.Seen.{procedure_source_of}
 use Rattle.ts_syntax.specs.Tree.{ProcedureSource}
 use Rattle.proc_names.specs.Heads.{parameter_count}
-use Rattle.ts_procs.specs.Reading.{Reads, IsProcedureText}
+use Rattle.ts_procs.specs.Reading.{ReadsProcedures, IsProcedureText}
 use Rattle.ts_procs.proofs.FewLemmas.{tokens_few, params_few}
 use Rattle.ts_procs.proofs.ReadingLemmas.{named_read, text_of_script, text_refused}
 use Rattle.ts_procs.proofs.reading.read.Goals as goal
@@ -21,4 +21,4 @@ returns-in-Ok c =
 
 pub returns-in-Err : goal.returns-in-Err
 returns-in-Err c =
-    subst (λ f. Reads c.args.bytes.now (Err f)) (sym c.fault_of.ensures) (text_refused c.args.bytes.now c.in-Err.fault c.in-Err.ensures)
+    subst (λ f. ReadsProcedures c.args.bytes.now (Err f)) (sym c.fault_of.ensures) (text_refused c.args.bytes.now c.in-Err.fault c.in-Err.ensures)

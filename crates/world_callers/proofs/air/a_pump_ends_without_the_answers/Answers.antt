@@ -1,7 +1,7 @@
 use Rattle.std.proofs.Common.{◌∙◌, ◌<◌, true, false, List, ap, sym, subst, arith}
 use Rattle.std.specs.List.{filter}
 use Rattle.radio_sim.specs.declared.event.Event.{Event}
-use Rattle.world_air.specs.Changes.{AreNear, stays}
+use Rattle.sim_air.specs.Changes.{AreNear, stays}
 use Rattle.world_callers.proofs.AirLemmas.{pump_gone}
 use Rattle.world_callers.proofs.air.a_pump_ends_without_the_answers.Goals as goal
 

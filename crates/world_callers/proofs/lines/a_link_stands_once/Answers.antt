@@ -1,5 +1,5 @@
 use Rattle.std.proofs.Common.{List, ℕ, ap, ◌∙◌}
-use Rattle.script_reader.specs.Lines.{words_of}
+use Rattle.script_reader.specs.Lines.{split_words}
 use Rattle.world_lines.specs.Draft.{world_progress_of}
 use Rattle.world_lines.specs.WorldLines.{WorldProgress, a_world_line}
 use Rattle.world_callers.specs.Lines.{linked_world}
@@ -10,5 +10,5 @@ pub returns : goal.returns
 returns c =
     let d = c.args.desc.now in
     refused_line _ (a_world_line d (world_progress_of c.args.draft.now)) _ _ c.command.result
-    (ap (λ (p : WorldProgress). a_world_line d p (words_of c.of.result)) c.requires.progress ∙ ap (λ (bytes : List ℕ). a_world_line d linked_world (words_of bytes)) c.of.ensures ∙ linked_already d)
+    (ap (λ (p : WorldProgress). a_world_line d p (split_words c.of.result)) c.requires.progress ∙ ap (λ (bytes : List ℕ). a_world_line d linked_world (split_words bytes)) c.of.ensures ∙ linked_already d)
     c.command.ensures.value

@@ -1,7 +1,7 @@
 use Rattle.std.proofs.Common.{length, arith}
-use Rattle.world_states.specs.Coming.{code_world}
-use Rattle.world_simulation.proofs.RangeLemmas.{left-ranges}
-use Rattle.world_simulation.proofs.KeepingLemmas.{few-after, few-stand, left-stands}
+use Rattle.world_state_laws.specs.Coming.{code_world}
+use Rattle.sim_run.proofs.RangeLemmas.{left-ranges}
+use Rattle.sim_run.proofs.KeepingLemmas.{few-after, few-stand, left-stands}
 use Rattle.world_sim.proofs.HandLemmas.{at-hand-now}
 use Rattle.world_sim.proofs.CountingLemmas.{tallied-left, tallied-before, may-count}
 use Rattle.world_sim.proofs.counting.count_step.Goals as goal

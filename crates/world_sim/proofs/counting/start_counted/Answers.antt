@@ -1,6 +1,6 @@
 use Rattle.std.proofs.Common.{length, sym, ◌∙◌, subst, arith}
 use Rattle.report_summary.specs.Summary.{IsNewTally}
-use Rattle.world_simulation.specs.Telling.{LogsAreKept}
+use Rattle.sim_run.specs.Telling.{LogsAreKept}
 use Rattle.world_sim.proofs.CountingLemmas.{start-tallied, start-few}
 use Rattle.world_sim.proofs.counting.start_counted.Goals as goal
 

@@ -2,14 +2,14 @@ use Rattle.std.proofs.Common.{◌≡◌, ◌+◌, ℕ, suc, true, List, length, 
 use Rattle.mate_num.specs.declared.call.Stamp.{Stamp}
 use Rattle.mate_journal.specs.NodeScript.{Whole}
 use Rattle.report_summary.specs.declared.summary.RunTally.{RunTally}
-use Rattle.world_promise.specs.Promise.{IsReportOfWorld}
-use Rattle.world_simulation.specs.Reporting.{told_report}
-use Rattle.world_simulation.specs.Telling.{LogsAreKept}
-use Rattle.world_simulation.specs.declared.simulation.Simulation.{Simulation}
-use Rattle.world_simulation.proofs.RangeLemmas.{report-ranges, few-of}
-use Rattle.world_simulation.proofs.WorldLemmas.{all-timely}
-use Rattle.world_step.specs.declared.mote.Mote.{Mote}
-use Rattle.world_states.specs.Coming.{code_world}
+use Rattle.world_run_laws.specs.Promise.{IsReportOfWorld}
+use Rattle.sim_run.specs.Reporting.{told_report}
+use Rattle.sim_run.specs.Telling.{LogsAreKept}
+use Rattle.sim_run.specs.declared.simulation.Simulation.{Simulation}
+use Rattle.sim_run.proofs.RangeLemmas.{report-ranges, few-of}
+use Rattle.sim_run.proofs.WorldLemmas.{all-timely}
+use Rattle.sim_mote.specs.declared.mote.Mote.{Mote}
+use Rattle.world_state_laws.specs.Coming.{code_world}
 use Rattle.world_sim.specs.Counting.{IsCounted, IsCountedBehind, AreCounted}
 use Rattle.world_sim.proofs.CountingLemmas.{all-behind, all-few, run-summary}
 use Rattle.world_sim.proofs.EndingLemmas.{end-still, ends-whole-of, ended-ranges, forgotten-hand}

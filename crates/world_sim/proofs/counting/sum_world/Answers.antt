@@ -1,12 +1,12 @@
 use Rattle.std.proofs.Common.{ℕ, ◌≤◌, false, length, refl, sym, ◌∙◌, ap, subst, arith, inr}
 use Rattle.mate_journal.specs.NodeScript.{Whole, Full}
 use Rattle.radio_sim.specs.Radio.{Ether}
-use Rattle.world_promise.specs.Promise.{IsReportOfWorld}
-use Rattle.world_states.specs.Coming.{code_world}
-use Rattle.world_simulation.specs.Reporting.{told_report}
-use Rattle.world_simulation.specs.declared.simulation.Simulation.{Simulation}
-use Rattle.world_simulation.proofs.RangeLemmas.{same-ranges, report-ranges, few-of}
-use Rattle.world_simulation.proofs.RunLemmas.{behind, is-done}
+use Rattle.world_run_laws.specs.Promise.{IsReportOfWorld}
+use Rattle.world_state_laws.specs.Coming.{code_world}
+use Rattle.sim_run.specs.Reporting.{told_report}
+use Rattle.sim_run.specs.declared.simulation.Simulation.{Simulation}
+use Rattle.sim_run.proofs.RangeLemmas.{same-ranges, report-ranges, few-of}
+use Rattle.sim_run.proofs.RunLemmas.{behind, is-done}
 use Rattle.world_sim.proofs.WritingLemmas.{at-end, full-report-now}
 use Rattle.world_sim.proofs.CountingLemmas.{tallied-air, run-summary}
 use Rattle.world_sim.proofs.counting.sum_world.Goals as goal

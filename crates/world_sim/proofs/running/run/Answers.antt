@@ -1,11 +1,11 @@
 use Rattle.std.proofs.Common.{◌≡◌, ℕ, suc, ◌+◌, ◌≤◌, length, refl, sym, ◌∙◌, ap, subst, arith}
 use Rattle.mate_journal.specs.NodeScript.{Whole, Full}
 use Rattle.radio_sim.specs.Radio.{Ether}
-use Rattle.world_states.specs.Coming.{code_world}
-use Rattle.world_simulation.proofs.KeepingLemmas.{whole-still, whole-shown}
-use Rattle.world_simulation.proofs.RunLemmas.{behind, is-done}
-use Rattle.world_simulation.proofs.WorldLemmas.{all-timely, of-machine, shown-machine, full-report, whole-report}
-use Rattle.world_simulation.specs.Keeping.{IsWhole}
+use Rattle.world_state_laws.specs.Coming.{code_world}
+use Rattle.sim_run.proofs.KeepingLemmas.{whole-still, whole-shown}
+use Rattle.sim_run.proofs.RunLemmas.{behind, is-done}
+use Rattle.sim_run.proofs.WorldLemmas.{all-timely, of-machine, shown-machine, full-report, whole-report}
+use Rattle.sim_run.specs.Keeping.{IsWhole}
 use Rattle.world_sim.proofs.running.run.Goals as goal
 
 pub see_stores-requires : goal.see_stores-requires

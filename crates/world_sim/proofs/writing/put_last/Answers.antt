@@ -1,4 +1,4 @@
-use Rattle.world_simulation.specs.Reporting.{told_report}
+use Rattle.sim_run.specs.Reporting.{told_report}
 use Rattle.world_sim.proofs.LastLemmas.{last_refused}
 use Rattle.world_sim.proofs.writing.put_last.Goals as goal
 

@@ -1,9 +1,9 @@
 use Rattle.std.proofs.Common.{refl, subst, inl, Option}
 use Rattle.run_record.specs.declared.record.Record.{Record}
 use Rattle.run_writing.proofs.WritingLemmas.{given-whole, given-fault}
-use Rattle.world_promise.specs.Promise.{IsReportOfWorld}
+use Rattle.world_run_laws.specs.Promise.{IsReportOfWorld}
 use Rattle.world_rules.specs.Report.{IsWorldReport}
-use Rattle.world_states.specs.Coming.{code_world}
+use Rattle.world_state_laws.specs.Coming.{code_world}
 use Rattle.world_sim.specs.Writing.{WritesRecorded}
 use Rattle.world_sim.proofs.SameLemmas.{handed-out}
 use Rattle.world_sim.proofs.writing.run_into.Goals as goal

@@ -2,14 +2,14 @@ use Rattle.std.proofs.Common.{◌≡◌, ◌<◌, ℕ, suc, ◌+◌, List, lengt
 use Rattle.mate_files.specs.Sink.{Puts}
 use Rattle.mate_journal.specs.NodeScript.{Whole}
 use Rattle.run_writing.specs.declared.pass.Pass.{Pass}
-use Rattle.world_step.specs.declared.mote.Mote.{Mote}
-use Rattle.world_text.specs.EventText.{store_lines}
-use Rattle.world_simulation.specs.Reporting.{mote_logs}
-use Rattle.world_simulation.specs.Telling.{LogsAreKept}
-use Rattle.world_simulation.specs.declared.simulation.Simulation.{Simulation}
-use Rattle.world_states.specs.Coming.{code_world}
-use Rattle.world_simulation.proofs.RangeLemmas.{report-ranges, few-of}
-use Rattle.world_simulation.proofs.WorldLemmas.{all-timely}
+use Rattle.sim_mote.specs.declared.mote.Mote.{Mote}
+use Rattle.world_text_laws.specs.EventText.{store_lines}
+use Rattle.sim_run.specs.Reporting.{mote_logs}
+use Rattle.sim_run.specs.Telling.{LogsAreKept}
+use Rattle.sim_run.specs.declared.simulation.Simulation.{Simulation}
+use Rattle.world_state_laws.specs.Coming.{code_world}
+use Rattle.sim_run.proofs.RangeLemmas.{report-ranges, few-of}
+use Rattle.sim_run.proofs.WorldLemmas.{all-timely}
 use Rattle.world_sim.specs.Writing.{EndsSo}
 use Rattle.world_sim.proofs.HandLemmas.{still-written}
 use Rattle.world_sim.proofs.RecordingLemmas.{forgotten-logs, recorded-as, recorded-still, stores-before}

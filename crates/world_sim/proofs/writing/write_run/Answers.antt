@@ -4,10 +4,10 @@ use Rattle.radio_sim.specs.Radio.{Ether}
 use Rattle.run_record.proofs.RecordLemmas.{all-self}
 use Rattle.run_writing.specs.declared.pass.Pass.{Pass}
 use Rattle.world_rules.specs.Report.{IsWorldReport}
-use Rattle.world_states.specs.Coming.{code_world}
-use Rattle.world_simulation.specs.Reporting.{mote_logs}
-use Rattle.world_simulation.proofs.RangeLemmas.{same-ranges, report-ranges, few-of}
-use Rattle.world_simulation.proofs.RunLemmas.{behind, is-done}
+use Rattle.world_state_laws.specs.Coming.{code_world}
+use Rattle.sim_run.specs.Reporting.{mote_logs}
+use Rattle.sim_run.proofs.RangeLemmas.{same-ranges, report-ranges, few-of}
+use Rattle.sim_run.proofs.RunLemmas.{behind, is-done}
 use Rattle.world_sim.specs.Writing.{WritesRecorded}
 use Rattle.world_sim.proofs.RecordingLemmas.{recorded-as}
 use Rattle.world_sim.proofs.WritingLemmas.{at-end, memory-ends, full-ends}

@@ -1,10 +1,10 @@
 use Rattle.std.proofs.Common.{◌≡◌}
 use Rattle.mate_journal.specs.Log.{IsEmpty}
-use Rattle.world_states.specs.Coming.{code_world}
-use Rattle.world_step.specs.Motes.{plain_effect}
-use Rattle.world_simulation.specs.Ranging.{AreInRange}
-use Rattle.world_simulation.specs.Running.{StandsAfter}
-use Rattle.world_simulation.specs.Telling.{LogsAreKept}
+use Rattle.world_state_laws.specs.Coming.{code_world}
+use Rattle.sim_mote.specs.Motes.{plain_effect}
+use Rattle.sim_run.specs.Ranging.{AreInRange}
+use Rattle.sim_run.specs.Running.{StandsAfter}
+use Rattle.sim_run.specs.Telling.{LogsAreKept}
 use Rattle.world_sim.specs.Recording.{IsRecorded, has_record}
 use Rattle.world_sim.specs.Writing.{HasWrittenNow}
 use Rattle.world_sim.proofs.writing.write_run.Given as goal

@@ -1,7 +1,7 @@
 use Rattle.std.proofs.Common.{◌<◌, length, subst, arith}
-use Rattle.world_states.specs.Coming.{code_world}
-use Rattle.world_simulation.specs.Telling.{LogsAreKept}
-use Rattle.world_simulation.proofs.MoteLemmas.{first-mote, at-mote}
+use Rattle.world_state_laws.specs.Coming.{code_world}
+use Rattle.sim_run.specs.Telling.{LogsAreKept}
+use Rattle.sim_run.proofs.MoteLemmas.{first-mote, at-mote}
 use Rattle.world_sim.proofs.EndingLemmas.{start-goes, start-fails}
 use Rattle.world_sim.proofs.writing.write_start.Goals as goal
 

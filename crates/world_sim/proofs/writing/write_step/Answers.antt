@@ -1,8 +1,8 @@
 use Rattle.std.proofs.Common.{◌≡◌, ◌-◌, length, sym, subst, arith}
 use Rattle.run_writing.specs.declared.pass.Pass.{Pass}
-use Rattle.world_states.specs.Coming.{code_world}
-use Rattle.world_simulation.proofs.RangeLemmas.{left-ranges, few-before}
-use Rattle.world_simulation.proofs.KeepingLemmas.{few-after, left-stands}
+use Rattle.world_state_laws.specs.Coming.{code_world}
+use Rattle.sim_run.proofs.RangeLemmas.{left-ranges, few-before}
+use Rattle.sim_run.proofs.KeepingLemmas.{few-after, left-stands}
 use Rattle.world_sim.specs.Writing.{EndsSo}
 use Rattle.world_sim.proofs.HandLemmas.{written-still, at-hand-now, put-now, left-written}
 use Rattle.world_sim.proofs.RecordingLemmas.{recorded-before, recorded-still, left-recorded}

@@ -1,7 +1,7 @@
 use Rattle.std.proofs.Common.{◌≡◌, ◌∙◌, List, Result, Ok, Err, ap, subst}
 use Rattle.std.specs.Prelude.{OnOk, slice_index_or}
 use Rattle.std.proofs.lemmas.List.{get_or_default}
-use Rattle.mate_journal.specs.Journal.{Told, told_of}
+use Rattle.mate_journal.specs.Journal.{JournalEntry, journal_entry}
 use Rattle.mate_journal.specs.declared.entry.Stamped.{Stamped}
 use Rattle.audit_finite.specs.Roll.{rolled}
 use Rattle.audit_finite.proofs.InstalledLemmas.{LiveAreInstalled-step}
@@ -33,12 +33,12 @@ returns-clause-read c =
     let e : Stamped = slice_index_or c.entries.result.now place c.index-entries-place.result in
     let x : ReadyRoll = c.args.self.now in
     let y : ReadyRoll = record { roll = c.hear.new.self; ready = c.make_ready.new.self.ready; last = c.make_ready.new.self.last } in
-    let told : told_of l e.entry ≡ told_at t place =
+    let told : journal_entry l e.entry ≡ told_at t place =
     entry-at t place e c.requires.within
     (ap (λ (es : List Stamped). slice_index_or es place c.index-entries-place.result) c.entries.ensures ∙ get_or_default entries place c.index-entries-place.result e c.requires.within) in
     OnOk-map c.hear.result
     (λ heard.
     HasReadUpTo-next t place x y c.requires.within c.requires.read (λ may live. LiveAreInstalled-step (machine_for t) (roll_in l.images x.roll) (told_at t place) may live)
-    (heard ∙ ap (λ (r : Roll). rolled (roll_in l.images r) (told_of l e.entry)) c.make_ready.ensures.roll ∙ ap (λ (g : Told). rolled (roll_in l.images x.roll) g) told) c.make_ready.ensures.places
-    (subst (λ (g : Told). AreReady t.desc.now (rolled (roll_in l.images x.roll) g).installed y.ready.programs.items) told c.make_ready.ensures.ready))
+    (heard ∙ ap (λ (r : Roll). rolled (roll_in l.images r) (journal_entry l e.entry)) c.make_ready.ensures.roll ∙ ap (λ (g : JournalEntry). rolled (roll_in l.images x.roll) g) told) c.make_ready.ensures.places
+    (subst (λ (g : JournalEntry). AreReady t.desc.now (rolled (roll_in l.images x.roll) g).installed y.ready.programs.items) told c.make_ready.ensures.ready))
     (c.hear.ensures l)

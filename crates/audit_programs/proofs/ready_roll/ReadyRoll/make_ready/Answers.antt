@@ -1,5 +1,5 @@
 use Rattle.std.proofs.Common.{◌<◌, List, Option, length, sym, subst, arith}
-use Rattle.mate_journal.specs.Journal.{Installed, told_of}
+use Rattle.mate_journal.specs.Journal.{Installed, journal_entry}
 use Rattle.mate_journal.specs.Machine.{HeldProgram}
 use Rattle.mate_journal.specs.Tidy.{IsEntryInRange}
 use Rattle.mate_journal.specs.declared.entry.Entry.{Entry}
@@ -20,7 +20,7 @@ returns-in-Install-clause-ready c =
     let x : told.Roll = roll_in l.images c.args.self.now.roll in
     let h = c.in-Install.handler in
     let p : HeldProgram = named_program l h c.in-Install.version c.in-Install.image in
-    let E : Entry → Type 0 = λ e. AreReady d (told.rolled x (told_of l e)).installed c.install.new.self.programs.items in
+    let E : Entry → Type 0 = λ e. AreReady d (told.rolled x (journal_entry l e)).installed c.install.new.self.programs.items in
     let R : List (Option ReadyProgram) → Type 0 = λ ps. AreReady d (told.rolled x (Installed p)).installed ps in
     let low : h.0 < length d.handlers.items = subst (IsEntryInRange d) c.in-Install.is c.requires.range in
     let few = c.requires.tried.few in

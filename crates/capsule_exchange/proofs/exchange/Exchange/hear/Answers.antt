@@ -1,6 +1,6 @@
 use Rattle.std.proofs.Common.{length, Some, refl, sym, ap, subst, ◌∷◌, ◌∙◌, arith}
 use Rattle.packet_codec.specs.declared.packet.Packet.{Packet}
-use Rattle.packet_codec.specs.Packet.{IsRight, IsRightStatus, IsRightFragment}
+use Rattle.packet_codec.specs.Packet.{IsRightPacket, IsRightStatus, IsRightFragment}
 use Rattle.capsule_exchange.specs.Happenings.{Hears, asks_after, completed_by}
 use Rattle.capsule_exchange.specs.Knowledge.{Knowledge, knowledge, Judges}
 use Rattle.capsule_exchange.proofs.KnowledgeLemmas.{length-aimed_each, vector_learned, status_learned, fragment_learned, app_learned}
@@ -27,14 +27,14 @@ returns-in-Vector-clause-right c =
 
 pub returns-in-Status-clause-learned : goal.returns-in-Status-clause-learned
 returns-in-Status-clause-learned c = λ n before was.
-    let right : IsRightStatus (length c.args.self.now.handlers) c.in-Status.handler.0 c.in-Status.version c.in-Status.missing = subst (IsRight (length c.args.self.now.handlers)) c.in-Status.is c.requires.right in
+    let right : IsRightStatus (length c.args.self.now.handlers) c.in-Status.handler.0 c.in-Status.version c.in-Status.missing = subst (IsRightPacket (length c.args.self.now.handlers)) c.in-Status.is c.requires.right in
     status_learned c.args.self.now c.hear_status.new.self c.in-Status.handler c.in-Status.version c.in-Status.missing right.handler_high c.hear_status.ensures n before was
     ∙ ap (λ (p : Packet). knowledge n (Hears p ∷ before)) (sym c.in-Status.is)
 
 pub returns-in-Fragment-clause-learned : goal.returns-in-Fragment-clause-learned
 returns-in-Fragment-clause-learned c = λ n before was.
     let f = c.in-Fragment in
-    let right : IsRightFragment (length c.args.self.now.handlers) f.handler.0 f.version f.index f.count f.large f.bytes.items = subst (IsRight (length c.args.self.now.handlers)) f.is c.requires.right in
+    let right : IsRightFragment (length c.args.self.now.handlers) f.handler.0 f.version f.index f.count f.large f.bytes.items = subst (IsRightPacket (length c.args.self.now.handlers)) f.is c.requires.right in
     let few = right.count_high in
     let low = right.index_high in
     fragment_learned c.args.self.now c.hear_fragment.new.self f.handler f.version f.index f.count f.large f.bytes right.handler_high right.version_low (omega arith) c.hear_fragment.ensures.state n before was
@@ -43,7 +43,7 @@ returns-in-Fragment-clause-learned c = λ n before was.
 pub returns-in-Fragment-clause-complete : goal.returns-in-Fragment-clause-complete
 returns-in-Fragment-clause-complete c = λ n before was.
     let f = c.in-Fragment in
-    let right : IsRightFragment (length c.args.self.now.handlers) f.handler.0 f.version f.index f.count f.large f.bytes.items = subst (IsRight (length c.args.self.now.handlers)) f.is c.requires.right in
+    let right : IsRightFragment (length c.args.self.now.handlers) f.handler.0 f.version f.index f.count f.large f.bytes.items = subst (IsRightPacket (length c.args.self.now.handlers)) f.is c.requires.right in
     let few = right.count_high in
     let low = right.index_high in
     let learned = fragment_learned c.args.self.now c.hear_fragment.new.self f.handler f.version f.index f.count f.large f.bytes right.handler_high right.version_low (omega arith) c.hear_fragment.ensures.state in

@@ -1,6 +1,6 @@
 use Rattle.std.proofs.Common.{◌≡◌, ℤ, to_z, of_z, w16, rules, subst}
 use Rattle.std.specs.Prelude.{MatchResult}
-use Rattle.mate_journal.specs.NodeScript.{Answers}
+use Rattle.mate_journal.specs.NodeScript.{AnswersCall}
 use Rattle.node_calls.specs.Calls.{NobodyWaits}
 use Rattle.open_node.specs.View.{NodeView, heard_of, Tells}
 use Rattle.open_node.specs.Calls.{Pacing}
@@ -10,6 +10,6 @@ pub returns : goal.returns
 returns c =
     let whole : to_z w16 (of_z w16 c.args.value) ≡ c.args.value = search rules in
     let P : ℤ → NodeView → Type 0 = λ x v.
-    MatchResult c.answer.result (λ _. Tells v c.answer.new.self c.args.at (Pacing (λ _. Answers (heard_of v) c.args.ctx x)))
+    MatchResult c.answer.result (λ _. Tells v c.answer.new.self c.args.at (Pacing (λ _. AnswersCall (heard_of v) c.args.ctx x)))
     (λ _. NobodyWaits (heard_of v) c.args.ctx × (c.answer.new.self ≡ v)) in
     subst (P c.args.value) c.self.view_is (subst (λ (x : ℤ). P x c.self.inside.node) whole c.answer.ensures)

@@ -1,7 +1,7 @@
 -- The answer, or the same node.
 use Rattle.std.proofs.Common.{◌≡◌, ℤ, to_z, of_z, w16, rules, subst}
 use Rattle.std.specs.Prelude.{MatchResult}
-use Rattle.mate_journal.specs.NodeScript.{Answers}
+use Rattle.mate_journal.specs.NodeScript.{AnswersCall}
 use Rattle.node_invariant.specs.Keeps.{reading}
 use Rattle.node_calls.specs.Calls.{RestsAgain, NobodyWaits}
 use Rattle.open_node.specs.View.{heard_of, Tells}
@@ -20,8 +20,8 @@ returns c =
     let n = c.self.inside in
     let r = reading n.description n.parts.log.all in
     let whole : to_z w16 (of_z w16 c.args.value) ≡ c.args.value = search rules in
-    let P : ℤ → Type 0 = λ x. MatchResult c.answer_in.result (λ _. RestsAgain n.description n.parts c.answer_in.new.parts c.args.at (Answers r c.args.ctx x)) (λ _. NobodyWaits r c.args.ctx × (c.answer_in.new.parts ≡ n.parts)) in
+    let P : ℤ → Type 0 = λ x. MatchResult c.answer_in.result (λ _. RestsAgain n.description n.parts c.answer_in.new.parts c.args.at (AnswersCall r c.args.ctx x)) (λ _. NobodyWaits r c.args.ctx × (c.answer_in.new.parts ≡ n.parts)) in
     Seen-either n.description n.parts c.answer_in.new.parts c.args.self.now c.answer_in.result _
-    (λ v. Tells v (seen_as n.description c.answer_in.new.parts) c.args.at (Pacing (λ _. Answers (heard_of v) c.args.ctx c.args.value)))
+    (λ v. Tells v (seen_as n.description c.answer_in.new.parts) c.args.at (Pacing (λ _. AnswersCall (heard_of v) c.args.ctx c.args.value)))
     _ (λ v _. NobodyWaits (heard_of v) c.args.ctx) c.self.view_is
-    (λ made. Tells-again n.description n.parts c.answer_in.new.parts c.args.at c.self.invariant.rests c.answer_in.ensures.gone (Answers r c.args.ctx c.args.value) made) (λ _ nobody. nobody) (subst P whole c.answer_in.ensures.answers)
+    (λ made. Tells-again n.description n.parts c.answer_in.new.parts c.args.at c.self.invariant.rests c.answer_in.ensures.gone (AnswersCall r c.args.ctx c.args.value) made) (λ _ nobody. nobody) (subst P whole c.answer_in.ensures.answers)

@@ -4,7 +4,7 @@ use Rattle.std.proofs.lemmas.List.{length-map}
 use Rattle.std.proofs.lemmas.Option.{slice_get_past}
 use Rattle.mate_num.specs.declared.store.Store.{Store}
 use Rattle.packed_log.specs.Pieces.{pieces}
-use Rattle.packed_log.specs.Stores.{Listed, store_of}
+use Rattle.packed_log.specs.Stores.{Listed, unpacked_store}
 use Rattle.packed_log.proofs.PiecesLemmas.{length-pieces}
 use Rattle.packed_log.proofs.StoresLemmas.{is-at, store-at, parts-at}
 use Rattle.packed_log.proofs.stores.Stores.get.Goals as goal
@@ -42,4 +42,4 @@ returns-else-index-len c =
     let ns = c.self.inside.counts.lengths in
     let ps = c.self.inside.parts.pieces in
     sym (slice_get_past c.args.self.now.items c.args.index
-    (omega (arith, c.len.ensures, c.if-index-len.false, length-pieces ns ps, length-map (pieces ns ps) store_of, ap (λ (v : Listed Store). length v.items) c.self.view_is)))
+    (omega (arith, c.len.ensures, c.if-index-len.false, length-pieces ns ps, length-map (pieces ns ps) unpacked_store, ap (λ (v : Listed Store). length v.items) c.self.view_is)))

@@ -2,7 +2,7 @@ use Rattle.std.proofs.Common.{length, ap, sym, ◌∙◌}
 use Rattle.std.proofs.lemmas.List.{length-map}
 use Rattle.mate_num.specs.declared.store.Store.{Store}
 use Rattle.packed_log.specs.Pieces.{pieces}
-use Rattle.packed_log.specs.Stores.{Listed, store_of}
+use Rattle.packed_log.specs.Stores.{Listed, unpacked_store}
 use Rattle.packed_log.proofs.PiecesLemmas.{length-pieces}
 use Rattle.packed_log.proofs.stores.Stores.len.Goals as goal
 
@@ -10,4 +10,4 @@ pub returns : goal.returns
 returns c =
     let ns = c.self.inside.counts.lengths in
     let ps = c.self.inside.parts.pieces in
-    c.len.ensures ∙ sym (length-pieces ns ps) ∙ sym (length-map (pieces ns ps) store_of) ∙ ap (λ (v : Listed Store). length v.items) c.self.view_is
+    c.len.ensures ∙ sym (length-pieces ns ps) ∙ sym (length-map (pieces ns ps) unpacked_store) ∙ ap (λ (v : Listed Store). length v.items) c.self.view_is

@@ -4,7 +4,7 @@ use Rattle.std.specs.List.{sum}
 use Rattle.std.proofs.lemmas.List.Elements.{All-same}
 use Rattle.mate_num.specs.declared.store.Store.{Store}
 use Rattle.packed_log.specs.Pieces.{pieces}
-use Rattle.packed_log.specs.Stores.{Listed, AreParts, store_parts, store_of}
+use Rattle.packed_log.specs.Stores.{Listed, AreParts, store_parts, unpacked_store}
 use Rattle.packed_log.proofs.StoresLemmas.{items-push, right-push, whole-push}
 use Rattle.packed_log.proofs.stores.Stores.push.Goals as goal
 
@@ -33,6 +33,6 @@ returns-clause-items c =
     let lengths_are = c.push.ensures.lengths in
     let parts_are = c.push_parts.ensures.parts in
     let both_are = ap (λ (ks : List ℕ). pieces ks c.push_parts.new.parts.pieces) lengths_are ∙ ap (λ (qs : List (List ℤ)). pieces (ns ++ count ∷ []) qs) parts_are in
-    ap (λ (groups : List (List (List ℤ))). map store_of groups) both_are
+    ap (λ (groups : List (List (List ℤ))). map unpacked_store groups) both_are
     ∙ items-push ns ps s count c.self.invariant.0 count_is
     ∙ ap (λ (v : Listed Store). v.items ++ s ∷ []) c.self.view_is

@@ -4,7 +4,7 @@ use Rattle.std.specs.List.{sum}
 use Rattle.std.proofs.lemmas.List.Elements.{All-same}
 use Rattle.mate_num.specs.declared.store.Store.{Store}
 use Rattle.packed_log.specs.Pieces.{pieces}
-use Rattle.packed_log.specs.Stores.{Listed, AreParts, store_of}
+use Rattle.packed_log.specs.Stores.{Listed, AreParts, unpacked_store}
 use Rattle.packed_log.proofs.PiecesLemmas.{cuts-whole}
 use Rattle.packed_log.proofs.StoresLemmas.{items-take, right-take, whole-take}
 use Rattle.packed_log.proofs.stores.Stores.truncate.Goals as goal
@@ -34,4 +34,4 @@ returns-clause-items c =
     c.before-2.ensures ∙ cuts-whole c.truncate.new.self.lengths c.len.result (omega (arith, c.len.ensures)) ∙ ap sum lengths_are in
     let parts_are = c.truncate-2.ensures.pieces ∙ ap (λ (k : ℕ). take k ps) before_is in
     let both_are = ap (λ (ks : List ℕ). pieces ks c.truncate-2.new.self.pieces) lengths_are ∙ ap (λ (qs : List (List ℤ)). pieces kept qs) parts_are in
-    ap (λ (groups : List (List (List ℤ))). map store_of groups) both_are ∙ items-take c.args.count ns ps ∙ ap (λ (v : Listed Store). take c.args.count v.items) c.self.view_is
+    ap (λ (groups : List (List (List ℤ))). map unpacked_store groups) both_are ∙ items-take c.args.count ns ps ∙ ap (λ (v : Listed Store). take c.args.count v.items) c.self.view_is

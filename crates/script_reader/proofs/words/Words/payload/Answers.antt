@@ -4,7 +4,7 @@ use Rattle.std.proofs.lemmas.Result.{err_from_is_err_and}
 use Rattle.std.proofs.lemmas.Int.{to_z-of_z}
 use Rattle.std.specs.Int.{w16}
 use mir.Val.{SFits}
-use Rattle.script_reader.specs.Lines.{words_of}
+use Rattle.script_reader.specs.Lines.{split_words}
 use Rattle.script_reader.proofs.NumberLemmas.{value_fits}
 use Rattle.script_reader.proofs.PayloadLemmas.{IsReadTo, read_none, read_more, read_fails, read_full, read_done}
 use Rattle.script_reader.proofs.words.Words.payload.Goals as goal
@@ -12,8 +12,8 @@ use Rattle.script_reader.proofs.words.Words.payload.Goals.{then-values-test+else
 
 pub values-init : goal.values-init
 values-init c =
-    let P : List ℤ → Type 0 = λ vs. IsReadTo (words_of c.args.self.now) vs (words_of c.args.self.now) in
-    subst P (sym c.new-values.ensures) (read_none (words_of c.args.self.now))
+    let P : List ℤ → Type 0 = λ vs. IsReadTo (split_words c.args.self.now) vs (split_words c.args.self.now) in
+    subst P (sym c.new-values.ensures) (read_none (split_words c.args.self.now))
 
 pub values-preserved : goal.values-preserved
 values-preserved c =
@@ -25,7 +25,7 @@ pub returns-in_err-value-clause-value : goal.returns-in_err-value-clause-value
 returns-in_err-value-clause-value c =
     let e = err_from_is_err_and c.from_residual.result c.from_residual.ensures.1 in
     let few : length c.values.values.items < 10 = omega arith in
-    let some : 0 < length (words_of c.values.self) = grind (arith, nat_tests) in
+    let some : 0 < length (split_words c.values.self) = grind (arith, nat_tests) in
     rw (e.1, e.2) (read_fails _ _ _ _ c.values.invariant few some c.in_err-value.ensures)
 
 pub returns-clause-value : goal.returns-clause-value

@@ -1,0 +1,48 @@
+//! Sources as scripts, without a machine.
+
+use cases_files::marked_bytes;
+use memory_files::MemSink;
+use std::alloc::{AllocError, Global};
+use ts_parser::{SourceFault, parse, tokens};
+use ts_printer::print;
+use ts_syntax::Script;
+
+/// That a source is a script, or its first fault.
+pub fn answer(alloc: Global, case: &str) -> Result<String, AllocError> {
+    let bytes = marked_bytes(alloc, case)?;
+    match script(alloc, bytes.as_slice()) {
+        Ok(_) => "script".to_string(alloc),
+        Err(SourceFault::Unexpected { place }) => format!(in alloc; "unexpected {place}"),
+        Err(SourceFault::TooDeep { place }) => format!(in alloc; "deep {place}"),
+        Err(_) => "another fault".to_string(alloc),
+    }
+}
+
+/// The script of at most 1,048,576 bytes; of longer ones, that the byte there is wrong.
+fn script(alloc: Global, bytes: &[u8]) -> Result<Script, SourceFault> {
+    if bytes.len() > 1_048_576 {
+        return Err(SourceFault::BadByte { place: 1_048_576 });
+    }
+    let tokens = tokens(alloc, bytes)?;
+    parse(alloc, &tokens, bytes.len() as u32)
+}
+
+/// What a sink has of a case `CALL | SOURCE` once the source is printed into it, and how that ended. Its call of that
+/// number fails; none does at 0.
+pub fn printed(alloc: Global, case: &str) -> Result<String, AllocError> {
+    let Some((call, source)) = case.split_once(" | ") else {
+        return "not two parts".to_string(alloc);
+    };
+    let Ok(script) = script(alloc, marked_bytes(alloc, source)?.as_slice()) else {
+        return "no script".to_string(alloc);
+    };
+    printed_into(alloc, &script, call.parse::<u64>().unwrap_or(0))
+}
+
+fn printed_into(alloc: Global, script: &Script, failing: u64) -> Result<String, AllocError> {
+    let mut out = MemSink::new(alloc);
+    let _ = out.fail_at(failing);
+    let outcome = print(script, &mut out);
+    let text = str::from_utf8(out.bytes()).unwrap_or("no text");
+    format!(in alloc; "{text:?} {outcome:?}")
+}

@@ -1,0 +1,47 @@
+//! A sink in memory that refuses one write and each further one, for want of memory.
+
+ghost use Rattle.memory_files.specs.MemSink.{sink_told, write_faults};
+
+use mate_files::{Sink, SinkFault};
+use memory_files::MemSink;
+use std::alloc::Global;
+
+/// A sink in memory that takes the writes before one and no further one. A write of no bytes isn't counted.
+#[derive(Drop)]
+pub(crate) struct ScarceSink {
+    sink: MemSink,
+    // how many further writes it takes
+    left: u64,
+}
+
+impl ScarceSink {
+    /// No byte was written, and it takes so many writes.
+    pub(crate) fn new(alloc: Global, writes: u64) -> ScarceSink {
+        ScarceSink {
+            sink: MemSink::new(alloc),
+            left: writes,
+        }
+    }
+
+    /// What was written.
+    pub(crate) fn bytes(&self) -> &[u8] {
+        self.sink.bytes()
+    }
+}
+
+impl Sink for ScarceSink {
+    ghost written = { λ s. sink_told s.sink };
+
+    ghost faults = { λ s. write_faults s.sink };
+
+    fn put(&mut self, bytes: &[u8]) -> Result<(), SinkFault> {
+        if bytes.is_empty() {
+            return Ok(());
+        }
+        if self.left == 0 {
+            return Err(SinkFault::NoMemory);
+        }
+        self.left -= 1;
+        self.sink.put(bytes)
+    }
+}

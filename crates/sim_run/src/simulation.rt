@@ -1,0 +1,227 @@
+//! A world between its events: the radio, the nodes, and how many records stand.
+
+ghost use Rattle.std.specs.Prelude.{◌≡◌, ◌+◌, ◌<◌, ◌≤◌, ◌∷◌, [], List, length, slice_get, Some, All, IfOk, OnOk, ◌⊎◌};
+ghost use Rattle.world_script.specs.World.{IsRightWorld};
+ghost use Rattle.mate_journal.specs.Log.{IsEmpty};
+ghost use Rattle.mate_journal.specs.declared.program.Program.{Program as ProgramOfFile};
+ghost use Rattle.mate_journal.specs.declared.air.Air.TheVariants as air;
+ghost use Rattle.sim_air.specs.Air.{aired_at};
+ghost use Rattle.sim_air.specs.Changes.{AddsToAir};
+ghost use Rattle.sim_air.specs.Starting.{beginning, first_items};
+ghost use Rattle.sim_mote.specs.Motes.{BeginsMote, plain_effect};
+ghost use Rattle.sim_mote.specs.declared.mote.Mote.{Mote as MoteState};
+ghost use Rattle.world_state_laws.specs.Coming.{code_world};
+ghost use Rattle.node_programs.specs.WorldPrograms.{AreProgramsOfWorld};
+ghost use Rattle.sim_run.specs.Starting.{HaveBegun};
+ghost use Rattle.sim_run.specs.Running.{StandsAfter, StandsAtNext, NamesPart, named_node};
+ghost use Rattle.sim_run.specs.Ranging.{AreInRange};
+ghost use Rattle.sim_run.specs.Keeping.{IsWhole, IsFew, LetsGo, LetsGoAsTold};
+ghost use Rattle.sim_run.specs.Telling.{HasComeOn, LogsAreKept};
+
+use mate_journal::{NodeLog, Programs, RECORDS_MAX};
+use mate_num::{NoMemory, Stamp};
+use radio_sim::{Event, Radio};
+use report_ranges::{LogSize, air_is_in_range_from, log_is_in_range_from};
+use std::alloc::Global;
+use vm_desc::Description;
+use sim_air::{begin_node, schedule_lines};
+use sim_event::perform;
+use world_script::World;
+use world_state_laws::states_are_sound;
+use sim_mote::{Effect, Mote};
+use world_text_laws::text_grows_by_events;
+
+/// What becomes of what was told once it is written.
+#[derive(Clone, Copy)]
+pub enum Written {
+    Kept,
+    Forgotten,
+}
+
+/// A world between two of its events.
+#[derive(Drop)]
+pub struct Simulation {
+    pub radio: Radio,
+    pub motes: Vec<Mote>,
+    /// How many records stand, in journals and of the air.
+    pub records: usize,
+}
+
+impl Simulation {
+    /// The world before its first event: the lines of the script are due, and for each node the point and the end of its
+    /// first interval and its first periods.
+    pub fn start(alloc: Global, desc: &Description, world: &World) -> Result<Simulation, NoMemory>
+        requires { IsRightWorld desc.now world.now }
+        ensures stands { IfOk result (λ sim. (ps : List ProgramOfFile) → StandsAfter (code_world desc.now world.now ps) 0 sim) }
+        ensures whole { IfOk result IsWhole }
+        ensures empty { IfOk result (λ sim. All (λ (m : MoteState). IsEmpty m.node.log) sim.motes.items) }
+        ensures ranges { IfOk result AreInRange }
+    {
+        let mut radio = Radio::new(alloc, world, desc)?;
+        schedule_lines(&mut radio, world)?;
+        let motes = begin_motes(alloc, desc, world, &mut radio)?;
+        air_is_in_range_from(radio.air(), 0);
+        Ok(Simulation {
+            radio,
+            motes,
+            records: usize::from(world.nodes),
+        })
+    }
+
+    /// The event comes, with this stamp. What its node and the radio told before it is forgotten, where that is to be forgotten, and
+    /// the node then has the spare room. It answers its node. The effect is nothing before it and after it.
+    pub fn step(
+        &mut self,
+        desc: &Description,
+        world: &World,
+        programs: &Programs,
+        event: &Event,
+        at: Stamp,
+        written: Written,
+        room: &mut NodeLog,
+        effect: &mut Effect,
+    ) -> Result<u8, NoMemory>
+        requires right { AreProgramsOfWorld desc.now world.now programs.now }
+        requires stands { StandsAtNext (code_world desc.now world.now programs.now) event.now at self.old }
+        requires empty { IsEmpty room.old }
+        requires plain { effect.old ≡ plain_effect }
+        ensures stands { OnOk result (StandsAfter (code_world desc.now world.now programs.now) at.event self.new) }
+        ensures adds { IfOk result (HasComeOn written at.event self.old self.new) }
+        ensures kept { OnOk result (LogsAreKept self.old.motes.items → LogsAreKept self.new.motes.items) }
+        ensures ranges { OnOk result (AreInRange self.old → AreInRange self.new) }
+        ensures empty { IsEmpty room.new }
+        ensures plain { OnOk result (effect.new ≡ plain_effect) }
+    {
+        states_are_sound();
+        text_grows_by_events();
+        let number = node_of(world, event);
+        self.let_go(number, written, room);
+        let mote = &mut self.motes[usize::from(number)];
+        let before = mote.node.kept();
+        let size = LogSize::of(before);
+        let entries = mote.node.told();
+        let air = self.radio.aired();
+        let heard = self.radio.air().len();
+        perform(
+            &mut self.radio,
+            mote,
+            desc,
+            world,
+            programs,
+            number,
+            event,
+            at,
+            effect,
+        )?;
+        let after = mote.node.kept();
+        log_is_in_range_from(after, size);
+        air_is_in_range_from(self.radio.air(), heard);
+        let told = mote.node.told() - entries;
+        let aired = self.radio.aired() - air;
+        self.records = counted(self.records, told, aired)?;
+        Ok(number)
+    }
+
+    /// Behind an event of the node, where a next one may come: lets go what it told.
+    pub fn leave(&mut self, number: u8, room: &mut NodeLog)
+        requires node { number < length self.old.motes.items }
+        requires few { self.old.records < 1000000 → IsFew self.old number }
+        requires empty { IsEmpty room.old }
+        ensures leaves { (self.new ≡ self.old) ⊎ LetsGo self.old self.new number }
+        ensures kept { LogsAreKept self.old.motes.items → LogsAreKept self.new.motes.items }
+        ensures empty { IsEmpty room.new }
+    {
+        if self.records >= RECORDS_MAX {
+            return;
+        }
+        self.let_go(number, Written::Forgotten, room);
+        let _kept = self.motes[usize::from(number)].node.kept();
+    }
+
+    /// Forgets what a node and the radio told, where that is to be forgotten, and trades the node's room for the spare one.
+    pub(crate) fn let_go(&mut self, number: u8, written: Written, room: &mut NodeLog)
+        requires node { number < length self.old.motes.items }
+        requires log { (mote : MoteState) → slice_get self.old.motes.items number ≡ Some mote → length mote.node.log.entries < 3999999999 }
+        requires air { length self.old.radio.air < 4000000000 }
+        requires empty { IsEmpty room.old }
+        ensures lets_go { LetsGoAsTold written self.old self.new number }
+        ensures empty { IsEmpty room.new }
+    {
+        match written {
+            Written::Kept => {}
+            Written::Forgotten => {
+                let node = &mut self.motes[usize::from(number)].node;
+                node.forget();
+                node.trade(room);
+                self.radio.forget();
+            }
+        }
+    }
+}
+
+/// So many records, with those of one event more. `NoMemory` comes where a machine word doesn't count them.
+fn counted(records: usize, told: usize, aired: usize) -> Result<usize, NoMemory>
+    ensures { IfOk result (λ n. n ≡ records + told + aired) }
+{
+    let Some(before) = records.checked_add(told) else {
+        return Err(NoMemory);
+    };
+    match before.checked_add(aired) {
+        Some(count) => Ok(count),
+        None => Err(NoMemory),
+    }
+}
+
+/// The nodes of the world before its first event, in order: the first events of each are due.
+fn begin_motes(
+    alloc: Global,
+    desc: &Description,
+    world: &World,
+    radio: &mut Radio,
+) -> Result<Vec<Mote>, NoMemory>
+    requires nodes { world.now.nodes ≤ 64 }
+    requires now { radio.old.agenda.now ≡ 0 }
+    ensures { IfOk result (λ motes. (ps : List ProgramOfFile)
+        → HaveBegun (code_world desc.now world.now ps) world.now.nodes radio.old radio.new motes.items) }
+{
+    let mut motes = Vec::with_capacity(alloc, usize::from(world.nodes))?;
+    for node in 0..world.nodes {
+        motes.push(begin_mote(alloc, desc, world.random, node, radio)?)?;
+    }
+    Ok(motes)
+}
+
+/// The node before the first event: its first events are due.
+fn begin_mote(
+    alloc: Global,
+    desc: &Description,
+    random: u64,
+    node: u8,
+    radio: &mut Radio,
+) -> Result<Mote, NoMemory>
+    requires node { node < 64 }
+    requires now { radio.old.agenda.now ≡ 0 }
+    ensures begins { IfOk result (BeginsMote desc.now random node) }
+    ensures adds { IfOk result (λ mote. AddsToAir radio.old radio.new (aired_at beginning node (air.Interval mote.timer.running.length)
+        ∷ []) (first_items desc.now node mote.timer)) }
+{
+    let mote = Mote::new(alloc, desc, random, node)?;
+    begin_node(radio, desc, node, &mote.timer)?;
+    Ok(mote)
+}
+
+/// The node that an event is of.
+fn node_of(world: &World, event: &Event) -> u8
+    requires { NamesPart world.now event.now }
+    ensures { result ≡ named_node world.now event.now }
+{
+    match event {
+        Event::Planned(line) => world.events.as_slice()[*line as usize].node,
+        Event::Period { node, .. } => *node,
+        Event::Fire { node } => *node,
+        Event::Expire { node } => *node,
+        Event::Pump { node } => *node,
+        Event::Due { node, .. } => *node,
+        Event::Deliver { link, .. } => world.links.as_slice()[*link as usize].to,
+    }
+}

@@ -1,5 +1,0 @@
-use Rattle.world_promise.proofs.Tidy.{world-tidy}
-use Rattle.world_promise.proofs.laws.world_report_is_tidy.Goals as goal
-
-pub returns : goal.returns
-returns c = world-tidy

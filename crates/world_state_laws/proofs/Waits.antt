@@ -1,0 +1,301 @@
+-- Who waits, and who calls, along what an event tells in a well-formed journal.
+use Rattle.std.proofs.Common.{◌≡◌, ◌≢◌, ◌≤◌, ℕ, ◌+◌, false, List, [], ◌∷◌, ◌++◌, refl, sym, ◌∙◌, ap, subst, arith, inl, inr, ◌⊎◌}
+use Rattle.std.specs.Prelude.{ℤ, ◌==◌, if◌then◌else◌}
+use Rattle.std.proofs.lemmas.Bool.Decides.{eqb_tells}
+use Rattle.std.proofs.lemmas.Bool.{cases_Bool}
+use Rattle.arrayvec.specs.ArrayVec.{ArrayVec}
+use Rattle.mate_num.specs.declared.id.HandlerId.{HandlerId}
+use Rattle.mate_num.specs.declared.id.FunId.{FunId}
+use Rattle.mate_num.specs.declared.store.Store.{Store}
+use Rattle.mate_journal.specs.Machine.{Machine}
+use Rattle.mate_journal.specs.Journal.{JournalEntry, Posted, Dropped, Started, Asked, Answered, Ended, Installed, Reset, Seen, Void, Ready, Waiting, NodeState, next_state, state_after_entries}
+use Rattle.mate_journal.specs.WellFormed.{IsWaiting, MayFollow}
+use Rattle.mate_journal.specs.NodeScript.{Occasion}
+use Rattle.mate_journal.specs.Pace.{Pace, paced_all}
+use Rattle.mate_journal.specs.Turns.{Settles}
+use Rattle.journal_laws.specs.Waiting.{AreFollowing, ends_wait}
+use Rattle.journal_laws.proofs.Staying.{waits-same, goes_on-told, follow-front, follow-back}
+use Rattle.journal_laws.proofs.Settling.{IsOfTurn, AreOfTurns, starts-of_turns, settles-of_turns}
+use Rattle.journal_laws.proofs.Moves.{asked-Moves, answered-Moves}
+use Rattle.journal_laws.proofs.Apart.{IsNumbered, numbered-step}
+use Rattle.world_rules.specs.Effect.{Deed, Nothing, Installing, Posting, Answering, Showing, Resetting, cuts}
+use Rattle.world_rules.specs.Run.{FirstThen, Occasions, DeedMakes}
+
+-- the entry neither answers a call nor begins an era
+abbrev pub IsPlain : JournalEntry → Type 0
+IsPlain (Posted n h c payload) = Unit {0}
+IsPlain (Dropped h cause) = Unit {0}
+IsPlain (Started n) = Unit {0}
+IsPlain (Asked n f args) = Unit {0}
+IsPlain (Answered n value) = ⊥
+IsPlain (Ended n how) = Unit {0}
+IsPlain (Installed p) = ⊥
+IsPlain Reset = ⊥
+IsPlain (Seen store) = Unit {0}
+IsPlain (Void cause) = Unit {0}
+
+abbrev pub ArePlain : List JournalEntry → Type 0
+ArePlain [] = Unit {0}
+ArePlain (t ∷ told) = IsPlain t × ArePlain told
+
+-- how often the invocation calls
+abbrev pub calls_by : ℕ → JournalEntry → ℕ
+calls_by n (Posted k h c payload) = 0
+calls_by n (Dropped h cause) = 0
+calls_by n (Started k) = 0
+calls_by n (Asked k f args) = if k == n then 1 else 0
+calls_by n (Answered k value) = 0
+calls_by n (Ended k how) = 0
+calls_by n (Installed p) = 0
+calls_by n Reset = 0
+calls_by n (Seen store) = 0
+calls_by n (Void cause) = 0
+
+abbrev pub calls_of : ℕ → List JournalEntry → ℕ
+calls_of n [] = 0
+calls_of n (t ∷ told) = calls_by n t + calls_of n told
+
+-- ---- one entry
+
+plain-stays : (n : ℕ) (t : JournalEntry) → IsPlain t → ends_wait n t ≡ false
+plain-stays n (Posted k h c payload) plain = refl
+plain-stays n (Dropped h cause) plain = refl
+plain-stays n (Started k) plain = refl
+plain-stays n (Asked k f args) plain = refl
+plain-stays n (Answered k value) plain = absurd plain
+plain-stays n (Ended k how) plain = refl
+plain-stays n (Installed p) plain = absurd plain
+plain-stays n Reset plain = absurd plain
+plain-stays n (Seen store) plain = refl
+plain-stays n (Void cause) plain = refl
+
+-- whoever waits doesn't call
+quiet : (m : Machine) (r : NodeState) (t : JournalEntry) (n : ℕ) → MayFollow m r t → IsWaiting r n → calls_by n t ≡ 0
+quiet m r (Posted k h c payload) n follows w = refl
+quiet m r (Dropped h cause) n follows w = refl
+quiet m r (Started k) n follows w = refl
+quiet m r (Asked k f args) n follows w = elim (eqb_tells k n) [
+  | inl same ↦ (let clash : Waiting w.fun w.args ≡ Ready = sym w.waits ∙ ap (λ (i : ℕ). (r.invocations i).phase) (sym same.1) ∙ follows in cc)
+  | inr other ↦ rw other.0 refl
+]
+quiet m r (Answered k value) n follows w = refl
+quiet m r (Ended k how) n follows w = refl
+quiet m r (Installed p) n follows w = refl
+quiet m r Reset n follows w = refl
+quiet m r (Seen store) n follows w = refl
+quiet m r (Void cause) n follows w = refl
+
+-- whoever waits is left as it is
+keeps-one : (m : Machine) (r : NodeState) (t : JournalEntry) (n : ℕ) → MayFollow m r t → IsPlain t → IsNumbered r → IsWaiting r n → ((next_state m r t).invocations n ≡ r.invocations n) × (calls_by n t ≡ 0)
+keeps-one m r t n follows plain right w = (goes_on-told m r n (t ∷ []) right (follows, tt) w (plain-stays n t plain, tt), quiet m r t n follows w)
+
+-- the invocation doesn't call in the entry, or it waits then
+calls-one : (m : Machine) (r : NodeState) (t : JournalEntry) (n : ℕ) → (calls_by n t ≡ 0) ⊎ ((calls_by n t ≡ 1) × IsWaiting (next_state m r t) n)
+calls-one m r (Posted k h c payload) n = inl refl
+calls-one m r (Dropped h cause) n = inl refl
+calls-one m r (Started k) n = inl refl
+calls-one m r (Asked k f args) n = elim (eqb_tells k n) [
+  | inl same ↦ inr (rw same.0 refl, subst (λ (i : ℕ). IsWaiting (next_state m r (Asked k f args)) i) same.1 (record { fun = f; args = args; waits = (asked-Moves m r k f args).here }))
+  | inr other ↦ inl (rw other.0 refl)
+]
+calls-one m r (Answered k value) n = inl refl
+calls-one m r (Ended k how) n = inl refl
+calls-one m r (Installed p) n = inl refl
+calls-one m r Reset n = inl refl
+calls-one m r (Seen store) n = inl refl
+calls-one m r (Void cause) n = inl refl
+
+-- ---- plain entries
+
+-- whoever waits goes on waiting, and doesn't call
+pub plain-keep : (m : Machine) (r : NodeState) (told : List JournalEntry) (n : ℕ) → AreFollowing m r told → ArePlain told → IsNumbered r → IsWaiting r n
+    → ((state_after_entries m r told).invocations n ≡ r.invocations n) × (calls_of n told ≡ 0)
+plain-keep m r [] n follow plain right w = (refl, refl)
+plain-keep m r (t ∷ told) n follow plain right w =
+    let one = keeps-one m r t n follow.0 plain.0 right w in
+    let rest = plain-keep m (next_state m r t) told n follow.1 plain.1 (numbered-step m r t follow.0 right) (waits-same r (next_state m r t) n one.0 w) in
+    (rest.0 ∙ one.0, omega (arith, one.1, rest.1))
+
+-- nobody calls twice
+pub plain-once : (m : Machine) (r : NodeState) (told : List JournalEntry) (n : ℕ) → AreFollowing m r told → ArePlain told → IsNumbered r → calls_of n told ≤ 1
+plain-once m r [] n follow plain right = omega arith
+plain-once m r (t ∷ told) n follow plain right = elim (calls-one m r t n) [
+  | inl none ↦ let rest = plain-once m (next_state m r t) told n follow.1 plain.1 (numbered-step m r t follow.0 right) in omega (arith, none, rest)
+  | inr calls ↦ let rest = plain-keep m (next_state m r t) told n follow.1 plain.1 (numbered-step m r t follow.0 right) calls.1 in omega (arith, calls.0, rest.1)
+]
+
+-- whoever calls waits at the end
+pub plain-waits : (m : Machine) (r : NodeState) (told : List JournalEntry) (n : ℕ) → AreFollowing m r told → ArePlain told → IsNumbered r → 1 ≤ calls_of n told → IsWaiting (state_after_entries m r told) n
+plain-waits m r [] n follow plain right some = absurd (omega (arith, some))
+plain-waits m r (t ∷ told) n follow plain right some = elim (calls-one m r t n) [
+  | inl none ↦ plain-waits m (next_state m r t) told n follow.1 plain.1 (numbered-step m r t follow.0 right) (omega (arith, none, some))
+  | inr calls ↦ waits-same (next_state m r t) (state_after_entries m (next_state m r t) told) n (plain-keep m (next_state m r t) told n follow.1 plain.1 (numbered-step m r t follow.0 right) calls.1).0 calls.1
+]
+
+-- ---- turns and occasions tell plain entries
+
+plain-append : (xs ys : List JournalEntry) → ArePlain xs → ArePlain ys → ArePlain (xs ++ ys)
+plain-append [] ys a b = b
+plain-append (x ∷ xs) ys a b = (a.0, plain-append xs ys a.1 b)
+
+pub plain-as : (xs ys : List JournalEntry) → xs ≡ ys → ArePlain ys → ArePlain xs
+plain-as xs ys is plain = subst ArePlain (sym is) plain
+
+turn-plain : (t : JournalEntry) → IsOfTurn t → IsPlain t
+turn-plain (Posted n h c payload) a = tt
+turn-plain (Dropped h cause) a = tt
+turn-plain (Started n) a = tt
+turn-plain (Asked n f args) a = tt
+turn-plain (Answered n value) a = a
+turn-plain (Ended n how) a = tt
+turn-plain (Installed p) a = a
+turn-plain Reset a = a
+turn-plain (Seen store) a = tt
+turn-plain (Void cause) a = tt
+
+turns-plain : (told : List JournalEntry) → AreOfTurns told → ArePlain told
+turns-plain [] all = tt
+turns-plain (t ∷ told) all = (turn-plain t all.0, turns-plain told all.1)
+
+occasion-plain : (m : Machine) (r : NodeState) (h : HandlerId) (payload : ArrayVec ℤ) (told : List JournalEntry) → Occasion m r h payload told → ArePlain told
+occasion-plain m r h payload told (inl a) = plain-as told _ a.made (tt, tt)
+occasion-plain m r h payload told (inr (inl a)) = plain-as told _ a.made (tt, tt)
+occasion-plain m r h payload told (inr (inr a)) = plain-as told _ a.made (tt, turns-plain a.starts (starts-of_turns a.starts a.are_starts))
+
+occasions-plain : (m : Machine) (payload : ArrayVec ℤ) (hs : List HandlerId) (r : NodeState) (p : Pace) (told : List JournalEntry) → Occasions m payload hs r p told → ArePlain told
+occasions-plain m payload [] r p told is = plain-as told [] is tt
+occasions-plain m payload (h ∷ hs) r p told both =
+    plain-as told (both.front ++ both.rest) both.made (plain-append both.front both.rest (occasion-plain m r h payload both.front both.by_first) (occasions-plain m payload hs (state_after_entries m r both.front) (paced_all p both.front) both.rest both.by_second))
+
+-- ---- an event tells first what its deed is, and then plain entries
+
+abbrev pub IsFirstOf : Deed → List JournalEntry → Type 0
+IsFirstOf Nothing first = first ≡ []
+IsFirstOf (Installing p) first = (store : Store) × (first ≡ Seen store ∷ Installed p ∷ [])
+IsFirstOf (Posting hs payload) first = first ≡ []
+IsFirstOf (Answering inv value) first = first ≡ Answered inv value ∷ []
+IsFirstOf Showing first = first ≡ []
+IsFirstOf Resetting first = (store : Store) × (first ≡ Seen store ∷ Reset ∷ [])
+
+pub record BeginsWith (d : Deed) (told : List JournalEntry) : Type 0 where
+  pub first : List JournalEntry
+  pub rest : List JournalEntry
+  pub split : told ≡ first ++ rest
+  pub begins : IsFirstOf d first
+  pub plain : ArePlain rest
+
+deed-begins : (m : Machine) (r : NodeState) (p : Pace) (d : Deed) (told : List JournalEntry) → DeedMakes m d r p told → BeginsWith d told
+deed-begins m r p Nothing told is = record { first = []; rest = told; split = refl; begins = refl; plain = plain-as told [] is tt }
+deed-begins m r p (Posting hs payload) told is = record { first = []; rest = told; split = refl; begins = refl; plain = occasions-plain m payload hs r p told is }
+deed-begins m r p (Answering inv value) told is = record { first = Answered inv value ∷ []; rest = []; split = is; begins = refl; plain = tt }
+deed-begins m r p Showing told is = record { first = []; rest = told; split = refl; begins = refl; plain = plain-as told (Seen is.seen ∷ []) is.made (tt, tt) }
+deed-begins m r p Resetting told is = record { first = Seen is.seen ∷ Reset ∷ []; rest = []; split = is.made; begins = (is.seen, refl); plain = tt }
+deed-begins m r p (Installing x) told is = record {
+  first = Seen is.seen ∷ Installed x ∷ [];
+  rest = is.rest;
+  split = is.made;
+  begins = (is.seen, refl);
+  plain = elim (cases_Bool (m.runs_once x.handler)) [
+    | inl once ↦ occasion-plain m (next_state m r (Installed x)) x.handler (record { items = [] }) is.rest (is.once once)
+    | inr never ↦ plain-as is.rest [] (is.else never) tt
+  ];
+}
+
+regrouped : (xs ys zs : List JournalEntry) → (xs ++ ys) ++ zs ≡ xs ++ (ys ++ zs)
+regrouped [] ys zs = refl
+regrouped (x ∷ xs) ys zs = ap (λ (ts : List JournalEntry). x ∷ ts) (regrouped xs ys zs)
+
+pub event-begins : (m : Machine) (r : NodeState) (p : Pace) (d : Deed) (told : List JournalEntry) (after : Pace) → FirstThen m (DeedMakes m d) (λ s q xs. Settles m s q xs after) r p told → BeginsWith d told
+event-begins m r p d told after both =
+    let deed : BeginsWith d both.front = deed-begins m r p d both.front both.by_first in
+    record {
+      first = deed.first;
+      rest = deed.rest ++ both.rest;
+      split = both.made ∙ ap (λ (ts : List JournalEntry). ts ++ both.rest) deed.split ∙ regrouped deed.first deed.rest both.rest;
+      begins = deed.begins;
+      plain = plain-append deed.rest both.rest deed.plain (turns-plain both.rest (settles-of_turns m (state_after_entries m r both.front) (paced_all p both.front) both.rest after both.by_second));
+    }
+
+-- ---- the whole event
+
+-- the deed answers another invocation, or none
+abbrev pub AnswersOther : Deed → ℕ → Type 0
+AnswersOther Nothing n = Unit {0}
+AnswersOther (Installing p) n = Unit {0}
+AnswersOther (Posting hs payload) n = Unit {0}
+AnswersOther (Answering inv value) n = n ≢ inv
+AnswersOther Showing n = Unit {0}
+AnswersOther Resetting n = Unit {0}
+
+following-as : (m : Machine) (r : NodeState) (xs ys : List JournalEntry) → xs ≡ ys → AreFollowing m r xs → AreFollowing m r ys
+following-as m r xs ys is follow = subst (λ (ts : List JournalEntry). AreFollowing m r ts) is follow
+
+heard-parts : (m : Machine) (r : NodeState) (xs ys : List JournalEntry) → state_after_entries m r (xs ++ ys) ≡ state_after_entries m (state_after_entries m r xs) ys
+heard-parts m r [] ys = refl
+heard-parts m r (x ∷ xs) ys = heard-parts m (next_state m r x) xs ys
+
+calls-parts : (n : ℕ) (xs ys : List JournalEntry) → calls_of n (xs ++ ys) ≡ calls_of n xs + calls_of n ys
+calls-parts n [] ys = omega arith
+calls-parts n (x ∷ xs) ys = let rest = calls-parts n xs ys in omega (arith, rest)
+
+pub numbered-told : (m : Machine) (r : NodeState) (told : List JournalEntry) → AreFollowing m r told → IsNumbered r → IsNumbered (state_after_entries m r told)
+numbered-told m r [] follow right = right
+numbered-told m r (t ∷ told) follow right = numbered-told m (next_state m r t) told follow.1 (numbered-step m r t follow.0 right)
+
+-- the deed's own entries call nothing
+first-calls : (d : Deed) (first : List JournalEntry) (n : ℕ) → IsFirstOf d first → calls_of n first ≡ 0
+first-calls Nothing first n is = ap (calls_of n) is
+first-calls (Installing p) first n is = ap (calls_of n) is.1
+first-calls (Posting hs payload) first n is = ap (calls_of n) is
+first-calls (Answering inv value) first n is = ap (calls_of n) is
+first-calls Showing first n is = ap (calls_of n) is
+first-calls Resetting first n is = ap (calls_of n) is.1
+
+-- and leave whoever waits, if it isn't answered and no era begins
+first-keep : (m : Machine) (r : NodeState) (d : Deed) (first : List JournalEntry) (n : ℕ) → IsFirstOf d first → cuts d ≡ false → AnswersOther d n → (state_after_entries m r first).invocations n ≡ r.invocations n
+first-keep m r Nothing first n is stays other = ap (λ (ts : List JournalEntry). (state_after_entries m r ts).invocations n) is
+first-keep m r (Installing p) first n is stays other = cc
+first-keep m r (Posting hs payload) first n is stays other = ap (λ (ts : List JournalEntry). (state_after_entries m r ts).invocations n) is
+first-keep m r (Answering inv value) first n is stays other = ap (λ (ts : List JournalEntry). (state_after_entries m r ts).invocations n) is ∙ (answered-Moves m r inv value).others n other
+first-keep m r Showing first n is stays other = ap (λ (ts : List JournalEntry). (state_after_entries m r ts).invocations n) is
+first-keep m r Resetting first n is stays other = cc
+
+-- whoever waits goes on waiting, and doesn't call
+pub event-keeps : (m : Machine) (r : NodeState) (d : Deed) (told : List JournalEntry) (n : ℕ) → BeginsWith d told → AreFollowing m r told → IsNumbered r → cuts d ≡ false → AnswersOther d n → IsWaiting r n
+    → ((state_after_entries m r told).invocations n ≡ r.invocations n) × (calls_of n told ≡ 0)
+event-keeps m r d told n parts follow right stays other w =
+    let both = following-as m r told (parts.first ++ parts.rest) parts.split follow in
+    let first_follow = follow-front m r parts.first parts.rest both in
+    let rest_follow = follow-back m r parts.first parts.rest both in
+    let first : (state_after_entries m r parts.first).invocations n ≡ r.invocations n = first-keep m r d parts.first n parts.begins stays other in
+    let rest = plain-keep m (state_after_entries m r parts.first) parts.rest n rest_follow parts.plain (numbered-told m r parts.first first_follow right) (waits-same r (state_after_entries m r parts.first) n first w) in
+    let none : calls_of n parts.first ≡ 0 = first-calls d parts.first n parts.begins in (
+      ap (λ (ts : List JournalEntry). (state_after_entries m r ts).invocations n) parts.split ∙ ap (λ (s : NodeState). s.invocations n) (heard-parts m r parts.first parts.rest) ∙ rest.0 ∙ first,
+      ap (calls_of n) parts.split ∙ calls-parts n parts.first parts.rest ∙ omega (arith, none, rest.1),
+    )
+
+pub event-once : (m : Machine) (r : NodeState) (d : Deed) (told : List JournalEntry) (n : ℕ) → BeginsWith d told → AreFollowing m r told → IsNumbered r → calls_of n told ≤ 1
+event-once m r d told n parts follow right =
+    let both = following-as m r told (parts.first ++ parts.rest) parts.split follow in
+    let first_follow = follow-front m r parts.first parts.rest both in
+    let rest_follow = follow-back m r parts.first parts.rest both in
+    let rest : calls_of n parts.rest ≤ 1 = plain-once m (state_after_entries m r parts.first) parts.rest n rest_follow parts.plain (numbered-told m r parts.first first_follow right) in
+    let none : calls_of n parts.first ≡ 0 = first-calls d parts.first n parts.begins in
+    let sum : calls_of n told ≡ calls_of n parts.first + calls_of n parts.rest = ap (calls_of n) parts.split ∙ calls-parts n parts.first parts.rest in
+    omega (arith, rest, none, sum)
+
+pub event-waits : (m : Machine) (r : NodeState) (d : Deed) (told : List JournalEntry) (n : ℕ) → BeginsWith d told → AreFollowing m r told → IsNumbered r → 1 ≤ calls_of n told → IsWaiting (state_after_entries m r told) n
+event-waits m r d told n parts follow right some =
+    let both = following-as m r told (parts.first ++ parts.rest) parts.split follow in
+    let first_follow = follow-front m r parts.first parts.rest both in
+    let rest_follow = follow-back m r parts.first parts.rest both in
+    let none : calls_of n parts.first ≡ 0 = first-calls d parts.first n parts.begins in
+    let sum : calls_of n told ≡ calls_of n parts.first + calls_of n parts.rest = ap (calls_of n) parts.split ∙ calls-parts n parts.first parts.rest in
+    let rest : IsWaiting (state_after_entries m (state_after_entries m r parts.first) parts.rest) n = plain-waits m (state_after_entries m r parts.first) parts.rest n rest_follow parts.plain (numbered-told m r parts.first first_follow right) (omega (arith, none, sum, some)) in
+    subst (λ (s : NodeState). IsWaiting s n) (sym (ap (state_after_entries m r) parts.split ∙ heard-parts m r parts.first parts.rest)) rest
+
+pub asked-calls : (told front rest : List JournalEntry) (n : ℕ) (f : FunId) (args : ArrayVec ℤ) → told ≡ front ++ Asked n f args ∷ rest → 1 ≤ calls_of n told
+asked-calls told front rest n f args is =
+    let sum : calls_of n told ≡ calls_of n front + calls_of n (Asked n f args ∷ rest) = ap (calls_of n) is ∙ calls-parts n front (Asked n f args ∷ rest) in
+    let one : calls_by n (Asked n f args) ≡ 1 = elim (eqb_tells n n) [ inl same ↦ rw same.0 refl | inr other ↦ absurd (other.1 refl) ] in
+    omega (arith, sum, one)
