@@ -1,9 +1,9 @@
 //! The code of sources, and what they fold to.
 
 use crate::sources::accepted;
+use cases_trees::block_text;
 use mate_code::Table;
 use std::alloc::{AllocError, Global};
-use cases_trees::block_text;
 use ts_compiler::{CompileFault, compile};
 use ts_fold::fold;
 use vm_desc::Description;

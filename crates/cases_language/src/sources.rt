@@ -1,9 +1,9 @@
 //! Sources and what they are for a machine.
 
 use cases_files::marked_bytes;
+use cases_trees::block_text;
 use mate_steps::{SourceRefusal, accept};
 use std::alloc::{AllocError, Global};
-use cases_trees::block_text;
 use ts_parser::SourceFault;
 use ts_scope::CheckFault;
 use ts_syntax::Checked;

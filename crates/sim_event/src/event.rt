@@ -13,11 +13,11 @@ use crate::turns::{have_turns, is_well_formed};
 use mate_journal::Programs;
 use mate_num::{NoMemory, Stamp};
 use radio_sim::{Event, Radio};
-use vm_desc::Description;
 use sim_handling::handle;
+use sim_mote::{Effect, Mote};
+use vm_desc::Description;
 use world_script::World;
 use world_state_laws::states_are_sound;
-use sim_mote::{Effect, Mote};
 
 /// An event that was due comes to its node, which then has turns until nobody is ready there. The effect is nothing before
 /// it, and again after it; after `NoMemory` nothing is said.

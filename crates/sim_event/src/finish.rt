@@ -14,10 +14,10 @@ ghost use Rattle.sim_event.specs.Finishing.{IsTakenFrom, HasSettled, IsFinished}
 use crate::pieces::{note_all, schedule_pump, schedule_timed, send_packets};
 use mate_num::{NoMemory, Stamp};
 use radio_sim::{Event, Radio};
-use vm_desc::Description;
 use sim_air::{Ends, cancel};
-use world_script::World;
 use sim_mote::{Effect, Mote, schedule_answers};
+use vm_desc::Description;
+use world_script::World;
 
 /// The event is recorded on the air, cancels what ends with it, and schedules what comes of it: the next period, the
 /// interval that begins, deliveries, the pump, and answers, in this order. What the effect records is taken from it.

@@ -16,9 +16,9 @@ use mate_journal::{Air, Stamped};
 use mate_num::{HandlerId, NoMemory, Stamp};
 use packet_codec::Packet;
 use radio_sim::{Event, Radio};
+use sim_air::{note_first, note_interval, schedule, schedule_interval, send_all, send_messages};
 use trickle_timer::Trickle;
 use vm_desc::{Description, HandlerKind};
-use sim_air::{note_first, note_interval, schedule, schedule_interval, send_all, send_messages};
 
 /// Records what comes first in an event, if anything does, and the length of the interval that begins, if one does.
 pub(crate) fn note_all(

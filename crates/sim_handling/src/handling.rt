@@ -26,9 +26,9 @@ use mate_num::{HandlerId, NoMemory, PacketBytes, Payload, Stamp};
 use packet_codec::{Packet, decode};
 use radio_sim::Event;
 use radio_sim::wire::copy_of;
+use sim_mote::{Effect, Mote};
 use vm_desc::{Description, HandlerKind};
 use world_script::{Link, What, World};
-use sim_mote::{Effect, Mote};
 
 /// What the event does to its node, before the node has its turns. After `NoMemory` nothing is said of the node or the
 /// effect.

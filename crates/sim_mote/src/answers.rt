@@ -22,9 +22,9 @@ use mate_journal::{Entry, Stamped};
 use mate_num::{CONTEXTS_MAX, ContextId, FunId, NoMemory};
 use open_node::OpenNode;
 use radio_sim::{Event, Radio};
-use vm_desc::Description;
 use sim_air::schedule;
 use sim_calls::Calls;
+use vm_desc::Description;
 use world_script::Series;
 
 /// Whether the invocation waits in the context.

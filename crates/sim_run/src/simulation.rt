@@ -22,13 +22,13 @@ use mate_journal::{NodeLog, Programs, RECORDS_MAX};
 use mate_num::{NoMemory, Stamp};
 use radio_sim::{Event, Radio};
 use report_ranges::{LogSize, air_is_in_range_from, log_is_in_range_from};
-use std::alloc::Global;
-use vm_desc::Description;
 use sim_air::{begin_node, schedule_lines};
 use sim_event::perform;
+use sim_mote::{Effect, Mote};
+use std::alloc::Global;
+use vm_desc::Description;
 use world_script::World;
 use world_state_laws::states_are_sound;
-use sim_mote::{Effect, Mote};
 use world_text_laws::text_grows_by_events;
 
 /// What becomes of what was told once it is written.

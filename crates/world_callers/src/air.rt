@@ -11,8 +11,8 @@ ghost use Rattle.sim_air.specs.Air.{IsAirOf, air_room};
 use mate_journal::{Entry, Stamped};
 use mate_num::{FunId, NoMemory, Payload, Stamp};
 use radio_sim::Radio;
-use vm_desc::Description;
 use sim_air::{Ends, cancel, schedule_interval, send_messages};
+use vm_desc::Description;
 
 /// What a sensor is called with is no message.
 pub fn a_sensor_sends_nothing(

@@ -8,8 +8,8 @@ ghost use Rattle.world_rules.specs.World.{World, called_kind, stream_word};
 ghost use Rattle.sim_calls.specs.Calls.{AreCallsOf, HasSensors, words_taken};
 
 use mate_num::FunId;
-use vm_desc::Description;
 use sim_calls::{CallAnswer, Calls};
+use vm_desc::Description;
 use world_script::Series;
 
 /// A clock that told milliseconds would break the first clause, a random value that leaves out the greatest the second,

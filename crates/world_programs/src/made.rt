@@ -16,10 +16,10 @@ use mate_num::{HandlerId, Texts};
 use mate_refusals::Refusal;
 use mate_steps::compiled_bytes;
 use script_programs::SharedSource;
-use world_maker_laws::sources_law;
 use std::alloc::Global;
 use vm_desc::Description;
 use world_maker::generate;
+use world_maker_laws::sources_law;
 use world_script::World;
 
 /// A world with its programs.

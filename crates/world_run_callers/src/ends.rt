@@ -17,10 +17,10 @@ ghost use Rattle.world_run_callers.specs.Ends.{MayFinish, IsMoment, IsMomentBefo
 
 use mate_num::{NoMemory, Stamp};
 use radio_sim::{Event, Radio};
-use vm_desc::Description;
 use sim_event::finish::finish;
-use world_script::World;
 use sim_mote::{Effect, Mote};
+use vm_desc::Description;
+use world_script::World;
 
 /// After an event the end of the interval before comes no more where one begins; where the next period and a delivery fall on one
 /// time the period comes first, and of a pump and an answer the pump; and a packet that the exchange asks for is sent before the

@@ -21,10 +21,10 @@ ghost use Rattle.sim_handling.specs.Handling.{IsMoteOf, IsOpenExchange, IsPaced}
 use mate_journal::Programs;
 use mate_num::{NoMemory, PacketBytes, Stamp};
 use radio_sim::Event;
-use vm_desc::Description;
 use sim_handling::handle;
-use world_script::World;
 use sim_mote::{Effect, Mote};
+use vm_desc::Description;
+use world_script::World;
 
 /// The program of the script's first line is installed as its own version.
 pub fn an_injection_has_its_own_version(

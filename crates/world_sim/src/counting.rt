@@ -21,13 +21,13 @@ use mate_journal::{NodeLog, Programs, RECORDS_MAX};
 use mate_num::{NoMemory, Stamp};
 use radio_sim::Event;
 use report_summary::{LogTally, RunTally, Summary};
+use sim_mote::{Effect, Mote};
+use sim_run::{Simulation, Written, forget_all, see_stores};
 use std::alloc::Global;
 use vm_desc::Description;
 use world_run_laws::reports_keep_the_promise;
 use world_script::World;
-use sim_run::{Simulation, Written, forget_all, see_stores};
 use world_state_laws::states_are_sound;
-use sim_mote::{Effect, Mote};
 
 /// Runs a world as `run` does, and gives the summary of its report. What a node told in an event, and what happened on the air in it, is
 /// counted and then forgotten before the next one, so that a long run takes no more memory than its nodes and its longest event.

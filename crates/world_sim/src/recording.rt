@@ -8,8 +8,8 @@ ghost use Rattle.world_sim.specs.Recording.{StaysRecorded, has_record};
 
 use mate_num::NoMemory;
 use run_record::Record;
-use sim_run::Simulation;
 use sim_mote::Mote;
+use sim_run::Simulation;
 
 /// How many entries a node's log has at most in a record.
 const ENTRIES_MAX: usize = 4000000000;

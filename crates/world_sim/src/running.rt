@@ -5,13 +5,13 @@ ghost use Rattle.world_run_laws.specs.Promise.{WorldRunGives};
 
 use mate_journal::{NodeLog, NodeLogs, Programs, RECORDS_MAX, Report, RunFault};
 use mate_num::Stamp;
+use sim_mote::Effect;
+use sim_run::{Simulation, Written, report_of, see_stores};
 use std::alloc::Global;
 use vm_desc::Description;
 use world_run_laws::reports_keep_the_promise;
 use world_script::World;
-use sim_run::{Simulation, Written, report_of, see_stores};
 use world_state_laws::states_are_sound;
-use sim_mote::Effect;
 
 /// Runs a world on nodes of this machine, with the programs of its files: each event is the next that is due, and at the end
 /// each node's store is seen. `LogFull` comes exactly where 1,000,000 records stand or more and an event is left, with the

@@ -31,13 +31,13 @@ use report_ranges::stamp_is_in_range;
 use report_text::{write_end, write_event};
 use run_record::Record;
 use run_writing::{Pass, WriteFault, ended, nothing_run, stopped};
+use sim_mote::{Effect, Mote};
+use sim_run::{Simulation, Written, forget_all, see_stores};
 use std::alloc::Global;
 use vm_desc::Description;
 use world_run_laws::reports_keep_the_promise;
 use world_script::World;
-use sim_run::{Simulation, Written, forget_all, see_stores};
 use world_state_laws::states_are_sound;
-use sim_mote::{Effect, Mote};
 use world_text_laws::text_grows_by_events;
 
 /// Runs a world as `run` does, and writes each event's lines when it ends, and then the last line. After a fault of the sink no
