@@ -1,6 +1,7 @@
 //! Sources as scripts, without a machine.
 
 use cases_files::marked_bytes;
+use mate_num::FILE_MAX;
 use memory_files::MemSink;
 use std::alloc::{AllocError, Global};
 use ts_parser::{SourceFault, parse, tokens};
@@ -20,8 +21,8 @@ pub fn answer(alloc: Global, case: &str) -> Result<String, AllocError> {
 
 /// The script of at most 1,048,576 bytes; of longer ones, that the byte there is wrong.
 fn script(alloc: Global, bytes: &[u8]) -> Result<Script, SourceFault> {
-    if bytes.len() > 1_048_576 {
-        return Err(SourceFault::BadByte { place: 1_048_576 });
+    if bytes.len() > FILE_MAX {
+        return Err(SourceFault::BadByte { place: FILE_MAX });
     }
     let tokens = tokens(alloc, bytes)?;
     parse(alloc, &tokens, bytes.len() as u32)

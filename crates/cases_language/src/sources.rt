@@ -2,6 +2,7 @@
 
 use cases_files::marked_bytes;
 use cases_trees::block_text;
+use mate_num::FILE_MAX;
 use mate_steps::{SourceRefusal, accept};
 use std::alloc::{AllocError, Global};
 use ts_parser::SourceFault;
@@ -24,7 +25,7 @@ pub fn accepted(
     source: &str,
 ) -> Result<Result<Checked, String>, AllocError> {
     let bytes = marked_bytes(alloc, source)?;
-    if bytes.len() > 1_048_576 {
+    if bytes.len() > FILE_MAX {
         return Ok(Err("too long".to_string(alloc)?));
     }
     match accept(alloc, machine, bytes.as_slice()) {

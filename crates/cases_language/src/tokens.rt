@@ -1,6 +1,7 @@
 //! Texts and their tokens.
 
 use cases_files::marked_bytes;
+use mate_num::FILE_MAX;
 use std::alloc::{AllocError, Global};
 use ts_lexer::{TokenFault, tokens};
 use ts_syntax::{Token, TokenKind};
@@ -11,7 +12,7 @@ const PRINTED: usize = 100;
 /// The tokens of a text with their places, names quoted; the number of them where they are over 100; or the first fault.
 pub fn answer(alloc: Global, case: &str) -> Result<String, AllocError> {
     let bytes = marked_bytes(alloc, case)?;
-    if bytes.len() > 1_048_576 {
+    if bytes.len() > FILE_MAX {
         return "too long".to_string(alloc);
     }
     match tokens(alloc, bytes.as_slice()) {

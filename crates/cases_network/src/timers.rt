@@ -5,8 +5,10 @@
 //! point, or `-`. A step with `COUNT*` before it is taken so many times, and has one answer.
 
 ghost use Rattle.std.specs.Prelude.{◌≤◌, IfSome, IsTrue};
+ghost use Rattle.mate_num.specs.declared.bounds.TheConstants.{HOUR};
 ghost use Rattle.vm_desc.specs.Limits.{is_trickle};
 
+use mate_num::HOUR;
 use std::alloc::{AllocError, Global};
 use trickle_timer::{Fire, Trickle};
 use vm_desc::TrickleSet;
@@ -40,9 +42,6 @@ fn started(head: &str) -> Option<Trickle> {
     }
     Some(Trickle::start(set, random, node as u8, now))
 }
-
-/// The latest time of a step.
-const HOUR: u32 = 3_600_000;
 
 /// The number that a word spells; where it spells none, the largest of all, which is in no range.
 fn number(word: Option<&str>) -> u32 {
@@ -123,7 +122,7 @@ fn ended(alloc: Global, timer: &mut Trickle) -> Result<String, AllocError> {
 
 /// Whether an interval begins.
 fn begins(timer: &mut Trickle, kind: &str, now: u32) -> bool
-    requires hour { now ≤ 3600000 }
+    requires hour { now ≤ HOUR }
     requires within { timer.old.running.begin ≤ now }
 {
     match kind {

@@ -3,7 +3,7 @@
 ghost use Rattle.std.specs.Prelude.{◌≡◌};
 
 use mate_journal::{Air, Aired};
-use mate_num::{NoMemory, PacketBytes, Stamp};
+use mate_num::{FILE_MAX, HOUR, NoMemory, PacketBytes, Stamp};
 use radio_sim::{Cancel, Event, Radio};
 use std::alloc::Global;
 use vm_desc::Description;
@@ -35,7 +35,7 @@ impl Bench {
         for byte in script.as_bytes() {
             bytes.push(if *byte == b'|' { b'\n' } else { *byte })?;
         }
-        if bytes.len() > 1_048_576 {
+        if bytes.len() > FILE_MAX {
             return Ok(None);
         }
         let Ok(world) = world_script(alloc, desc, bytes.as_slice()) else {
@@ -73,7 +73,7 @@ impl Bench {
 
     /// The node sends a packet in the last event.
     pub fn transmit(&mut self, node: u8, bytes: &PacketBytes) -> Result<Step, NoMemory> {
-        if self.time > 3_600_000 || self.radio.aired() >= 1_000_000 {
+        if self.time > HOUR || self.radio.aired() >= 1_000_000 {
             return Ok(Step::Refused);
         }
         let at = self.stamp();

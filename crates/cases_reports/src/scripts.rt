@@ -2,6 +2,7 @@
 //! them stand for.
 
 use cases_files::{cause_word, quoted};
+use mate_num::FILE_MAX;
 use script_reader::{ScriptFault, Step, node_script};
 use std::alloc::{AllocError, Global};
 use vm_desc::Description;
@@ -11,7 +12,7 @@ pub fn answer(alloc: Global, desc: &Description, case: &str) -> Result<String, A
     for sign in case.as_bytes() {
         bytes.push(unescaped(*sign))?;
     }
-    if bytes.len() > 1_048_576 {
+    if bytes.len() > FILE_MAX {
         return "too long".to_string(alloc);
     }
     match node_script(alloc, desc, &bytes) {

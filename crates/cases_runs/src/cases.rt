@@ -7,6 +7,7 @@ use crate::programs::{are_of, programs_of_script};
 use crate::same::are_same;
 use crate::stopped::stopped;
 use mate_journal::{Programs, Report, RunFault};
+use mate_num::FILE_MAX;
 use mate_steps::machine_of;
 use memory_files::MemFiles;
 use report_reading::read;
@@ -15,9 +16,6 @@ use vm_desc::Description;
 use world_reader::world_script;
 use world_script::World;
 use world_sim::run;
-
-/// The most bytes of a script.
-const SCRIPT_MAX: usize = 1_048_576;
 
 /// The most bytes of a report.
 const REPORT_MAX: usize = 4_000_000_000;
@@ -82,7 +80,7 @@ impl Case {
         let Ok(desc) = machine_of(alloc, &mut files, "v.toml") else {
             return format!(in alloc; "{name} no machine");
         };
-        if script.len() > SCRIPT_MAX {
+        if script.len() > FILE_MAX {
             return format!(in alloc; "{name} too long");
         }
         let Ok(world) = world_script(alloc, &desc, script.as_bytes()) else {

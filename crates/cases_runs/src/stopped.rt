@@ -6,15 +6,13 @@ ghost use Rattle.node_programs.specs.WorldPrograms.{AreProgramsOfWorld};
 use crate::same::are_same;
 use crate::scarce::ScarceSink;
 use mate_journal::{IntoFault, Programs, Report};
+use mate_num::FILE_MAX;
 use memory_files::MemSink;
 use report_reading::read;
 use std::alloc::{AllocError, Global};
 use vm_desc::Description;
 use world_script::World;
 use world_sim::run_into;
-
-/// The most bytes of a report.
-const REPORT_MAX: usize = 1_048_576;
 
 /// The most writes of a run.
 const WRITES_MAX: u64 = 100_000;
@@ -114,7 +112,7 @@ fn refused_at(
 
 /// Whether the report is the one of this text.
 fn is_of(alloc: Global, desc: &Description, report: &Report, text: &str) -> bool {
-    if text.len() > REPORT_MAX {
+    if text.len() > FILE_MAX {
         return false;
     }
     match read(alloc, desc, text.as_bytes()) {

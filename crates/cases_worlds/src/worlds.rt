@@ -2,6 +2,7 @@
 
 use crate::parts::parts_of;
 use cases_files::cause_word;
+use mate_num::FILE_MAX;
 use script_reader::ScriptFault;
 use std::alloc::{AllocError, Global};
 use vm_desc::Description;
@@ -12,7 +13,7 @@ use world_script::World;
 /// tab, `&` for the code 127, and a backquote for the code 255.
 pub fn answer(alloc: Global, desc: &Description, case: &str) -> Result<String, AllocError> {
     let bytes = script_of(alloc, case)?;
-    if bytes.len() > 1_048_576 {
+    if bytes.len() > FILE_MAX {
         return "too long".to_string(alloc);
     }
     match world_script(alloc, desc, bytes.as_slice()) {

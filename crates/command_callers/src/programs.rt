@@ -1,6 +1,7 @@
 //! The script in a file, and the programs of the files that it names.
 
 ghost use Rattle.std.specs.Prelude.{◌≡◌, ◌≤◌, ℕ, List, [], ◌∷◌, length, codes, None, Some, Err, All, IfOk, IfSome};
+ghost use Rattle.mate_num.specs.declared.bounds.TheConstants.{FILE_MAX};
 ghost use Rattle.ts_syntax.specs.Checked.{tree_of};
 ghost use Rattle.ts_checker.specs.Accepted.{IsAccepted};
 ghost use Rattle.script_reader.specs.NodeScript.{node_script_in};
@@ -86,7 +87,7 @@ pub fn a_bad_line_is_told_by_its_number<F: Files>(
     name: &str,
 ) -> Result<Steps, Refusal>
     ensures { (bytes : List ℕ) (cause : Cause)
-        → HoldsFile (record { told = F.contents files.old; steady = F.steady files.old }) name.now (Some bytes) → length bytes ≤ 1048576
+        → HoldsFile (record { told = F.contents files.old; steady = F.steady files.old }) name.now (Some bytes) → length bytes ≤ FILE_MAX
         → node_script_in desc.now bytes ≡ Err (BadLine 3 cause) → RefusesAs (BadScript 3 cause) result }
 {
     script_of(alloc, files, desc, name)

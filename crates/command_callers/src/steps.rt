@@ -1,6 +1,7 @@
 //! The steps of commands on files that tell what they hold.
 
 ghost use Rattle.std.specs.Prelude.{◌≡◌, ◌≢◌, ◌<◌, ◌≤◌, ℕ, List, length, codes, None, Some, Ok, IfOk, IfErr};
+ghost use Rattle.mate_num.specs.declared.bounds.TheConstants.{FILE_MAX};
 ghost use Rattle.vm_desc.specs.Limits.{Parts};
 ghost use Rattle.vm_desc.specs.Shapes.{shape_of};
 ghost use Rattle.vm_reader.specs.Text.{description_of};
@@ -39,7 +40,7 @@ pub fn a_large_file_is_told_as_large<F: Files>(
     name: &str,
 ) -> Result<Vec<u8>, Refusal>
     ensures { (bytes : List ℕ) → HoldsFile (record { told = F.contents files.old; steady = F.steady files.old }) name.now (Some bytes)
-        → 1048576 < length bytes
+        → FILE_MAX < length bytes
         → RefusesAs (InFile name.now (UnreadCause Large)) result }
 {
     read_file(alloc, files, name)
@@ -78,7 +79,7 @@ pub fn a_right_description_is_refused_for_memory_alone<F: Files>(
 ) -> Result<Description, Refusal>
     requires { word.now ≢ builtin_word }
     ensures { (bytes : List ℕ) (parts : Parts)
-        → HoldsFile (record { told = F.contents files.old; steady = F.steady files.old }) word.now (Some bytes) → length bytes ≤ 1048576
+        → HoldsFile (record { told = F.contents files.old; steady = F.steady files.old }) word.now (Some bytes) → length bytes ≤ FILE_MAX
         → description_of bytes ≡ Ok parts → IfErr result (λ r. r ≡ NoMemory) }
 {
     machine_of(alloc, files, word)
@@ -91,7 +92,7 @@ pub fn a_source_that_is_there_is_never_unread<F: Files>(
     name: &str,
 ) -> Result<Script, Refusal>
     ensures { (bytes : List ℕ) → HoldsFile (record { told = F.contents files.old; steady = F.steady files.old }) name.now (Some bytes)
-        → length bytes ≤ 1048576
+        → length bytes ≤ FILE_MAX
         → IfErr result (λ r. (why : Unread) → r ≢ InFile name.now (UnreadCause why)) }
 {
     expansion_of(alloc, files, name)

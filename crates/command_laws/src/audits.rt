@@ -1,6 +1,7 @@
 //! What a run wrote, `audit` finds serial.
 
 ghost use Rattle.std.specs.Prelude.{◌≡◌, ◌≤◌, List, ℕ, Bool, false, length, codes, Some, Result, Ok};
+ghost use Rattle.mate_num.specs.declared.bounds.TheConstants.{FILE_MAX};
 ghost use Rattle.command_laws.specs.Texts.{IsOutputText};
 ghost use Rattle.mate_cli.specs.Audit.{audit};
 ghost use Rattle.mate_cli.specs.Node.{node};
@@ -17,10 +18,10 @@ ghost use Rattle.mate_steps.specs.OneAnswer.{steady};
 pub fn written_runs_are_found_serial()
     ensures nodes { (names : Names) (fold : Bool) (vm script report : List ℕ) (o : Output) (full : Bool) (bs : List ℕ)
         (answer : Result Output Refusal) →
-        node (steady names) fold false vm script (Ok o) → IsOutputText full o bs → names report ≡ Some bs → length bs ≤ 1048576
+        node (steady names) fold false vm script (Ok o) → IsOutputText full o bs → names report ≡ Some bs → length bs ≤ FILE_MAX
         → audit (steady names) fold vm script report answer → writes (codes "serial\n") answer }
     ensures worlds { (names : Names) (fold : Bool) (vm script report : List ℕ) (o : Output) (full : Bool) (bs : List ℕ)
         (answer : Result Output Refusal) →
-        sim (steady names) fold false vm script (Ok o) → IsOutputText full o bs → names report ≡ Some bs → length bs ≤ 1048576
+        sim (steady names) fold false vm script (Ok o) → IsOutputText full o bs → names report ≡ Some bs → length bs ≤ FILE_MAX
         → audit (steady names) fold vm script report answer → writes (codes "serial\n") answer }
 {}

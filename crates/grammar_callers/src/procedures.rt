@@ -1,6 +1,7 @@
 //! Sources that exclude a wrong body of `read` of `ts_procs`.
 
 ghost use Rattle.std.specs.Prelude.{◌≡◌, ◌⊎◌, ◌≤◌, length, MatchResult};
+ghost use Rattle.mate_num.specs.declared.bounds.TheConstants.{FILE_MAX};
 ghost use Rattle.proc_names.specs.declared.fault.ProcFault.TheVariants.{TooDeep, NoMemory};
 ghost use Rattle.ts_procs.specs.Reading.{IsDeepAt};
 
@@ -12,7 +13,7 @@ pub fn a_source_that_is_too_deep_is_told_so(
     bytes: &[u8],
     place: u32,
 ) -> Result<PScript, ProcFault>
-    requires short { length bytes.now ≤ 1048576 }
+    requires short { length bytes.now ≤ FILE_MAX }
     requires deep { IsDeepAt bytes.now place }
     ensures { MatchResult result (λ _. ⊥) (λ fault. (fault ≡ TooDeep place) ⊎ (fault ≡ NoMemory)) }
 {

@@ -4,9 +4,6 @@ ghost use Rattle.mate_files.specs.Files.{Names, ReadGives};
 
 use thiserror::Error;
 
-/// The greatest number of bytes that a file may have to be read.
-pub const FILE_MAX: usize = 1_048_576;
-
 /// Why a file wasn't read.
 #[derive(Clone, Copy, Debug, Error)]
 pub enum FilesFault {

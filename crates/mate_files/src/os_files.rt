@@ -2,7 +2,8 @@
 ghost use Rattle.std.specs.Prelude.{◌≡◌, ◌≤◌, ◌<◌, ◌+◌, ◌++◌, ◌⊎◌, ℕ, List, IfOk, IfErr, length};
 ghost use Rattle.std.specs.Io.KnownBytes.{Consumes, IsAtEnd};
 
-use super::files::{FILE_MAX, Files, FilesFault};
+use super::files::{Files, FilesFault};
+use mate_num::FILE_MAX;
 use std::alloc::Global;
 use std::io::Read;
 use std::{fs, rt};

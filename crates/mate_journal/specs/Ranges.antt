@@ -2,6 +2,7 @@
 use Rattle.std.specs.Prelude.{◌<◌, ◌≤◌, ◌^◌, ℕ, ℤ, List, length, All, FitsSigned, ⊤}
 use Rattle.std.specs.Int.{w16}
 use Rattle.arrayvec.specs.ArrayVec.{ArrayVec}
+use Rattle.mate_num.specs.declared.bounds.TheConstants.{IMAGE_MAX}
 use Rattle.mate_num.specs.declared.call.Stamp.{Stamp}
 use Rattle.mate_num.specs.declared.store.Store.{Store}
 use Rattle.mate_journal.specs.Log.{Log}
@@ -54,7 +55,7 @@ HasAirRanges (air.Got n from) = n < 2 ^ 32
 HasAirRanges (air.Noise bytes) = (length bytes.items ≤ 64) × IsByteList bytes.items
 
 abbrev pub HasImageRanges : ArrayVec ℕ → Type 0
-HasImageRanges image = (length image.items ≤ 1056) × IsByteList image.items
+HasImageRanges image = (length image.items ≤ IMAGE_MAX) × IsByteList image.items
 
 abbrev pub HasStoreRanges : Store → Type 0
 HasStoreRanges s = All (λ v. FitsSigned w16 v) s.shared.items × All (λ (b : ArrayVec ℤ). AreValues b.items) s.buffers.items

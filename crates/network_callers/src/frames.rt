@@ -1,6 +1,7 @@
 //! Frames of a serial line.
 
 ghost use Rattle.std.specs.Prelude.{◌≡◌, ◌≢◌, ◌<◌, ℕ, List, ◌∷◌, [], length, IfOk, Some, false};
+ghost use Rattle.mate_num.specs.declared.bounds.TheConstants.{IMAGE_MAX};
 ghost use Rattle.slip_gateway.specs.Stream.{closed_pieces, unescaped};
 ghost use Rattle.slip_gateway.specs.declared.frames.Frame.TheVariants as frame;
 
@@ -27,7 +28,7 @@ pub fn an_open_escape_is_broken(alloc: Global) -> Result<Frames, NoMemory>
 /// A piece that closes one frame of more than 1,056 bytes gives none of them.
 pub fn a_long_frame_has_no_bytes(alloc: Global, piece: &[u8]) -> Result<Frames, NoMemory>
     ensures { IfOk result (λ frames. (bytes whole : List ℕ) → closed_pieces [] piece.now ≡ bytes ∷ [] → bytes ≢ []
-        → unescaped false bytes ≡ Some whole → 1056 < length whole
+        → unescaped false bytes ≡ Some whole → IMAGE_MAX < length whole
         → frames ≡ frame.TooLong ∷ []) }
 {
     let mut frames = Frames::new(alloc);

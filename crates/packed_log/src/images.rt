@@ -1,6 +1,7 @@
 //! Images, packed.
 
 ghost use Rattle.std.specs.Prelude.{◌≡◌, ◌≤◌, ◌+◌, ◌∷◌, ◌++◌, [], length, take, slice_get, OnOk};
+ghost use Rattle.mate_num.specs.declared.bounds.TheConstants.{IMAGE_MAX};
 
 use crate::pieces::Pieces;
 use mate_num::{IMAGE_MAX, Image, NoMemory};
@@ -20,9 +21,9 @@ impl Model for Images {
 
     ghost Value = { Listed (ArrayVec ℕ) };
 
-    ghost view = { λ i. record { items = map in_vec i.bytes.pieces; spare = min i.bytes.places (i.bytes.room / 1056) } };
+    ghost view = { λ i. record { items = map in_vec i.bytes.pieces; spare = min i.bytes.places (i.bytes.room / IMAGE_MAX) } };
 
-    ghost invariant = { λ i. All (λ (image : List ℕ). length image ≤ 1056) i.bytes.pieces };
+    ghost invariant = { λ i. All (λ (image : List ℕ). length image ≤ IMAGE_MAX) i.bytes.pieces };
 }
 
 impl Images {
@@ -106,13 +107,13 @@ impl<'a> Model for ImageRef<'a> {
 
     ghost view = { λ i. in_vec i.bytes.now };
 
-    ghost invariant = { λ i. length i.bytes.now ≤ 1056 };
+    ghost invariant = { λ i. length i.bytes.now ≤ IMAGE_MAX };
 }
 
 impl<'a> ImageRef<'a> {
     pub fn as_slice(&self) -> &'a [u8]
         ensures value { result.now ≡ self.now.items }
-        ensures fits { length result.now ≤ 1056 }
+        ensures fits { length result.now ≤ IMAGE_MAX }
     {
         self.bytes
     }

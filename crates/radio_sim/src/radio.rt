@@ -5,6 +5,7 @@ ghost use Rattle.std.specs.Prelude.{MatchResult, IfNone, IfOk, OnOk};
 ghost use Rattle.event_queue.specs.Agenda.{scheduled, scheduled_all, is_other, Adds, AddsAll, Comes};
 ghost use Rattle.world_script.specs.World.{IsRightWorld};
 ghost use Rattle.std.specs.List.{All};
+ghost use Rattle.mate_num.specs.declared.bounds.TheConstants.{HOUR};
 ghost use Rattle.world_script.specs.declared.world.Link.{Link};
 ghost use Rattle.radio_sim.specs.Events.{group_of, cancel_number};
 ghost use Rattle.radio_sim.specs.Wires.{losts, delivered};
@@ -109,7 +110,7 @@ impl Radio {
     /// radio as it was.
     pub fn transmit(&mut self, node: u8, bytes: &PacketBytes, at: Stamp) -> Result<(), NoMemory>
         requires ahead { self.old.agenda.now ≤ at.time }
-        requires hour { at.time ≤ 3600000 }
+        requires hour { at.time ≤ HOUR }
         requires few { length self.old.air < 4000000000 }
         ensures sends { MatchResult result (λ _. self.new
             ≡ transmitted self.old (record { at = at; node = node; number = self.old.sent + 1 }) bytes.now) (λ _. self.new ≡ self.old) }

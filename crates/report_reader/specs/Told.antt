@@ -1,6 +1,7 @@
 -- What a line of a report tells, and its text.
 use Rattle.std.specs.Prelude.{◌≡◌, ◌<◌, ◌≤◌, ◌^◌, ℕ, List, [], ◌∷◌, ◌++◌, codes, length, ⊤}
 use Rattle.arrayvec.specs.ArrayVec.{ArrayVec}
+use Rattle.mate_num.specs.declared.bounds.TheConstants.{IMAGE_MAX}
 use Rattle.mate_num.specs.declared.store.Store.{Store}
 use Rattle.vm_desc.specs.declared.description.Description.{Description}
 use Rattle.vm_desc.specs.Whole.{context_count}
@@ -75,7 +76,7 @@ pub record IsRightLine (d : Description) (l : Line) : Type 0 where
 abbrev pub HasToldRanges : Told → Type 0
 HasToldRanges (told.OnAir a) = HasAirRanges a
 HasToldRanges (told.Made e) = HasEntryRanges e
-HasToldRanges (told.Installed h version image) = (version < 2 ^ 32) × (length image.items ≤ 1056) × IsByteList image.items
+HasToldRanges (told.Installed h version image) = (version < 2 ^ 32) × (length image.items ≤ IMAGE_MAX) × IsByteList image.items
 HasToldRanges (told.Shown s) = HasStoreRanges s
 
 pub record HasLineRanges (l : Line) : Type 0 where

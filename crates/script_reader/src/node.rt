@@ -1,6 +1,7 @@
 //! The reader of node scripts.
 
 ghost use Rattle.std.specs.Prelude.{◌≡◌, ◌<◌, ◌≤◌, ◌^◌, ℕ, List, length, IfOk, IfErr, OnOk};
+ghost use Rattle.mate_num.specs.declared.bounds.TheConstants.{FILE_MAX};
 ghost use Rattle.script_reader.specs.Lines.{split_words};
 ghost use Rattle.script_reader.specs.Words.{ReadsWords};
 ghost use Rattle.script_reader.specs.Steps.{IsRightSteps};
@@ -24,7 +25,7 @@ use vm_desc::Description;
 /// Each line that isn't empty and doesn't begin with `#` is one step: `install HANDLER VERSION FILE`,
 /// `load FILE`, `post HANDLER V ..`, `step CTX N`, `run`, `answer CTX V`, `show` or `reset`.
 pub fn node_script(alloc: Global, desc: &Description, bytes: &[u8]) -> Result<Steps, ScriptFault>
-    requires { length bytes.now ≤ 1048576 }
+    requires { length bytes.now ≤ FILE_MAX }
     ensures value { AnswersScript result (node_script_in desc.now bytes.now) }
     ensures right { IfOk result (λ steps. IsRightSteps desc.now steps) }
 {

@@ -2,6 +2,7 @@
 
 ghost use Rattle.std.specs.Prelude.{◌≡◌, ◌<◌, ◌≤◌, ℕ, List, [], ◌∷◌, length, map, All, OnOk, slice_get, if◌then◌else◌};
 ghost use Rattle.std.specs.Option.{option_map_or, option_to_list};
+ghost use Rattle.mate_num.specs.declared.bounds.TheConstants.{HOUR};
 ghost use Rattle.vm_desc.specs.declared.function.Function.{Function as CalledFunction};
 ghost use Rattle.vm_desc.specs.declared.function.FunKind.TheVariants as kinds;
 ghost use Rattle.packet_codec.specs.declared.packet.Packet.{Packet as SentPacket};
@@ -30,7 +31,7 @@ pub fn send(
     at: Stamp,
 ) -> Result<(), NoMemory>
     requires ahead { radio.old.agenda.now ≤ at.time }
-    requires hour { at.time ≤ 3600000 }
+    requires hour { at.time ≤ HOUR }
     requires few { length radio.old.air < 4000000000 }
     requires right { IsRightPacket (length desc.now.handlers.items) packet.now }
     ensures sends { OnOk result ((w : World) (senders : List ℕ) → w.description ≡ desc.now → IsAirOf w senders radio.old
@@ -51,7 +52,7 @@ pub fn send_all(
     at: Stamp,
 ) -> Result<(), NoMemory>
     requires ahead { radio.old.agenda.now ≤ at.time }
-    requires hour { at.time ≤ 3600000 }
+    requires hour { at.time ≤ HOUR }
     requires few { air_room radio.old node (length packets.now) < 4000000000 }
     requires right { All (IsRightPacket (length desc.now.handlers.items)) packets.now }
     ensures sends { OnOk result ((w : World) (senders : List ℕ) → w.description ≡ desc.now → IsAirOf w senders radio.old
@@ -73,7 +74,7 @@ pub fn send_messages(
     at: Stamp,
 ) -> Result<(), NoMemory>
     requires ahead { radio.old.agenda.now ≤ at.time }
-    requires hour { at.time ≤ 3600000 }
+    requires hour { at.time ≤ HOUR }
     requires few { air_room radio.old node (length entries.now) < 4000000000 }
     ensures sends { OnOk result ((w : World) (senders : List ℕ) (l : Log) → w.description ≡ desc.now → IsAirOf w senders radio.old →
         SendsAll w node at senders (messages w (map (λ (e : StampedEntry). journal_entry l e.entry) entries.now)) radio.old radio.new) }
@@ -94,7 +95,7 @@ fn send_message(
     at: Stamp,
 ) -> Result<(), NoMemory>
     requires ahead { radio.old.agenda.now ≤ at.time }
-    requires hour { at.time ≤ 3600000 }
+    requires hour { at.time ≤ HOUR }
     requires few { length radio.old.air < 4000000000 }
     ensures sends { OnOk result ((w : World) (senders : List ℕ) (l : Log) → w.description ≡ desc.now → IsAirOf w senders radio.old →
         SendsAll w node at senders (option_to_list (message_in w (journal_entry l entry.now))) radio.old radio.new) }

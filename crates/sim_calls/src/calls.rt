@@ -1,6 +1,7 @@
 //! The calls of a node's scripts.
 
 ghost use Rattle.std.specs.Prelude.{◌≡◌, ◌+◌, ◌<◌, ◌≤◌, ℕ, [], ◌∷◌, ◌++◌, List, length, min, All, slice_index, slice_set};
+ghost use Rattle.mate_num.specs.declared.bounds.TheConstants.{HOUR};
 ghost use Rattle.mate_num.specs.declared.id.FunId.{FunId as FunName};
 ghost use Rattle.rand_pcg.specs.Pcg.{pcg32};
 ghost use Rattle.world_rules.specs.World.{World, series_in};
@@ -54,7 +55,7 @@ impl Calls {
     ) -> CallAnswer
         requires fun { fun.0 < length desc.now.functions.items }
         requires counts { length self.old.counts.items ≡ length desc.now.functions.items }
-        requires hour { now ≤ 3600000 }
+        requires hour { now ≤ HOUR }
         ensures value { (w : World) (called : List FunName) → HasSensors w desc.now series.now → AreCallsOf w node called self.old
             → result ≡ call_answer w node called fun now }
         ensures calls { (w : World) (called : List FunName) → HasSensors w desc.now series.now → AreCallsOf w node called self.old

@@ -1,6 +1,7 @@
 //! What an event records, cancels and schedules, once its node had its turns.
 
 ghost use Rattle.std.specs.Prelude.{◌≡◌, ◌≤◌, ◌+◌, true, List, length, All, OnOk};
+ghost use Rattle.mate_num.specs.declared.bounds.TheConstants.{HOUR};
 ghost use Rattle.packet_codec.specs.Packet.{IsRightPacket};
 ghost use Rattle.mate_journal.specs.declared.program.Program.{Program as ProgramOfFile};
 ghost use Rattle.world_script.specs.World.{IsRightWorld};
@@ -37,7 +38,7 @@ pub fn finish(
     requires kept { mote.old.node.gone.entries ≤ from }
     requires from { from ≤ length mote.old.node.log.entries }
     requires ahead { radio.old.agenda.now ≤ at.time }
-    requires hour { at.time ≤ 3600000 }
+    requires hour { at.time ≤ HOUR }
     requires few { length radio.old.air ≤ 1000000 }
     requires short { length mote.old.node.log.entries ≤ from + 32 }
     requires wires { length (wires_of radio.old number) ≤ 4096 }

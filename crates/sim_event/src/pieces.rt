@@ -2,6 +2,7 @@
 
 ghost use Rattle.std.specs.Prelude.{◌≡◌, ◌<◌, ◌≤◌, ◌+◌, ◌++◌, ◌||◌, ◌&&◌, not, ℕ, true, List, [], length, map, All, Some, OnOk, IfOk};
 ghost use Rattle.std.specs.Option.{option_to_list};
+ghost use Rattle.mate_num.specs.declared.bounds.TheConstants.{HOUR};
 ghost use Rattle.packet_codec.specs.Packet.{IsRightPacket};
 ghost use Rattle.mate_journal.specs.Log.{Log};
 ghost use Rattle.mate_journal.specs.Journal.{journal_entry};
@@ -55,7 +56,7 @@ pub(crate) fn schedule_timed(
     now: u32,
 ) -> Result<(), NoMemory>
     requires ahead { radio.old.agenda.now ≤ now }
-    requires hour { now ≤ 3600000 }
+    requires hour { now ≤ HOUR }
     requires interval { begins ≡ true → now ≤ timer.now.running.begin }
     ensures { OnOk result (AddsToAir radio.old radio.new [] (period_items desc.now event.now now ++ interval_items begins node timer.now)) }
 {
@@ -91,7 +92,7 @@ fn schedule_period(
     now: u32,
 ) -> Result<(), NoMemory>
     requires ahead { radio.old.agenda.now ≤ now }
-    requires hour { now ≤ 3600000 }
+    requires hour { now ≤ HOUR }
     ensures { OnOk result (AddsToAir radio.old radio.new [] (period_items desc.now event.now now)) }
 {
     match event {
@@ -114,7 +115,7 @@ fn schedule_next(
     now: u32,
 ) -> Result<(), NoMemory>
     requires ahead { radio.old.agenda.now ≤ now }
-    requires hour { now ≤ 3600000 }
+    requires hour { now ≤ HOUR }
     ensures { OnOk result (AddsToAir radio.old radio.new [] (next_items (handler_period desc.now handler) node handler now)) }
 {
     match period_of(desc, handler) {
@@ -126,7 +127,7 @@ fn schedule_next(
 /// The period of the handler in ms; None where it is no timer's.
 fn period_of(desc: &Description, handler: HandlerId) -> Option<u32>
     ensures value { result ≡ handler_period desc.now handler }
-    ensures range { (p : ℕ) → result ≡ Some p → p ≤ 3600000 }
+    ensures range { (p : ℕ) → result ≡ Some p → p ≤ HOUR }
 {
     match desc.handlers.as_slice().get(usize::from(handler.0)) {
         Some(handler) => period_in(handler.kind),
@@ -156,7 +157,7 @@ pub(crate) fn send_packets(
     at: Stamp,
 ) -> Result<(), NoMemory>
     requires ahead { radio.old.agenda.now ≤ at.time }
-    requires hour { at.time ≤ 3600000 }
+    requires hour { at.time ≤ HOUR }
     requires few { air_room radio.old node (length packets.now + length entries.now) < 4000000000 }
     requires right { All (IsRightPacket (length desc.now.handlers.items)) packets.now }
     ensures sends { OnOk result ((w : World) (senders : List ℕ) (l : Log) → w.description ≡ desc.now → IsAirOf w senders radio.old →
@@ -179,7 +180,7 @@ pub(crate) fn schedule_pump(
     now: u32,
 ) -> Result<bool, NoMemory>
     requires ahead { radio.old.agenda.now ≤ now }
-    requires hour { now ≤ 3600000 }
+    requires hour { now ≤ HOUR }
     ensures due { IfOk result (λ due. due ≡ (pumps || marked)) }
     ensures adds { IfOk result (λ _. AddsToAir radio.old radio.new [] (pump_items desc.now node now (not pumps && marked))) }
 {

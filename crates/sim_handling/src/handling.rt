@@ -1,6 +1,7 @@
 //! An event on a node: what comes to it, and what it does beyond the node's journal, before the node has its turns.
 
 ghost use Rattle.std.specs.Prelude.{◌≡◌, ◌<◌, ◌≤◌, ℕ, [], ◌∷◌, length, slice_get, All, OnOk};
+ghost use Rattle.mate_num.specs.declared.bounds.TheConstants.{HOUR};
 ghost use Rattle.mate_journal.specs.declared.air.Air.TheVariants.{Got};
 ghost use Rattle.node_invariant.specs.Meaning.{machine_in};
 ghost use Rattle.open_node.specs.View.{heard_of};
@@ -51,7 +52,7 @@ pub fn handle(
     requires tellable { IsTellable mote.old.node at }
     requires few { length mote.old.node.log.entries < 1000000000 }
     requires paced { IsPaced mote.old.node }
-    requires hour { at.time ≤ 3600000 }
+    requires hour { at.time ≤ HOUR }
     requires within { mote.old.timer.running.begin ≤ at.time }
     requires plain { effect.old ≡ plain_effect }
     ensures handled { OnOk result ((k : ℕ) (n : NodeState) (c : Cause) → IsMoteOf (code_world desc.now world.now programs.now) k n mote.old
@@ -102,7 +103,7 @@ fn follow(
     requires programs { AreRightPrograms mote.old.node.description programs.now }
     requires handlers { length mote.old.exchange.handlers ≡ length mote.old.node.description.handlers.items }
     requires tellable { IsTellable mote.old.node at }
-    requires hour { at.time ≤ 3600000 }
+    requires hour { at.time ≤ HOUR }
     requires within { mote.old.timer.running.begin ≤ at.time }
     requires plain { effect.old ≡ plain_effect }
     ensures does { OnOk result (DoesBy at (λ _ _. of_line (want_of (program_at programs.now) what.now)) mote.old mote.new effect.new) }
@@ -142,7 +143,7 @@ fn receive(
     requires tellable { IsTellable mote.old.node at }
     requires few { length mote.old.node.log.entries < 1000000000 }
     requires paced { IsPaced mote.old.node }
-    requires hour { at.time ≤ 3600000 }
+    requires hour { at.time ≤ HOUR }
     requires within { mote.old.timer.running.begin ≤ at.time }
     requires plain { effect.old ≡ plain_effect }
     ensures does { OnOk result ((packet : RadioPacket) → IsRightPacket (length desc.now.handlers.items) packet → HasPacketRanges packet
@@ -177,7 +178,7 @@ fn hear(
     requires tellable { IsTellable mote.old.node at }
     requires few { length mote.old.node.log.entries < 1000000000 }
     requires paced { IsPaced mote.old.node }
-    requires hour { at.time ≤ 3600000 }
+    requires hour { at.time ≤ HOUR }
     requires within { mote.old.timer.running.begin ≤ at.time }
     requires plain { effect.old ≡ plain_effect }
     ensures does { OnOk result (DoesBy at (λ w n. of_packet w n.exchange packet.now) mote.old mote.new effect.new) }
@@ -212,7 +213,7 @@ fn hear_fragment(
     requires fragment { IsFragmentOf version packet.now }
     requires is_open { IsOpenExchange mote.old.exchange }
     requires tellable { IsTellable mote.old.node at }
-    requires hour { at.time ≤ 3600000 }
+    requires hour { at.time ≤ HOUR }
     requires within { mote.old.timer.running.begin ≤ at.time }
     requires plain { effect.old ≡ plain_effect }
     ensures does { OnOk result (DoesBy at (λ w n. of_packet w n.exchange packet.now) mote.old mote.new effect.new) }

@@ -1,6 +1,7 @@
 //! The answers that fall due to the calls of a node's scripts.
 
 ghost use Rattle.std.specs.Prelude.{◌≡◌, ◌+◌, ◌<◌, ◌≤◌, ℕ, true, Some, List, [], ◌∷◌, ◌++◌, length, All, OnOk};
+ghost use Rattle.mate_num.specs.declared.bounds.TheConstants.{HOUR};
 ghost use Rattle.mate_num.specs.declared.id.FunId.{FunId as FunName};
 ghost use Rattle.mate_journal.specs.Log.{Log};
 ghost use Rattle.mate_journal.specs.Journal.{journal_entry};
@@ -66,7 +67,7 @@ fn answer_call(
     fun: FunId,
 ) -> Result<(), NoMemory>
     requires ahead { radio.old.agenda.now ≤ now }
-    requires hour { now ≤ 3600000 }
+    requires hour { now ≤ HOUR }
     requires counts { length calls.old.counts.items ≡ length desc.now.functions.items }
     requires fun { fun.0 < length desc.now.functions.items }
     ensures due { OnOk result ((w : World) (called : List FunName) → HasSensors w desc.now series.now
@@ -126,7 +127,7 @@ fn answer_entry(
     entry: &Entry,
 ) -> Result<(), NoMemory>
     requires ahead { radio.old.agenda.now ≤ now }
-    requires hour { now ≤ 3600000 }
+    requires hour { now ≤ HOUR }
     requires counts { length calls.old.counts.items ≡ length desc.now.functions.items }
     requires range { IsEntryInRange desc.now entry.now }
     ensures due { OnOk result ((w : World) (called : List FunName) (l : Log) → HasSensors w desc.now series.now
@@ -163,7 +164,7 @@ pub fn schedule_answers(
     entries: &[Stamped],
 ) -> Result<(), NoMemory>
     requires ahead { radio.old.agenda.now ≤ now }
-    requires hour { now ≤ 3600000 }
+    requires hour { now ≤ HOUR }
     requires counts { length calls.old.counts.items ≡ length desc.now.functions.items }
     requires range { All (λ (e : StampedEntry). IsEntryInRange desc.now e.entry) entries.now }
     ensures due { OnOk result ((w : World) (called : List FunName) (l : Log) → HasSensors w desc.now series.now

@@ -1,7 +1,7 @@
 //! A node of a world with its timer, its exchange and its calls, and what events do to it.
 
 ghost use Rattle.std.specs.Prelude.{◌≡◌, ◌+◌, ◌<◌, ◌≤◌, ℕ, true, List, length, All, OnOk, IfOk, ◌⊎◌};
-ghost use Rattle.mate_num.specs.declared.bounds.TheConstants.{CONTEXTS_MAX};
+ghost use Rattle.mate_num.specs.declared.bounds.TheConstants.{CONTEXTS_MAX, HOUR};
 ghost use Rattle.mate_journal.specs.NodeScript.{Occasion, AnswersCall, ShowsOnce};
 ghost use Rattle.node_invariant.specs.Meaning.{machine_in};
 ghost use Rattle.node_calls.specs.Calls.{NobodyWaits};
@@ -95,7 +95,7 @@ impl Mote {
     /// The node is reset: its exchange forgets what it collected and owed, and its shortest interval begins.
     pub fn reset(&mut self, at: Stamp, effect: &mut Effect) -> Result<(), NoMemory>
         requires tellable { IsTellable self.old.node at }
-        requires hour { at.time ≤ 3600000 }
+        requires hour { at.time ≤ HOUR }
         requires within { self.old.timer.running.begin ≤ at.time }
         requires plain { effect.old ≡ plain_effect }
         ensures { OnOk result (ResetsMote at self.old self.new effect.new) }
@@ -123,7 +123,7 @@ impl Mote {
     ) -> Result<(), NoMemory>
         requires handler { handler.0 < length self.old.exchange.handlers }
         requires tellable { IsTellable self.old.node at }
-        requires hour { at.time ≤ 3600000 }
+        requires hour { at.time ≤ HOUR }
         requires within { self.old.timer.running.begin ≤ at.time }
         requires plain { effect.old ≡ plain_effect }
         ensures { OnOk result (InstallsImage at handler version image.now.items self.old self.new effect.new
@@ -160,7 +160,7 @@ impl Mote {
 
     /// The end of the node's interval: the next one begins.
     pub fn expire(&mut self, now: u32, effect: &mut Effect)
-        requires hour { now ≤ 3600000 }
+        requires hour { now ≤ HOUR }
         requires end { now ≡ self.old.timer.running.begin + self.old.timer.running.length }
         requires plain { effect.old ≡ plain_effect }
         ensures timer { self.new ≡ record self.old { timer = timed self.old.timer now Expired } }
@@ -186,7 +186,7 @@ impl Mote {
     /// The node hears a Vector: it counts for the timer, and is answered with requests.
     pub fn hear_vector(&mut self, packet: &Packet, at: Stamp, effect: &mut Effect)
         requires right { IsRightPacket (length self.old.exchange.handlers) packet.now }
-        requires hour { at.time ≤ 3600000 }
+        requires hour { at.time ≤ HOUR }
         requires within { self.old.timer.running.begin ≤ at.time }
         requires plain { effect.old ≡ plain_effect }
         ensures hears { (n : ℕ) (hs : List Happening) (versions : ArrayVec ℕ) → self.old.exchange ≡ knowledge n hs
@@ -202,7 +202,7 @@ impl Mote {
 
     /// A Vector that is consistent or not counts for the timer. True exactly where an interval begins.
     fn count(&mut self, consistent: Option<bool>, now: u32) -> bool
-        requires hour { now ≤ 3600000 }
+        requires hour { now ≤ HOUR }
         requires within { self.old.timer.running.begin ≤ now }
         ensures timer { self.new ≡ record self.old { timer = counted_timer self.old.timer now consistent } }
         ensures begins { result ≡ begins_counted self.old.timer consistent }

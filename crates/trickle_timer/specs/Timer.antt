@@ -1,6 +1,7 @@
 -- A timer as a value, one step of it, and how it stands for all that happened to its node.
 use Rattle.std.specs.Prelude.{◌≡◌, ℕ, ◌+◌, ◌/◌, ◌<◌, ◌≤◌, min, List, [], ◌∷◌, ◌++◌, length, Bool, true, false, IsTrue}
 use Rattle.std.specs.Option.{option_map_or}
+use Rattle.mate_num.specs.declared.bounds.TheConstants.{HOUR}
 use Rattle.rand_pcg.specs.Lcg.{Lcg, advance}
 use Rattle.rand_pcg.specs.Pcg.{multiplier_64, pcg32}
 use Rattle.vm_desc.specs.declared.settings.TrickleSet.{TrickleSet}
@@ -67,6 +68,6 @@ pub record IsRightTimer (t : Timer) : Type 0 where
   pub settings : IsTrue (is_trickle t.set)
   pub least : t.set.imin ≤ t.running.length
   pub most : t.running.length ≤ longest t.set
-  pub hour : t.running.begin ≤ 3600000
+  pub hour : t.running.begin ≤ HOUR
   pub half : t.running.begin + t.running.length / 2 ≤ t.running.point
   pub before_end : t.running.point < t.running.begin + t.running.length

@@ -1,6 +1,7 @@
 //! One node's timer: the interval that runs, its point, and what was heard in it.
 
 ghost use Rattle.std.specs.Prelude.{◌≡◌, ◌+◌, ◌/◌, ◌%◌, ◌^◌, ◌<◌, ◌≤◌, ◌&&◌, [], List, not, nat_lt, nat_le, IsTrue, if◌then◌else◌};
+ghost use Rattle.mate_num.specs.declared.bounds.TheConstants.{HOUR};
 ghost use Rattle.rand_pcg.specs.Pcg.{pcg32};
 ghost use Rattle.vm_desc.specs.Limits.{is_trickle, longest};
 ghost use Rattle.trickle_timer.specs.Intervals.{Reset, Again, Expired};
@@ -62,7 +63,7 @@ impl Trickle {
     pub fn start(set: TrickleSet, random: u64, node: u8, now: u32) -> Trickle
         requires settings { IsTrue (is_trickle set) }
         requires node { node < 64 }
-        requires hour { now ≤ 3600000 }
+        requires hour { now ≤ HOUR }
         ensures first { result ≡ started_timer (record { set = set; random = random; node = node; time = now }) }
         ensures stands { IsTimerOf (record { set = set; random = random; node = node; time = now }) [] result }
     {
@@ -81,7 +82,7 @@ impl Trickle {
     /// A packet is heard. A consistent one is counted, up to 65,535. Another one begins an interval of the shortest
     /// length, unless the running one has that length. True exactly where an interval begins.
     pub fn hear(&mut self, consistent: bool, now: u32) -> bool
-        requires hour { now ≤ 3600000 }
+        requires hour { now ≤ HOUR }
         requires within { self.old.running.begin ≤ now }
         ensures begun_timer { result ≡ (not consistent && nat_lt self.old.set.imin self.old.running.length) }
         ensures next { TimerContinues self.old self.new (record { event = packet_event consistent; time = now }) }
@@ -96,7 +97,7 @@ impl Trickle {
 
     /// Begins an interval of the shortest length, unless the running one has that length. True exactly where one begins.
     pub fn reset(&mut self, now: u32) -> bool
-        requires hour { now ≤ 3600000 }
+        requires hour { now ≤ HOUR }
         requires within { self.old.running.begin ≤ now }
         ensures begun_timer { result ≡ nat_lt self.old.set.imin self.old.running.length }
         ensures next { TimerContinues self.old self.new (record { event = Reset; time = now }) }
@@ -124,7 +125,7 @@ impl Trickle {
 
     /// The interval ends, and one twice as long begins, or of the longest length.
     pub fn expire(&mut self, now: u32)
-        requires hour { now ≤ 3600000 }
+        requires hour { now ≤ HOUR }
         requires end { now ≡ self.old.running.begin + self.old.running.length }
         ensures next { TimerContinues self.old self.new (record { event = Expired; time = now }) }
     {
@@ -134,7 +135,7 @@ impl Trickle {
 
     /// Begins an interval of the shortest length.
     pub fn again(&mut self, now: u32)
-        requires hour { now ≤ 3600000 }
+        requires hour { now ≤ HOUR }
         requires within { self.old.running.begin ≤ now }
         ensures next { TimerContinues self.old self.new (record { event = Again; time = now }) }
     {
@@ -167,7 +168,7 @@ impl Trickle {
 
     /// Begins an interval of this length.
     fn begin_with(&mut self, length: u32, now: u32)
-        requires hour { now ≤ 3600000 }
+        requires hour { now ≤ HOUR }
         requires least { self.old.set.imin ≤ length }
         requires most { length ≤ longest self.old.set }
         ensures { self.new ≡ begun_timer self.old.set self.old.words length now }

@@ -1,6 +1,7 @@
 //! How a text is cut into tokens: all of them, or the first ones.
 
 ghost use Rattle.std.specs.Prelude.{◌≡◌, ◌≤◌, length};
+ghost use Rattle.mate_num.specs.declared.bounds.TheConstants.{FILE_MAX};
 ghost use Rattle.ts_syntax.specs.Cut.{cut_in};
 ghost use Rattle.ts_lexer.specs.Answers.{Cuts, CutsIn};
 ghost use Rattle.ts_lexer.specs.Scanner.{BeginsScan};
@@ -12,7 +13,7 @@ use ts_syntax::{Dialect, Tokens};
 
 /// The tokens of a text, or its first fault. The text has at most 1,048,576 bytes.
 pub fn tokens(alloc: Global, bytes: &[u8]) -> Result<Tokens, TokenFault>
-    requires { length bytes.now ≤ 1048576 }
+    requires { length bytes.now ≤ FILE_MAX }
     ensures { Cuts bytes.now result }
 {
     tokens_in(alloc, Dialect::Plain, bytes)
@@ -21,7 +22,7 @@ pub fn tokens(alloc: Global, bytes: &[u8]) -> Result<Tokens, TokenFault>
 /// The tokens of a text in a dialect, or its first fault. Where a script may have procedures, `proc` and `do` are
 /// keywords; all else is as in plain TinyScript. The text has at most 1,048,576 bytes.
 pub fn tokens_in(alloc: Global, dialect: Dialect, bytes: &[u8]) -> Result<Tokens, TokenFault>
-    requires { length bytes.now ≤ 1048576 }
+    requires { length bytes.now ≤ FILE_MAX }
     ensures { CutsIn dialect bytes.now result }
 {
     Scanner::new(alloc, dialect, bytes).finish()
@@ -35,7 +36,7 @@ pub fn first_tokens(
     bytes: &[u8],
     count: usize,
 ) -> Result<Scanner<'_>, TokenFault>
-    requires { length bytes.now ≤ 1048576 }
+    requires { length bytes.now ≤ FILE_MAX }
     ensures { BeginsScan (cut_in dialect bytes.now) result }
 {
     let mut scanner = Scanner::new(alloc, dialect, bytes);

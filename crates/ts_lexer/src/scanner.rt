@@ -1,6 +1,7 @@
 //! What reads a text from the left, in one pass, and cuts it into tokens.
 
 ghost use Rattle.std.specs.Prelude.{◌≡◌, ◌≤◌, ◌+◌, length};
+ghost use Rattle.mate_num.specs.declared.bounds.TheConstants.{FILE_MAX};
 
 use crate::fault::TokenFault;
 use crate::spans::{
@@ -22,7 +23,7 @@ pub struct Scanner<'a> {
     /// The place of the rest, in bytes from the start of the text.
     place: u32,
     pub(crate) tokens: Tokens,
-    ghost in_range: { place + length rest.now ≤ 1048576 },
+    ghost in_range: { place + length rest.now ≤ FILE_MAX },
 }
 
 impl<'a> Scanner<'a> {
@@ -34,7 +35,7 @@ impl<'a> Scanner<'a> {
 
     /// The whole text, and no token yet.
     pub(crate) fn new(alloc: Global, dialect: Dialect, bytes: &'a [u8]) -> Scanner<'a>
-        requires { length bytes.now ≤ 1048576 }
+        requires { length bytes.now ≤ FILE_MAX }
         ensures { due result ≡ cut_in dialect bytes.now }
     {
         Scanner {

@@ -1,6 +1,7 @@
 //! The tokens of a source, with its faults as those of a source.
 
 ghost use Rattle.std.specs.Prelude.{◌≡◌, ◌≤◌, length};
+ghost use Rattle.mate_num.specs.declared.bounds.TheConstants.{FILE_MAX};
 ghost use Rattle.ts_parser.specs.Cutting.{CutsScript, SourceCuts, source_fault_of};
 
 use crate::fault::SourceFault;
@@ -12,7 +13,7 @@ use ts_syntax::{Dialect, Tokens};
 /// end of its line) are passed over. `BadByte` and `BigLiteral` come exactly where one of them is the first in the text.
 /// `NoMemory` comes for want of memory only.
 pub fn tokens(alloc: Global, bytes: &[u8]) -> Result<Tokens, SourceFault>
-    requires { length bytes.now ≤ 1048576 }
+    requires { length bytes.now ≤ FILE_MAX }
     ensures { CutsScript bytes.now result }
 {
     tokens_in(alloc, Dialect::Plain, bytes)
@@ -21,7 +22,7 @@ pub fn tokens(alloc: Global, bytes: &[u8]) -> Result<Tokens, SourceFault>
 /// The tokens of a source in a dialect, by the same rules: where a script may have procedures, `proc` and `do` are
 /// keywords.
 pub fn tokens_in(alloc: Global, dialect: Dialect, bytes: &[u8]) -> Result<Tokens, SourceFault>
-    requires { length bytes.now ≤ 1048576 }
+    requires { length bytes.now ≤ FILE_MAX }
     ensures { SourceCuts dialect bytes.now result }
 {
     match ts_lexer::tokens_in(alloc, dialect, bytes) {

@@ -1,6 +1,7 @@
 //! From the bytes of a source to a script.
 
 ghost use Rattle.std.specs.Prelude.{◌≡◌, ◌≤◌, length, IfSome};
+ghost use Rattle.mate_num.specs.declared.bounds.TheConstants.{FILE_MAX};
 ghost use Rattle.ts_syntax.specs.Cut.{cut_in};
 ghost use Rattle.ts_syntax.specs.declared.dialect.Dialect.TheVariants.{Procedures};
 ghost use Rattle.ts_lexer.specs.Scanner.{due};
@@ -20,7 +21,7 @@ const FIRST: usize = 4096;
 /// text, as `tokens` gives it, and then of its grammar and depth, as `parse` does. `NoMemory` comes for want of memory
 /// only.
 pub fn read(alloc: Global, bytes: &[u8]) -> Result<Script, SourceFault>
-    requires { length bytes.now ≤ 1048576 }
+    requires { length bytes.now ≤ FILE_MAX }
     ensures { ReadsScript bytes.now result }
 {
     match read_in(alloc, Dialect::Plain, bytes) {
@@ -35,14 +36,14 @@ pub fn read(alloc: Global, bytes: &[u8]) -> Result<Script, SourceFault>
 /// The script with procedures that a source spells, whatever its `do` call; refusals are those of `read`, by the grammar
 /// with `proc` and `do`.
 pub fn read_procedures(alloc: Global, bytes: &[u8]) -> Result<ProcScript, SourceFault>
-    requires { length bytes.now ≤ 1048576 }
+    requires { length bytes.now ≤ FILE_MAX }
     ensures { ReadsIn Procedures bytes.now result }
 {
     read_in(alloc, Dialect::Procedures, bytes)
 }
 
 fn read_in(alloc: Global, dialect: Dialect, bytes: &[u8]) -> Result<ProcScript, SourceFault>
-    requires { length bytes.now ≤ 1048576 }
+    requires { length bytes.now ≤ FILE_MAX }
     ensures { ReadsIn dialect bytes.now result }
 {
     let scanner = match first_tokens(alloc, dialect, bytes, FIRST) {
@@ -105,7 +106,7 @@ fn whole(
     bytes: &[u8],
     scanner: Scanner,
 ) -> Result<ProcScript, SourceFault>
-    requires few { length bytes.now ≤ 1048576 }
+    requires few { length bytes.now ≤ FILE_MAX }
     requires due { due scanner ≡ cut_in dialect bytes.now }
     ensures { ReadsIn dialect bytes.now result }
 {

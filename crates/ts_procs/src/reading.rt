@@ -1,6 +1,7 @@
 //! The whole way from bytes to a script with procedures.
 
 ghost use Rattle.std.specs.Prelude.{◌≡◌, ◌≤◌, length};
+ghost use Rattle.mate_num.specs.declared.bounds.TheConstants.{FILE_MAX};
 ghost use Rattle.ts_procs.specs.Reading.{ReadsProcedures, proc_fault_of as named_fault};
 
 use proc_names::{PScript, ProcFault};
@@ -10,7 +11,7 @@ use ts_parser::{SourceFault, read_procedures};
 /// The script with procedures of a source of at most 1,048,576 bytes, or the first refusal of it: of its tokens over the whole
 /// text, then of its grammar and depth, then of its names. `NoMemory` may come in place of any answer.
 pub fn read(alloc: Global, bytes: &[u8]) -> Result<PScript, ProcFault>
-    requires { length bytes.now ≤ 1048576 }
+    requires { length bytes.now ≤ FILE_MAX }
     ensures { ReadsProcedures bytes.now result }
 {
     match read_procedures(alloc, bytes) {

@@ -1,6 +1,7 @@
 -- The lengths and ranges that every description keeps, each by its name.
 use Rattle.std.specs.Prelude.{◌≡◌, ◌≤◌, ◌%◌, length, IsTrue, None}
 use Rattle.std.specs.List.{list_all}
+use Rattle.mate_num.specs.declared.bounds.TheConstants.{HOUR}
 use Rattle.vm_desc.specs.Names.{is_name}
 use Rattle.vm_desc.specs.Limits.{is_handler, is_function, longest, round_time, duplicate_of}
 use Rattle.vm_desc.specs.Whole.{parts_of, context_count}
@@ -23,7 +24,7 @@ pub record HasBounds (d : Description) : Type 0 where
   pub imin_high : d.trickle.imin ≤ 60000
   pub imin_even : d.trickle.imin % 2 ≡ 0
   pub doublings_high : d.trickle.doublings ≤ 16
-  pub longest_high : longest d.trickle ≤ 3600000
+  pub longest_high : longest d.trickle ≤ HOUR
   pub k_low : 1 ≤ d.trickle.k
   pub k_high : d.trickle.k ≤ 255
   pub delay_low : 1 ≤ d.radio.delay

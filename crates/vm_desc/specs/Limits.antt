@@ -1,6 +1,7 @@
 -- What a description holds, and its lengths, ranges and rules.
 use Rattle.std.specs.Prelude.{ℕ, List, length, map, Bool, true, ◌&&◌, ◌+◌, ◌*◌, ◌%◌, ◌^◌, ◌==◌, nat_le, Option, Some, None, is_none, ◌++◌, sum_by}
 use Rattle.std.specs.List.{list_all}
+use Rattle.mate_num.specs.declared.bounds.TheConstants.{HOUR}
 use Rattle.vm_desc.specs.Names.{between, is_name, first_repeat}
 use Rattle.vm_desc.specs.declared.handler.Handler.{Handler}
 use Rattle.vm_desc.specs.declared.handler.HandlerKind.{HandlerKind}
@@ -28,7 +29,7 @@ pub record Parts : Type 0 where
 -- a timer's period is from 1 to 3,600,000 ms
 abbrev pub is_kind : HandlerKind → Bool
 is_kind Plain = true
-is_kind (Timer period) = between 1 3600000 period
+is_kind (Timer period) = between 1 HOUR period
 is_kind Receive = true
 is_kind Once = true
 
@@ -52,7 +53,7 @@ abbrev pub longest : TrickleSet → ℕ
 longest t = t.imin * 2 ^ t.doublings
 
 abbrev pub is_trickle : TrickleSet → Bool
-is_trickle t = ((between 2 60000 t.imin && t.imin % 2 == 0) && (nat_le t.doublings 16 && nat_le (longest t) 3600000)) && between 1 255 t.k
+is_trickle t = ((between 2 60000 t.imin && t.imin % 2 == 0) && (nat_le t.doublings 16 && nat_le (longest t) HOUR)) && between 1 255 t.k
 
 abbrev pub is_radio : RadioSet → Bool
 is_radio r = between 1 10000 r.delay && between 1 10000 r.gap

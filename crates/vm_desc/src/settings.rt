@@ -1,6 +1,7 @@
 //! The settings of the Trickle timer and of the radio.
 
 ghost use Rattle.std.specs.Prelude.{◌≡◌, ◌≤◌, ◌*◌, ◌^◌, IsTrue};
+ghost use Rattle.mate_num.specs.declared.bounds.TheConstants.{HOUR};
 
 /// The settings of a handler's Trickle timer.
 #[derive(Clone, Copy)]
@@ -30,7 +31,7 @@ impl TrickleSet {
     pub fn longest(&self) -> u32
         requires { IsTrue (is_trickle self.now) }
         ensures value { result ≡ longest self.now }
-        ensures most { result ≤ 3600000 }
+        ensures most { result ≤ HOUR }
     {
         doubled(self.imin, u32::from(self.doublings))
     }

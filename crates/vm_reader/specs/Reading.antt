@@ -3,6 +3,7 @@
 use Rattle.std.specs.Prelude.{ℕ, List, [], ◌∷◌, ◌+◌, ◌*◌, ◌%◌, ◌^◌, ◌==◌, length, codes, nat_lt, nat_le, if◌then◌else◌, Option, Some, None, option_map, option_and_then, Result, Ok, Err}
 use Rattle.std.specs.List.{position}
 use Rattle.std.specs.Str.{bytes_eq}
+use Rattle.mate_num.specs.declared.bounds.TheConstants.{HOUR}
 use Rattle.toml.specs.Data.{Data, Members, as_str, get_member}
 use Rattle.mate_num.specs.declared.id.DeviceId.{DeviceId}
 use Rattle.vm_desc.specs.Limits.{Parts, duplicate_of, round_time, longest}
@@ -31,7 +32,7 @@ handler_kind word =
 -- a timer has a period, and no other kind has one
 abbrev pub with_period : HandlerKind → Option Data → Result HandlerKind DescFault
 with_period Plain value = absent key.HandlerPeriod Plain value
-with_period (Timer unset) value = field key.HandlerPeriod (number 1 3600000) None value >>= (λ period. Ok (Timer period))
+with_period (Timer unset) value = field key.HandlerPeriod (number 1 HOUR) None value >>= (λ period. Ok (Timer period))
 with_period Receive value = absent key.HandlerPeriod Receive value
 with_period Once value = absent key.HandlerPeriod Once value
 
@@ -97,7 +98,7 @@ trickle_at t = do
   imin ← field key.TrickleImin (number 2 60000) (Some 1000) (member_of (codes "imin") t)
   even ← allowed key.TrickleImin (imin % 2 == 0)
   doublings ← field key.TrickleDoublings (number 0 16) (Some 4) (member_of (codes "doublings") t)
-  short ← allowed key.TrickleDoublings (nat_le (imin * 2 ^ doublings) 3600000)
+  short ← allowed key.TrickleDoublings (nat_le (imin * 2 ^ doublings) HOUR)
   k ← field key.TrickleK (number 1 255) (Some 2) (member_of (codes "k") t)
   Ok (record { imin = imin; doublings = doublings; k = k })
 

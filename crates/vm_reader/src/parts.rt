@@ -11,7 +11,7 @@ ghost use Rattle.vm_reader.specs.Reading.{handler_kind, with_period, handler_at,
 
 use crate::fields::{allowed, at, name, number, tables, taken, within};
 use arrayvec::ArrayVec;
-use mate_num::{DeviceId, Name};
+use mate_num::{DeviceId, HOUR, Name};
 use toml::value::Array;
 use toml::{Table, Value};
 use vm_desc::settings::doubled;
@@ -128,7 +128,7 @@ fn with_period(kind: HandlerKind, value: Option<&Value>) -> Result<HandlerKind, 
 {
     match (kind, value) {
         (HandlerKind::Timer { .. }, _) => {
-            let period = number(Key::HandlerPeriod, 1, 3_600_000, None, value)?;
+            let period = number(Key::HandlerPeriod, 1, HOUR, None, value)?;
             Ok(HandlerKind::Timer { period })
         }
         (_, None) => Ok(kind),
@@ -248,7 +248,7 @@ pub fn trickle_in(table: Option<&Table>) -> Result<TrickleSet, DescFault>
         Some(4),
         within(table, "doublings"),
     )?;
-    allowed(Key::TrickleDoublings, doubled(imin, doublings) <= 3_600_000)?;
+    allowed(Key::TrickleDoublings, doubled(imin, doublings) <= HOUR)?;
     let k = number(Key::TrickleK, 1, 255, Some(2), within(table, "k"))?;
     Ok(TrickleSet {
         imin,

@@ -1,6 +1,7 @@
 //! What events record, cancel and schedule on the radio.
 
 ghost use Rattle.std.specs.Prelude.{◌≡◌, ◌<◌, ◌≤◌, ℕ, List, [], ◌∷◌, ◌++◌, OnOk};
+ghost use Rattle.mate_num.specs.declared.bounds.TheConstants.{HOUR};
 ghost use Rattle.vm_desc.specs.declared.function.FunKind.TheVariants as kind;
 ghost use Rattle.event_queue.specs.Agenda.{due_at};
 ghost use Rattle.radio_sim.specs.declared.event.Event.TheVariants as event;
@@ -23,7 +24,7 @@ pub fn a_sensor_sends_nothing(
     at: Stamp,
 ) -> Result<(), NoMemory>
     requires ahead { radio.old.agenda.now ≤ at.time }
-    requires hour { at.time ≤ 3600000 }
+    requires hour { at.time ≤ HOUR }
     requires few { air_room radio.old node 1 < 4000000000 }
     ensures { OnOk result ((w : World) (senders : List ℕ) (log : Log) → w.description ≡ desc.now → IsAirOf w senders radio.old
         → called_kind w fun ≡ kind.Sense → radio.new.air ≡ radio.old.air) }

@@ -1,6 +1,7 @@
 //! The answers to a node's calls.
 
 ghost use Rattle.std.specs.Prelude.{◌≡◌, ◌+◌, ◌/◌, ◌%◌, ◌<◌, ◌≤◌, List, length, pos, count_by, ◌==◌};
+ghost use Rattle.mate_num.specs.declared.bounds.TheConstants.{HOUR};
 ghost use Rattle.mate_num.specs.declared.id.FunId.{FunId as FunName};
 ghost use Rattle.vm_desc.specs.declared.function.FunKind.TheVariants as kind;
 ghost use Rattle.world_rules.specs.State.{series_value};
@@ -24,7 +25,7 @@ pub fn a_call_is_answered_by_its_kind(
 ) -> CallAnswer
     requires fun { fun.0 < length desc.now.functions.items }
     requires counts { length calls.old.counts.items ≡ length desc.now.functions.items }
-    requires hour { now ≤ 3600000 }
+    requires hour { now ≤ HOUR }
     ensures clock { (w : World) (called : List FunName) → HasSensors w desc.now series.now → AreCallsOf w node called calls.old
         → called_kind w fun ≡ kind.Clock
         → result.value ≡ pos (result.time / 1000 % 32768) }

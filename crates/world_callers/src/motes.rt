@@ -2,6 +2,7 @@
 
 ghost use Rattle.std.specs.Prelude.{◌≡◌, ◌≤◌, ℕ, List, [], length};
 ghost use Rattle.arrayvec.specs.ArrayVec.{ArrayVec};
+ghost use Rattle.mate_num.specs.declared.bounds.TheConstants.{HOUR};
 ghost use Rattle.packet_codec.specs.Packet.{IsRightPacket};
 ghost use Rattle.packet_codec.specs.declared.packet.Packet.TheVariants.{Vector};
 ghost use Rattle.trickle_timer.specs.Intervals.{Consistent, at_point};
@@ -25,7 +26,7 @@ pub fn a_silent_point_sends_nothing(mote: &mut Mote, suppress: bool) -> Effect
 
 pub fn a_consistent_vector_counts(mote: &mut Mote, packet: &Packet, at: Stamp) -> Effect
     requires right { IsRightPacket (length mote.old.exchange.handlers) packet.now }
-    requires hour { at.time ≤ 3600000 }
+    requires hour { at.time ≤ HOUR }
     requires within { mote.old.timer.running.begin ≤ at.time }
     ensures { (n : ℕ) (hs : List Happening) (versions : ArrayVec ℕ) → mote.old.exchange ≡ knowledge n hs → packet.now ≡ Vector versions
         → versions.items ≡ held_versions n hs

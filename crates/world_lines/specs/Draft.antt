@@ -2,6 +2,7 @@
 use Rattle.std.specs.Prelude.{◌≡◌, ℕ, ◌+◌, ◌*◌, ◌<◌, ◌≤◌, ◌==◌, ◌&&◌, Bool, true, false, if◌then◌else◌, List, [], ◌∷◌, length, slice_index}
 use Rattle.std.specs.Prelude.{slice_index_or, All, Option, option_map, Result, Ok, Err, ⊤}
 use Rattle.std.specs.List.{AllPairs}
+use Rattle.mate_num.specs.declared.bounds.TheConstants.{HOUR}
 use Rattle.vm_desc.specs.declared.description.Description.{Description}
 use Rattle.world_script.specs.declared.world.World.{World}
 use Rattle.world_script.specs.declared.world.Series.{Series}
@@ -61,7 +62,7 @@ pub record KeepsWorld (d : Description) (p : WorldProgress) : Type 0 where
   pub nodes_low : 1 ≤ p.world.nodes
   pub nodes_high : p.world.nodes ≤ 64
   pub until_low : 1 ≤ p.world.until
-  pub until_high : p.world.until ≤ 3600000
+  pub until_high : p.world.until ≤ HOUR
   pub links : All (IsRightLink p.world.nodes) p.world.links
   pub one_link : AllPairs AreOtherLinks p.world.links
   pub series : All (IsRightSeries d p.world.nodes) p.world.series
@@ -81,7 +82,7 @@ pub record IsRightEvent (d : Description) (p : WorldProgress) (e : Planned) (fil
 abbrev pub IsRightWorldSaid : Description → WorldProgress → WorldSaid → Type 0
 IsRightWorldSaid d p (SaysNodes nodes) = (1 ≤ nodes) × (nodes ≤ 64) × (p.stage ≡ stage.Nodes)
 IsRightWorldSaid d p (SaysRandom random) = p.stage ≡ stage.Random
-IsRightWorldSaid d p (SaysUntil until) = (1 ≤ until) × (until ≤ 3600000) × (p.stage ≡ stage.Until)
+IsRightWorldSaid d p (SaysUntil until) = (1 ≤ until) × (until ≤ HOUR) × (p.stage ≡ stage.Until)
 IsRightWorldSaid d p (SaysSuppress on) = Unit {0}
 IsRightWorldSaid d p (SaysLink link both) = IsRightLink p.world.nodes link × (is_free p.world.links both link.from link.to ≡ true)
     × (p.stage ≡ stage.Settings)

@@ -3,6 +3,7 @@ use Rattle.std.specs.Prelude.{ℕ, ◌^◌, ◌-◌, ◌==◌, Bool, true, false
 use Rattle.std.specs.Prelude.{Some, None, Result, Ok, Err}
 use Rattle.std.specs.List.{list_any}
 use Rattle.std.specs.Str.{bytes_eq}
+use Rattle.mate_num.specs.declared.bounds.TheConstants.{HOUR}
 use Rattle.vm_desc.specs.declared.description.Description.{Description}
 use Rattle.script_reader.specs.declared.fault.Cause.{Cause}
 use Rattle.script_reader.specs.declared.fault.Cause.TheVariants.{Word, Range}
@@ -139,7 +140,7 @@ unfoldable pub a_random : List ℕ → WordReading ℕ
 a_random verb = by_its_verb verb (codes "random") (a_number 0 (2 ^ 64 - 1) Range)
 
 unfoldable pub an_until : List ℕ → WordReading ℕ
-an_until verb = by_its_verb verb (codes "until") (a_number 1 3600000 Range)
+an_until verb = by_its_verb verb (codes "until") (a_number 1 HOUR Range)
 
 unfoldable pub a_setting : Description → WorldProgress → List ℕ → WordReading WorldSaid
 a_setting d p verb =

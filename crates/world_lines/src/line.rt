@@ -1,6 +1,7 @@
 //! What a whole line says, by the world so far.
 
 ghost use Rattle.std.specs.Prelude.{◌<◌, ◌≤◌, ◌^◌, length, IfOk};
+ghost use Rattle.mate_num.specs.declared.bounds.TheConstants.{HOUR};
 ghost use Rattle.script_reader.specs.Lines.{split_words};
 ghost use Rattle.script_reader.specs.Words.{ReadsWords};
 ghost use Rattle.world_lines.specs.WorldLines.{some_nodes, a_random, an_until, behind_verb, a_world_line};
@@ -10,6 +11,7 @@ use crate::command::Command;
 use crate::draft::Draft;
 use crate::refusal::Refusal;
 use crate::stage::Stage;
+use mate_num::HOUR;
 use script_reader::{Cause, Words};
 use vm_desc::Description;
 
@@ -89,10 +91,10 @@ fn random_in(verb: &str, words: &mut Words<'_>) -> Result<u64, Cause>
 fn until_in(verb: &str, words: &mut Words<'_>) -> Result<u32, Cause>
     ensures value { ReadsWords (λ n. n) (an_until verb.now) (split_words words.old) result (split_words words.new) }
     ensures low { IfOk result (λ n. 1 ≤ n) }
-    ensures high { IfOk result (λ n. n ≤ 3600000) }
+    ensures high { IfOk result (λ n. n ≤ HOUR) }
 {
     if verb == "until" {
-        let until = words.number(1, 3_600_000, Cause::Range)?;
+        let until = words.number(1, u64::from(HOUR), Cause::Range)?;
         Ok(until as u32)
     } else {
         Err(Cause::Word)

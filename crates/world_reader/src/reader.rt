@@ -1,6 +1,7 @@
 //! The reader of the scripts of worlds.
 
 ghost use Rattle.std.specs.Prelude.{◌≡◌, ◌<◌, ◌≤◌, ◌^◌, false, length, IfOk, OnOk, replicate};
+ghost use Rattle.mate_num.specs.declared.bounds.TheConstants.{FILE_MAX};
 ghost use Rattle.script_reader.specs.Lines.{split_words};
 ghost use Rattle.script_reader.specs.Script.{AnswersScript, FollowsLine};
 ghost use Rattle.world_script.specs.World.{IsRightWorld};
@@ -22,7 +23,7 @@ use world_script::{SeriesList, World};
 /// (`at T inject NODE HANDLER VERSION FILE`, `at T post NODE HANDLER V ..`, `at T show NODE`, `at T reset NODE`,
 /// `at T noise NODE HEX`).
 pub fn world_script(alloc: Global, desc: &Description, bytes: &[u8]) -> Result<World, ScriptFault>
-    requires { length bytes.now ≤ 1048576 }
+    requires { length bytes.now ≤ FILE_MAX }
     ensures value { AnswersScript result (world_script_in desc.now bytes.now) }
     ensures right { IfOk result (λ world. IsRightWorld desc.now world) }
 {

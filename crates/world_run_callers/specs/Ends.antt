@@ -1,6 +1,7 @@
 -- The end of an event: what `finish` asks for, and the moment of a run that it ends.
 use Rattle.std.specs.Prelude.{◌≡◌, ◌+◌, ◌≤◌, ℕ, not, ◌&&◌, true, [], ◌∷◌, None, length, All}
 use Rattle.std.specs.List.{flat_map}
+use Rattle.mate_num.specs.declared.bounds.TheConstants.{HOUR}
 use Rattle.vm_desc.specs.declared.description.Description.{Description}
 use Rattle.packet_codec.specs.Packet.{IsRightPacket}
 use Rattle.packet_codec.specs.declared.packet.Packet.{Packet}
@@ -25,7 +26,7 @@ pub record MayFinish (d : Description) (script : Script) (radio : Ether) (x : Mo
   pub low : from ≤ length x.node.log.entries
   pub short : length x.node.log.entries ≤ from + 32
   pub ahead : radio.agenda.now ≤ time
-  pub hour : time ≤ 3600000
+  pub hour : time ≤ HOUR
   pub few : length radio.air ≤ 1000000
   pub wires : length (wires_of radio number) ≤ 4096
   pub right : All (IsRightPacket (length d.handlers.items)) r.sends.items

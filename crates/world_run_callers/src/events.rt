@@ -2,6 +2,7 @@
 
 ghost use Rattle.std.specs.Prelude.{◌≡◌, ◌<◌, ◌≤◌, ◌++◌, ℕ, [], ◌∷◌, length, slice_get, Some, IfOk, OnOk};
 ghost use Rattle.std.specs.Option.{option_to_list};
+ghost use Rattle.mate_num.specs.declared.bounds.TheConstants.{HOUR};
 ghost use Rattle.mate_journal.specs.Machine.{HeldProgram};
 ghost use Rattle.mate_journal.specs.declared.air.Air.TheVariants.{Got};
 ghost use Rattle.packet_codec.specs.declared.packet.Packet.{Packet};
@@ -44,7 +45,7 @@ pub fn an_injection_has_its_own_version(
     requires tellable { IsTellable mote.old.node at }
     requires few { length mote.old.node.log.entries < 1000000000 }
     requires paced { IsPaced mote.old.node }
-    requires hour { at.time ≤ 3600000 }
+    requires hour { at.time ≤ HOUR }
     requires within { mote.old.timer.running.begin ≤ at.time }
     ensures { OnOk result ((k time node : ℕ) (n : NodeState) (p : HeldProgram)
         → IsMoteOf (code_world desc.now world.now programs.now) k n mote.old
@@ -79,7 +80,7 @@ pub fn a_packet_is_got_from_its_sender(
     requires tellable { IsTellable mote.old.node at }
     requires few { length mote.old.node.log.entries < 1000000000 }
     requires paced { IsPaced mote.old.node }
-    requires hour { at.time ≤ 3600000 }
+    requires hour { at.time ≤ HOUR }
     requires within { mote.old.timer.running.begin ≤ at.time }
     ensures { IfOk result (λ effect. (k : ℕ) (n : NodeState) (packet : Packet) (link : Joined)
         → IsMoteOf (code_world desc.now world.now programs.now) k n mote.old

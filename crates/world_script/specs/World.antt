@@ -2,6 +2,7 @@
 use Rattle.std.specs.Prelude.{◌≡◌, ℕ, zero, suc, ◌<◌, ◌≤◌, ℤ, List, [], ◌∷◌, ◌++◌, length, All, IsTrue, slice_get}
 use Rattle.std.specs.List.{AllPairs}
 use Rattle.std.specs.Option.{IsSomeAnd}
+use Rattle.mate_num.specs.declared.bounds.TheConstants.{HOUR}
 use Rattle.mate_num.specs.declared.id.HandlerId.{HandlerId}
 use Rattle.vm_desc.specs.declared.description.Description.{Description}
 use Rattle.vm_desc.specs.declared.function.Function.{Function}
@@ -77,7 +78,7 @@ pub record IsRightWorld (d : Description) (w : World) : Type 0 where
   pub nodes_low : 1 ≤ w.nodes
   pub nodes_high : w.nodes ≤ 64
   pub until_low : 1 ≤ w.until
-  pub until_high : w.until ≤ 3600000
+  pub until_high : w.until ≤ HOUR
   pub links : All (IsRightLink w.nodes) w.links
   pub one_link : AllPairs AreOtherLinks w.links
   pub series : All (IsRightSeries d w.nodes) w.series
