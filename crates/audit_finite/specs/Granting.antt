@@ -1,4 +1,4 @@
--- The grant rule, told by the roll.
+-- The grant rule, decided by the roll.
 use Rattle.std.specs.Prelude.{ℕ, ◌==◌, nat_lt, ◌&&◌, ◌||◌, not, Bool, List, [], ◌∷◌, Decides}
 use Rattle.std.specs.List.{list_any, list_all}
 use Rattle.mate_num.specs.Uses.{Conflicts}
@@ -12,7 +12,7 @@ use Rattle.audit_finite.specs.Roll.{Seat, Roll, rolled, is_queued}
 abbrev pub ConflictTest : Type 0
 ConflictTest = HeldProgram → HeldProgram → Bool
 
--- it tells exactly that
+-- it decides exactly that
 abbrev pub TellsConflicts : Meaning → ConflictTest → Type 0
 TellsConflicts meaning conflict = (p q : HeldProgram) → Decides (conflict p q) (Conflicts (meaning.uses p) (meaning.uses q))
 

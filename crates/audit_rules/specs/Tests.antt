@@ -64,7 +64,7 @@ first_failed m conflict ps es =
 abbrev pub failed_by : Description → List Program → Log → Option Law
 failed_by d ps l = first_failed (machine_by d ps) (conflict_of d) ps (journal_of l)
 
--- a law that is failed at this node, or what is told of the nodes behind it
+-- a law that is failed at this node, or the verdict on the nodes after it
 abbrev pub refuted_or : Option Law → ℕ → Verdict → Verdict
 refuted_or None node rest = rest
 refuted_or (Some law) node rest = Refuted node law

@@ -50,7 +50,7 @@ heard_since h (Sends slot ∷ before) = heard_since h before
 heard_since h (Installs g version image ∷ before) = if g == h then [] else heard_since h before
 heard_since h (Forgets ∷ before) = []
 
--- the version of the handler that the packet tells of, 0 for none
+-- the version of the handler that the packet announces, 0 for none
 abbrev pub version_in : ℕ → Packet → ℕ
 version_in h (Vector versions) = slice_index versions.items h
 version_in h (Status g version missing) = 0
@@ -187,7 +187,7 @@ last_sent (Sends slot ∷ before) = Some slot
 last_sent (Installs g version image ∷ before) = last_sent before
 last_sent (Forgets ∷ before) = last_sent before
 
--- where the pump goes on: behind the last slot that it sent, and at slot 0 at first
+-- where the pump goes on: after the last slot that it sent, and at slot 0 at first
 abbrev pub next_place : Option ℕ → ℕ
 next_place None = 0
 next_place (Some slot) = slot + 1

@@ -1,5 +1,5 @@
 -- How the state of one handler changes with each happening, and what it answers. The code takes these steps; the laws
--- of proofs/ say that they lead to what looking back over the happenings tells.
+-- of proofs/ say that they lead to what looking back over the happenings gives.
 use Rattle.std.specs.Prelude.{ℕ, ◌/◌, ◌%◌, nat_lt, ◌==◌, Bool, true, false, ◌&&◌, ◌||◌, if◌then◌else◌, List, [], length, map, take, slice_index, slice_index_or, slice_set, Option, None, Some, is_some, is_none}
 use Rattle.std.specs.Bool.{beq}
 use Rattle.std.specs.Int.{bit_at}
@@ -34,7 +34,7 @@ abbrev pub kept : ℕ → Form → ArrayVec ℕ → HandlerState → HandlerStat
 kept index form bytes s =
     if takes form s.form && is_none (slice_index_or s.pieces index None) then record s { form = Some form; pieces = slice_set s.pieces index (Some bytes) } else s
 
--- a fragment is kept where it is of the target after its version was heard of
+-- a fragment is kept if it is of the target, after its version was heard of
 abbrev pub keeps : ℕ → ℕ → Form → ArrayVec ℕ → HandlerState → HandlerState
 keeps version index form bytes s = if nat_lt s.held version && version == s.target then kept index form bytes s else s
 

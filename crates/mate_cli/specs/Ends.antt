@@ -62,9 +62,9 @@ pub record Sinks : Type 0 where
 abbrev pub RefusesTo : Sinks → Sinks → Refusal → Status → Type 0
 RefusesTo s t r status = TellsRefusal s.err s.err_faults t.err t.err_faults r status
 
--- How the writing of a text ends, which tells of a whole run, or of one that a full log ended.
+-- How the writing of a text ends that reports a whole run, or one that a full log ended.
 pub data IsTextWritten (bs : List ℕ) (whole : Bool) (s t : Sinks) (status : Status) : Type 0 where
-  -- all of it was written, and nothing told
+  -- all of it was written, and no refusal
   done : whole ≡ true → Sent s.out t.out bs → t.err ≡ s.err → status ≡ AllDone → IsTextWritten bs whole s t status
   -- all of it was written, of a run that a full log ended
   full : whole ≡ false → Sent s.out t.out bs → RefusesTo s t LogFull status → IsTextWritten bs whole s t status
@@ -76,7 +76,7 @@ pub data IsTextWritten (bs : List ℕ) (whole : Bool) (s t : Sinks) (status : St
 -- How the writing of a run ends, on nodes of this machine, where these reports are of the run. Its report is that of the events that
 -- ended.
 pub data IsRunWritten (d : Description) (Is : OfRun) (s t : Sinks) (status : Status) : Type 0 where
-  -- the whole text of the report of the whole run was written, and nothing told
+  -- the whole text of the report of the whole run was written, and no refusal
   whole : (r : Report) → Is Whole r → Sent s.out t.out (text d r) → t.err ≡ s.err → status ≡ AllDone
       → IsRunWritten d Is s t status
   -- the log was full before an event, and the whole text of the report up to there was written
@@ -106,13 +106,13 @@ pub data CallEnds (f : Folder) (words : List (List ℕ)) (before now : ℕ) (s t
 
 -- ---- on the way
 
--- what is told of a run, or of a text, that was not written whole
+-- the refusal for a run, or for a text, that was not written whole
 abbrev pub run_refusal : WriteFault → Refusal
 run_refusal fault.LogFull = LogFull
 run_refusal fault.NoMemory = NoMemory
 run_refusal fault.Sink = SinkFault
 
--- how the writing ended is told, and the status comes
+-- a fault that ended the writing is reported, and the status comes
 abbrev pub TellsEnd : Result (Unit {0}) WriteFault → Option (List ℕ) → ℕ → Option (List ℕ) → ℕ → Status → Type 0
 TellsEnd (Ok all) err faults err' faults' status = (err' ≡ err) × (status ≡ AllDone)
 TellsEnd (Err why) err faults err' faults' status = TellsRefusal err faults err' faults' (run_refusal why) status

@@ -10,7 +10,7 @@ use Rattle.mate_files.specs.declared.files.TheConstants.{FILE_MAX}
 abbrev pub Names : Type 0
 Names = List ℕ → Option (List ℕ)
 
--- a fact of the names, where these are told
+-- a fact of the names, if these are given
 abbrev pub WhereTold : Option Names → (Names → Type 0) → Type 0
 WhereTold told P = MatchOption told ⊤ P
 

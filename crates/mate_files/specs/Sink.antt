@@ -5,18 +5,18 @@ use Rattle.mate_files.specs.Counts.{Rose, one_more}
 use Rattle.mate_files.specs.declared.sink.SinkFault.{SinkFault}
 use Rattle.mate_files.specs.declared.sink.SinkFault.TheVariants.{Failed, NoMemory}
 
--- exactly bs was appended to what is told
+-- exactly bs was appended to what is known to be written
 pub record Sent (old new : Option (List ℕ)) (bs : List ℕ) : Type 0 where
   pub appended : Appends old new bs
 
--- a prefix of bs was appended to what is told
+-- a prefix of bs was appended to what is known to be written
 pub record SentPart (old new : Option (List ℕ)) (bs : List ℕ) : Type 0 where
   pub front : List ℕ
   pub rest : List ℕ
   pub whole : front ++ rest ≡ bs
   pub appended : Appends old new front
 
--- a prefix of bs was appended to what is told, and at least its last byte was not
+-- a prefix of bs was appended to what is known to be written, and at least its last byte was not
 pub record SentShort (old new : Option (List ℕ)) (bs : List ℕ) : Type 0 where
   pub part : SentPart old new bs
   pub unsent : 0 < length part.rest

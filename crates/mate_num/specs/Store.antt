@@ -7,11 +7,11 @@ use Rattle.mate_num.specs.declared.store.Store.{Store}
 use Rattle.mate_num.specs.declared.call.FaultKind.{FaultKind}
 use Rattle.mate_num.specs.declared.call.FaultKind.TheVariants.{Index, BufferFull, BufferEmpty}
 
--- the values xs as they stand in a buffer or a message
+-- the values xs as they are in a buffer or a message
 abbrev pub payload : List ℤ → ArrayVec ℤ
 payload xs = record { items = xs }
 
--- 0 in each of so many shared variables, and so many empty buffers
+-- 0 in each shared variable, and each buffer empty, for these numbers of them
 abbrev pub zero_store : ℕ → ℕ → Store
 zero_store shared buffers =
     record { shared = record { items = replicate shared (pos 0) }; buffers = record { items = replicate buffers (payload []) } }

@@ -1,4 +1,4 @@
--- The plain script that a source with procedures in a file stands for.
+-- The plain script that a source with procedures in a file expands to.
 use Rattle.std.specs.Prelude.{◌≡◌, ℕ, List, Result, Ok, Err, ◌⊎◌}
 use Rattle.proc_expansion.specs.Answer.{Expands}
 use Rattle.proc_names.specs.Named.{written_of}
@@ -25,7 +25,7 @@ abbrev pub script_with_procedures : List ℕ → List ℕ → Result PScript Ref
 script_with_procedures name bytes =
     judged (λ s. ReadsProcedures bytes (Ok s)) (λ why. ReadsProcedures bytes (Err (expansion_fault why))) (λ why. InFile name (cause.Expansion why))
 
--- the plain script that it stands for
+-- the plain script that it expands to
 abbrev pub expanded_script : List ℕ → ProcedureSource → Result Script Refusal → Type 0
 expanded_script name source =
     judged (λ s. Expands source (Ok s)) (λ why. Expands source (Err (expansion_fault why))) (λ why. InFile name (cause.Expansion why))

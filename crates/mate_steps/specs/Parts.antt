@@ -22,7 +22,7 @@ use Rattle.mate_steps.specs.Steps.{judged, obtained, ◌▸◌}
 
 -- ---- files
 
--- the files that are handed in: what they hold, where that is told, and whether a read fails by that alone
+-- the files that are handed in: what they hold, if that is given, and whether a read fails by that alone
 pub record Folder : Type 0 where
   pub told : Option Names
   pub steady : Bool

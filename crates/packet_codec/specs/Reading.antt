@@ -58,7 +58,7 @@ fragment_read handlers large (handler ∷ v0 ∷ v1 ∷ v2 ∷ v3 ∷ index ∷ 
     else Ok (Fragment (record { 0 = handler }) (u32_of v0 v1 v2 v3) index count large (record { items = bytes }))
 fragment_read handlers large _ = Err BadLength
 
--- by the kind, and by what stands behind the machine's number
+-- by the kind, and by what is after the machine's number
 abbrev pub body_in : ℕ → ℕ → List ℕ → Result Packet PacketFault
 body_in handlers kind body =
     if kind == 1 then vector_in handlers body

@@ -86,7 +86,7 @@ got_of = reads number_of (λ n. reads node_of (λ from. only_at_end (told.OnAir 
 abbrev pub noise_told : List (List ℕ) → Option Told
 noise_told = reads packet_of (λ bytes. only_at_end (told.OnAir (air.Noise bytes)))
 
--- by the verb, and the words behind it
+-- by the verb, and the words after it
 abbrev pub told_by : Description → Verb → List (List ℕ) → Option Told
 told_by d verb.Post = post_of d
 told_by d verb.Drop = dropped_of d

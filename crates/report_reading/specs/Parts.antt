@@ -19,7 +19,7 @@ use Rattle.report_reading.specs.declared.last_line.LastLine.{LastLine}
 abbrev pub stamped : Stamp → Entry → Stamped
 stamped at e = record { stamp = at; entry = e }
 
--- a log with what one more line tells; images and stores are numbered in the order of their lines
+-- a log with what one more line records; images and stores are numbered in the order of their lines
 abbrev pub log_with_line : Log → Stamp → Told → Log
 log_with_line l at (told.OnAir a) = l
 log_with_line l at (told.Made e) = record l { entries = l.entries ++ stamped at e ∷ [] }
@@ -44,7 +44,7 @@ no_log = record { entries = []; images = []; stores = []; spare = 0 }
 abbrev pub log_of : ℕ → List Line → Log
 log_of node ls = fold (log_after node) no_log ls
 
--- what a line tells of the air
+-- what a line records of the air
 abbrev pub aired_by : Stamp → ℕ → Told → List Aired
 aired_by at node (told.OnAir a) = record { stamp = at; node = node; air = a } ∷ []
 aired_by at node (told.Made e) = []

@@ -38,7 +38,7 @@ pub record IsAt (d : Description) (bytes left : List ℕ) (p : Parts) : Type 0 w
   pub text : bytes ≡ text_of_lines d ls ++ left
   pub few : length ls + length left ≤ 4000000000
 
--- no LF stands among the bytes
+-- no LF is among the bytes
 abbrev pub IsOneLine : List ℕ → Type 0
 IsOneLine bytes = list_all (λ b. not (b == 10)) bytes ≡ true
 

@@ -37,7 +37,7 @@ pub record IsOfNode (t : LogTally) (events : ℕ) (whole : Bool) (s : Summary) :
   pub events_are : s.events ≡ events
   pub whole_is : s.whole ≡ whole
 
--- what was counted of a run on so many nodes before anything happened
+-- what was counted of a run on this number of nodes before anything happened
 pub record IsNewTally (handlers nodes : ℕ) (t : RunTally) : Type 0 where
   pub count : length t.nodes.items ≡ nodes
   pub none : All (λ (a : LogTally). IsLogTally handlers a []) t.nodes.items

@@ -1,4 +1,4 @@
--- A new node of a run, and whether what it told is kept.
+-- A new node of a run, and whether what it recorded is kept.
 use Rattle.std.specs.Prelude.{◌≡◌, ⊤}
 use Rattle.vm_desc.specs.declared.description.Description.{Description}
 use Rattle.mate_journal.specs.Log.{IsEmpty}

@@ -5,13 +5,13 @@ use Rattle.script_reader.specs.declared.fault.ScriptFault.{ScriptFault}
 use Rattle.script_reader.specs.declared.fault.ScriptFault.TheVariants.{BadLine, NoMemory}
 use Rattle.script_reader.specs.Lines.{split_words}
 
--- what comes behind a line with a number, or the line with its cause
+-- what comes after a line with a number, or the line with its cause
 abbrev pub numbered : {P A : Type 0} → ℕ → (P → Result A ScriptFault) → Result P Cause → Result A ScriptFault
 numbered number next (Ok p) = next p
 numbered number next (Err cause) = Err (BadLine number cause)
 
--- what the lines from a number on tell, behind p: each line leads from one state to the next, and at the end, one line
--- further, the state is what was told
+-- what the lines from a number on say, after p: each line leads from one state to the next, and `ends` gives the answer
+-- at the end, one line further
 abbrev pub script_from : {P A : Type 0} → (P → List (List ℕ) → Result P Cause) → (ℕ → P → Result A ScriptFault) → ℕ → P → List (List ℕ)
     → Result A ScriptFault
 script_from after ends number p [] = ends number p
@@ -24,7 +24,7 @@ AnswersScript (Ok script) answer = answer ≡ Ok script
 AnswersScript (Err (BadLine line cause)) answer = answer ≡ Err (BadLine line cause)
 AnswersScript (Err NoMemory) answer = ⊤
 
--- the same of one line, which has a number: the state behind it, or its cause
+-- the same of one line, which has a number: the state after it, or its cause
 abbrev pub FollowsLine : {P : Type 0} → Result P Cause → ℕ → Result (Unit {0}) ScriptFault → P → Type 0
 FollowsLine answer number (Ok u) after = answer ≡ Ok after
 FollowsLine answer number (Err (BadLine line cause)) after = (line ≡ number) × (answer ≡ Err cause)

@@ -1,4 +1,4 @@
--- What a part of the parser does, said by the machine: at each place where the part may stand.
+-- What a part of the parser does, said by the machine: at each place where the part may be.
 use Rattle.std.specs.Prelude.{◌≡◌, ℕ, Bool, List, [], ◌∷◌, ◌++◌, Option, Some, None, Result, Ok, Err}
 use Rattle.std.proofs.Common.{Bor}
 use Rattle.std.specs.Result.{IsErrAnd}
@@ -41,7 +41,7 @@ abbrev pub Head : (TokenKind → Bool) → List Token → Type 0
 Head P [] = Unit {0}
 Head P (t ∷ ts) = Holds (P t.kind)
 
--- the first token is of this kind, as its number tells
+-- the first token is of this kind, by its number
 pub record Starts (k : TokenKind) (tokens rest : List Token) : Type 0 where
   pub token : Token
   pub are : tokens ≡ token ∷ rest
@@ -58,7 +58,7 @@ Takes k tokens (Ok rest) = Starts k tokens rest.now
 Takes k tokens (Err halt.Memory) = ⊥
 Takes k tokens (Err (halt.At rest)) = (rest.now ≡ tokens) × Lacks k tokens
 
--- a part that was read, and a token of this kind taken behind it
+-- a part that was read, and a token of this kind taken after it
 abbrev pub Ended : {X : Type 0} → TokenKind → Result (X × Bor (List Token)) Halt → Result (X × Bor (List Token)) Halt → Type 0
 Ended k (Err e) result = IsErrAnd result (λ x. x ≡ e)
 Ended k (Ok x) (Ok y) = (y.0 ≡ x.0) × Starts k x.1.now y.1.now
@@ -108,7 +108,7 @@ comparison_sign kind.Le = Some op.Le
 comparison_sign kind.Ge = Some op.Ge
 comparison_sign k = None
 
--- the first token is an operator, as the function tells
+-- the first token is an operator, by the function
 pub record StartsOperator (f : TokenKind → Option BinOp) (o : BinOp) (tokens rest : List Token) : Type 0 where
   pub token : Token
   pub are : tokens ≡ token ∷ rest
@@ -122,7 +122,7 @@ abbrev pub FindsOperator : (TokenKind → Option BinOp) → List Token → Optio
 FindsOperator f tokens (Some x) = StartsOperator f x.0 tokens x.1.now
 FindsOperator f tokens None = LacksOperator f tokens
 
--- where the arguments of a call stand: in an expression, in a statement alone, or behind `do`
+-- where the arguments of a call are: in an expression, in a statement alone, or after `do`
 pub data Caller : Type 0 where
   of_operand : Word → Operand → Caller
   of_stmt : Word → Acts → Frame → Caller

@@ -106,7 +106,7 @@ decl_keyword decl.Shared = kind.Shared
 decl_keyword decl.Private = kind.Private
 decl_keyword decl.Buffer = kind.Buffer
 
--- what stands before a declared name: its keyword, or a comma behind a name of the same declaration
+-- what is before a declared name: its keyword, or a comma after a name of the same declaration
 abbrev pub decl_start : Bool → DeclKind → TokenKind
 decl_start true k = decl_keyword k
 decl_start false k = kind.Comma
@@ -116,7 +116,7 @@ abbrev pub decl_end : Bool → List TokenKind
 decl_end true = kind.Semi ∷ []
 decl_end false = []
 
--- what stands between a declared name and those after it
+-- what is between a declared name and those after it
 abbrev pub decls_gap : List Decl → List TokenKind
 decls_gap [] = kind.Semi ∷ []
 decls_gap (d ∷ ds) = decl_end d.first
@@ -179,7 +179,7 @@ abbrev mutual
 abbrev pub decls_places : List Decl → List ℕ
 decls_places ds = map (λ d. d.word.place) ds
 
--- the places that a script keeps, in the order in which they stand
+-- the places that a script keeps, in their order in the text
 abbrev pub source_places : Source → List ℕ
 source_places s = decls_places s.decls ++ acts_places s.body
 
@@ -206,7 +206,7 @@ abbrev pub first_number : List Token → List ℕ
 first_number [] = []
 first_number (t ∷ ts) = number_place t t.kind
 
--- the place of the literal that tokens begin with, behind a `-` or not
+-- the place of the literal that tokens begin with, after a `-` or not
 abbrev pub literal_place : Token → TokenKind → List Token → List ℕ
 literal_place t kind.Minus ts = first_number ts
 literal_place t k ts = number_place t k

@@ -33,16 +33,16 @@ has_form (c ∷ cs) = (nat_le (length cs) 15 && begins_name c) && list_all conti
 abbrev pub is_name : List ℕ → Bool
 is_name text = has_form text && not (is_keyword text)
 
--- the name stands in the list
+-- the name is in the list
 abbrev pub stands_in : List (List ℕ) → List ℕ → Bool
 stands_in names name = list_any (λ other. bytes_eq name other) names
 
--- the first of the names that stands before, in `seen` or among them
+-- the first of the names that was before, in `seen` or among them
 abbrev pub repeat_after : List (List ℕ) → List (List ℕ) → Option (List ℕ)
 repeat_after seen [] = None
 repeat_after seen (name ∷ names) = if stands_in seen name then Some name else repeat_after (seen ++ name ∷ []) names
 
--- the first name that stands earlier in its list
+-- the first name that its list repeats
 abbrev pub first_repeat : List (List ℕ) → Option (List ℕ)
 first_repeat names = repeat_after [] names
 

@@ -59,12 +59,12 @@ abbrev pub all_names : Items → Option (List (List ℕ))
 all_names no_items = Some []
 all_names (item d ds) = option_and_then (λ x. option_map (λ xs. x ∷ xs) (all_names ds)) (name d)
 
--- a list of at most so many items
+-- a list of at most `most` items
 abbrev pub list_up_to : Key → ℕ → Option Items → Result Items DescFault
 list_up_to key most None = Err (BadField key)
 list_up_to key most (Some ds) = if nat_lt most (item_count ds) then Err (OverLimit key) else Ok ds
 
--- a list of at most so many names; none where the key is absent
+-- a list of at most `most` names; none if the key is absent
 abbrev pub names : Key → ℕ → Option Data → Result (List (List ℕ)) DescFault
 names key most None = Ok []
 names key most (Some d) = list_up_to key most (as_array d) >>= (λ ds. taken key (all_names ds))
@@ -79,7 +79,7 @@ abbrev pub tables_in : Items → List Members
 tables_in no_items = []
 tables_in (item d ds) = option_map_or (λ ms. ms ∷ tables_in ds) (as_table d) (tables_in ds)
 
--- a list of at most so many items, all of them tables
+-- a list of at most `most` items, all of them tables
 abbrev pub tables : Key → ℕ → Data → Result (List Members) DescFault
 tables key most d = list_up_to key most (as_array d) >>= (λ ds. allowed key (are_tables ds) >>= (λ _. Ok (tables_in ds)))
 

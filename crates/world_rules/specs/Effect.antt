@@ -23,9 +23,8 @@ use Rattle.world_rules.specs.Cause.{Cause}
 use Rattle.world_rules.specs.Cause as event
 use Rattle.world_rules.specs.World.{World, PlannedLine, Want, Inject, Post, Show, ResetNode, Noise, handlers, receiver, receivers}
 
--- what was heard of a node: its journal, the pace of its invocations, its Trickle timer, what happened to its exchange, the latest
--- first, whether a
--- pump is due, and the functions that it called, in order
+-- a node: the state that its journal leads to, the pace of its invocations, its Trickle timer, what happened to its exchange,
+-- the latest first, whether a pump is due, and the functions that it called, in order
 pub record Node : Type 0 where
   pub reading : NodeState
   pub pace : Pace

@@ -1,4 +1,4 @@
--- A world's state: what is due at each time, and what was heard of each node; and the state after an event.
+-- A world's state: what is due at each time, and each node's state; and the state after an event.
 use Rattle.std.specs.Prelude.{ℕ, suc, ◌+◌, ◌*◌, ◌/◌, ◌%◌, min, pred, Bool, true, false, not, ◌&&◌, ◌||◌, nat_lt, ◌==◌, if◌then◌else◌, List}
 use Rattle.std.specs.Prelude.{[], ◌∷◌, ◌++◌, map, length, drop, ℤ, pos, Option, Some, None, slice_index_or, count_by}
 use Rattle.std.specs.List.{filter, filter_map, flat_map, range_with_len}
