@@ -24,7 +24,7 @@ pub data Task : Type 0 where
   Compile : (fold : Bool) (machine handler : List ℕ) → (version : ℕ) → (source : List ℕ) → Task
   -- write the text of the capsule of a machine that a file has in hexadecimal digits
   Check : (machine file : List ℕ) → Task
-  -- write the plain script that a source with procedures stands for
+  -- write the plain script that a source with procedures expands to
   Expand : (source : List ℕ) → Task
   -- write what a new node of a machine answers to the capsules in a file, the bytes of a serial line
   Feed : (machine stream : List ℕ) → Task

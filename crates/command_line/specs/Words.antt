@@ -46,7 +46,7 @@ is_from_words (Some FromWords) = true
 is_from_words (Some DefaultValue) = false
 is_from_words None = false
 
--- the flag stands among the words
+-- the flag is among the words
 abbrev pub is_given : Text → List Row → Bool
 is_given id rows = is_from_words (option_and_then (λ r. r.source) (find (λ r. bytes_eq r.id id) rows))
 

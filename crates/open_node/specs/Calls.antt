@@ -49,7 +49,7 @@ pub record IsAsked (r : NodeState) (c : ContextId) (a : Asked) : Type 0 where
   pub waits : (r.invocations a.inv).phase ≡ Waiting a.fun a.args
   pub context : (r.invocations a.inv).context ≡ c
 
--- the image is that of what is installed for the handler, whose version is none that stands for nothing
+-- the image is that of what is installed for the handler, under a version above 0
 pub record IsImageOf (r : NodeState) (h : HandlerId) (image : ArrayVec ℕ) : Type 0 where
   pub program : HeldProgram
   pub installed : r.installed h ≡ Some program

@@ -1,4 +1,4 @@
--- What stands for the names of a procedure's body in a plain script: each parameter is a private variable.
+-- What replaces the names of a procedure's body in a plain script: each parameter is a private variable.
 use Rattle.std.specs.Prelude.{ℕ, zero, suc, ◌+◌, ◌==◌, List, [], ◌∷◌, Option, Some, None, bytes_eq, decimal}
 use Rattle.std.specs.List.{position_from}
 use Rattle.ts_syntax.specs.declared.word.Word.{Word}

@@ -59,7 +59,7 @@ pub record IsAirOf (w : World) (senders : List ℕ) (e : Ether) : Type 0 where
   pub stands : IsEtherOf (air_script w) senders e
   pub delay : e.delay ≡ w.description.radio.delay
 
--- more records, and at each time more items behind those that came there
+-- more records, and at each time more items after those that came there
 pub record EtherGrows (old new : Ether) (airs : List Aired) (items : List (Timed Event)) : Type 0 where
   pub air : new.air ≡ old.air ++ airs
   pub gone : new.gone ≡ old.gone

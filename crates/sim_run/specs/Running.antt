@@ -18,7 +18,7 @@ use Rattle.sim_event.specs.Finishing.{IsTakenFrom}
 use Rattle.sim_event.specs.Performing.{IsRadioAfter, IsMoteAfter, coming}
 use Rattle.sim_run.specs.declared.simulation.Simulation.{Simulation}
 
--- so many events came, and the radio, the nodes and the count of records are those after them
+-- `events` events came, and the radio, the nodes and the count of records are those after them
 pub record StandsAfter (w : World) (events : ℕ) (s : Simulation) : Type 0 where
   pub moments : List Moment
   pub come : HaveCome w moments

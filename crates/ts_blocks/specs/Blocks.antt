@@ -61,11 +61,11 @@ pub record FrameIn (d : Dialect) : Type 0 where
   pub frame : Frame
   pub speaks : dialect_of frame ≡ d
 
--- a statement is read from where it is due, behind others of an open block of a script of the dialect
+-- a statement is read from where it is due, after others of an open block of a script of the dialect
 abbrev pub ReadsStmtIn : Dialect → List Token → (Acts → Frame → State) → Result (Stmt × Bor (List Token)) Halt → Type 0
 ReadsStmtIn d tokens due result = Reads {K = Acts × FrameIn d} tokens (λ k. due k.0 k.1.frame) (λ s k. block (with_act k.0 (act_of s)) k.1.frame) result
 
--- the branches of an `if` behind `then`
+-- the branches of an `if` after `then`
 pub record Choice (d : Dialect) : Type 0 where
   pub test : Tree
   pub before : Acts
@@ -82,7 +82,7 @@ then_block k = block no_acts (then_part k.test k.before k.frame.frame)
 abbrev pub choice_made : {d : Dialect} → Choice d → Acts → Option (List Stmt) → State
 choice_made k a b = block (with_act k.before (if_made k.test a b)) k.frame.frame
 
--- behind the first branch
+-- after the first branch
 pub record Branch (d : Dialect) : Type 0 where
   pub choice : Choice d
   pub body : Acts

@@ -9,13 +9,13 @@ use Rattle.ts_syntax.specs.Seen.{tree_of}
 use Rattle.ts_syntax.specs.Spelling.{name, spelled, step_spelled}
 use Rattle.ts_syntax.specs.Text.{written, begun}
 
--- the tokens are printed behind those that were printed before
+-- the tokens are printed after those that were printed before
 pub record PrintsTokens (bytes : Option (List ℕ)) (faults : ℕ) (old : Printer) (bytes' : Option (List ℕ)) (faults' : ℕ) (new : Printer)
     (ks : List TokenKind) : Type 0 where
   pub prints : Prints bytes faults old.pen.result bytes' faults' new.pen.result (written old.begun ks)
   pub begun : new.begun ≡ begun old.begun ks
 
--- what stands before an argument
+-- what is before an argument
 abbrev pub comma_before : Bool → List TokenKind
 comma_before true = []
 comma_before false = kind.Comma ∷ []

@@ -1,4 +1,4 @@
--- What the air tells of timers, over whole runs: the beginnings of intervals, and what is done at their points.
+-- What the air's records say of timers, over whole runs: the beginnings of intervals, and what is done at their points.
 use Rattle.std.specs.Prelude.{◌≡◌, ℕ, ◌+◌, ◌<◌, ◌==◌, if◌then◌else◌, List, [], ◌∷◌, ◌++◌, ◌⊎◌, map, Option, Some, None}
 use Rattle.std.specs.List.{filter_map}
 use Rattle.mate_journal.specs.declared.air.Air.{Air}
@@ -95,7 +95,7 @@ abbrev pub EndsAreTimely : World → Type 0
 EndsAreTimely w = (before : List Moment) (m : Moment) (k : ℕ) → HaveCome w (m ∷ before) → m.cause ≡ event.Expire k
     → m.time ≡ ((state w before).nodes k).timer.running.begin + ((state w before).nodes k).timer.running.length
 
--- an interval that runs behind `before` comes to its point, and to its end, unless an event cancels it: one in which a new interval begins
+-- an interval that runs after `before` comes to its point, and to its end, unless an event cancels it: one in which a new interval begins
 pub record RunsItsCourse (w : World) (before later : List Moment) (k : ℕ) (i : trickle.Interval) : Type 0 where
   pub point : IsDone (state w (later ++ before)) i.point → HasEvent later i.point (event.Fire k) ⊎ IsCancelled w before later (event.Fire k)
   pub ends : IsDone (state w (later ++ before)) (i.begin + i.length) → HasEvent later (i.begin + i.length) (event.Expire k)

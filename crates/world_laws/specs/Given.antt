@@ -34,7 +34,7 @@ given_in Reset = Some GivesReset
 given_in (Seen store) = Some SeesItsStore
 given_in (Void cause) = Some Refuses
 
--- what an event gives its node, in order: before an install and a reset the store is seen, and behind the install of a handler
+-- what an event gives its node, in order: before an install and a reset the store is seen, and after the install of a handler
 -- that runs once there is an occasion for it
 abbrev pub given_by : Machine → Deed → List Given
 given_by m Nothing = []
@@ -84,6 +84,6 @@ abbrev pub PostsHaveTheirPayload : World → Type 0
 PostsHaveTheirPayload w = (before : List Moment) (m : Moment) → HaveCome w (m ∷ before)
     → All (HasPayload (payload_given (effect_at w (state w before) m).deed)) m.told
 
--- the calls by whose places answers are chosen are all calls that the node's journal tells
+-- the calls by whose places answers are chosen are all calls that the node's journal records
 abbrev pub CalledAreTold : World → Type 0
 CalledAreTold w = (k : ℕ) (ms : List Moment) → ((state w ms).nodes k).called ≡ calls_in (untimed (journal w k ms))

@@ -1,4 +1,4 @@
--- What the rules have heard of a node, and what its journal tells.
+-- The rules' state of a node, and what its journal records.
 use Rattle.std.specs.Prelude.{◌≡◌, ℕ, List}
 use Rattle.mate_journal.specs.Journal.{first_state, state_after_all}
 use Rattle.world_rules.specs.World.{World}

@@ -94,7 +94,7 @@ IsRightWorldSaid d p (SaysPlanned e file) = IsRightEvent d p e file
 abbrev pub is_of_pair : ℕ → ℕ → Series → Bool
 is_of_pair node fun s = (s.node == node) && (s.fun.0 == fun)
 
--- how many series stand up to the one of a node and a function, counted from a number on; 0 for none
+-- how many series there are up to the one of a node and a function, counted from a number on; 0 for none
 abbrev pub place_from : ℕ → ℕ → ℕ → List Series → ℕ
 place_from n node fun [] = 0
 place_from n node fun (s ∷ series) = if is_of_pair node fun s then n else place_from (n + 1) node fun series

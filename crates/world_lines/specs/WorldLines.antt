@@ -42,7 +42,7 @@ switch_of w =
     else if bytes_eq w (codes "off") then Ok false
     else Err Word
 
--- behind `suppress`
+-- after `suppress`
 unfoldable pub a_switch : WordReading Bool
 a_switch = a_word >>= (λ w. found (switch_of w))
 
@@ -118,7 +118,7 @@ behind_time d p time verb =
     else if bytes_eq verb (codes "noise") then a_noise d p.world time
     else found (Err Word)
 
--- behind the word `at`
+-- after the word `at`
 unfoldable pub an_event : Description → WorldProgress → WordReading WorldSaid
 an_event d p = do
   time ← a_time p.world.until p.time
@@ -149,7 +149,7 @@ a_setting d p verb =
     else if bytes_eq verb (codes "series") then a_series d p.world
     else by_its_verb verb (codes "at") (an_event d p)
 
--- what stands behind a line's first word
+-- what is after a line's first word
 abbrev pub behind_verb : Description → WorldProgress → Stage → List ℕ → WordReading WorldSaid
 behind_verb d p stage.Nodes verb = some_nodes verb >>= (λ nodes. give (SaysNodes nodes))
 behind_verb d p stage.Random verb = a_random verb >>= (λ random. give (SaysRandom random))

@@ -15,7 +15,7 @@ use Rattle.script_reader.specs.declared.fault.Cause.{Cause}
 use Rattle.script_reader.specs.declared.fault.Cause.TheVariants.{Word, Number, Range, TimeBack, Name, Node, Packet}
 use Rattle.script_reader.specs.Words.{WordReading, ◌>>=◌, found, a_word, a_number, values_from}
 
--- one of so many nodes
+-- one of this number of nodes
 unfoldable pub a_node : ℕ → WordReading ℕ
 a_node nodes = a_number 0 (nodes - 1) Node
 

@@ -29,7 +29,7 @@ pub record IsRecordBefore (r : Record) (s : Simulation) (node : ℕ) : Type 0 wh
   pub air : s.radio.air ≡ r.air ++ drop s.radio.gone s.radio.air
   pub places : length r.places ≡ length s.motes.items
 
--- the node has no more at hand than a store that was seen, behind this log of the record
+-- the node has no more at hand than a store that was seen, after this log of the record
 pub record HasStoreBehind (own : Log) (m : Mote) : Type 0 where
   pub front : Log
   pub same : IsSameLog own front
