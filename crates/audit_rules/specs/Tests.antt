@@ -44,7 +44,7 @@ abbrev pub images_right : List Program → Roll → List TimedEntry → Bool
 images_right ps x [] = true
 images_right ps x (e ∷ es) = installs_right ps x e.told && images_right ps (rolled x e.told) es
 
--- programs conflict where the code of their images does
+-- programs conflict if the code of their images does
 abbrev pub conflict_of : Description → ConflictTest
 conflict_of d = conflict_with (shape_of d) (λ p. image_code (shape_of d) p.image)
 

@@ -72,7 +72,7 @@ pub record TargetFragment : Type 0 where
   pub large : Bool
   pub bytes : ArrayVec ℕ
 
--- the packet as a fragment of this version of the handler, none where it is no such fragment
+-- the packet as a fragment of this version of the handler, none if it is no such fragment
 abbrev pub part_in : ℕ → ℕ → Packet → Option TargetFragment
 part_in h target (Vector versions) = None
 part_in h target (Status g version missing) = None
@@ -113,15 +113,15 @@ abbrev pub piece_bytes : Option (ArrayVec ℕ) → List ℕ
 piece_bytes None = []
 piece_bytes (Some piece) = piece.items
 
--- the pieces put together, none where one is missing
+-- the pieces put together, none if one is missing
 abbrev pub whole : List (Option (ArrayVec ℕ)) → Option (ArrayVec ℕ)
 whole places = if list_all is_some places then Some (record { items = flat_map piece_bytes places }) else None
 
--- the target's image, none where there is no target or a fragment of it is missing
+-- the target's image, none if there is no target or a fragment of it is missing
 abbrev pub collected_image : ℕ → List Happening → Option (ArrayVec ℕ)
 collected_image h hs = whole (places_of (target_parts h hs))
 
--- the target, where all its fragments are collected, and else 0
+-- the target, if all its fragments are collected, and else 0
 abbrev pub complete_version : ℕ → List Happening → ℕ
 complete_version h hs = if is_some (collected_image h hs) then target_version h hs else 0
 
@@ -196,7 +196,7 @@ next_place (Some slot) = slot + 1
 abbrev pub slots_from : ℕ → ℕ → List ℕ
 slots_from n first = range_with_len first (22 * n - first)
 
--- the first marked slot from there on, and else the first of all; none where nothing is marked
+-- the first marked slot from there on, and else the first of all; none if nothing is marked
 abbrev pub next_slot : ℕ → List Happening → Option ℕ
 next_slot n hs =
     option_or (find (is_marked_slot hs) (slots_from n (next_place (last_sent hs)))) (find (is_marked_slot hs) (slots_from n 0))

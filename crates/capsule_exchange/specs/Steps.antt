@@ -29,7 +29,7 @@ abbrev pub takes : Form → Option Form → Bool
 takes form None = true
 takes form (Some first) = form.count == first.count && beq form.large first.large
 
--- a fragment of the target is kept where it goes with the first one and none of its index is kept
+-- a fragment of the target is kept if it goes with the first one and none of its index is kept
 abbrev pub kept : ℕ → Form → ArrayVec ℕ → HandlerState → HandlerState
 kept index form bytes s =
     if takes form s.form && is_none (slice_index_or s.pieces index None) then record s { form = Some form; pieces = slice_set s.pieces index (Some bytes) } else s
@@ -71,7 +71,7 @@ image_held s = whole (places_in s)
 abbrev pub complete_in : HandlerState → ℕ
 complete_in s = if is_some (image_held s) then s.target else 0
 
--- the handler, where its fragments became complete
+-- the handler, if its fragments became complete
 abbrev pub completes_in : HandlerId → HandlerState → HandlerState → Option HandlerId
 completes_in handler old new = if nat_lt (complete_in old) (complete_in new) then Some handler else None
 
@@ -83,11 +83,11 @@ ask_in handler s = Status handler s.target (mask_of (gaps (places_in s)))
 abbrev pub state_at : List HandlerState → ℕ → HandlerState
 state_at states h = slice_index_or states h no_state
 
--- each handler's version in a Vector is heard of
+-- each handler is given its version in a Vector that was heard
 abbrev pub aimed_each : List ℕ → List HandlerState → List HandlerState
 aimed_each versions states = map (λ h. aimed (slice_index versions h) (state_at states h)) (range_with_len 0 (length states))
 
--- the versions of which more than what is held was heard are asked for
+-- what is asked for: each handler whose version in the Vector is above the held one
 abbrev pub asks_upto : List ℕ → List HandlerState → ℕ → List Packet
 asks_upto versions states n =
     map (λ h. ask_in (record { 0 = h }) (state_at states h)) (filter (λ h. nat_lt (state_at states h).held (slice_index versions h)) (range_with_len 0 n))

@@ -1,4 +1,4 @@
--- Steady files that tell what they hold, and refusals that have to come.
+-- Steady files whose contents are given, and refusals that have to come.
 use Rattle.std.specs.Prelude.{◌≡◌, ℕ, List, Option, Some, Result, Ok, Err, IsTrue, ◌⊎◌}
 use Rattle.mate_files.specs.Files.{Names}
 use Rattle.mate_refusals.specs.declared.refusal.Refusal.{Refusal}

@@ -68,12 +68,12 @@ pub record IsLine (words : List Text) (l : Line) : Type 0 where
 abbrev pub HasNoLine : List Text → Type 0
 HasNoLine words = (l : Line) → IsLine words l → ⊥
 
--- only an error for want of memory is no refusal of the words
+-- only an error for lack of memory is no refusal of the words
 abbrev pub TellsWordsFault : ErrorKind → WordsFault → Type 0
 TellsWordsFault k NotTaken = k ≡ OutOfMemory → ⊥
 TellsWordsFault k NoMemory = Unit {0}
 
--- a line is read exactly where there is one
+-- a line is read exactly if there is one
 abbrev pub ReadsLine : List Text → Result CommandLine WordsFault → Type 0
 ReadsLine words (Ok line) =
     IsLine words (record { brief = line.brief; fold = line.fold; command = line.command.now; args = map (λ w. w.now) line.args.items })

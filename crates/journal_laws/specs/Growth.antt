@@ -63,12 +63,12 @@ abbrev pub FollowsLast : List TimedEntry → Stamp → Type 0
 FollowsLast [] at = Unit {0}
 FollowsLast (e ∷ es) at = NotBefore (last_stamp e.stamp es) at
 
--- the number of the invocation that the last event starts, 0 where it starts none, `before` where there is no event
+-- the number of the invocation that the last event starts, 0 if it starts none, `before` if there is no event
 abbrev pub last_start : ℕ → List TimedEntry → ℕ
 last_start before [] = before
 last_start before (e ∷ es) = last_start (started_number e.told) es
 
--- the last event shows a store, `before` where there is no event
+-- the last event shows a store, `before` if there is no event
 abbrev pub last_is_seen : Bool → List TimedEntry → Bool
 last_is_seen before [] = before
 last_is_seen before (e ∷ es) = last_is_seen (is_seen e.told) es

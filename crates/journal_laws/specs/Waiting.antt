@@ -61,7 +61,7 @@ HasFewContexts m = (h : HandlerId) (c : ContextId) → IsContextOf m h c → c.0
 abbrev pub JournalsWaitApart : Machine → Type 0
 JournalsWaitApart m = (es : List TimedEntry) → IsWellFormed m (first_state m) es → WaitApart (state_after_all m (first_state m) es)
 
--- and in contexts of the machine, where it has few
+-- and in contexts of the machine, if it has few
 abbrev pub JournalsWaitSmall : Machine → Type 0
 JournalsWaitSmall m = HasFewContexts m → (es : List TimedEntry) → IsWellFormed m (first_state m) es
     → WaitSmall (state_after_all m (first_state m) es)

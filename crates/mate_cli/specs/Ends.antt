@@ -100,7 +100,7 @@ IsOutputWritten (output.World d w ps) s t status = IsRunWritten d (IsReportOfWor
 pub data CallEnds (f : Folder) (words : List (List ℕ)) (before now : ℕ) (s t : Sinks) (status : Status) : Type 0 where
   -- what is owed was written, as far as it could be
   written : (o : Output) → Owes f words (Ok o) → IsOutputWritten o s t status → CallEnds f words before now s t status
-  -- nothing was written; a file could not be read only where the count rose
+  -- nothing was written; a file could not be read only if the count rose
   refused : (r : Refusal) → Owes f words (Err r) → (IsUnreadAnswer {A = Output} (Err r) → Rose before now) → t.out ≡ s.out
       → RefusesTo s t r status → CallEnds f words before now s t status
 

@@ -38,7 +38,7 @@ given Blank n = Depth n
 given (Depth m) n = if m == n then Depth m else Clash
 given Clash n = Clash
 
--- the depth at a place; 0 where none was given
+-- the depth at a place; 0 if none was given
 abbrev pub depth_in : DepthMark → ℕ
 depth_in Blank = 0
 depth_in (Depth n) = n
@@ -92,7 +92,7 @@ has_back_depth marks depth (Branches target) = true
 has_back_depth marks depth (Jumps target) = true
 has_back_depth marks depth (Returns target) = depth_at marks target == depth
 
--- the refusal where the test fails, and else what comes after it
+-- the refusal if the test fails, and else what comes after it
 abbrev pub demand : Bool → Refusal → Option Refusal → Option Refusal
 demand true refusal rest = rest
 demand false refusal rest = Some refusal

@@ -24,7 +24,7 @@ ReadGives told steady name before now (Err (TooLarge len)) =
     Rose before now × (FILE_MAX < len) × WhereTold told (λ names. IsSomeAnd (names name) (λ bytes. length bytes ≡ len))
 ReadGives told steady name before now (Err NoMemory) = ⊤
 
--- the count of faults after a read that counts one where a file fails or is too large
+-- the count of faults after a read that counts one if a file fails or is too large
 abbrev pub faults_after : ℕ → Result (Vec ℕ) FilesFault → ℕ
 faults_after faults (Ok _) = faults
 faults_after faults (Err Failed) = one_more faults

@@ -56,7 +56,7 @@ line_of refusal.LogFull = codes "log full\n"
 line_of refusal.SinkFault = codes "sink fault\n"
 line_of refusal.NoMemory = codes "no memory\n"
 
--- the line was appended, or a prefix of it where the sink's faults rose
+-- the line was appended, or a prefix of it if the sink's faults rose
 abbrev pub TellsLine : Option (List ℕ) → ℕ → Option (List ℕ) → ℕ → List ℕ → Type 0
 TellsLine written faults written' faults' line = Sent written written' line ⊎ (Rose faults faults' × SentPart written written' line)
 

@@ -53,7 +53,7 @@ pub record HasStopped (d : Description) (old new : Parts) (c : ContextId) (n ran
   pub executes : Executes (held_at mid.handlers.programs) mid.contexts mid.heap c how new.contexts new.heap
   pub rest : new ≡ record mid { contexts = new.contexts; heap = new.heap }
 
--- it executes n instructions, or fewer where it stops
+-- it executes n instructions, or fewer if it stops
 abbrev pub RunsTo : StepEnd → Description → Parts → Parts → ContextId → ℕ → ℕ → Type 0
 RunsTo Next d old new c n ran = (ran ≡ n) × HasGoneOn d old new c n
 RunsTo (Ask f args) d old new c n ran = HasStopped d old new c n ran (Ask f args)
@@ -105,7 +105,7 @@ pub record TakesTurn (d : Description) (old new : Parts) (at_ : Stamp) (c : Cont
   pub handlers : new.handlers ≡ old.handlers
   pub posts : new.posts ≡ old.posts
 
--- quanta in one; more than one only where a single invocation is ready
+-- quanta in one; more than one only if a single invocation is ready
 pub record AreQuanta (quantum ready n : ℕ) : Type 0 where
   pub more : ℕ
   pub are : n ≡ quantum + quantum * more

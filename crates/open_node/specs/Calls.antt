@@ -38,7 +38,7 @@ pub record IsWaitingIn (r : NodeState) (c : ContextId) : Type 0 where
 abbrev pub IsNoneReady : NodeState → Type 0
 IsNoneReady r = (n : ℕ) → (r.invocations n).phase ≡ Ready → ⊥
 
--- what can go on: a ready invocation; where none is, one that waits for the outside; and nothing exactly where none is live
+-- what can go on: a ready invocation; if none is, one that waits for the outside; and nothing exactly if none is live
 abbrev pub StandsAs : NodeState → Standing → Type 0
 StandsAs r (Can c) = IsReadyIn r c
 StandsAs r (Outside c) = IsNoneReady r × IsWaitingIn r c
@@ -56,15 +56,15 @@ pub record IsImageOf (r : NodeState) (h : HandlerId) (image : ArrayVec ℕ) : Ty
   pub is : program.image ≡ image
   pub version : 0 < program.version
 
--- what entries tell
+-- what entries record
 abbrev pub told_by_entries : Log → List Stamped → List JournalEntry
 told_by_entries l es = map (λ (e : Stamped). journal_entry l e.entry) es
 
--- what the entries from a position on tell
+-- what the entries from a position on record
 abbrev pub told_from : ℕ → Log → List JournalEntry
 told_from from l = told_by_entries l (drop from l.entries)
 
--- with the images and stores of some log the entries tell what those from the position on tell
+-- with the images and stores of some log the entries record what those from the position on record
 pub record TellFrom (from : ℕ) (l : Log) (es : List Stamped) : Type 0 where
   pub by : Log
   pub told : told_by_entries by es ≡ told_from from l

@@ -8,16 +8,16 @@ use Rattle.packet_codec.specs.declared.decoding.PacketFault.{PacketFault}
 use Rattle.packet_codec.specs.declared.decoding.PacketFault.TheVariants.{OtherVm, BadKind, BadLength, BadField}
 use Rattle.packet_codec.specs.Packet.{full_len}
 
--- the number that four bytes tell
+-- the number that four bytes give
 abbrev pub u32_of : ℕ → ℕ → ℕ → ℕ → ℕ
 u32_of a b c d = from_be_bytes w32 (a ∷ b ∷ c ∷ d ∷ [])
 
--- the numbers that the bytes tell, four for each
+-- the numbers that the bytes give, four for each
 abbrev pub versions_in : List ℕ → List ℕ
 versions_in (a ∷ b ∷ c ∷ d ∷ bytes) = u32_of a b c d ∷ versions_in bytes
 versions_in _ = []
 
--- the signed numbers that the bytes tell, two for each
+-- the signed numbers that the bytes give, two for each
 abbrev pub values_in : List ℕ → List ℤ
 values_in (a ∷ b ∷ bytes) = cast_signed w16 (from_be_bytes w16 (a ∷ b ∷ [])) ∷ values_in bytes
 values_in _ = []

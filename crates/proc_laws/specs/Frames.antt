@@ -42,7 +42,7 @@ frame_dropped before (Over end s) = Over end s
 abbrev pub in_own_frame : (ScriptState → Evaluation ⊤) → List ℤ → ScriptState → Evaluation ⊤
 in_own_frame body values s = frame_dropped (drop 8 s.privates) (body (with_frame values s))
 
--- a part whose checks passed; one that is refused does nothing, and none runs where the expansion is accepted
+-- a part whose checks passed; one that is refused does nothing, and none runs if the expansion is accepted
 abbrev pub value_checked : Result Expression CheckFault → ScriptState → Evaluation ℤ
 value_checked (Ok e) s = value_of e s
 value_checked (Err fault) s = Done (pos 0) s

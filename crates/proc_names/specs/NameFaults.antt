@@ -7,13 +7,13 @@ use Rattle.proc_names.specs.declared.fault.ProcFault.{ProcFault}
 use Rattle.proc_names.specs.declared.fault.ProcFault.TheVariants.{NoProc, Params, Again, Reserved}
 use Rattle.proc_names.specs.Places.{place_of_name, declared_as}
 
--- the first refusal, and the second one where the first part refuses nothing
+-- the first refusal, and the second one if the first part refuses nothing
 infixr 10 ◌<|>◌
 abbrev pub ◌<|>◌ : Option ProcFault → Option ProcFault → Option ProcFault
 (Some fault) <|> next = Some fault
 None <|> next = next
 
--- the refusal, where a test holds
+-- the refusal, if a test holds
 abbrev pub refused_if : Bool → ProcFault → Option ProcFault
 refused_if true fault = Some fault
 refused_if false fault = None

@@ -8,7 +8,7 @@ abbrev pub IsRefusal : ProcFault → Option ProcFault → Type 0
 IsRefusal NoMemory part = ⊤
 IsRefusal fault part = part ≡ Some fault
 
--- the answer is that nothing of the part is refused, or its first refusal, or want of memory
+-- the answer is that nothing of the part is refused, or its first refusal, or lack of memory
 abbrev pub NamesPass : {A : Type 0} → Result A ProcFault → Option ProcFault → Type 0
 NamesPass (Ok _) part = part ≡ None
 NamesPass (Err fault) part = IsRefusal fault part

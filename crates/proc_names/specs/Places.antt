@@ -7,7 +7,7 @@ use Rattle.std.specs.Map.{lookup}
 abbrev pub place_of_name : List (List ℕ) → List ℕ → Option ℕ
 place_of_name names name = position_from (bytes_eq name) 0 names
 
--- a place, where it is below a number
+-- a place, if it is below a number
 abbrev pub place_below : ℕ → Option ℕ → Option ℕ
 place_below n None = None
 place_below n (Some i) = if nat_lt i n then Some i else None

@@ -1,4 +1,4 @@
--- What words tell of a store.
+-- The store that words denote.
 use Rattle.std.specs.Prelude.{ℕ, ◌-◌, ◌==◌, nat_lt, not, ◌&&◌, if◌then◌else◌, List, [], ◌∷◌, ◌++◌, length, take, drop, min, slice_index}
 use Rattle.std.specs.Prelude.{codes, ℤ, Option, None, Some}
 use Rattle.std.specs.Option.{option_map, option_and_then}
@@ -58,7 +58,7 @@ buffers_after before (name ∷ names) words =
 abbrev pub store_with : List ℤ → List (ArrayVec ℤ) → Store
 store_with shared buffers = record { shared = record { items = shared }; buffers = record { items = buffers } }
 
--- the store that all words tell
+-- the store that all words denote
 abbrev pub store_of : Description → List (List ℕ) → Option Store
 store_of d words =
     option_and_then (λ s. option_and_then (λ b. only_at_end (store_with s.0 b.0) b.1) (buffers_after [] d.buffers.items s.1))

@@ -24,7 +24,7 @@ rest (word ∷ words) = words
 abbrev pub reads : {A B : Type 0} → (List ℕ → Option A) → (A → List (List ℕ) → Option B) → List (List ℕ) → Option B
 reads tells go words = option_and_then (λ a. go a (rest words)) (first tells words)
 
--- what was read, where no word is left
+-- what was read, if no word is left
 abbrev pub only_at_end : {A : Type 0} → A → List (List ℕ) → Option A
 only_at_end a [] = Some a
 only_at_end a (word ∷ words) = None

@@ -1,4 +1,4 @@
--- What the words of a line tell.
+-- What the words of a line say.
 use Rattle.std.specs.Prelude.{ℕ, List, [], ◌∷◌, codes, Option}
 use Rattle.std.specs.Option.{option_map}
 use Rattle.vm_desc.specs.declared.description.Description.{Description}
@@ -113,7 +113,7 @@ told_of d = reads verb_of (told_by d)
 abbrev pub line_with : ℕ → ℕ → ℕ → Told → Line
 line_with event time node what = record { stamp = record { event = event; time = time }; node = node; told = what }
 
--- the line that bytes tell: the event, its time, the node and what happened
+-- the line that bytes spell: the event, its time, the node and what happened
 abbrev pub line_of_words : Description → List (List ℕ) → Option Line
 line_of_words d =
     reads unsigned_of (λ event. reads number_of (λ time. reads node_of

@@ -1,4 +1,4 @@
--- The report that lines tell.
+-- The report that lines make.
 use Rattle.std.specs.Prelude.{◌≡◌, ℕ, suc, ◌==◌, max, List, [], ◌∷◌, ◌++◌, length, map, flat_map, fold, if◌then◌else◌}
 use Rattle.std.specs.List.{AllZip}
 use Rattle.mate_num.specs.declared.call.Stamp.{Stamp}
@@ -40,7 +40,7 @@ log_after node l line = if line.node == node then log_with_line l line.stamp lin
 abbrev pub no_log : Log
 no_log = record { entries = []; images = []; stores = []; spare = 0 }
 
--- the log of a node that lines tell
+-- the log of a node that lines make
 abbrev pub log_of : ℕ → List Line → Log
 log_of node ls = fold (log_after node) no_log ls
 

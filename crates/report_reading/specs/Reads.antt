@@ -1,4 +1,4 @@
--- What the bytes of a report tell: a report, or the first line that doesn't fit.
+-- What the bytes of a report spell: a report, or the first line that doesn't fit.
 use Rattle.std.specs.Prelude.{◌≡◌, ◌<◌, ◌+◌, ℕ, List, [], ◌∷◌, ◌++◌, length, flat_map, ◌⊎◌, Result, Ok, Err, ⊤}
 use Rattle.vm_desc.specs.declared.description.Description.{Description}
 use Rattle.mate_journal.specs.declared.report.Report.{Report}

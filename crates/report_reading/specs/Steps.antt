@@ -48,7 +48,7 @@ TakesLine d ls l new (Ok done) = HasRead d (ls ++ l ∷ []) new
 TakesLine d ls l new (Err (BadLine line)) = (AreFitting d (ls ++ l ∷ []) → ⊥) × (line ≡ length ls + 1)
 TakesLine d ls l new (Err NoMemory) = ⊤
 
--- the bytes of a line that tell no record
+-- the bytes of a line that spell no record
 pub record TellsNone (d : Description) (bytes : List ℕ) : Type 0 where
   pub whole : IsOneLine bytes
   pub none : (l : Line) → IsSound d l → bytes ≡ line_words d l → ⊥

@@ -96,7 +96,7 @@ pub record IsAirTally (t : AirTally) (aired : List Aired) : Type 0 where
 
 -- ---- on the way
 
--- a version more of a handler, where there is this handler
+-- a version more of a handler, if there is this handler
 pub record InstallsVersion (old new : List Versions) (g version : ℕ) : Type 0 where
   pub size : length new ≡ length old
   pub versions : (h : ℕ) → h < length old → versions_at h new ≡ (if g == h then with_version (versions_at h old) version

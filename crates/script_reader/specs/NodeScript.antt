@@ -1,4 +1,4 @@
--- The node script in bytes, line by line; where a line is refused, the first such line and its first cause.
+-- The node script in bytes, line by line; if a line is refused, the first such line and its first cause.
 use Rattle.std.specs.Prelude.{ℕ, if◌then◌else◌, List, [], ◌∷◌, ◌++◌, length, codes, slice_index, slice_set, replicate, Option, Some, None}
 use Rattle.std.specs.Prelude.{Result, Ok, Err}
 use Rattle.std.specs.Str.{bytes_eq}

@@ -1,4 +1,4 @@
--- A script as its lines tell it, one after another, and what a reader answers.
+-- A script as its lines say it, one after another, and what a reader answers.
 use Rattle.std.specs.Prelude.{◌≡◌, ℕ, ◌+◌, List, [], ◌∷◌, Result, Ok, Err, ⊤}
 use Rattle.script_reader.specs.declared.fault.Cause.{Cause}
 use Rattle.script_reader.specs.declared.fault.ScriptFault.{ScriptFault}
@@ -18,7 +18,7 @@ script_from after ends number p [] = ends number p
 script_from after ends number p (line ∷ lines) = numbered number (λ p. script_from after ends (number + 1) p lines)
     (after p (split_words line))
 
--- a reader's answer is the script, or the first line that is refused; only want of memory may come in place of either
+-- a reader's answer is the script, or the first line that is refused; only lack of memory may come in place of either
 abbrev pub AnswersScript : {A : Type 0} → Result A ScriptFault → Result A ScriptFault → Type 0
 AnswersScript (Ok script) answer = answer ≡ Ok script
 AnswersScript (Err (BadLine line cause)) answer = answer ≡ Err (BadLine line cause)

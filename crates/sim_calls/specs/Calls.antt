@@ -31,7 +31,7 @@ pub record HasSensors (w : World) (d : Description) (values : List Series) : Typ
   pub description : w.description ≡ d
   pub series : w.series ≡ series_in values
 
--- the answer to a call, where these were called before
+-- the answer to a call, if these were called before
 abbrev pub call_answer : World → ℕ → List FunId → FunId → ℕ → CallAnswer
 call_answer w node called f now = record { time = now + latency_of w f; value = answer_at w node called f (now + latency_of w f) }
 

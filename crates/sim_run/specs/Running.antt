@@ -29,7 +29,7 @@ pub record StandsAfter (w : World) (events : ℕ) (s : Simulation) : Type 0 wher
   pub records : s.records ≡ (state w moments).records
   pub well_formed : (k : ℕ) → k < w.nodes → HasWellFormed w k moments
 
--- the next event that is due was taken from the radio: it has this stamp and, where it is to be begun, room
+-- the next event that is due was taken from the radio: it has this stamp and, if it is to be begun, room
 pub record StandsAtNext (w : World) (event : Event) (at : Stamp) (s : Simulation) : Type 0 where
   pub moments : List Moment
   pub cause : Cause

@@ -20,7 +20,7 @@ abbrev pub rest_behind : List ℕ → List ℕ → List ℕ
 rest_behind begun [] = begun
 rest_behind begun (b ∷ bs) = if is_end_byte b then rest_behind [] bs else rest_behind (begun ++ b ∷ []) bs
 
--- the first byte, where there is one, before those of a frame
+-- the first byte, if there is one, before those of a frame
 abbrev pub with_byte : ℕ → Option (List ℕ) → Option (List ℕ)
 with_byte b bytes = option_map (λ bs. b ∷ bs) bytes
 

@@ -17,12 +17,12 @@ use Rattle.ts_blocks.specs.declared.opening.Opening.TheVariants as opening
 use Rattle.ts_syntax.specs.Machine.{Frame, dialect_of, then_part, for_part, while_part, in_if, in_while, State, block, stmt_named, cleared, for_word, do_word, word, expr_due, with_act}
 use Rattle.ts_syntax.specs.Parsing.{Reads}
 
--- the opening by `do`, where a dialect has one
+-- the opening by `do`, if a dialect has one
 abbrev pub do_opening : Dialect → Option Opening
 do_opening dialect.Plain = None
 do_opening dialect.Procedures = Some opening.Do
 
--- the first token, where there is one, begins a statement
+-- the first token, if there is one, begins a statement
 abbrev pub opening_of : Dialect → Token → TokenKind → Option Opening
 opening_of d t (kind.Name n) = Some (opening.Named (word n t.from))
 opening_of d t kind.Clear = Some opening.Clear

@@ -1,4 +1,4 @@
--- How an answer of the program is what a check gives, where want of memory may come in place of it.
+-- How an answer of the program is what a check gives, unless memory runs out.
 use Rattle.std.specs.Prelude.{◌≡◌, Result, Ok, Err, ⊤}
 use Rattle.ts_scope.specs.declared.fault.CheckFault.{CheckFault}
 use Rattle.ts_scope.specs.declared.fault.CheckFault.TheVariants.{NoMemory}

@@ -104,7 +104,7 @@ abbrev mutual
   checked_args n allowed (tree_then e es) =
       checked_expr n allowed e >>= (λ a. checked_args n allowed es >>= (λ more. Ok (argument a more)))
 
--- the step of a `for`: 1 where none is written, else from -32767 to 32767, and not 0
+-- the step of a `for`: 1 if none is written, else from -32767 to 32767, and not 0
 abbrev pub step_number : Bool → ℕ → ℤ
 step_number true size = neg_ℤ (pos size)
 step_number false size = pos size

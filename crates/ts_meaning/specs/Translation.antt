@@ -19,7 +19,7 @@ abbrev pub size_of_instrs : List Instr → ℕ
 size_of_instrs [] = 0
 size_of_instrs (i ∷ is) = size_of i + size_of_instrs is
 
--- a number: in one byte where it goes from 0 to 255, and else in two
+-- a number: in one byte if it goes from 0 to 255, and else in two
 abbrev pub number_code : ℤ → Instr
 number_code (pos n) = if nat_lt n 256 then instr.PushB n else instr.PushW (pos n)
 number_code (negsuc n) = instr.PushW (negsuc n)

@@ -24,7 +24,7 @@ comma_before false = kind.Comma ∷ []
 abbrev pub head_spelled : ForHead → List TokenKind
 head_spelled h = kind.For ∷ name h.var ∷ kind.Eq ∷ spelled (tree_of h.from) ++ (kind.To ∷ spelled (tree_of h.to) ++ step_spelled h.step)
 
--- the sign that ends a declaration, where one ends
+-- the sign that ends a declaration, if one ends
 abbrev pub closing : Bool → List TokenKind
 closing true = kind.Semi ∷ []
 closing false = []

@@ -87,7 +87,7 @@ variable n w = found_symbol n w >>= as_variable w.place
 abbrev pub buffer : ScriptNames → Word → Result BufId CheckFault
 buffer n w = found_symbol n w >>= as_buffer w.place
 
--- the function of a name, where the first one's number is i
+-- the function of a name, if the first one's number is i
 abbrev pub function_from : ℕ → List Function → List ℕ → Option (FunId × FunKind)
 function_from i [] name = None
 function_from i (f ∷ fs) name = if bytes_eq name f.name then Some (record { 0 = i }, f.kind) else function_from (i + 1) fs name

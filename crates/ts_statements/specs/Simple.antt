@@ -42,7 +42,7 @@ abbrev pub value_set : Target → Tree → State
 value_set (of_append w a f) e = block (with_act a (append w e)) f
 value_set (of_item w i a f) e = block (with_act a (set_item w i e)) f
 
--- the limit of a `for`, and then its step, where its first value was read
+-- the limit of a `for`, and then its step, after its first value was read
 pub record Bound : Type 0 where
   pub var : Word
   pub from : Tree
@@ -58,7 +58,7 @@ limit_read k e = have e (in_to k.var k.from k.before k.frame)
 abbrev pub limited : Bound → Tree → Option Step → State
 limited k e s = block no_acts (for_part k.var k.from e s k.before k.frame)
 
--- the step, where the limit was read
+-- the step, after the limit was read
 pub record Limit : Type 0 where
   pub bound : Bound
   pub to : Tree

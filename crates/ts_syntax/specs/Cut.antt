@@ -137,7 +137,7 @@ cut_from i m (b ∷ bs) = turned (λ n. cut_from (i + 1) n bs) (turn i m b)
 abbrev pub cut : List ℕ → Result (List Token) CutFault
 cut bytes = cut_from 0 between bytes
 
--- what a kind of token is in a dialect: where a script may have procedures, the names `proc` and `do` are keywords
+-- what a kind of token is in a dialect: if a script may have procedures, the names `proc` and `do` are keywords
 abbrev pub procedure_kind : TokenKind → TokenKind
 procedure_kind (kind.Name w) = keyword_among (kind.Proc ∷ kind.Do ∷ []) w
 procedure_kind k = k

@@ -169,7 +169,7 @@ abbrev pub ProceduresIn : Dialect → List Procedure → Type 0
 ProceduresIn dialect.Plain ps = ps ≡ []
 ProceduresIn dialect.Procedures ps = ProceduresDerived ps
 
--- a script that a dialect's grammar derives; where the dialect has no procedures, the script has none
+-- a script that a dialect's grammar derives; if the dialect has no procedures, the script has none
 pub record IsDerivedIn (d : Dialect) (s : ProcedureSource) : Type 0 where
   pub decls : DeclsDerived s.decls
   pub procs : ProceduresIn d s.procs

@@ -30,7 +30,7 @@ abbrev pub StopsIn : Dialect → List TokenKind → List TokenKind → Type 0
 StopsIn d front [] = IsScriptIn d front → ⊥
 StopsIn d front (k ∷ ks) = BeginsScriptIn d (front ++ k ∷ []) → ⊥
 
--- the place of the token that doesn't fit; the text's length where the text ends too early
+-- the place of the token that doesn't fit; the text's length if the text ends too early
 abbrev pub place_of : ℕ → List Token → ℕ
 place_of len [] = len
 place_of len (t ∷ ts) = t.from
@@ -45,7 +45,7 @@ pub record IsUnexpectedIn (d : Dialect) (tokens : List Token) (len place : ℕ) 
   pub within : first_deep (kinds front) ≡ None
   pub stands : place ≡ place_of len rest
 
--- the place of the first token that lies too deep, where all up to it fit
+-- the place of the first token that lies too deep, if all up to it fit
 pub record IsTooDeepIn (d : Dialect) (tokens : List Token) (place : ℕ) : Type 0 where
   pub front : List Token
   pub token : Token

@@ -172,7 +172,7 @@ step_frame a (while_part e b f) kind.End = Some (while_ended e a b f)
 step_frame a (proc_part w ws ds ps) kind.End = Some (proc_ended (procedure w ws a) ds ps)
 step_frame a f m = None
 
--- a `do` where a dialect has one
+-- a `do` if a dialect has one
 abbrev pub step_do : Dialect → Acts → Frame → Option State
 step_do dialect.Plain a f = None
 step_do dialect.Procedures a f = Some (do_word a f)
@@ -482,7 +482,7 @@ abbrev pub places_after : Bool → List ℕ → List ℕ
 places_after true ps = other_places ps
 places_after false ps = ps
 
--- the script that was read, where the text may end; a plain one has no procedures
+-- the script that was read, if the text may end; a plain one has no procedures
 abbrev pub read_script : List Decl → List Procedure → Acts → ProcedureSource
 read_script ds ps a = record { decls = ds; procs = ps; body = a }
 

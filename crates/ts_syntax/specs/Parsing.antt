@@ -25,7 +25,7 @@ noted_then (t ∷ ts) = note t t.kind ts ++ noted_then ts
 abbrev pub reads : List Token → State → Outcome
 reads ts q = run (kinds ts) (noted_then ts) q
 
--- a result, where it isn't for want of memory
+-- a result, unless memory runs out
 abbrev pub Gives : {X : Type 0} → Result X Halt → (X → Type 0) → (List Token → Type 0) → Type 0
 Gives (Ok x) P Q = P x
 Gives (Err halt.Memory) P Q = Unit {0}
@@ -36,7 +36,7 @@ abbrev pub Reads : {X K : Type 0} → List Token → (K → State) → (X → K 
 Reads {X} {K} tokens due got result =
     Gives result (λ x. (k : K) → reads tokens (due k) ≡ reads x.1.now (got x.0 k)) (λ rest. (k : K) → reads tokens (due k) ≡ Err (kinds rest))
 
--- the first token is of a kind that the test allows, where there is one
+-- the first token is of a kind that the test allows, if there is one
 abbrev pub Head : (TokenKind → Bool) → List Token → Type 0
 Head P [] = Unit {0}
 Head P (t ∷ ts) = Holds (P t.kind)
@@ -47,7 +47,7 @@ pub record Starts (k : TokenKind) (tokens rest : List Token) : Type 0 where
   pub are : tokens ≡ token ∷ rest
   pub kind : kind_code token.kind ≡ kind_code k
 
--- the first token, where there is one, is of another kind
+-- the first token, if there is one, is of another kind
 abbrev pub Lacks : TokenKind → List Token → Type 0
 Lacks k [] = Unit {0}
 Lacks k (t ∷ ts) = kind_code t.kind ≡ kind_code k → ⊥
@@ -77,7 +77,7 @@ pub record StartsName (w : Word) (tokens rest : List Token) : Type 0 where
   pub name : token.kind ≡ kind.Name w.name
   pub place : w.place ≡ token.from
 
--- the first token, where there is one, is no name
+-- the first token, if there is one, is no name
 abbrev pub LacksName : List Token → Type 0
 LacksName [] = Unit {0}
 LacksName (t ∷ ts) = (n : List ℕ) → t.kind ≡ kind.Name n → ⊥

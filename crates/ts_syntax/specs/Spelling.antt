@@ -111,7 +111,7 @@ abbrev pub decl_start : Bool → DeclKind → TokenKind
 decl_start true k = decl_keyword k
 decl_start false k = kind.Comma
 
--- the sign that ends a declaration, where another one follows
+-- the sign that ends a declaration, if another one follows
 abbrev pub decl_end : Bool → List TokenKind
 decl_end true = kind.Semi ∷ []
 decl_end false = []
@@ -197,7 +197,7 @@ procedures_places (p ∷ ps) = procedure_places p ++ procedures_places ps
 abbrev pub procedure_source_places : ProcedureSource → List ℕ
 procedure_source_places s = decls_places s.decls ++ (procedures_places s.procs ++ acts_places s.body)
 
--- the place of a token where it is a literal
+-- the place of a token if it is a literal
 abbrev pub number_place : Token → TokenKind → List ℕ
 number_place t (kind.Num n) = t.from ∷ []
 number_place t k = []

@@ -45,7 +45,7 @@ token_text kind.Percent = codes "%"
 token_text (kind.Name n) = n
 token_text (kind.Num n) = decimal n
 
--- the space between two tokens, where one was written before
+-- the space between two tokens, if one was written before
 abbrev pub space : Bool → List ℕ
 space true = codes " "
 space false = []

@@ -46,6 +46,6 @@ repeat_after seen (name ∷ names) = if stands_in seen name then Some name else 
 abbrev pub first_repeat : List (List ℕ) → Option (List ℕ)
 first_repeat names = repeat_after [] names
 
--- the text as a name, where it has a name's form
+-- the text as a name, if it has a name's form
 abbrev pub name_of : List ℕ → Option (List ℕ)
 name_of text = if is_name text then Some text else None

@@ -44,7 +44,7 @@ given_by m (Answering inv value) = GivesAnswer inv value ∷ []
 given_by m Showing = SeesItsStore ∷ []
 given_by m Resetting = SeesItsStore ∷ GivesReset ∷ []
 
--- an event's entries tell just that: nothing else is posted, answered, installed or reset, and nothing is refused
+-- an event's entries record just that: nothing else is posted, answered, installed or reset, and nothing is refused
 abbrev pub EventsGiveTheirs : World → Type 0
 EventsGiveTheirs w = (before : List Moment) (m : Moment) → HaveCome w (m ∷ before)
     → filter_map given_in m.told ≡ given_by w.machine (effect_at w (state w before) m).deed
