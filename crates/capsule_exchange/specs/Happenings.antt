@@ -146,7 +146,8 @@ ask_for hs h = Status (record { 0 = h }) (target_version h hs) (mask_of (gaps (p
 -- a Vector is answered with a request for each handler of which it has a greater version than the held one
 abbrev pub asks_after : ℕ → Packet → List Happening → List Packet
 asks_after n (Vector versions) before =
-    map (ask_for (Hears (Vector versions) ∷ before)) (filter (λ h. nat_lt (held_version h before) (slice_index versions.items h)) (range_with_len 0 n))
+    map (ask_for (Hears (Vector versions) ∷ before))
+    (filter (λ h. nat_lt (held_version h before) (slice_index versions.items h)) (range_with_len 0 n))
 asks_after n (Status g version missing) before = []
 asks_after n (Fragment g version index count large bytes) before = []
 asks_after n (App payload) before = []
@@ -156,7 +157,8 @@ abbrev pub completed_by : Packet → List Happening → Option HandlerId
 completed_by (Vector versions) before = None
 completed_by (Status g version missing) before = None
 completed_by (Fragment g version index count large bytes) before =
-    if nat_lt (complete_version g.0 before) (complete_version g.0 (Hears (Fragment g version index count large bytes) ∷ before)) then Some g else None
+    if nat_lt (complete_version g.0 before) (complete_version g.0 (Hears (Fragment g version index count large bytes) ∷ before)) then
+    Some g else None
 completed_by (App payload) before = None
 
 -- ---- which fragments it owes: slot 22 h + i is fragment i of what it holds of the handler h

@@ -17,7 +17,8 @@ use Rattle.capsule_exchange.specs.Happenings.{gaps, mask_of, whole, next_place, 
 
 -- nothing is held, collected or owed
 abbrev pub no_state : HandlerState
-no_state = record { held = 0; image = record { items = [] }; target = 0; form = None; pieces = table (λ _. None); marks = table (λ _. false) }
+no_state =
+    record { held = 0; image = record { items = [] }; target = 0; form = None; pieces = table (λ _. None); marks = table (λ _. false) }
 
 -- a version over the held one and the target becomes the target, of which nothing is collected yet
 abbrev pub aimed : ℕ → HandlerState → HandlerState
@@ -32,7 +33,8 @@ takes form (Some first) = form.count == first.count && beq form.large first.larg
 -- a fragment of the target is kept if it goes with the first one and none of its index is kept
 abbrev pub kept : ℕ → Form → ArrayVec ℕ → HandlerState → HandlerState
 kept index form bytes s =
-    if takes form s.form && is_none (slice_index_or s.pieces index None) then record s { form = Some form; pieces = slice_set s.pieces index (Some bytes) } else s
+    if takes form s.form && is_none (slice_index_or s.pieces index None) then
+    record s { form = Some form; pieces = slice_set s.pieces index (Some bytes) } else s
 
 -- a fragment is kept if it is of the target, after its version was heard of
 abbrev pub keeps : ℕ → ℕ → Form → ArrayVec ℕ → HandlerState → HandlerState
@@ -90,7 +92,8 @@ aimed_each versions states = map (λ h. aimed (slice_index versions h) (state_at
 -- what is asked for: each handler whose version in the Vector is above the held one
 abbrev pub asks_upto : List ℕ → List HandlerState → ℕ → List Packet
 asks_upto versions states n =
-    map (λ h. ask_in (record { 0 = h }) (state_at states h)) (filter (λ h. nat_lt (state_at states h).held (slice_index versions h)) (range_with_len 0 n))
+    map (λ h. ask_in (record { 0 = h }) (state_at states h))
+    (filter (λ h. nat_lt (state_at states h).held (slice_index versions h)) (range_with_len 0 n))
 
 abbrev pub is_marked_in : List HandlerState → ℕ → Bool
 is_marked_in states slot = slice_index_or (state_at states (slot / 22)).marks (slot % 22) false
@@ -98,7 +101,8 @@ is_marked_in states slot = slice_index_or (state_at states (slot / 22)).marks (s
 -- the slot that is sent next, after the last one
 abbrev pub next_in : List HandlerState → Option ℕ → Option ℕ
 next_in states last =
-    option_or (find (is_marked_in states) (slots_from (length states) (next_place last))) (find (is_marked_in states) (slots_from (length states) 0))
+    option_or (find (is_marked_in states) (slots_from (length states) (next_place last)))
+    (find (is_marked_in states) (slots_from (length states) 0))
 
 -- the fragment that is sent for a slot
 abbrev pub fragment_in : List HandlerState → ℕ → Packet

@@ -22,7 +22,8 @@ command_word = record (new_rule (codes "command")) { action = Some Set; required
 
 -- any number of words, at one place or at several
 abbrev pub other_words : Rule
-other_words = record (new_rule (codes "args")) { action = Some Append; range = Some (record { start_inclusive = 0; end_inclusive = usize_max }) }
+other_words =
+    record (new_rule (codes "args")) { action = Some Append; range = Some (record { start_inclusive = 0; end_inclusive = usize_max }) }
 
 -- a command with nothing in it, whose words don't begin with the program's name
 abbrev pub bare_app : App

@@ -129,7 +129,15 @@ no_program = record { handler = record { 0 = 0 }; version = 0; image = no_image 
 
 -- an invocation that was not posted yet
 abbrev unposted : Invocation
-unposted = record { handler = record { 0 = 0 }; context = record { 0 = 0 }; program = no_program; payload = record { items = [] }; calls = []; phase = Unposted }
+unposted =
+    record {
+      handler = record { 0 = 0 };
+      context = record { 0 = 0 };
+      program = no_program;
+      payload = record { items = [] };
+      calls = [];
+      phase = Unposted;
+    }
 
 -- the state before any entry
 abbrev pub first_state : Machine → NodeState
@@ -180,7 +188,14 @@ next_state m r (Posted n h c payload) =
     record r {
       posts = n;
       invocations = changed r.invocations n
-          (record { handler = h; context = c; program = unwrap_or (r.installed h) no_program; payload = payload; calls = []; phase = Queued });
+          (record {
+            handler = h;
+            context = c;
+            program = unwrap_or (r.installed h) no_program;
+            payload = payload;
+            calls = [];
+            phase = Queued;
+          });
     }
 next_state m r (Dropped h cause) = r
 next_state m r (Started n) = record r { invocations = changed r.invocations n (in_phase Ready (r.invocations n)) }

@@ -80,7 +80,8 @@ pub record IsReadyIn (r : NodeState) (c : ContextId) : Type 0 where
   pub context : (r.invocations invocation).context ≡ c
 
 -- the ready invocation in the context has one turn of this number of instructions
-pub record TurnsIn (m : Machine) (r : NodeState) (p : Pace) (c : ContextId) (instructions : ℕ) (entries : List JournalEntry) (q : Pace) : Type 0 where
+pub record TurnsIn (m : Machine) (r : NodeState) (p : Pace) (c : ContextId) (instructions : ℕ)
+    (entries : List JournalEntry) (q : Pace) : Type 0 where
   pub invocation : ℕ
   pub context : (r.invocations invocation).context ≡ c
   pub turn : IsTurn m r p instructions record { invocation = invocation; told = entries }

@@ -23,7 +23,8 @@ RefusesExpansion name fault r = ((why : ExpansionCause) × (fault ≡ expansion_
 -- the script with procedures that the bytes of the source `name` spell
 abbrev pub script_with_procedures : List ℕ → List ℕ → Result PScript Refusal → Type 0
 script_with_procedures name bytes =
-    judged (λ s. ReadsProcedures bytes (Ok s)) (λ why. ReadsProcedures bytes (Err (expansion_fault why))) (λ why. InFile name (cause.Expansion why))
+    judged (λ s. ReadsProcedures bytes (Ok s)) (λ why. ReadsProcedures bytes (Err (expansion_fault why)))
+    (λ why. InFile name (cause.Expansion why))
 
 -- the plain script that it expands to
 abbrev pub expanded_script : List ℕ → ProcedureSource → Result Script Refusal → Type 0

@@ -23,7 +23,8 @@ value_bytes values = flat_map (λ value. to_be_bytes w16 (cast_unsigned w16 valu
 abbrev pub body_of : Packet → List ℕ
 body_of (Vector versions) = length versions.items ∷ version_bytes versions.items
 body_of (Status handler version missing) = (handler.0 ∷ []) ++ to_be_bytes w32 version ++ to_be_bytes w32 missing
-body_of (Fragment handler version index count large bytes) = (handler.0 ∷ []) ++ to_be_bytes w32 version ++ (index ∷ count ∷ []) ++ bytes.items
+body_of (Fragment handler version index count large bytes) =
+    (handler.0 ∷ []) ++ to_be_bytes w32 version ++ (index ∷ count ∷ []) ++ bytes.items
 body_of (App payload) = length payload.items ∷ value_bytes payload.items
 
 -- the packet's bytes on a machine with this number

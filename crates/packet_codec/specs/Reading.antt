@@ -49,7 +49,8 @@ status_read handlers _ = Err BadLength
 -- a handler of the machine, a version, 1 to 22 fragments, one of them, and a full piece unless it is the last one
 abbrev pub is_fragment : ℕ → ℕ → ℕ → ℕ → ℕ → Bool → ℕ → Bool
 is_fragment handlers handler version index count large len =
-    ((nat_lt handler handlers && not (version == 0)) && (nat_le count 22 && nat_lt index count)) && (index + 1 == count || nat_le (full_len large) len)
+    ((nat_lt handler handlers && not (version == 0)) && (nat_le count 22 && nat_lt index count))
+    && (index + 1 == count || nat_le (full_len large) len)
 
 abbrev pub fragment_read : ℕ → Bool → List ℕ → Result Packet PacketFault
 fragment_read handlers large (handler ∷ v0 ∷ v1 ∷ v2 ∷ v3 ∷ index ∷ count ∷ bytes) =

@@ -58,7 +58,8 @@ abbrev mutual
 -- arguments go into the variables of parameters, of which the first is variable k
 abbrev pub assigned : Hiding → ℕ → ℕ → Trees → List Act
 assigned h place k no_trees = []
-assigned h place k (tree_then e es) = set (record { name = parameter_name k; place = place }) (renamed_expr h e) ∷ assigned h place (k + 1) es
+assigned h place k (tree_then e es) =
+    set (record { name = parameter_name k; place = place }) (renamed_expr h e) ∷ assigned h place (k + 1) es
 
 -- a statement that has no block and runs no procedure, as a list; of any other it has nothing
 abbrev pub renamed_simple : Hiding → Act → List Act

@@ -27,7 +27,9 @@ is_fresh s = is_fresh_in s.escapes s.image.items
 
 -- one more byte of the frame
 abbrev pub added : Slip → ℕ → Slip
-added s b = if length s.image.items == IMAGE_MAX then record s { too_long = true } else record s { image = record { items = s.image.items ++ b ∷ [] } }
+added s b =
+    if length s.image.items == IMAGE_MAX then record s { too_long = true }
+    else record s { image = record { items = s.image.items ++ b ∷ [] } }
 
 -- the byte after an ESC
 abbrev pub replaced : Slip → ℕ → Slip
@@ -68,7 +70,8 @@ framed_behind false image (Some more) = whole_frame (image ++ more)
 
 -- the reader is after these bytes of a frame: whatever follows, it gives what they and that give
 pub record IsBehind (s : Slip) (begun : List ℕ) : Type 0 where
-  pub gives : (more : List ℕ) → framed_behind s.too_long s.image.items (unescaped_in s.escapes more) ≡ framed (unescaped false (begun ++ more))
+  pub gives : (more : List ℕ) → framed_behind s.too_long s.image.items (unescaped_in s.escapes more)
+      ≡ framed (unescaped false (begun ++ more))
   pub starts : is_fresh s ≡ is_nil begun
 
 -- the reader was given these bytes, in whatever pieces

@@ -63,7 +63,8 @@ pub record FrameIn (d : Dialect) : Type 0 where
 
 -- a statement is read from where it is due, after others of an open block of a script of the dialect
 abbrev pub ReadsStmtIn : Dialect → List Token → (Acts → Frame → State) → Result (Stmt × Bor (List Token)) Halt → Type 0
-ReadsStmtIn d tokens due result = Reads {K = Acts × FrameIn d} tokens (λ k. due k.0 k.1.frame) (λ s k. block (with_act k.0 (act_of s)) k.1.frame) result
+ReadsStmtIn d tokens due result = Reads {K = Acts × FrameIn d} tokens (λ k. due k.0 k.1.frame)
+    (λ s k. block (with_act k.0 (act_of s)) k.1.frame) result
 
 -- the branches of an `if` after `then`
 pub record Choice (d : Dialect) : Type 0 where

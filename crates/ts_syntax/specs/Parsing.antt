@@ -34,7 +34,8 @@ Gives (Err (halt.At rest)) P Q = Q rest.now
 -- a part is read from where it is due to what it leads to, or the machine stops at the rest
 abbrev pub Reads : {X K : Type 0} → List Token → (K → State) → (X → K → State) → Result (X × Bor (List Token)) Halt → Type 0
 Reads {X} {K} tokens due got result =
-    Gives result (λ x. (k : K) → reads tokens (due k) ≡ reads x.1.now (got x.0 k)) (λ rest. (k : K) → reads tokens (due k) ≡ Err (kinds rest))
+    Gives result (λ x. (k : K) → reads tokens (due k) ≡ reads x.1.now (got x.0 k))
+    (λ rest. (k : K) → reads tokens (due k) ≡ Err (kinds rest))
 
 -- the first token is of a kind that the test allows, if there is one
 abbrev pub Head : (TokenKind → Bool) → List Token → Type 0

@@ -74,8 +74,10 @@ abbrev mutual
   act_spelled (clear w) = kind.Clear ∷ kind.Open ∷ name w ∷ kind.Close ∷ kind.Semi ∷ []
   act_spelled (call_alone w es) = name w ∷ kind.Open ∷ args_spelled es ++ kind.Close ∷ kind.Semi ∷ []
   act_spelled (if_then e a) = kind.If ∷ spelled e ++ (kind.Then ∷ acts_spelled a ++ kind.End ∷ kind.If ∷ [])
-  act_spelled (if_else e a b) = kind.If ∷ spelled e ++ (kind.Then ∷ acts_spelled a ++ (kind.Else ∷ acts_spelled b ++ kind.End ∷ kind.If ∷ []))
-  act_spelled (for_next w f t s a v) = kind.For ∷ name w ∷ kind.Eq ∷ spelled f ++ (kind.To ∷ spelled t ++ (step_spelled s ++ (acts_spelled a ++ kind.Next ∷ name v ∷ [])))
+  act_spelled (if_else e a b) =
+      kind.If ∷ spelled e ++ (kind.Then ∷ acts_spelled a ++ (kind.Else ∷ acts_spelled b ++ kind.End ∷ kind.If ∷ []))
+  act_spelled (for_next w f t s a v) =
+      kind.For ∷ name w ∷ kind.Eq ∷ spelled f ++ (kind.To ∷ spelled t ++ (step_spelled s ++ (acts_spelled a ++ kind.Next ∷ name v ∷ [])))
   act_spelled (while_do e a) = kind.While ∷ spelled e ++ (acts_spelled a ++ kind.End ∷ kind.While ∷ [])
   act_spelled (run_procedure w es) = kind.Do ∷ name w ∷ kind.Open ∷ args_spelled es ++ kind.Close ∷ kind.Semi ∷ []
 
@@ -94,7 +96,8 @@ params_spelled (w ∷ ws) = name w ∷ other_params_spelled ws
 
 -- a procedure's tokens, and those of procedures
 abbrev pub procedure_spelled : Procedure → List TokenKind
-procedure_spelled p = kind.Proc ∷ name p.name ∷ kind.Open ∷ params_spelled p.params ++ (kind.Close ∷ acts_spelled p.body ++ kind.End ∷ kind.Proc ∷ [])
+procedure_spelled p =
+    kind.Proc ∷ name p.name ∷ kind.Open ∷ params_spelled p.params ++ (kind.Close ∷ acts_spelled p.body ++ kind.End ∷ kind.Proc ∷ [])
 
 abbrev pub procedures_spelled : List Procedure → List TokenKind
 procedures_spelled [] = []

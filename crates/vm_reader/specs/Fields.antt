@@ -27,12 +27,12 @@ abbrev pub taken : {A : Type 0} → Key → Option A → Result A DescFault
 taken key None = Err (BadField key)
 taken key (Some x) = Ok x
 
--- BadField with the key, where a rule doesn't hold
+-- BadField with the key, if a rule doesn't hold
 abbrev pub allowed : Key → Bool → Result (Unit {0}) DescFault
 allowed key true = Ok tt
 allowed key false = Err (BadField key)
 
--- the value of a key that may be absent, where there may be a default
+-- the value of a key that may be absent, if there may be a default
 abbrev pub field : {A : Type 0} → Key → (Data → Option A) → Option A → Option Data → Result A DescFault
 field key read default None = taken key default
 field key read default (Some d) = taken key (read d)
@@ -54,7 +54,7 @@ abbrev pub item_count : Items → ℕ
 item_count no_items = 0
 item_count (item d ds) = suc (item_count ds)
 
--- the items as names, where all are names
+-- the items as names, if all are names
 abbrev pub all_names : Items → Option (List (List ℕ))
 all_names no_items = Some []
 all_names (item d ds) = option_and_then (λ x. option_map (λ xs. x ∷ xs) (all_names ds)) (name d)

@@ -56,4 +56,5 @@ abbrev mutual
 
   pub members_have_known : Place → Members → Bool
   members_have_known p no_members = true
-  members_have_known p (member k d ms) = (is_some (known_below p k) && has_known (unwrap_or (known_below p k) place.Value) d) && members_have_known p ms
+  members_have_known p (member k d ms) =
+      (is_some (known_below p k) && has_known (unwrap_or (known_below p k) place.Value) d) && members_have_known p ms

@@ -59,7 +59,7 @@ LossesFollowDirectly w = (ms : List Moment) → IsTrue (losses_follow false (air
 -- ---- arrivals
 
 -- At each time there arrives, in order of transmission and then in link order, what the packets bring over the links that
--- don't lose them, each once, and nothing else; something is still on its way only where the run didn't reach the time.
+-- don't lose them, each once, and nothing else; something is still on its way only if the run didn't reach the time.
 pub record ArriveInOrder (w : World) (ms : List Moment) (t : ℕ) : Type 0 where
   pub due : List Arrival
   pub all : arrivals_at t (airs w ms) ++ due ≡ flat_map (brings_at w t) (transmissions (airs w ms))

@@ -67,7 +67,7 @@ point_told k r = if r.node == k then done_then r.stamp.time (by r.air) else None
   by (air.Got number from) = None
   by (air.Noise bytes) = None
 
--- what the rule decides at a point of the node, where the event is one
+-- what the rule decides at a point of the node, if the event is one
 abbrev pub point_of : World → ℕ → Node → ℕ → Cause → List PointDone
 point_of w k n time (event.Planned line) = []
 point_of w k n time (event.Period node h) = []

@@ -19,7 +19,7 @@ use Rattle.world_lines.specs.declared.draft.Draft.{Draft}
 use Rattle.world_lines.specs.WorldLines.{WorldSaid, SaysNodes, SaysRandom, SaysUntil, SaysSuppress, SaysLink, SaysSeries, SaysPlanned}
 use Rattle.world_lines.specs.WorldLines.{WorldProgress, is_free, is_linked}
 
--- what a function returned, seen by view, and the words that it left are what the reading gives, where memory was not refused
+-- what a function returned, seen by view, and the words that it left are what the reading gives, if memory was not refused
 abbrev pub ReadsWithMemory : {X Y : Type 0} → (X → Y) → WordReading Y → List (List ℕ) → Result X Refusal → List (List ℕ) → Type 0
 ReadsWithMemory view reading before (Ok x) after = reading before ≡ Ok (record { value = view x; rest = after })
 ReadsWithMemory view reading before (Err (refusal.Bad cause)) after = reading before ≡ Err cause

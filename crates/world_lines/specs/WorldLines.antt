@@ -49,7 +49,7 @@ a_switch = a_word >>= (λ w. found (switch_of w))
 abbrev pub is_linked : ℕ → ℕ → List Link → Bool
 is_linked from to links = list_any (λ l. (l.from == from) && (l.to == to)) links
 
--- another node, to which no link leads yet, nor from it where both directions are meant
+-- another node, to which no link leads yet, nor from it if both directions are meant
 abbrev pub is_free : List Link → Bool → ℕ → ℕ → Bool
 is_free links both from to = not (from == to) && (not (is_linked from to links) && not (both && is_linked to from links))
 
@@ -127,7 +127,7 @@ an_event d p = do
 
 -- ---- a whole line
 
--- where the first word is the one that has to come
+-- if the first word is the one that has to come
 abbrev pub by_its_verb : {A : Type 0} → List ℕ → List ℕ → WordReading A → WordReading A
 by_its_verb verb wanted reading = if bytes_eq verb wanted then reading else found (Err Word)
 

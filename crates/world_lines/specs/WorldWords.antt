@@ -34,7 +34,7 @@ if_senses n kind.Id = Err Name
 if_senses n kind.Rand = Err Name
 if_senses n kind.Clock = Err Name
 
--- the function with a name, among those from a number on, where it reads a sensor
+-- the function with a name, among those from a number on, if it reads a sensor
 abbrev pub sensor_from : List ℕ → ℕ → List Function → Result FunId Cause
 sensor_from w n [] = Err Name
 sensor_from w n (f ∷ functions) = if bytes_eq f.name w then if_senses n f.kind else sensor_from w (n + 1) functions

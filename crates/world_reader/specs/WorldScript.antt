@@ -1,4 +1,4 @@
--- The world script in bytes, line by line; where a line is refused, the first such line and its first cause.
+-- The world script in bytes, line by line; if a line is refused, the first such line and its first cause.
 use Rattle.std.specs.Prelude.{ℕ, ◌<◌, Bool, true, if◌then◌else◌, List, [], ◌∷◌, ◌++◌, slice_set, replicate, Result, Ok, Err}
 use Rattle.vm_desc.specs.declared.description.Description.{Description}
 use Rattle.script_reader.specs.declared.fault.Cause.{Cause}

@@ -123,7 +123,7 @@ event_node w (event.Pump node) = node
 event_node w (event.Due node c inv value) = node
 event_node w (event.Deliver link number packet) = receiver w link
 
--- the length of the Trickle interval that begins, where one does
+-- the length of the Trickle interval that begins, if one does
 abbrev pub begun_length : Node → NodeEffect → Option ℕ
 begun_length n e = of_event e.timer where
   of_event : Option trickle.TimerEvent → Option ℕ

@@ -67,7 +67,7 @@ HaveCome w (m ∷ before) = HaveCome w before × MayCome w (state w before) m
 abbrev pub IsDone : WorldState → ℕ → Type 0
 IsDone s until = (t : ℕ) → t ≤ until → s.due t ≡ []
 
--- a whole run did all that was due up to its end; a full one stops where an event is left and the records are too many
+-- a whole run did all that was due up to its end; a full one stops if an event is left and the records are too many
 abbrev pub IsAtEnd : World → RunEnd → WorldState → Type 0
 IsAtEnd w Whole s = IsDone s w.until
 IsAtEnd w Full s = (records_max ≤ s.records) × (time : ℕ) × (cause : Cause) × (time ≤ w.until) × IsNext s time cause

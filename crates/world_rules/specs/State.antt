@@ -103,7 +103,7 @@ messages w told = filter_map (message_in w) told
 abbrev pub series_value : List ℤ → ℕ → ℤ
 series_value values i = slice_index_or values (min i (pred (length values))) (pos 0)
 
--- the answer at this time to a call of f on the node, where these were called before
+-- the answer at this time to a call of f on the node, if these were called before
 abbrev pub answer_at : World → ℕ → List FunId → FunId → ℕ → ℤ
 answer_at w node called f time = by (called_kind w f) where
   by : FunKind → ℤ
@@ -191,7 +191,8 @@ air_made w s m =
     ++ flat_map (air_of_sending w node) (sendings w s node (packets_of w s m))
 
 abbrev pub timer_after : Node → NodeEffect → ℕ → Timer
-timer_after n e time = option_map_or (λ (t : trickle.TimerEvent). after_happening n.timer (record { event = t; time = time })) e.timer n.timer
+timer_after n e time =
+    option_map_or (λ (t : trickle.TimerEvent). after_happening n.timer (record { event = t; time = time })) e.timer n.timer
 
 abbrev pub is_pump : Cause → Bool
 is_pump (event.Planned line) = false

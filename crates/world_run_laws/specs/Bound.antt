@@ -62,7 +62,8 @@ ReportsKeepTheBound = (d : Description) (script : Script) (ps : List Program) (h
 pub data ShowsTime (script : Script) (r : Report) (t : ℕ) : Type 0 where
   whole : r.whole ≡ true → t ≤ script.until → ShowsTime script r t
   aired : (x : Aired) → Contains r.air x → t < x.stamp.time → ShowsTime script r t
-  told : (k : ℕ) (l : Log) (e : TimedEntry) → slice_get r.nodes k ≡ Some l → Contains (journal_of l) e → t < e.stamp.time → ShowsTime script r t
+  told : (k : ℕ) (l : Log) (e : TimedEntry) → slice_get r.nodes k ≡ Some l → Contains (journal_of l) e
+      → t < e.stamp.time → ShowsTime script r t
 
 abbrev pub ShownIsReached : Type 0
 ShownIsReached = (d : Description) (script : Script) (ps : List Program) (how : RunEnd) (r : Report) (t : ℕ)
