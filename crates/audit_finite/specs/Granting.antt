@@ -20,7 +20,7 @@ TellsConflicts meaning conflict = (p q : HeldProgram) → Decides (conflict p q)
 abbrev pub is_ahead : Seat → Seat → Bool
 is_ahead s t = is_started t.invocation.phase || (nat_lt t.number s.number && is_queued t.invocation.phase)
 
--- someone ahead of s conflicts with it
+-- an invocation ahead of s conflicts with it
 abbrev pub holds_back : ConflictTest → Seat → Seat → Bool
 holds_back conflict s t = is_ahead s t && conflict s.invocation.program t.invocation.program
 

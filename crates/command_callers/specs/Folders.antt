@@ -12,7 +12,7 @@ pub record HoldsFile (f : Folder) (name : List ℕ) (held : Option (List ℕ)) :
   pub told_is : f.told ≡ Some names
   pub held_is : names name ≡ held
 
--- this refusal comes, unless memory is wanting
+-- this refusal comes, unless memory runs out
 abbrev pub RefusesAs : {A : Type 0} → Refusal → Result A Refusal → Type 0
 RefusesAs why (Ok a) = ⊥
 RefusesAs why (Err r) = (r ≡ why) ⊎ (r ≡ NoMemory)

@@ -29,5 +29,5 @@ pub data Completes (names : Names) (words : List (List ℕ)) (s t : Sinks) (stat
   -- the whole text of a run that a full log ended
   full : (o : Output) → Owes (steady names) words (Ok o) → (bs : List ℕ) → IsOutputText true o bs → Sent s.out t.out bs
       → RefusesTo s t LogFull status → Completes names words s t status
-  -- memory was wanting
+  -- memory ran out
   wanting : status ≡ OutOfMemory → Completes names words s t status

@@ -70,7 +70,7 @@ pub data IsTextWritten (bs : List ℕ) (whole : Bool) (s t : Sinks) (status : St
   full : whole ≡ false → Sent s.out t.out bs → RefusesTo s t LogFull status → IsTextWritten bs whole s t status
   -- `out` failed, and a prefix of it was written that lacks at least its last byte
   failed : SentShort s.out t.out bs → Rose s.out_faults t.out_faults → RefusesTo s t SinkFault status → IsTextWritten bs whole s t status
-  -- memory was wanting, and a prefix of it was written
+  -- memory ran out, and a prefix of it was written
   wanting : SentPart s.out t.out bs → RefusesTo s t NoMemory status → IsTextWritten bs whole s t status
 
 -- How the writing of a run ends, on nodes of this machine, where these reports are of the run. Its report is that of the events that
@@ -86,7 +86,7 @@ pub data IsRunWritten (d : Description) (Is : OfRun) (s t : Sinks) (status : Sta
   -- of the last one; of a run that was cut no last line was
   unwritten : (r : Report) → IsWrittenShort d Is s.out t.out r → Rose s.out_faults t.out_faults → RefusesTo s t SinkFault status
       → IsRunWritten d Is s t status
-  -- memory was wanting; such a prefix was written, or nothing was run
+  -- memory ran out; such a prefix was written, or nothing was run
   cut : (r : Report) → IsNothingRun s.out t.out r ⊎ IsWrittenPart d Is s.out t.out r → RefusesTo s t NoMemory status
       → IsRunWritten d Is s t status
 

@@ -52,7 +52,7 @@ is_clash Blank = false
 is_clash (Depth n) = false
 is_clash Clash = true
 
--- the marks where a place is given a depth
+-- the marks after a place is given a depth
 abbrev pub mark : ℕ → ℕ → Marks → Marks
 mark place n marks = λ q. if q == place then given (marks q) n else marks q
 

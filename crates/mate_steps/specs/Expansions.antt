@@ -15,7 +15,7 @@ use Rattle.mate_refusals.specs.declared.refusal.Refusal.TheVariants.{InFile, NoM
 use Rattle.mate_steps.specs.Parts.{Folder, file}
 use Rattle.mate_steps.specs.Steps.{judged, ◌▸◌}
 
--- the refusal of the source `name` for this fault, unless memory is wanting
+-- the refusal of the source `name` for this fault, unless memory runs out
 abbrev pub RefusesExpansion : List ℕ → ProcFault → Refusal → Type 0
 RefusesExpansion name fault r = ((why : ExpansionCause) × (fault ≡ expansion_fault why) × (r ≡ InFile name (cause.Expansion why)))
     ⊎ (r ≡ NoMemory)

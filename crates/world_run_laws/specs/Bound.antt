@@ -69,7 +69,7 @@ abbrev pub ShownIsReached : Type 0
 ShownIsReached = (d : Description) (script : Script) (ps : List Program) (how : RunEnd) (r : Report) (t : ℕ)
     → (of : IsWorldReport (source_world d script ps) how r) → ShowsTime script r t → HasReached (source_world d script ps) how of.moments t
 
--- The report of a right script without loss or suppression keeps the bound where it shows that its run reached the time: let line
+-- The report of a right script without loss or suppression keeps the bound if it shows that its run reached the time: let line
 -- i inject a version on node a, let b be `hops` hops away, and let the line be left alone for 3 * L a hop; then b's journal
 -- installs the version by then, and the node holds it or a newer one ever after.
 abbrev pub KeepsTheBound : Description → Script → List Program → Report → Type 0

@@ -45,7 +45,7 @@ pub record HaveStoresBehind (r : Record) (motes : List Mote) : Type 0 where
   pub places : length r.places ≡ length motes
   pub each : (k : ℕ) (own : Log) (m : Mote) → HasLog r k own → slice_get motes k ≡ Some m → HasStoreBehind own m
 
--- ---- if a record is kept, or none
+-- ---- with a record that is kept, or without one
 
 abbrev pub IsRecorded : Option Record → Simulation → Type 0
 IsRecorded None s = ⊤
