@@ -21,7 +21,7 @@ use Rattle.open_node.specs.declared.standing.Standing.TheVariants.{Can, Outside,
 abbrev pub Pacing : (Pace → List JournalEntry → Type 0) → Pace → List JournalEntry → Pace → Type 0
 Pacing Rule p told q = Rule p told × (q ≡ paced_all p told)
 
--- One turn of n instructions. So many are executed: those up to the next mark, which is within what one invocation executes at
+-- One turn of n instructions. Those are executed up to the next mark, which is within what one invocation executes at
 -- most from its start to its end.
 pub record HasStepped (m : Machine) (r : NodeState) (c : ContextId) (n ran : ℕ) (p : Pace) (told : List JournalEntry) (q : Pace) : Type
     0 where

@@ -1,4 +1,4 @@
--- When tokens spell a script, and where the first fault is of tokens that don't.
+-- When tokens spell a script, and the place of the first fault if they don't.
 use Rattle.std.specs.Prelude.{◌≡◌, ℕ, List, [], ◌∷◌, ◌++◌, length, Some, None}
 use Rattle.ts_syntax.specs.declared.token.Token.{Token}
 use Rattle.ts_syntax.specs.declared.token.TokenKind.{TokenKind}

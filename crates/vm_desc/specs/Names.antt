@@ -37,7 +37,7 @@ is_name text = has_form text && not (is_keyword text)
 abbrev pub stands_in : List (List ℕ) → List ℕ → Bool
 stands_in names name = list_any (λ other. bytes_eq name other) names
 
--- the first of the names that was before, in `seen` or among them
+-- the first of the names that occurs before it, in `seen` or among them
 abbrev pub repeat_after : List (List ℕ) → List (List ℕ) → Option (List ℕ)
 repeat_after seen [] = None
 repeat_after seen (name ∷ names) = if stands_in seen name then Some name else repeat_after (seen ++ name ∷ []) names

@@ -1,5 +1,5 @@
--- What the journals of a whole run tell of what comes from outside the invocations: posts, answers, installs, resets, and stores that
--- are seen.
+-- What the journals of a whole run record of what comes from outside the invocations: posts, answers, installs, resets,
+-- and stores that are seen.
 use Rattle.std.specs.Prelude.{◌≡◌, ℕ, ◌==◌, if◌then◌else◌, List, [], ◌∷◌, ◌++◌, map, ℤ, Option, Some, None, All}
 use Rattle.std.specs.List.{filter_map}
 use Rattle.arrayvec.specs.ArrayVec.{ArrayVec}
