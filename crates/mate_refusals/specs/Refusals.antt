@@ -60,7 +60,7 @@ line_of refusal.NoMemory = codes "no memory\n"
 abbrev pub TellsLine : Option (List ℕ) → ℕ → Option (List ℕ) → ℕ → List ℕ → Type 0
 TellsLine written faults written' faults' line = Sent written written' line ⊎ (Rose faults faults' × SentPart written written' line)
 
--- the refusal's status comes and its line is written, or memory runs out: its status comes, and a prefix of the line is written
+-- the refusal's status comes and its line is written, or that of lack of memory comes and a prefix of the line is written
 abbrev pub TellsRefusal : Option (List ℕ) → ℕ → Option (List ℕ) → ℕ → Refusal → Status → Type 0
 TellsRefusal written faults written' faults' r s =
     ((s ≡ status_of r) × TellsLine written faults written' faults' (line_of r))

@@ -10,9 +10,9 @@ use Rattle.mate_journal.specs.Pace.{Pace}
 use Rattle.mate_journal.specs.OpenLog.{Gone}
 use Rattle.node_invariant.specs.Keeps.{reading, Grows}
 
--- `log` is the whole log, of which `gone` may be forgotten. `line` has the ready invocations, the one that has the next turn first.
--- `counts` has for each context the number of its
--- invocation and how many instructions this one executed, or 0 and 0.
+-- `log` is the whole log, of which `gone` may be forgotten. `line` has the ready invocations, the one that has the next
+-- turn first. `counts` has for each context the number of its invocation and how many instructions this one executed, or 0
+-- and 0.
 pub record NodeView : Type 0 where
   pub description : Description
   pub log : Log

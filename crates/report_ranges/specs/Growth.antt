@@ -10,7 +10,7 @@ pub record IsSizeOf (s : LogSize) (l : Log) : Type 0 where
   pub images : s.images ≡ length l.images
   pub stores : s.stores ≡ length l.stores
 
--- what is after that size of the log is in the ranges of its types
+-- what the log has beyond this size is in the ranges of its types
 pub record IsInRangeFrom (s : LogSize) (l : Log) : Type 0 where
   pub entries : All HasStampedRanges (drop s.entries l.entries)
   pub images : All HasImageRanges (drop s.images l.images)

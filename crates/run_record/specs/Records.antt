@@ -49,7 +49,7 @@ pub record HasAdded (old new : Record) (node : ℕ) (told : Log) (aired : List A
   pub air : new.air ≡ old.air ++ aired
   pub places : length new.places ≡ length old.places
 
--- each log has this much room
+-- each log has at least this much room
 abbrev pub HaveRoom : ℕ → Record → Type 0
 HaveRoom room r = All (λ (l : Log). room ≤ l.spare) r.logs.items
 

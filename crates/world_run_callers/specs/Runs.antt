@@ -7,7 +7,7 @@ use Rattle.world_rules.specs.Run.{HaveCome}
 use Rattle.world_rules.specs.State.{Moment, state}
 use Rattle.world_rules.specs.World.{World}
 
--- `events` events came, and 1,000,000 records are before the next, or more
+-- `events` events came, with 1,000,000 records or more
 pub record IsFullBehind (w : World) (events : ℕ) : Type 0 where
   pub moments : List Moment
   pub come : HaveCome w moments

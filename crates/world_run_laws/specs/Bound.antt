@@ -44,8 +44,8 @@ pub record TellsInstallBy (m : Machine) (h : HandlerId) (version by : ℕ) (es :
   pub in_time : entry.stamp.time ≤ by
   pub ever : AtEachPlace (λ (r : NodeState). version ≤ held r h) m (next_state m (state_after_all m (first_state m) front) entry.told) rest
 
--- In a report of the world of a right script without loss or suppression let line i inject a version on node a, let b be so
--- many hops away, and let the line be left alone for 3 * L a hop. Where the run reached that time, b's journal installs the
+-- In a report of the world of a right script without loss or suppression let line i inject a version on node a, let b be
+-- `hops` hops away, and let the line be left alone for 3 * L a hop. If the run reached that time, b's journal installs the
 -- version by then, and the node holds it or a newer one ever after.
 abbrev pub ReportsKeepTheBound : Type 0
 ReportsKeepTheBound = (d : Description) (script : Script) (ps : List Program) (how : RunEnd) (r : Report) (i time a b hops : ℕ)
