@@ -1,4 +1,4 @@
--- The grant rule, told by the roll.
+-- The grant rule, decided by the roll.
 use Rattle.std.specs.Prelude.{ℕ, ◌==◌, nat_lt, ◌&&◌, ◌||◌, not, Bool, List, [], ◌∷◌, Decides}
 use Rattle.std.specs.List.{list_any, list_all}
 use Rattle.mate_num.specs.Uses.{Conflicts}
@@ -12,7 +12,7 @@ use Rattle.audit_finite.specs.Roll.{Seat, Roll, rolled, is_queued}
 abbrev pub ConflictTest : Type 0
 ConflictTest = HeldProgram → HeldProgram → Bool
 
--- it tells exactly that
+-- it decides exactly that
 abbrev pub TellsConflicts : Meaning → ConflictTest → Type 0
 TellsConflicts meaning conflict = (p q : HeldProgram) → Decides (conflict p q) (Conflicts (meaning.uses p) (meaning.uses q))
 
@@ -20,7 +20,7 @@ TellsConflicts meaning conflict = (p q : HeldProgram) → Decides (conflict p q)
 abbrev pub is_ahead : Seat → Seat → Bool
 is_ahead s t = is_started t.invocation.phase || (nat_lt t.number s.number && is_queued t.invocation.phase)
 
--- someone ahead of s conflicts with it
+-- an invocation ahead of s conflicts with it
 abbrev pub holds_back : ConflictTest → Seat → Seat → Bool
 holds_back conflict s t = is_ahead s t && conflict s.invocation.program t.invocation.program
 

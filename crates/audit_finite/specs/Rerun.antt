@@ -16,7 +16,7 @@ use Rattle.audit_finite.specs.Same.{same_calls, same_end}
 abbrev pub run_on : Machine → Store → Invocation → Outcome
 run_on m store i = m.meaning.run i.program store i.payload (answers_of i) m.turns
 
--- a run ends as an invocation of this phase needs it: where it waits, in its call
+-- a run ends as an invocation of this phase needs it: if it waits, in its call
 abbrev pub wants_as : Phase → End → Bool
 wants_as Unposted e = true
 wants_as Queued e = true

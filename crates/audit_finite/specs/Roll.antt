@@ -1,4 +1,4 @@
--- The roll of a node: whoever is live, and what is installed. It is what a reader of a journal has to keep.
+-- The roll of a node: the live invocations, and what is installed. It is what a reader of a journal has to keep.
 use Rattle.std.specs.Prelude.{◌≡◌, ℕ, ℤ, ◌==◌, ◌&&◌, not, Bool, true, false, List, [], ◌∷◌, ◌++◌, map, filter, Option, Some, None}
 use Rattle.std.specs.Prelude.{unwrap_or, Contains, IsTrue, if◌then◌else◌}
 use Rattle.std.specs.List.{list_any}
@@ -19,7 +19,7 @@ pub record Roll : Type 0 where
   pub installed : HandlerId → Option HeldProgram
   pub seats : List Seat
 
--- before anything was heard
+-- the roll before any entry
 abbrev pub nobody : Roll
 nobody = record { posts = 0; installed = λ _. None; seats = [] }
 
@@ -98,14 +98,14 @@ rolled x Reset = record x { seats = [] }
 rolled x (Seen store) = x
 rolled x (Void cause) = x
 
--- the roll is that of what was heard: it has exactly the live invocations, as they are
+-- the roll is that of the state: it has exactly the live invocations, as they are
 pub record IsRoll (r : NodeState) (x : Roll) : Type 0 where
   pub posts : x.posts ≡ r.posts
   pub installed : (h : HandlerId) → x.installed h ≡ r.installed h
   pub lives : (s : Seat) → Contains x.seats s → IsTrue (is_live s.invocation.phase) × (r.invocations s.number ≡ s.invocation)
   pub seated : (n : ℕ) → IsTrue (is_live (r.invocations n).phase) → Contains x.seats (seat n (r.invocations n))
 
--- Each live invocation has the program that is installed for its handler now: an install leaves nobody.
+-- Each live invocation has the program that is installed for its handler now: after an install, none is live.
 pub record LiveAreInstalled (x : Roll) : Type 0 where
   pub programs : (s : Seat) → Contains x.seats s → x.installed s.invocation.handler ≡ Some s.invocation.program
 

@@ -1,4 +1,4 @@
--- Stores seen: what a journal tells of them by itself, and the same as tests by the roll and the serial store.
+-- Stores seen: what a journal records of them by itself, and the same as tests by the roll and the serial store.
 use Rattle.std.specs.Prelude.{◌≡◌, ℕ, zero, suc, ◌&&◌, ◌||◌, not, Bool, true, List, [], ◌∷◌, length, IfSome}
 use Rattle.std.specs.List.{list_any, list_all}
 use Rattle.mate_num.specs.declared.resource.Resource.{Resource}
@@ -14,7 +14,7 @@ use Rattle.audit_finite.specs.Same.{same_values}
 use Rattle.audit_finite.specs.Rerun.{run_on, serial_after}
 
 -- What no started live invocation writes has the serial store's value; what a waiting one writes has the value in the store of its
--- run, up to the call that it waits in. (Of what a ready one writes the journal alone tells nothing.)
+-- run, up to the call that it waits in. (Of what a ready one writes the journal alone records nothing.)
 pub record ShowsValues (m : Machine) (r : NodeState) (seen : Store) : Type 0 where
   pub unwritten : (at : Resource) → ((n : ℕ) → WritesResource m r n at → ⊥) → values_at seen at ≡ values_at r.serial at
   pub waiting : (at : Resource) (n : ℕ) → WritesResource m r n at → IsWaiting r n → values_at seen at ≡ values_at (whole_run m r n).store at

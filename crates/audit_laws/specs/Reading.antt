@@ -8,7 +8,7 @@ use Rattle.report_reading.specs.declared.fault.TextFault.TheVariants.{BadLine, N
 use Rattle.audit_rules.specs.Verdicts.{IsVerdict}
 use Rattle.audit_verdict.specs.declared.law.Verdict.{Verdict}
 
--- it is read, but for want of memory, and has the verdict
+-- it is read, unless memory runs out, and has the verdict
 abbrev pub IsReadWith : Description → List Program → Verdict → Result Report TextFault → Type 0
 IsReadWith d ps v (Ok x) = IsVerdict d ps x v
 IsReadWith d ps v (Err (BadLine line)) = ⊥

@@ -28,11 +28,11 @@ machine_for t = machine_by t.desc.now t.programs.now
 abbrev pub events_from : Trial → ℕ → List TimedEntry
 events_from t place = map (event_of t.log.now) (drop place t.log.now.entries)
 
--- an entry that stands for none
+-- an entry in place of none
 abbrev pub no_entry : Stamped
 no_entry = record { stamp = record { event = 0; time = 0 }; entry = entry.Reset }
 
--- what the entry at a place tells
+-- what the entry at a place records
 abbrev pub told_at : Trial → ℕ → JournalEntry
 told_at t place = journal_entry t.log.now (slice_index_or t.log.now.entries place no_entry).entry
 

@@ -1,4 +1,4 @@
--- What the roll in memory stands for.
+-- What the roll in memory means.
 use Rattle.std.specs.Prelude.{ℕ, ℤ, ◌==◌, ◌&&◌, Bool, true, false, List, [], ◌∷◌, ◌++◌, map, Option, Some, None, unwrap_or, slice_index_or}
 use Rattle.std.specs.Prelude.{not, ◌<◌, if◌then◌else◌}
 use Rattle.arrayvec.specs.ArrayVec.{ArrayVec}
@@ -61,7 +61,7 @@ HasHandlerBelow n (entry.Post k h c payload) = h.0 < n
 HasHandlerBelow n (entry.Install h version image) = h.0 < n
 HasHandlerBelow n _ = Unit {0}
 
--- ---- what it stands for, where the log has these images
+-- ---- what it means, if the log has these images
 
 abbrev pub phase_in : Phase → journal.Phase
 phase_in phase.Queued = journal.Queued

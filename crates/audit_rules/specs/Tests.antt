@@ -44,7 +44,7 @@ abbrev pub images_right : List Program → Roll → List TimedEntry → Bool
 images_right ps x [] = true
 images_right ps x (e ∷ es) = installs_right ps x e.told && images_right ps (rolled x e.told) es
 
--- programs conflict where the code of their images does
+-- programs conflict if the code of their images does
 abbrev pub conflict_of : Description → ConflictTest
 conflict_of d = conflict_with (shape_of d) (λ p. image_code (shape_of d) p.image)
 
@@ -64,7 +64,7 @@ first_failed m conflict ps es =
 abbrev pub failed_by : Description → List Program → Log → Option Law
 failed_by d ps l = first_failed (machine_by d ps) (conflict_of d) ps (journal_of l)
 
--- a law that is failed at this node, or what is told of the nodes behind it
+-- a law that is failed at this node, or the verdict on the nodes after it
 abbrev pub refuted_or : Option Law → ℕ → Verdict → Verdict
 refuted_or None node rest = rest
 refuted_or (Some law) node rest = Refuted node law

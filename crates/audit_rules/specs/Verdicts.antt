@@ -28,7 +28,7 @@ pub record LogFails (d : Description) (ps : List Program) (l : Log) (law : Law) 
 abbrev pub NodesKeep : Description → List Program → Report → ℕ → Type 0
 NodesKeep d ps r nodes = (k : ℕ) → k < nodes → IfSome (slice_get r.nodes k) (LogKeepsAll d ps)
 
--- a report is serial where it is tidy and each node's log keeps each law
+-- a report is serial if it is tidy and each node's log keeps each law
 pub record IsSerialReport (d : Description) (ps : List Program) (r : Report) : Type 0 where
   pub tidy : IsTidy d r
   pub keeps : NodesKeep d ps r (length r.nodes)

@@ -3,7 +3,7 @@ use Rattle.std.specs.Prelude.{ℕ, List, codes}
 use Rattle.audit_verdict.specs.declared.law.Law.{Law}
 use Rattle.audit_verdict.specs.declared.law.Law.TheVariants as law
 
--- the word that stands for a law in a refusal
+-- the word for a law in a refusal
 abbrev pub law_word : Law → List ℕ
 law_word law.D7 = codes "d7"
 law_word law.Image = codes "image"

@@ -5,7 +5,7 @@ use Rattle.std.specs.Int.{div_ceil}
 use Rattle.std.specs.List.{range_with_len}
 use Rattle.mate_num.specs.declared.bounds.TheConstants.{SHORT_IMAGE}
 
--- a piece of an image of so many bytes has 24 bytes, or 48 where the image isn't short
+-- a piece of an image of `len` bytes has 24 bytes, or 48 if the image isn't short
 abbrev pub piece_len : ℕ → ℕ
 piece_len len = if nat_le len SHORT_IMAGE then 24 else 48
 

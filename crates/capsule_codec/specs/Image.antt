@@ -1,4 +1,4 @@
--- A capsule's image: the bytes in which it is stored and sent. Numbers stand with the highest byte first.
+-- A capsule's image: the bytes in which it is stored and sent. Numbers have the highest byte first.
 use Rattle.std.specs.Prelude.{◌≡◌, ℕ, ◌<◌, ◌≤◌, ◌^◌, nat_le, if◌then◌else◌, List, [], ◌∷◌, ◌++◌, length}
 use Rattle.std.specs.Int.{w16, w32, to_be_bytes}
 use Rattle.mate_num.specs.declared.bounds.TheConstants.{CODE_MAX, SHORT_CODE}

@@ -16,7 +16,8 @@ u16_at bytes place = from_be_bytes w16 (slice_index bytes place ∷ slice_index 
 -- the number in the four bytes from a place on
 abbrev pub u32_at : List ℕ → ℕ → ℕ
 u32_at bytes place =
-    from_be_bytes w32 (slice_index bytes place ∷ slice_index bytes (place + 1) ∷ slice_index bytes (place + 2) ∷ slice_index bytes (place + 3) ∷ [])
+    from_be_bytes w32 (slice_index bytes place ∷ slice_index bytes (place + 1)
+    ∷ slice_index bytes (place + 2) ∷ slice_index bytes (place + 3) ∷ [])
 
 -- the fields of an image's first 16 bytes
 abbrev pub format_in : List ℕ → ℕ

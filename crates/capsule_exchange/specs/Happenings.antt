@@ -50,7 +50,7 @@ heard_since h (Sends slot ∷ before) = heard_since h before
 heard_since h (Installs g version image ∷ before) = if g == h then [] else heard_since h before
 heard_since h (Forgets ∷ before) = []
 
--- the version of the handler that the packet tells of, 0 for none
+-- the version of the handler that the packet announces, 0 for none
 abbrev pub version_in : ℕ → Packet → ℕ
 version_in h (Vector versions) = slice_index versions.items h
 version_in h (Status g version missing) = 0
@@ -72,7 +72,7 @@ pub record TargetFragment : Type 0 where
   pub large : Bool
   pub bytes : ArrayVec ℕ
 
--- the packet as a fragment of this version of the handler, none where it is no such fragment
+-- the packet as a fragment of this version of the handler, none if it is no such fragment
 abbrev pub part_in : ℕ → ℕ → Packet → Option TargetFragment
 part_in h target (Vector versions) = None
 part_in h target (Status g version missing) = None
@@ -113,15 +113,15 @@ abbrev pub piece_bytes : Option (ArrayVec ℕ) → List ℕ
 piece_bytes None = []
 piece_bytes (Some piece) = piece.items
 
--- the pieces put together, none where one is missing
+-- the pieces put together, none if one is missing
 abbrev pub whole : List (Option (ArrayVec ℕ)) → Option (ArrayVec ℕ)
 whole places = if list_all is_some places then Some (record { items = flat_map piece_bytes places }) else None
 
--- the target's image, none where there is no target or a fragment of it is missing
+-- the target's image, none if there is no target or a fragment of it is missing
 abbrev pub collected_image : ℕ → List Happening → Option (ArrayVec ℕ)
 collected_image h hs = whole (places_of (target_parts h hs))
 
--- the target, where all its fragments are collected, and else 0
+-- the target, if all its fragments are collected, and else 0
 abbrev pub complete_version : ℕ → List Happening → ℕ
 complete_version h hs = if is_some (collected_image h hs) then target_version h hs else 0
 
@@ -146,7 +146,8 @@ ask_for hs h = Status (record { 0 = h }) (target_version h hs) (mask_of (gaps (p
 -- a Vector is answered with a request for each handler of which it has a greater version than the held one
 abbrev pub asks_after : ℕ → Packet → List Happening → List Packet
 asks_after n (Vector versions) before =
-    map (ask_for (Hears (Vector versions) ∷ before)) (filter (λ h. nat_lt (held_version h before) (slice_index versions.items h)) (range_with_len 0 n))
+    map (ask_for (Hears (Vector versions) ∷ before))
+    (filter (λ h. nat_lt (held_version h before) (slice_index versions.items h)) (range_with_len 0 n))
 asks_after n (Status g version missing) before = []
 asks_after n (Fragment g version index count large bytes) before = []
 asks_after n (App payload) before = []
@@ -156,7 +157,8 @@ abbrev pub completed_by : Packet → List Happening → Option HandlerId
 completed_by (Vector versions) before = None
 completed_by (Status g version missing) before = None
 completed_by (Fragment g version index count large bytes) before =
-    if nat_lt (complete_version g.0 before) (complete_version g.0 (Hears (Fragment g version index count large bytes) ∷ before)) then Some g else None
+    if nat_lt (complete_version g.0 before) (complete_version g.0 (Hears (Fragment g version index count large bytes) ∷ before)) then
+    Some g else None
 completed_by (App payload) before = None
 
 -- ---- which fragments it owes: slot 22 h + i is fragment i of what it holds of the handler h
@@ -187,7 +189,7 @@ last_sent (Sends slot ∷ before) = Some slot
 last_sent (Installs g version image ∷ before) = last_sent before
 last_sent (Forgets ∷ before) = last_sent before
 
--- where the pump goes on: behind the last slot that it sent, and at slot 0 at first
+-- where the pump goes on: after the last slot that it sent, and at slot 0 at first
 abbrev pub next_place : Option ℕ → ℕ
 next_place None = 0
 next_place (Some slot) = slot + 1
@@ -196,7 +198,7 @@ next_place (Some slot) = slot + 1
 abbrev pub slots_from : ℕ → ℕ → List ℕ
 slots_from n first = range_with_len first (22 * n - first)
 
--- the first marked slot from there on, and else the first of all; none where nothing is marked
+-- the first marked slot from there on, and else the first of all; none if nothing is marked
 abbrev pub next_slot : ℕ → List Happening → Option ℕ
 next_slot n hs =
     option_or (find (is_marked_slot hs) (slots_from n (next_place (last_sent hs)))) (find (is_marked_slot hs) (slots_from n 0))

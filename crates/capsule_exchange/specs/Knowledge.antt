@@ -1,4 +1,4 @@
--- What an exchange is: for each handler, and of the pump, what the happenings tell.
+-- What an exchange is: for each handler, and of the pump, what the happenings lead to.
 use Rattle.std.specs.Prelude.{◌≡◌, ◌↔◌, ℕ, Bool, IsTrue, List, [], ◌∷◌, map, slice_set, Option, None, Some, IsSomeAnd}
 use Rattle.std.specs.List.{range_with_len}
 use Rattle.packet_codec.specs.declared.packet.Packet.{Packet}
@@ -43,7 +43,7 @@ with_state k h state = record k { handlers = slice_set k.handlers h state }
 abbrev pub knowledge : ℕ → List Happening → Knowledge
 knowledge n hs = record { handlers = map (state_after hs) (range_with_len 0 n); last = last_sent hs }
 
--- whatever happened: where a node with n handlers knows this after the happenings hs, the fact holds of n and hs
+-- whatever happened: if a node with n handlers knows this after the happenings hs, the fact holds of n and hs
 abbrev pub Whatever : Knowledge → (ℕ → List Happening → Type 0) → Type 0
 Whatever known Fact = (n : ℕ) (hs : List Happening) → known ≡ knowledge n hs → Fact n hs
 
@@ -51,7 +51,7 @@ Whatever known Fact = (n : ℕ) (hs : List Happening) → known ≡ knowledge n 
 abbrev pub Learns : Knowledge → Happening → Knowledge → Type 0
 Learns old happening new = Whatever old (λ n before. new ≡ knowledge n (happening ∷ before))
 
--- a Vector is consistent exactly where it has the held versions, and only a Vector is judged
+-- a Vector is consistent exactly if it has the held versions, and only a Vector is judged
 abbrev pub Judges : ℕ → Packet → List Happening → Option Bool → Type 0
 Judges n (Vector versions) before answer = IsSomeAnd answer (λ consistent. IsTrue consistent ↔ (versions.items ≡ held_versions n before))
 Judges n (Status g version missing) before answer = answer ≡ None

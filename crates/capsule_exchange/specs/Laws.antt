@@ -15,9 +15,11 @@ pub record IsPutTogether (h : ℕ) (hs : List Happening) (image : List ℕ) : Ty
   pub all : length pieces ≡ count
   pub image_is : image ≡ flat_map (λ piece. piece.items) pieces
   pub each : (i : ℕ) → i < count
-      → Contains (heard_since h hs) (Fragment (record { 0 = h }) (target_version h hs) i count large (slice_index_or pieces i (record { items = [] })))
+      → Contains (heard_since h hs) (Fragment (record { 0 = h }) (target_version h hs) i count large
+      (slice_index_or pieces i (record { items = [] })))
 
 -- each fragment of this version of h among the packets is one of this image
 abbrev pub AreFragmentsOf : ℕ → ℕ → List ℕ → List Packet → Type 0
 AreFragmentsOf h version image packets = (i count : ℕ) (large : Bool) (bytes : ArrayVec ℕ)
-    → Contains packets (Fragment (record { 0 = h }) version i count large bytes) → (count ≡ count_of image) × (bytes.items ≡ piece_at image i)
+    → Contains packets (Fragment (record { 0 = h }) version i count large bytes)
+    → (count ≡ count_of image) × (bytes.items ≡ piece_at image i)

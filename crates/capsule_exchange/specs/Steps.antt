@@ -1,5 +1,5 @@
 -- How the state of one handler changes with each happening, and what it answers. The code takes these steps; the laws
--- of proofs/ say that they lead to what looking back over the happenings tells.
+-- of proofs/ say that they lead to what looking back over the happenings gives.
 use Rattle.std.specs.Prelude.{ℕ, ◌/◌, ◌%◌, nat_lt, ◌==◌, Bool, true, false, ◌&&◌, ◌||◌, if◌then◌else◌, List, [], length, map, take, slice_index, slice_index_or, slice_set, Option, None, Some, is_some, is_none}
 use Rattle.std.specs.Bool.{beq}
 use Rattle.std.specs.Int.{bit_at}
@@ -17,7 +17,8 @@ use Rattle.capsule_exchange.specs.Happenings.{gaps, mask_of, whole, next_place, 
 
 -- nothing is held, collected or owed
 abbrev pub no_state : HandlerState
-no_state = record { held = 0; image = record { items = [] }; target = 0; form = None; pieces = table (λ _. None); marks = table (λ _. false) }
+no_state =
+    record { held = 0; image = record { items = [] }; target = 0; form = None; pieces = table (λ _. None); marks = table (λ _. false) }
 
 -- a version over the held one and the target becomes the target, of which nothing is collected yet
 abbrev pub aimed : ℕ → HandlerState → HandlerState
@@ -29,12 +30,13 @@ abbrev pub takes : Form → Option Form → Bool
 takes form None = true
 takes form (Some first) = form.count == first.count && beq form.large first.large
 
--- a fragment of the target is kept where it goes with the first one and none of its index is kept
+-- a fragment of the target is kept if it goes with the first one and none of its index is kept
 abbrev pub kept : ℕ → Form → ArrayVec ℕ → HandlerState → HandlerState
 kept index form bytes s =
-    if takes form s.form && is_none (slice_index_or s.pieces index None) then record s { form = Some form; pieces = slice_set s.pieces index (Some bytes) } else s
+    if takes form s.form && is_none (slice_index_or s.pieces index None) then
+    record s { form = Some form; pieces = slice_set s.pieces index (Some bytes) } else s
 
--- a fragment is kept where it is of the target after its version was heard of
+-- a fragment is kept if it is of the target, after its version was heard of
 abbrev pub keeps : ℕ → ℕ → Form → ArrayVec ℕ → HandlerState → HandlerState
 keeps version index form bytes s = if nat_lt s.held version && version == s.target then kept index form bytes s else s
 
@@ -71,7 +73,7 @@ image_held s = whole (places_in s)
 abbrev pub complete_in : HandlerState → ℕ
 complete_in s = if is_some (image_held s) then s.target else 0
 
--- the handler, where its fragments became complete
+-- the handler, if its fragments became complete
 abbrev pub completes_in : HandlerId → HandlerState → HandlerState → Option HandlerId
 completes_in handler old new = if nat_lt (complete_in old) (complete_in new) then Some handler else None
 
@@ -83,14 +85,15 @@ ask_in handler s = Status handler s.target (mask_of (gaps (places_in s)))
 abbrev pub state_at : List HandlerState → ℕ → HandlerState
 state_at states h = slice_index_or states h no_state
 
--- each handler's version in a Vector is heard of
+-- each handler is given its version in a Vector that was heard
 abbrev pub aimed_each : List ℕ → List HandlerState → List HandlerState
 aimed_each versions states = map (λ h. aimed (slice_index versions h) (state_at states h)) (range_with_len 0 (length states))
 
--- the versions of which more than what is held was heard are asked for
+-- what is asked for: each handler whose version in the Vector is above the held one
 abbrev pub asks_upto : List ℕ → List HandlerState → ℕ → List Packet
 asks_upto versions states n =
-    map (λ h. ask_in (record { 0 = h }) (state_at states h)) (filter (λ h. nat_lt (state_at states h).held (slice_index versions h)) (range_with_len 0 n))
+    map (λ h. ask_in (record { 0 = h }) (state_at states h))
+    (filter (λ h. nat_lt (state_at states h).held (slice_index versions h)) (range_with_len 0 n))
 
 abbrev pub is_marked_in : List HandlerState → ℕ → Bool
 is_marked_in states slot = slice_index_or (state_at states (slot / 22)).marks (slot % 22) false
@@ -98,7 +101,8 @@ is_marked_in states slot = slice_index_or (state_at states (slot / 22)).marks (s
 -- the slot that is sent next, after the last one
 abbrev pub next_in : List HandlerState → Option ℕ → Option ℕ
 next_in states last =
-    option_or (find (is_marked_in states) (slots_from (length states) (next_place last))) (find (is_marked_in states) (slots_from (length states) 0))
+    option_or (find (is_marked_in states) (slots_from (length states) (next_place last)))
+    (find (is_marked_in states) (slots_from (length states) 0))
 
 -- the fragment that is sent for a slot
 abbrev pub fragment_in : List HandlerState → ℕ → Packet

@@ -27,7 +27,7 @@ no_versions = λ h. 0
 abbrev pub if_newer : Held → CapsuleParts → Answer
 if_newer held c = if nat_lt (held c.handler) c.version then Installed (record { 0 = c.handler }) c.version else NotNewer (held c.handler)
 
--- the refusal of code, as the verifier tells it
+-- the refusal of code, as the verifier reports it
 abbrev pub verify_fault : Refusal → VerifyFault
 verify_fault (Decode place) = fault.Decode place
 verify_fault (BadTarget place) = fault.BadTarget place

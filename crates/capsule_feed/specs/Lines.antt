@@ -1,4 +1,4 @@
--- The lines that tell answers, numbered from 1.
+-- The lines for answers, numbered from 1.
 use Rattle.std.specs.Prelude.{ℕ, suc, ◌<◌, List, [], ◌∷◌, ◌++◌, length, codes, decimal, ⊤}
 use Rattle.capsule_listing.specs.CapsuleText.{handler_name_at}
 use Rattle.mate_refusals.specs.CapsuleCauses.{image_words, verify_words}

@@ -14,7 +14,7 @@ use Rattle.capsule_feed.specs.declared.stream_answers.StreamAnswers.{StreamAnswe
 abbrev pub held_by : HeldVersions → Held
 held_by v = λ h. slice_index v.versions h
 
--- what is held behind the answers to frames
+-- what is held after the answers to frames
 abbrev pub held_behind : Description → Held → List Frame → Held
 held_behind d held [] = held
 held_behind d held (f ∷ fs) = held_behind d (held_after held (answer_to d held f)) fs

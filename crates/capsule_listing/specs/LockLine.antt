@@ -8,7 +8,7 @@ use Rattle.vm_desc.specs.declared.description.Description.{Description}
 use Rattle.capsule_listing.specs.declared.lock_line.Group.{Group}
 use Rattle.capsule_listing.specs.declared.lock_line.Group.TheVariants as group
 
--- the resource of a group that stands at a place of the description's list
+-- the resource of a group that is at a place of the description's list
 abbrev pub resource_at : Group → ℕ → Resource
 resource_at group.Shared place = Shared record { 0 = place }
 resource_at group.Buffers place = Buffer record { 0 = place }
@@ -20,7 +20,7 @@ room_of group.Shared = 16
 room_of group.Buffers = 8
 room_of group.Devices = 8
 
--- a space and the name where the resource is written; `:r` stands behind it where it is only read; else nothing
+-- a space and the name if the resource is written, with `:r` after it if it is only read; else nothing
 abbrev pub mention : Uses → Resource → List ℕ → List ℕ
 mention u r name = if u.writes r then codes " " ++ name else if u.reads r then codes " " ++ name ++ codes ":r" else []
 

@@ -1,4 +1,4 @@
--- Steady files that tell what they hold, and refusals that have to come.
+-- Steady files whose contents are given, and refusals that have to come.
 use Rattle.std.specs.Prelude.{◌≡◌, ℕ, List, Option, Some, Result, Ok, Err, IsTrue, ◌⊎◌}
 use Rattle.mate_files.specs.Files.{Names}
 use Rattle.mate_refusals.specs.declared.refusal.Refusal.{Refusal}
@@ -12,7 +12,7 @@ pub record HoldsFile (f : Folder) (name : List ℕ) (held : Option (List ℕ)) :
   pub told_is : f.told ≡ Some names
   pub held_is : names name ≡ held
 
--- this refusal comes, unless memory is wanting
+-- this refusal comes, unless memory runs out
 abbrev pub RefusesAs : {A : Type 0} → Refusal → Result A Refusal → Type 0
 RefusesAs why (Ok a) = ⊥
 RefusesAs why (Err r) = (r ≡ why) ⊎ (r ≡ NoMemory)

@@ -1,4 +1,4 @@
--- What a call comes to where nothing stands in its way.
+-- What a call comes to if nothing is in its way.
 use Rattle.std.specs.Prelude.{◌≡◌, ◌⊎◌, ℕ, true, false, List, Some, Ok, Err, IsTrue}
 use Rattle.command_laws.specs.Texts.{IsOutputText}
 use Rattle.mate_cli.specs.Ends.{Owes, Sinks, RefusesTo}
@@ -13,7 +13,7 @@ use Rattle.mate_refusals.specs.declared.status.Status.TheVariants.{Ok as AllDone
 use Rattle.mate_steps.specs.OneAnswer.{steady}
 use Rattle.mate_steps.specs.Parts.{Folder}
 
--- Nothing stands in the way of a call: the words and the bytes of the files are owed no refusal; the files are steady, or no
+-- Nothing is in the way of a call: the words and the bytes of the files are owed no refusal; the files are steady, or no
 -- read failed in the call; and no write of the output failed.
 pub record IsUnhindered (f : Folder) (names : Names) (words : List (List ℕ)) (before now : ℕ) (s t : Sinks) : Type 0 where
   pub told : f.told ≡ Some names
@@ -23,11 +23,11 @@ pub record IsUnhindered (f : Folder) (names : Names) (words : List (List ℕ)) (
 
 -- How it ends.
 pub data Completes (names : Names) (words : List (List ℕ)) (s t : Sinks) (status : Status) : Type 0 where
-  -- the whole text that is owed was written, and nothing told
+  -- the whole text that is owed was written, and no refusal
   whole : (o : Output) → Owes (steady names) words (Ok o) → (bs : List ℕ) → IsOutputText false o bs → Sent s.out t.out bs → t.err ≡ s.err
       → status ≡ AllDone → Completes names words s t status
   -- the whole text of a run that a full log ended
   full : (o : Output) → Owes (steady names) words (Ok o) → (bs : List ℕ) → IsOutputText true o bs → Sent s.out t.out bs
       → RefusesTo s t LogFull status → Completes names words s t status
-  -- memory was wanting
+  -- memory ran out
   wanting : status ≡ OutOfMemory → Completes names words s t status

@@ -23,7 +23,7 @@ pub record IsRunText (d : Description) (Is : OfRun) (how : RunEnd) (bs : List �
   pub ended : Is how report
   pub text_is : bs ≡ text d report
 
--- a text of an output, which tells whether a full log ended the run
+-- a text of an output, which says whether a full log ended the run
 abbrev pub IsOutputText : (full : Bool) → Output → List ℕ → Type 0
 IsOutputText full (output.Document x) bs = (full ≡ false) × (bs ≡ document_text x)
 IsOutputText full (output.Summary d s) bs = (s.whole ≡ not full) × (bs ≡ summary_text d s)

@@ -24,11 +24,12 @@ pub data Task : Type 0 where
   Compile : (fold : Bool) (machine handler : List ℕ) → (version : ℕ) → (source : List ℕ) → Task
   -- write the text of the capsule of a machine that a file has in hexadecimal digits
   Check : (machine file : List ℕ) → Task
-  -- write the plain script that a source with procedures stands for
+  -- write the plain script that a source with procedures expands to
   Expand : (source : List ℕ) → Task
   -- write what a new node of a machine answers to the capsules in a file, the bytes of a serial line
   Feed : (machine stream : List ℕ) → Task
-  -- say whether the report in a file shows serial behaviour of what a script, of a node or of a world, runs on a machine, with sources folded or not
+  -- say whether the report in a file shows serial behaviour of what a script, of a node or of a world, runs on a machine, with
+  -- sources folded or not
   Audit : (fold : Bool) (machine script report : List ℕ) → Task
 
 -- the word for the built-in machine, in place of a description's file
@@ -67,7 +68,8 @@ gen_task fold brief (number ∷ machine ∷ []) = option_map (λ n. Gen fold bri
 gen_task fold brief words = None
 
 abbrev pub compile_task : Bool → List (List ℕ) → Option Task
-compile_task fold (machine ∷ handler ∷ version ∷ source ∷ []) = option_map (λ v. Compile fold machine handler v source) (version_said version)
+compile_task fold (machine ∷ handler ∷ version ∷ source ∷ []) =
+    option_map (λ v. Compile fold machine handler v source) (version_said version)
 compile_task fold words = None
 
 abbrev pub check_task : List (List ℕ) → Option Task

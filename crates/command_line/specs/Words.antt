@@ -22,7 +22,8 @@ command_word = record (new_rule (codes "command")) { action = Some Set; required
 
 -- any number of words, at one place or at several
 abbrev pub other_words : Rule
-other_words = record (new_rule (codes "args")) { action = Some Append; range = Some (record { start_inclusive = 0; end_inclusive = usize_max }) }
+other_words =
+    record (new_rule (codes "args")) { action = Some Append; range = Some (record { start_inclusive = 0; end_inclusive = usize_max }) }
 
 -- a command with nothing in it, whose words don't begin with the program's name
 abbrev pub bare_app : App
@@ -46,7 +47,7 @@ is_from_words (Some FromWords) = true
 is_from_words (Some DefaultValue) = false
 is_from_words None = false
 
--- the flag stands among the words
+-- the flag is among the words
 abbrev pub is_given : Text → List Row → Bool
 is_given id rows = is_from_words (option_and_then (λ r. r.source) (find (λ r. bytes_eq r.id id) rows))
 
@@ -68,12 +69,12 @@ pub record IsLine (words : List Text) (l : Line) : Type 0 where
 abbrev pub HasNoLine : List Text → Type 0
 HasNoLine words = (l : Line) → IsLine words l → ⊥
 
--- only an error for want of memory is no refusal of the words
+-- only an error for lack of memory is no refusal of the words
 abbrev pub TellsWordsFault : ErrorKind → WordsFault → Type 0
 TellsWordsFault k NotTaken = k ≡ OutOfMemory → ⊥
 TellsWordsFault k NoMemory = Unit {0}
 
--- a line is read exactly where there is one
+-- a line is read exactly if there is one
 abbrev pub ReadsLine : List Text → Result CommandLine WordsFault → Type 0
 ReadsLine words (Ok line) =
     IsLine words (record { brief = line.brief; fold = line.fold; command = line.command.now; args = map (λ w. w.now) line.args.items })

@@ -10,7 +10,7 @@ pub record Agenda (T : Type 0) : Type 0 where
   pub now : ℕ
   pub items : List (Timed T)
 
--- an item more, behind all that come by its time
+-- an item more, after all that come by its time
 abbrev pub inserted : {T : Type 0} → Timed T → List (Timed T) → List (Timed T)
 inserted x [] = x ∷ []
 inserted x (y ∷ ys) = if nat_le y.time x.time then y ∷ inserted x ys else x ∷ y ∷ ys

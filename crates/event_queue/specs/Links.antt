@@ -44,7 +44,8 @@ seen_places next heads = record { total = length next; lists = map (places_behin
 -- each list has places that no other position of a list has, and knows its last one
 pub record IsLinked (next : List ℕ) (heads : List Head) : Type 0 where
   pub within : (s p : ℕ) → p < (head_of heads s).len → place_at next heads s p < length next
-  pub apart : (s p t q : ℕ) → p < (head_of heads s).len → q < (head_of heads t).len → place_at next heads s p ≡ place_at next heads t q → (s ≡ t) × (p ≡ q)
+  pub apart : (s p t q : ℕ) → p < (head_of heads s).len → q < (head_of heads t).len
+      → place_at next heads s p ≡ place_at next heads t q → (s ≡ t) × (p ≡ q)
   pub ends : (s p : ℕ) → (head_of heads s).len ≡ suc p → (head_of heads s).last ≡ place_at next heads s p
 
 -- how many places all lists have

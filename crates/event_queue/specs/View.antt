@@ -16,7 +16,7 @@ in_order comes (suc n) = in_order comes n ++ at_time n (comes n)
 abbrev pub agenda_of : {T : Type 0} → (T → Option ℕ) → ℕ → Wheel T → Agenda T
 agenda_of group until w = record { until = until; now = w.at; items = in_order (wheel_due group w) (suc until) }
 
--- the wheel stands within `until`, and has nothing after it
+-- the wheel is within `until`, and has nothing after it
 pub record IsRightQueue {T : Type 0} (group : T → Option ℕ) (until : ℕ) (w : Wheel T) : Type 0 where
   pub right : IsWheel group w
   pub below : until < 4194304

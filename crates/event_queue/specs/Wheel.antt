@@ -41,7 +41,7 @@ near t = 1 + t % 2048
 abbrev pub far : ℕ → ℕ
 far t = 2049 + t / 2048
 
--- the list in which an item of a time waits, on a wheel that stands at another
+-- the list in which an item of a time waits, on a wheel that is at another
 abbrev pub list_for : ℕ → ℕ → ℕ
 list_for at time = if time / 2048 == at / 2048 then near time else far time
 
@@ -109,7 +109,7 @@ pub record TakesFirst {T : Type 0} (group : T → Option ℕ) (old : Wheel T) (i
   pub first : wheel_due group old old.at ≡ cons_option item (wheel_due group new old.at)
   pub others : (t : ℕ) → t ≢ old.at → wheel_due group new t ≡ wheel_due group old t
 
--- the wheel stands at another time
+-- the wheel is at another time
 pub record Turns {T : Type 0} (group : T → Option ℕ) (old : Wheel T) (now : ℕ) (new : Wheel T) : Type 0 where
   pub right : IsWheel group new
   pub at : new.at ≡ now

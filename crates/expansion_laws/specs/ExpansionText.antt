@@ -1,4 +1,4 @@
--- What the text that `expand` writes of a source with procedures is, where it is cut and parsed as a plain script.
+-- What the text that `expand` writes of a source with procedures is, if it is cut and parsed as a plain script.
 use Rattle.std.specs.Prelude.{◌≡◌, ◌↔◌, ℕ, List, None, Ok}
 use Rattle.vm_desc.specs.declared.description.Description.{Description}
 use Rattle.ts_syntax.specs.Depth.{first_deep}
@@ -24,7 +24,7 @@ IsShallow s = first_deep (source_spelled (expansion s)) ≡ None
 abbrev pub SpellsExpansion : ProcedureSource → Type 0
 SpellsExpansion s = IsShallow s → IsTextButPlaces (expansion_text s) (expansion s)
 
--- a machine accepts the text exactly where it isn't too deep and the checks of the expansion pass, and with their tree
+-- a machine accepts the text exactly if it isn't too deep and the checks of the expansion pass, and with their tree
 abbrev pub IsAcceptedAsExpanded : ProcedureSource → Type 0
 IsAcceptedAsExpanded s =
     (machine : Description) (tree : Block) →

@@ -14,7 +14,7 @@ use Rattle.capsule_feed.specs.Answers.{Held}
 use Rattle.capsule_feed.specs.declared.answer.Answer.{Answer}
 use Rattle.capsule_feed.specs.declared.answer.Answer.TheVariants.{Installed, NotNewer, NoCapsule, BadCode, Long, Broken}
 
--- the versions that a node holds that heard this
+-- the versions that a node in this state holds
 abbrev pub held_in : NodeState → Held
 held_in r = λ h. held r (record { 0 = h })
 
@@ -24,10 +24,11 @@ frame_answer (Capsule why) = NoCapsule why
 frame_answer (Code why) = BadCode why
 frame_answer (NoNewer version) = NotNewer version
 
--- what a node that heard r answers to a frame, and what it heard then
+-- what a node in state r answers to a frame, and its state then
 pub data IsFrameAnswer (d : Description) (r : NodeState) (f : Frame) (a : Answer) (after : NodeState) : Type 0 where
   installs : (image : ArrayVec ℕ) (p : Pace) (told : List JournalEntry) (i : InstallsBytes d r image.items p told) → f ≡ frame.Whole image
-      → a ≡ Installed (capsule_handler i.capsule) i.capsule.version → after ≡ state_after_entries (machine_in d) r told → IsFrameAnswer d r f a after
+      → a ≡ Installed (capsule_handler i.capsule) i.capsule.version → after ≡ state_after_entries (machine_in d) r told
+      → IsFrameAnswer d r f a after
   refuses : (image : ArrayVec ℕ) (why : InstallFault) → Refuses d r image.items why → f ≡ frame.Whole image → a ≡ frame_answer why
       → after ≡ r → IsFrameAnswer d r f a after
   long : f ≡ frame.TooLong → a ≡ Long → after ≡ r → IsFrameAnswer d r f a after

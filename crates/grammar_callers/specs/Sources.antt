@@ -22,11 +22,11 @@ without_declarations body = record { decls = []; body = body }
 abbrev pub subtracting : Source
 subtracting = without_declarations (act_then (set (x_at 0) (two Sub (number 3) (number 1))) no_acts)
 
--- what stands behind the name in `y = x[];`
+-- what is after the name in `y = x[];`
 abbrev pub taking : List Token
 taking = token kind.Eq 2 3 ∷ x_token 4 5 ∷ token kind.OpenBox 5 6 ∷ token kind.CloseBox 6 7 ∷ token kind.Semi 7 8 ∷ []
 
--- `for x = 1 to 2 step -3 next x`, with what stands before the literal 3
+-- `for x = 1 to 2 step -3 next x`, with what is before the literal 3
 abbrev pub stepping : List Token → List Token
 stepping sign =
     token kind.For 0 3 ∷ x_token 4 5 ∷ token kind.Eq 6 7 ∷ token (kind.Num 1) 8 9 ∷ token kind.To 10 12 ∷ token (kind.Num 2) 13 14

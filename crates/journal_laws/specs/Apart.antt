@@ -16,6 +16,6 @@ pub record IsOrderly (m : Machine) (r : NodeState) : Type 0 where
   pub unhindered : (n k : ℕ) → n ≢ k → IsTrue (is_started (r.invocations n).phase) → IsAhead r n k → AreConflicting m r n k → ⊥
 
 -- of two conflicting invocations, the one that ends first was posted first
--- (what an invocation's program is stays told after its end, so the conflict is read at the journal's end)
+-- (what an invocation's program is stays recorded after its end, so the conflict is read at the journal's end)
 abbrev pub EndAsPosted : Machine → NodeState → List TimedEntry → Type 0
 EndAsPosted m r es = (j k p q : ℕ) → EndsAt es j p → EndsAt es k q → p < q → AreConflicting m (state_after_all m r es) j k → j < k

@@ -1,4 +1,4 @@
--- A journal as it grows: what was told last, and the rules of its entries apart from what holds at its end.
+-- A journal as it grows: its last entry, and the rules of its entries apart from what holds at its end.
 use Rattle.std.specs.Prelude.{◌≡◌, ◌<◌, ℕ, Bool, List, [], ◌∷◌, ◌++◌, length}
 use Rattle.arrayvec.specs.ArrayVec.{ArrayVec}
 use Rattle.mate_num.specs.declared.call.Stamp.{Stamp}
@@ -15,11 +15,11 @@ use Rattle.mate_journal.specs.declared.entry.Stamped.{Stamped}
 
 -- ---- the log
 
--- an entry of a log tells this event
+-- what an entry of a log records, with its stamp
 abbrev pub event_of : Log → Stamped → TimedEntry
 event_of l s = record { stamp = s.stamp; told = journal_entry l s.entry }
 
--- the image or the store that an entry names is one of so many
+-- the image or the store that an entry names is one of this number
 abbrev pub IsNamedBelow : ℕ → ℕ → Entry → Type 0
 IsNamedBelow images stores (entry.Install h version image) = image < images
 IsNamedBelow images stores (entry.Seen store) = store < stores
@@ -51,7 +51,7 @@ pub record AddsStore (l : Log) (store : Store) (after : Log) : Type 0 where
   pub images : after.images ≡ l.images
   pub stores : after.stores ≡ l.stores ++ store ∷ []
 
--- ---- what was told last
+-- ---- the last entry
 
 -- the stamp of the last event, `before` if there is none
 abbrev pub last_stamp : Stamp → List TimedEntry → Stamp
@@ -63,12 +63,12 @@ abbrev pub FollowsLast : List TimedEntry → Stamp → Type 0
 FollowsLast [] at = Unit {0}
 FollowsLast (e ∷ es) at = NotBefore (last_stamp e.stamp es) at
 
--- the number of the invocation that the last event starts, 0 where it starts none, `before` where there is no event
+-- the number of the invocation that the last event starts, 0 if it starts none, `before` if there is no event
 abbrev pub last_start : ℕ → List TimedEntry → ℕ
 last_start before [] = before
 last_start before (e ∷ es) = last_start (started_number e.told) es
 
--- the last event shows a store, `before` where there is no event
+-- the last event shows a store, `before` if there is no event
 abbrev pub last_is_seen : Bool → List TimedEntry → Bool
 last_is_seen before [] = before
 last_is_seen before (e ∷ es) = last_is_seen (is_seen e.told) es

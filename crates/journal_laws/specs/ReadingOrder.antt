@@ -18,7 +18,7 @@ NeverEnds era n = (p : ℕ) → EndsAt era n p → ⊥
 
 -- In this reading the calls to the device have rising positions: each of an invocation that is read before another
 -- is before each of the other. Of those that never end, one at most calls the device. (The calls of one
--- invocation are read in the order in which they are told.)
+-- invocation are read in the order in which they are recorded.)
 pub record AsksInOrder (device_of : DeviceOf) (d : DeviceId) (era : List TimedEntry) : Type 0 where
   pub rising : (j k p q : ℕ) → j ≢ k → IsReadBefore era j k → AsksAt device_of d era j p → AsksAt device_of d era k q → p < q
   pub one_open : (j k p q : ℕ) → NeverEnds era j → NeverEnds era k → AsksAt device_of d era j p → AsksAt device_of d era k q → j ≡ k

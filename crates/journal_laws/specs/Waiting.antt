@@ -23,7 +23,7 @@ pub record WaitsWithin (r : NodeState) (n : ℕ) : Type 0 where
 abbrev pub WaitSmall : NodeState → Type 0
 WaitSmall r = (n : ℕ) → IsWaiting r n → (r.invocations n).context.0 < CONTEXTS_MAX
 
--- the call that an entry tells, by its invocation and its function
+-- the call that an entry records, by its invocation and its function
 abbrev pub asked_of : JournalEntry → Option (ℕ × FunId)
 asked_of (Asked n f args) = Some (n, f)
 asked_of _ = None
@@ -37,7 +37,7 @@ abbrev pub AreAwaited : NodeState → List JournalEntry → Type 0
 AreAwaited r [] = Unit {0}
 AreAwaited r (t ∷ told) = IsAwaitedBy r (asked_of t) × AreAwaited r told
 
--- each of the entries may follow what was heard before it
+-- each of the entries may follow the state before it
 abbrev pub AreFollowing : Machine → NodeState → List JournalEntry → Type 0
 AreFollowing m r [] = Unit {0}
 AreFollowing m r (t ∷ told) = MayFollow m r t × AreFollowing m (next_state m r t) told
@@ -51,7 +51,7 @@ abbrev pub NoneEndsWait : ℕ → List JournalEntry → Type 0
 NoneEndsWait n [] = Unit {0}
 NoneEndsWait n (t ∷ told) = (ends_wait n t ≡ false) × NoneEndsWait n told
 
--- the contexts of the machine are at most so many as a machine may have
+-- the contexts of the machine are no more than a machine may have
 abbrev pub HasFewContexts : Machine → Type 0
 HasFewContexts m = (h : HandlerId) (c : ContextId) → IsContextOf m h c → c.0 < CONTEXTS_MAX
 
@@ -61,12 +61,12 @@ HasFewContexts m = (h : HandlerId) (c : ContextId) → IsContextOf m h c → c.0
 abbrev pub JournalsWaitApart : Machine → Type 0
 JournalsWaitApart m = (es : List TimedEntry) → IsWellFormed m (first_state m) es → WaitApart (state_after_all m (first_state m) es)
 
--- and in contexts of the machine, where it has few
+-- and in contexts of the machine, if it has few
 abbrev pub JournalsWaitSmall : Machine → Type 0
 JournalsWaitSmall m = HasFewContexts m → (es : List TimedEntry) → IsWellFormed m (first_state m) es
     → WaitSmall (state_after_all m (first_state m) es)
 
--- behind a well-formed journal an invocation that waits stays as it is until an entry ends its wait
+-- after a well-formed journal an invocation that waits stays as it is until an entry ends its wait
 abbrev pub WaitingGoesOn : Machine → Type 0
 WaitingGoesOn m = (es : List TimedEntry) (told : List JournalEntry) (n : ℕ) → IsWellFormed m (first_state m) es →
     let r = state_after_all m (first_state m) es in
@@ -83,7 +83,7 @@ abbrev pub SettlingAwaits : Machine → Type 0
 SettlingAwaits m = (r : NodeState) (p : Pace) (told : List JournalEntry) (q : Pace) → Settles m r p told q → AreFollowing m r told
     → WaitSmall (state_after_entries m r told) → AreAwaited (state_after_entries m r told) told
 
--- behind a well-formed journal, of a machine with few contexts, turns tell at most two entries for each context while they settle
+-- after a well-formed journal, of a machine with few contexts, turns make at most two entries for each context while they settle
 abbrev pub SettlingTellsFew : Machine → Type 0
 SettlingTellsFew m = HasFewContexts m → (es : List TimedEntry) → IsWellFormed m (first_state m) es →
     let r = state_after_all m (first_state m) es in

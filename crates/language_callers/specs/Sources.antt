@@ -15,7 +15,7 @@ use Rattle.ts_scope.specs.declared.scope.Symbol.TheVariants.{Variable}
 abbrev pub word : List ℕ → ℕ → Word
 word name place = record { name = name; place = place }
 
--- an actuator without a device, which takes so many values
+-- an actuator without a device, which takes `args` values
 abbrev pub actuator : List ℕ → ℕ → Function
 actuator name args = record { name = name; kind = Act args; device = None; latency = 1 }
 
@@ -46,6 +46,6 @@ for_x limit step =
       body = act_then (for_next (word (codes "x") 15) (number 0) limit step no_acts (word (codes "x") 40)) no_acts;
     }
 
--- `f()`, behind `private x; for x = 0 to `
+-- `f()`, after `private x; for x = 0 to `
 abbrev pub f_in_the_limit : Tree
 f_in_the_limit = call (word (codes "f") 24) no_trees

@@ -13,7 +13,7 @@ pub record Claims : Type 0 where
   pub waiting : List Claim
   pub started : List Claim
 
--- nobody waits, and nobody is started
+-- no context waits, and none is started
 abbrev pub no_claims : Claims
 no_claims = record { waiting = []; started = [] }
 
@@ -62,7 +62,7 @@ pub record MovesClaims (old new : Claims) (ctx : ContextId) (waiting started : O
   pub others_wait : (c : ContextId) → c.0 ≢ ctx.0 → set_of new.waiting c ≡ set_of old.waiting c
   pub others_hold : (c : ContextId) → c.0 ≢ ctx.0 → set_of new.started c ≡ set_of old.started c
 
--- the context waits, behind all others
+-- the context waits, after all others
 pub record Enqueues (old new : Claims) (ctx : ContextId) (set : LockSet) : Type 0 where
   pub waiting : new.waiting ≡ old.waiting ++ record { ctx = ctx; set = set } ∷ []
   pub started : new.started ≡ old.started

@@ -10,7 +10,10 @@ use Rattle.mate_num.specs.Locks.{lock_uses}
 
 -- what a machine can have: 16 shared variables, 8 buffers and 8 devices
 abbrev pub resources : List Resource
-resources = map (λ v. Shared record { 0 = v }) (range_with_len 0 SHARED_MAX) ++ map (λ b. Buffer record { 0 = b }) (range_with_len 0 BUFFERS_MAX) ++ map (λ d. Device record { 0 = d }) (range_with_len 0 DEVICES_MAX)
+resources =
+    map (λ v. Shared record { 0 = v }) (range_with_len 0 SHARED_MAX)
+    ++ map (λ b. Buffer record { 0 = b }) (range_with_len 0 BUFFERS_MAX)
+    ++ map (λ d. Device record { 0 = d }) (range_with_len 0 DEVICES_MAX)
 
 -- one of the two writes r, and the other reads or writes it
 abbrev pub conflicts_at : Uses → Uses → Resource → Bool

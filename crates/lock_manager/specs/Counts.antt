@@ -20,7 +20,7 @@ AreCounts ahead (w ∷ ws) = (w.blocked ≡ against w.claim.set ahead) × AreCou
 abbrev pub lowered : LockSet → Waiter → Waiter
 lowered set w = record w { blocked = w.blocked - (if conflict w.claim.set set then 1 else 0) }
 
--- each context stands once, and each number is right
+-- each context is there once, and each number is right
 pub record AreLocks (waiters : List Waiter) (started : List Claim) : Type 0 where
   pub once : AreOnce (started ++ claims_of waiters)
   pub counts : AreCounts started waiters

@@ -62,21 +62,21 @@ pub record Sinks : Type 0 where
 abbrev pub RefusesTo : Sinks → Sinks → Refusal → Status → Type 0
 RefusesTo s t r status = TellsRefusal s.err s.err_faults t.err t.err_faults r status
 
--- How the writing of a text ends, which tells of a whole run, or of one that a full log ended.
+-- How the writing of a text ends that reports a whole run, or one that a full log ended.
 pub data IsTextWritten (bs : List ℕ) (whole : Bool) (s t : Sinks) (status : Status) : Type 0 where
-  -- all of it was written, and nothing told
+  -- all of it was written, and no refusal
   done : whole ≡ true → Sent s.out t.out bs → t.err ≡ s.err → status ≡ AllDone → IsTextWritten bs whole s t status
   -- all of it was written, of a run that a full log ended
   full : whole ≡ false → Sent s.out t.out bs → RefusesTo s t LogFull status → IsTextWritten bs whole s t status
   -- `out` failed, and a prefix of it was written that lacks at least its last byte
   failed : SentShort s.out t.out bs → Rose s.out_faults t.out_faults → RefusesTo s t SinkFault status → IsTextWritten bs whole s t status
-  -- memory was wanting, and a prefix of it was written
+  -- memory ran out, and a prefix of it was written
   wanting : SentPart s.out t.out bs → RefusesTo s t NoMemory status → IsTextWritten bs whole s t status
 
 -- How the writing of a run ends, on nodes of this machine, where these reports are of the run. Its report is that of the events that
 -- ended.
 pub data IsRunWritten (d : Description) (Is : OfRun) (s t : Sinks) (status : Status) : Type 0 where
-  -- the whole text of the report of the whole run was written, and nothing told
+  -- the whole text of the report of the whole run was written, and no refusal
   whole : (r : Report) → Is Whole r → Sent s.out t.out (text d r) → t.err ≡ s.err → status ≡ AllDone
       → IsRunWritten d Is s t status
   -- the log was full before an event, and the whole text of the report up to there was written
@@ -86,7 +86,7 @@ pub data IsRunWritten (d : Description) (Is : OfRun) (s t : Sinks) (status : Sta
   -- of the last one; of a run that was cut no last line was
   unwritten : (r : Report) → IsWrittenShort d Is s.out t.out r → Rose s.out_faults t.out_faults → RefusesTo s t SinkFault status
       → IsRunWritten d Is s t status
-  -- memory was wanting; such a prefix was written, or nothing was run
+  -- memory ran out; such a prefix was written, or nothing was run
   cut : (r : Report) → IsNothingRun s.out t.out r ⊎ IsWrittenPart d Is s.out t.out r → RefusesTo s t NoMemory status
       → IsRunWritten d Is s t status
 
@@ -100,19 +100,19 @@ IsOutputWritten (output.World d w ps) s t status = IsRunWritten d (IsReportOfWor
 pub data CallEnds (f : Folder) (words : List (List ℕ)) (before now : ℕ) (s t : Sinks) (status : Status) : Type 0 where
   -- what is owed was written, as far as it could be
   written : (o : Output) → Owes f words (Ok o) → IsOutputWritten o s t status → CallEnds f words before now s t status
-  -- nothing was written; a file could not be read only where the count rose
+  -- nothing was written; a file could not be read only if the count rose
   refused : (r : Refusal) → Owes f words (Err r) → (IsUnreadAnswer {A = Output} (Err r) → Rose before now) → t.out ≡ s.out
       → RefusesTo s t r status → CallEnds f words before now s t status
 
 -- ---- on the way
 
--- what is told of a run, or of a text, that was not written whole
+-- the refusal for a run, or for a text, that was not written whole
 abbrev pub run_refusal : WriteFault → Refusal
 run_refusal fault.LogFull = LogFull
 run_refusal fault.NoMemory = NoMemory
 run_refusal fault.Sink = SinkFault
 
--- how the writing ended is told, and the status comes
+-- a fault that ended the writing is reported, and the status comes
 abbrev pub TellsEnd : Result (Unit {0}) WriteFault → Option (List ℕ) → ℕ → Option (List ℕ) → ℕ → Status → Type 0
 TellsEnd (Ok all) err faults err' faults' status = (err' ≡ err) × (status ≡ AllDone)
 TellsEnd (Err why) err faults err' faults' status = TellsRefusal err faults err' faults' (run_refusal why) status

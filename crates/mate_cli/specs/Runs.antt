@@ -14,7 +14,7 @@ use Rattle.vm_desc.specs.declared.description.Description.{Description}
 abbrev pub report_of : OfRun → Result Report Refusal → Type 0
 report_of Is = obtained (IsEnded Is)
 
--- the summary of this report, which tells whether it is whole
+-- the summary of this report, which says whether it is whole
 abbrev pub IsBrief : Description → Report → Output → Type 0
 IsBrief d r (output.Document x) = ⊥
 IsBrief d r (output.Summary d' s) = (summary_text d' s ≡ brief d r) × (s.whole ≡ r.whole)

@@ -24,7 +24,7 @@ abbrev pub bytes_verification : Shape → List ℕ → Result (Code × Marks) Re
 bytes_verification shape bytes =
     if nat_lt CODE_MAX (length bytes) then Err (TooLong (length bytes)) else of_decoded shape (decoded (table_of shape) bytes)
 
--- what the verification of bytes tells of the code
+-- what the verification of bytes shows of the code
 pub record AreVerified (shape : Shape) (bytes : List ℕ) (code : Code) (marks : Marks) : Type 0 where
   pub is_decoded : IsDecoded (table_of shape) 0 bytes code
   pub is_verified : IsVerified shape code marks

@@ -9,7 +9,7 @@ use Rattle.mate_code.specs.declared.instr.Instr.{Instr}
 use Rattle.mate_code.specs.Kind.{form_of, kind_name}
 use Rattle.mate_code.specs.Instr.{kind_of, operand_of}
 
--- an operand behind a space, in decimal; a word with a sign as a signed number
+-- an operand after a space, in decimal; a word with a sign as a signed number
 abbrev pub operand_text : OperandForm → ℕ → List ℕ
 operand_text Absent n = []
 operand_text Byte n = codes " " ++ decimal n

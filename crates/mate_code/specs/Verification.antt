@@ -38,7 +38,7 @@ given Blank n = Depth n
 given (Depth m) n = if m == n then Depth m else Clash
 given Clash n = Clash
 
--- the depth at a place; 0 where none was given
+-- the depth at a place; 0 if none was given
 abbrev pub depth_in : DepthMark → ℕ
 depth_in Blank = 0
 depth_in (Depth n) = n
@@ -52,7 +52,7 @@ is_clash Blank = false
 is_clash (Depth n) = false
 is_clash Clash = true
 
--- the marks where a place is given a depth
+-- the marks after a place is given a depth
 abbrev pub mark : ℕ → ℕ → Marks → Marks
 mark place n marks = λ q. if q == place then given (marks q) n else marks q
 
@@ -64,7 +64,7 @@ first_marks = mark 0 0 (λ _. Blank)
 abbrev pub depth_after : Shape → Instr → ℕ → ℕ
 depth_after shape i depth = depth - pops_of shape i + pushes_of i
 
--- an instruction stands there
+-- an instruction is at the place
 abbrev pub is_start : Code → ℕ → Bool
 is_start code place = is_some (fetch code place)
 
@@ -92,7 +92,7 @@ has_back_depth marks depth (Branches target) = true
 has_back_depth marks depth (Jumps target) = true
 has_back_depth marks depth (Returns target) = depth_at marks target == depth
 
--- the refusal where the test fails, and else what comes after it
+-- the refusal if the test fails, and else what comes after it
 abbrev pub demand : Bool → Refusal → Option Refusal → Option Refusal
 demand true refusal rest = rest
 demand false refusal rest = Some refusal
@@ -152,7 +152,7 @@ if_halts false (Ok marks) = Err NoHalt
 abbrev pub verification : Shape → Code → Result Marks Refusal
 verification shape code = if_halts (halts code) (pass shape code first_marks code)
 
--- the instructions stand one after another, from this place on
+-- the instructions are one after another, from this place on
 abbrev pub AreFrom : ℕ → Code → Type 0
 AreFrom place [] = ⊤
 AreFrom place (p ∷ rest) = (p.0 ≡ place) × AreFrom (place + size_of p.1) rest
@@ -162,7 +162,7 @@ pub record IsVerified (shape : Shape) (code : Code) (marks : Marks) : Type 0 whe
   pub places : AreFrom 0 code
   pub passed : verification shape code ≡ Ok marks
 
--- an instruction stands at the place, with that depth
+-- an instruction is at the place, with that depth
 pub record IsPlace (code : Code) (depth : ℕ → ℕ) (place n : ℕ) : Type 0 where
   pub start : IsTrue (is_start code place)
   pub depth_is : depth place ≡ n
@@ -175,7 +175,7 @@ Flows code depth place next n (Branches target) = IsPlace code depth next n × I
 Flows code depth place next n (Jumps target) = IsPlace code depth target n × (place < target)
 Flows code depth place next n (Returns target) = IsPlace code depth target n × (target ≤ place)
 
--- what verification tells of the instruction at a place: its names are in range, its operands are there, what it
+-- what verification shows of the instruction at a place: its names are in range, its operands are there, what it
 -- pushes has room, and it goes on at an instruction of the depth that it leaves
 pub record IsRightInstr (shape : Shape) (code : Code) (depth : ℕ → ℕ) (place : ℕ) (i : Instr) : Type 0 where
   pub names : IsTrue (is_in_range shape i)
@@ -183,7 +183,7 @@ pub record IsRightInstr (shape : Shape) (code : Code) (depth : ℕ → ℕ) (pla
   pub room : depth_after shape i (depth place) ≤ STACK_MAX
   pub flow : Flows code depth place (place + size_of i) (depth_after shape i (depth place)) (flow_of i)
 
--- what verification tells of the code: it begins with depth 0, each instruction is right, and all stand below its size
+-- what verification shows of the code: it begins with depth 0, each instruction is right, and all are below its size
 pub record IsSoundCode (shape : Shape) (code : Code) (depth : ℕ → ℕ) : Type 0 where
   pub begins : IsPlace code depth 0 0
   pub each : (place : ℕ) (i : Instr) → fetch code place ≡ Some i → IsRightInstr shape code depth place i

@@ -14,7 +14,8 @@ use Rattle.mate_documents.specs.declared.output.Output.{Output}
 
 -- the image of the capsule with the machine's number, in hexadecimal digits, and a line feed
 abbrev pub capsule_hex : Description → HandlerId → ℕ → ArrayVec ℕ → List ℕ
-capsule_hex d h version code = encode_lower (capsule_image (record { vm_id = d.vm_id; handler = h.0; version = version; code = code.items }))
+capsule_hex d h version code =
+    encode_lower (capsule_image (record { vm_id = d.vm_id; handler = h.0; version = version; code = code.items }))
     ++ codes "\n"
 
 -- the image of a source's capsule for a machine

@@ -1,4 +1,4 @@
--- The command `expand`: the plain script that the source with procedures in a file stands for.
+-- The command `expand`: the plain script that the source with procedures in a file expands to.
 use Rattle.std.specs.Prelude.{ℕ, List, Result}
 use Rattle.ts_syntax.specs.Seen.{source_seen}
 use Rattle.mate_documents.specs.Documents.{script_line}

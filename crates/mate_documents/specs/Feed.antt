@@ -10,7 +10,7 @@ use Rattle.mate_steps.specs.Steps.{judged, ◌▸◌}
 use Rattle.slip_gateway.specs.Stream.{unfinished}
 use Rattle.vm_desc.specs.declared.description.Description.{Description}
 
--- bytes stand behind the stream's last END, from this place on
+-- bytes are after the stream's last END, from this place on
 abbrev pub IsOpenAt : List ℕ → ℕ → Type 0
 IsOpenAt bytes place = (unfinished bytes ≢ []) × (place + length (unfinished bytes) ≡ length bytes)
 

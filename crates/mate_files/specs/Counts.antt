@@ -5,6 +5,6 @@ use Rattle.std.specs.Prelude.{ℕ, ◌+◌, ◌-◌, ◌^◌, ◌≤◌, min}
 abbrev pub one_more : ℕ → ℕ
 one_more count = min (count + 1) (2 ^ 64 - 1)
 
--- a count rose, or stands at the last value of a u64 as it did
+-- a count rose, or stays at the last value of a u64
 abbrev pub Rose : ℕ → ℕ → Type 0
 Rose before now = one_more before ≤ now

@@ -10,7 +10,7 @@ use Rattle.mate_num.specs.declared.bounds.TheConstants.{FILE_MAX}
 abbrev pub Names : Type 0
 Names = List ℕ → Option (List ℕ)
 
--- a fact of the names, where these are told
+-- a fact of the names, if these are given
 abbrev pub WhereTold : Option Names → (Names → Type 0) → Type 0
 WhereTold told P = MatchOption told ⊤ P
 
@@ -24,7 +24,7 @@ ReadGives told steady name before now (Err (TooLarge len)) =
     Rose before now × (FILE_MAX < len) × WhereTold told (λ names. IsSomeAnd (names name) (λ bytes. length bytes ≡ len))
 ReadGives told steady name before now (Err NoMemory) = ⊤
 
--- the count of faults after a read that counts one where a file fails or is too large
+-- the count of faults after a read that counts one if a file fails or is too large
 abbrev pub faults_after : ℕ → Result (Vec ℕ) FilesFault → ℕ
 faults_after faults (Ok _) = faults
 faults_after faults (Err Failed) = one_more faults

@@ -5,18 +5,18 @@ use Rattle.mate_files.specs.Counts.{Rose, one_more}
 use Rattle.mate_files.specs.declared.sink.SinkFault.{SinkFault}
 use Rattle.mate_files.specs.declared.sink.SinkFault.TheVariants.{Failed, NoMemory}
 
--- exactly bs was appended to what is told
+-- exactly bs was appended to what is known to be written
 pub record Sent (old new : Option (List ℕ)) (bs : List ℕ) : Type 0 where
   pub appended : Appends old new bs
 
--- a prefix of bs was appended to what is told
+-- a prefix of bs was appended to what is known to be written
 pub record SentPart (old new : Option (List ℕ)) (bs : List ℕ) : Type 0 where
   pub front : List ℕ
   pub rest : List ℕ
   pub whole : front ++ rest ≡ bs
   pub appended : Appends old new front
 
--- a prefix of bs was appended to what is told, and at least its last byte was not
+-- a prefix of bs was appended to what is known to be written, and at least its last byte was not
 pub record SentShort (old new : Option (List ℕ)) (bs : List ℕ) : Type 0 where
   pub part : SentPart old new bs
   pub unsent : 0 < length part.rest
@@ -31,7 +31,7 @@ abbrev pub StopsShort : {T : Type 0} → Option (List ℕ) → Option (List ℕ)
 StopsShort old new (Ok _) bs = ⊤
 StopsShort old new (Err _) bs = SentShort old new bs
 
--- a `Failed` comes only where the count of faults rose
+-- a `Failed` comes only if the count of faults rose
 abbrev pub HasCause : {T : Type 0} → ℕ → ℕ → Result T SinkFault → Type 0
 HasCause before now (Ok _) = ⊤
 HasCause before now (Err Failed) = Rose before now
@@ -45,7 +45,7 @@ pub record Puts {T : Type 0} (written : Option (List ℕ)) (faults : ℕ) (writt
   pub cause : HasCause faults faults' result
   pub later : faults ≤ faults'
 
--- the count of faults after a write that counts one where it fails
+-- the count of faults after a write that counts one if it fails
 abbrev pub faults_after : {T : Type 0} → ℕ → Result T SinkFault → ℕ
 faults_after faults (Ok _) = faults
 faults_after faults (Err Failed) = one_more faults

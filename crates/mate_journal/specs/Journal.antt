@@ -1,4 +1,4 @@
--- A node's journal, and what was heard up to a place in it.
+-- A node's journal, and the state that it leads to at each place in it.
 use Rattle.std.specs.Prelude.{ℕ, ◌==◌, Bool, true, false, List, [], ◌∷◌, ◌++◌, map, ℤ, Option, Some, None, unwrap_or, slice_index_or, if◌then◌else◌}
 use Rattle.arrayvec.specs.ArrayVec.{ArrayVec}
 use Rattle.mate_num.specs.declared.call.Call.{Call}
@@ -17,7 +17,7 @@ use Rattle.mate_journal.specs.declared.entry.VoidCause.{VoidCause}
 use Rattle.mate_journal.specs.declared.entry.Entry.{Entry}
 use Rattle.mate_journal.specs.declared.entry.Entry.TheVariants as entry
 
--- what an entry tells, with the image or the store that it names
+-- an entry, with the image or the store that it names
 pub data JournalEntry : Type 0 where
   Posted : (n : ℕ) (handler : HandlerId) (context : ContextId) (payload : ArrayVec ℤ) → JournalEntry
   Dropped : (handler : HandlerId) (cause : DropCause) → JournalEntry
@@ -51,12 +51,12 @@ begins_era (Installed p) = true
 begins_era Reset = true
 begins_era _ = false
 
--- something told, and when
+-- an entry with its stamp
 pub record TimedEntry : Type 0 where
   pub stamp : Stamp
   pub told : JournalEntry
 
--- what a list of events tells
+-- the entries of a list, without their stamps
 abbrev pub untimed : List TimedEntry → List JournalEntry
 untimed es = map (λ e. e.told) es
 
@@ -84,7 +84,7 @@ journal_entry l (entry.Void cause) = Void cause
 abbrev pub journal_of : Log → List TimedEntry
 journal_of l = map (λ e. record { stamp = e.stamp; told = journal_entry l e.entry }) l.entries
 
--- where an invocation stands: not yet posted, queued for its locks, ready to run, waiting for an answer, or over
+-- the phase of an invocation: not yet posted, queued for its locks, ready to run, waiting for an answer, or over
 pub data Phase : Type 0 where
   Unposted : Phase
   Queued : Phase
@@ -116,8 +116,8 @@ pub record Invocation : Type 0 where
   pub calls : List Call
   pub phase : Phase
 
--- what was heard up to a place: the serial store, how many invocations were posted, what is installed for
--- each handler, and each invocation by its number
+-- the state that a journal leads to: the serial store, the number of invocations that were posted, what is installed
+-- for each handler, and each invocation by its number
 pub record NodeState : Type 0 where
   pub serial : Store
   pub posts : ℕ
@@ -129,9 +129,17 @@ no_program = record { handler = record { 0 = 0 }; version = 0; image = no_image 
 
 -- an invocation that was not posted yet
 abbrev unposted : Invocation
-unposted = record { handler = record { 0 = 0 }; context = record { 0 = 0 }; program = no_program; payload = record { items = [] }; calls = []; phase = Unposted }
+unposted =
+    record {
+      handler = record { 0 = 0 };
+      context = record { 0 = 0 };
+      program = no_program;
+      payload = record { items = [] };
+      calls = [];
+      phase = Unposted;
+    }
 
--- before anything was heard
+-- the state before any entry
 abbrev pub first_state : Machine → NodeState
 first_state m = record { serial = m.zero_store; posts = 0; installed = λ _. None; invocations = λ _. unposted }
 
@@ -174,13 +182,20 @@ answered Over value calls = calls
 abbrev pub cut_at_era : Invocation → Invocation
 cut_at_era i = in_phase (if is_live i.phase then Over else i.phase) i
 
--- what is heard with one more entry
+-- the state after one more entry
 abbrev pub next_state : Machine → NodeState → JournalEntry → NodeState
 next_state m r (Posted n h c payload) =
     record r {
       posts = n;
       invocations = changed r.invocations n
-          (record { handler = h; context = c; program = unwrap_or (r.installed h) no_program; payload = payload; calls = []; phase = Queued });
+          (record {
+            handler = h;
+            context = c;
+            program = unwrap_or (r.installed h) no_program;
+            payload = payload;
+            calls = [];
+            phase = Queued;
+          });
     }
 next_state m r (Dropped h cause) = r
 next_state m r (Started n) = record r { invocations = changed r.invocations n (in_phase Ready (r.invocations n)) }
@@ -201,17 +216,17 @@ next_state m r Reset = record r { serial = m.zero_store; invocations = λ n. cut
 next_state m r (Seen store) = r
 next_state m r (Void cause) = r
 
--- what is heard with a list of entries
+-- the state after a list of entries with their stamps
 abbrev pub state_after_all : Machine → NodeState → List TimedEntry → NodeState
 state_after_all m r [] = r
 state_after_all m r (e ∷ es) = state_after_all m (next_state m r e.told) es
 
--- the same of what a list of entries tells
+-- the state after a list of entries
 abbrev pub state_after_entries : Machine → NodeState → List JournalEntry → NodeState
 state_after_entries m r [] = r
 state_after_entries m r (t ∷ ts) = state_after_entries m (next_state m r t) ts
 
--- a rule for each entry, at what was heard before it
+-- a rule for each entry, at the state before it
 abbrev pub AtEachEntry : (NodeState → JournalEntry → Type 0) → Machine → NodeState → List TimedEntry → Type 0
 AtEachEntry Rule m r [] = Unit {0}
 AtEachEntry Rule m r (e ∷ es) = Rule r e.told × AtEachEntry Rule m (next_state m r e.told) es

@@ -22,7 +22,7 @@ pub record IsEmpty (l : Log) : Type 0 where
   pub images : l.images ≡ []
   pub stores : l.stores ≡ []
 
--- a log goes on: more entries, images and stores stand behind those that it had
+-- a log goes on: more entries, images and stores are after those that it had
 pub record GoesOn (old new : Log) : Type 0 where
   pub entries : List Stamped
   pub images : List (ArrayVec ℕ)

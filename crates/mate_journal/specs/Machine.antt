@@ -17,7 +17,7 @@ pub record HeldProgram : Type 0 where
 
 -- What programs mean: the run of one on a store, a payload, the answers to its calls and a number of turns, and the resources
 -- that it may read and write. By instructions: how many its installed code executes in such a run until it next waits or
--- is over (its mark), and its store after so many.
+-- is over (its mark), and its store after n of them.
 pub record Meaning : Type 0 where
   pub run : HeldProgram → Store → ArrayVec ℤ → List ℤ → ℕ → Outcome
   pub uses : HeldProgram → Uses

@@ -11,7 +11,7 @@ use Rattle.mate_journal.specs.Devices.{AsksDevicesInOrder}
 use Rattle.mate_journal.specs.NodeScript.{Step, RunEnd, IsRunOf}
 
 -- The journal of the log is well formed; its invocations, run whole and one at a time in the order of their ends, give
--- what it tells; it shows stores as they are; an invocation waits to start only for conflicting ones; in each
+-- what it records; it shows stores as they are; an invocation waits to start only for conflicting ones; in each
 -- era the calls to a device are in order; and its events are those of the steps, in turns.
 pub record IsNodeRun (m : Machine) (how : RunEnd) (steps : List Step) (l : Log) : Type 0 where
   pub well_formed : IsWellFormed m (first_state m) (journal_of l)

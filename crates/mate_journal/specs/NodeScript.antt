@@ -24,7 +24,7 @@ pub data Step : Type 0 where
   Show : Step
   ResetNode : Step
 
--- an event is begun only where fewer records stand before it
+-- an event begins only if fewer records are before it
 abbrev pub records_max : ℕ
 records_max = RECORDS_MAX
 
@@ -79,8 +79,9 @@ pub record IsReadyIn (r : NodeState) (c : ContextId) : Type 0 where
   pub ready : (r.invocations invocation).phase ≡ Ready
   pub context : (r.invocations invocation).context ≡ c
 
--- the ready invocation in the context has one turn of so many instructions
-pub record TurnsIn (m : Machine) (r : NodeState) (p : Pace) (c : ContextId) (instructions : ℕ) (entries : List JournalEntry) (q : Pace) : Type 0 where
+-- the ready invocation in the context has one turn of this number of instructions
+pub record TurnsIn (m : Machine) (r : NodeState) (p : Pace) (c : ContextId) (instructions : ℕ)
+    (entries : List JournalEntry) (q : Pace) : Type 0 where
   pub invocation : ℕ
   pub context : (r.invocations invocation).context ≡ c
   pub turn : IsTurn m r p instructions record { invocation = invocation; told = entries }
@@ -116,7 +117,7 @@ pub record Resets (m : Machine) (r : NodeState) (p : Pace) (entries : List Journ
 abbrev pub IsPacedBy : Pace → List JournalEntry → Pace → Type 0
 IsPacedBy p told q = q ≡ paced_all p told
 
--- what a step tells, at what was heard before it and the pace before it, and the pace after it
+-- the entries that a step makes, at the state and the pace before it, and the pace after it
 abbrev pub Makes : Machine → NodeState → Pace → Step → List JournalEntry → Pace → Type 0
 Makes m r p (Install x) told q = (Installs m r p x told ⊎ IsNotNewer r x told) × IsPacedBy p told q
 Makes m r p (Post h payload) told q = Occasion m r h payload told × IsPacedBy p told q
@@ -130,8 +131,8 @@ Makes m r p ResetNode told q = Resets m r p told × IsPacedBy p told q
 abbrev pub AreOfEvent : ℕ → List TimedEntry → Type 0
 AreOfEvent n es = All (λ (e : TimedEntry). e.stamp ≡ record { event = n; time = 0 }) es
 
--- These steps made these events, one event each, and the pace after them is q. `records` stood before the first of them,
--- which is event n. An event is begun only where fewer than 1,000,000 records stand before it.
+-- These steps made these events, one event each, and the pace after them is q. `records` were before the first of them,
+-- which is event n. An event begins only if fewer than 1,000,000 records are before it.
 abbrev pub HaveMade : Machine → ℕ → ℕ → NodeState → Pace → List Step → List TimedEntry → Pace → Type 0
 HaveMade m records n r p [] es q = (es ≡ []) × (q ≡ p)
 HaveMade m records n r p (step ∷ steps) es q =
@@ -150,8 +151,8 @@ pub data RunEnd : Type 0 where
   Full : RunEnd
   Cut : RunEnd
 
--- the last events, where these steps are left before event n: a whole run has none left, and ends with the store seen
--- under the next number; a full one stops before a step, where 1,000,000 records stand or more
+-- the last events, if these steps are left before event n: a whole run has none left, and ends with the store seen
+-- under the next number; a full one stops before a step, if 1,000,000 records or more are before it
 abbrev pub EndsRun : Machine → RunEnd → ℕ → ℕ → NodeState → Pace → List Step → List TimedEntry → Type 0
 EndsRun m Whole records n r p left es = (left ≡ []) × ShowsOnce m r p (untimed es) × AreOfEvent n es
 EndsRun m Full records n r p left es = (left ≢ []) × (records_max ≤ records) × (es ≡ [])

@@ -25,7 +25,7 @@ NamesNothing (entry.Install h version image) = ⊥
 NamesNothing (entry.Seen store) = ⊥
 NamesNothing _ = ⊤
 
--- the entry where so many images and stores stand before its own
+-- the entry, if these numbers of images and stores are before its own
 abbrev pub entry_behind : ℕ → ℕ → Entry → Entry
 entry_behind images stores (entry.Install h version image) = entry.Install h version (images + image)
 entry_behind images stores (entry.Seen store) = entry.Seen (stores + store)
@@ -38,7 +38,7 @@ stamped_behind images stores s = record { stamp = s.stamp; entry = entry_behind 
 abbrev pub nothing : Log
 nothing = record { entries = []; images = []; stores = []; spare = 0 }
 
--- one log behind another, with the room of the second
+-- one log after another, with the room of the second
 abbrev pub joined : Log → Log → Log
 joined past kept = record {
   entries = past.entries ++ map (stamped_behind (length past.images) (length past.stores)) kept.entries;

@@ -8,7 +8,7 @@ pub record Pace : Type 0 where
   pub line : List ℕ
   pub counts : ℕ → ℕ
 
--- before anything was told
+-- the pace before any entry
 abbrev pub no_pace : Pace
 no_pace = record { line = []; counts = λ _. 0 }
 
@@ -16,7 +16,7 @@ no_pace = record { line = []; counts = λ _. 0 }
 abbrev pub others : List ℕ → ℕ → List ℕ
 others line n = filter (λ k. not (n == k)) line
 
--- whoever starts or is answered goes last; whoever asks or ends leaves; an era's end empties the line
+-- an invocation that starts or is answered goes last; one that asks or ends leaves; an era's end empties the line
 abbrev pub paced : Pace → JournalEntry → Pace
 paced p (Started n) = record { line = p.line ++ n ∷ []; counts = changed p.counts n 0 }
 paced p (Asked n f args) = record p { line = others p.line n }

@@ -3,7 +3,7 @@ use Rattle.std.specs.Prelude.{◌≡◌, ℕ, zero, suc, List, [], ◌∷◌, �
 use Rattle.mate_num.specs.declared.call.End.{End}
 use Rattle.mate_journal.specs.Journal.{JournalEntry, Ended, begins_era, TimedEntry}
 
--- the event at the position tells this
+-- the entry at the position is this one
 abbrev pub TellsAt : List TimedEntry → ℕ → JournalEntry → Type 0
 TellsAt [] p told = ⊥
 TellsAt (e ∷ es) zero told = e.told ≡ told

@@ -1,4 +1,4 @@
--- Serial replay: the invocations, run whole and one at a time in the order of their ends, give what the journal tells.
+-- Serial replay: the invocations, run whole and one at a time in the order of their ends, give what the journal records.
 use Rattle.std.specs.Prelude.{◌≡◌, ℕ, ℤ, List, IsTrue, IfSome}
 use Rattle.arrayvec.specs.ArrayVec.{ArrayVec}
 use Rattle.mate_num.specs.declared.call.End.TheVariants as end
@@ -11,7 +11,7 @@ use Rattle.mate_journal.specs.Journal.{JournalEntry, ended_by, TimedEntry, Waiti
 abbrev pub EndsAsRun : Machine → NodeState → JournalEntry → Type 0
 EndsAsRun m r told = IfSome (ended_by told) (λ e. ((whole_run m r e.0).end ≡ e.1) × ((whole_run m r e.0).calls ≡ (r.invocations e.0).calls))
 
--- the whole run of each started live invocation gives exactly the calls that it made so far, and where it waits,
+-- the whole run of each started live invocation gives exactly the calls that it made so far, and if it waits,
 -- the run wants that call's answer
 pub record RunsSoFar (m : Machine) (r : NodeState) : Type 0 where
   pub calls : (n : ℕ) → IsTrue (is_started (r.invocations n).phase) → (whole_run m r n).calls ≡ (r.invocations n).calls

@@ -20,7 +20,7 @@ pub record WritesResource (m : Machine) (r : NodeState) (n : ℕ) (at : Resource
 
 -- A store that is seen has every variable and buffer. What no started live invocation writes has the serial
 -- store's value; what a waiting one writes has the value in the store of its run, up to the call that it waits in.
--- (Of what a ready one writes the journal alone tells nothing.)
+-- (Of what a ready one writes the journal alone records nothing.)
 pub record IsShown (m : Machine) (r : NodeState) (seen : Store) : Type 0 where
   pub variables : length seen.shared.items ≡ length m.zero_store.shared.items
   pub buffers : length seen.buffers.items ≡ length m.zero_store.buffers.items

@@ -33,7 +33,7 @@ Closes (end.Wants fun args) = ⊥
 
 -- Posts are numbered from 1, go to a handler for which something is installed, and take a context of it that no
 -- live invocation has. A queued invocation starts once; a started one asks, is answered, and so on in turn; it
--- ends while it isn't waiting. After its end, or its era's, nothing more is told of an invocation.
+-- ends while it isn't waiting. After its end, or its era's, nothing more is recorded of an invocation.
 abbrev pub MayFollow : Machine → NodeState → JournalEntry → Type 0
 MayFollow m r (Posted n h c payload) = (n ≡ suc r.posts) × IsSome (r.installed h) × IsContextOf m h c × IsIdle r c
 MayFollow m r (Dropped h cause) = Unit {0}

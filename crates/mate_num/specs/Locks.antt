@@ -1,4 +1,4 @@
--- A lock set as two words of bits, and the sets that they stand for.
+-- A lock set as two words of bits, and the sets that they mean.
 use Rattle.std.specs.Prelude.{ℕ, ◌+◌, Bool, nat_lt, ◌&&◌, ◌==◌, IsTrue}
 use Rattle.std.specs.Int.{bit_at}
 use Rattle.mate_num.specs.Uses.{Uses}
@@ -23,7 +23,7 @@ is_resource (Device d) = nat_lt d.0 DEVICES_MAX
 abbrev pub has : ℕ → Resource → Bool
 has word r = is_resource r && (bit_at word (bit_of r) == 1)
 
--- the sets that a lock set stands for
+-- the sets that a lock set means
 abbrev pub lock_uses : LockSet → Uses
 lock_uses s = record { reads = has s.read; writes = has s.written }
 

@@ -6,12 +6,12 @@ use Rattle.mate_num.specs.declared.id.DeviceId.{DeviceId}
 use Rattle.mate_num.specs.declared.shape.FunShape.{FunShape}
 use Rattle.mate_num.specs.declared.shape.Shape.{Shape}
 
--- the number, where there is one, is below the number of devices
+-- the number, if there is one, is below the number of devices
 abbrev pub is_device : ℕ → Option DeviceId → Bool
 is_device devices None = true
 is_device devices (Some d) = nat_lt d.0 devices
 
--- at most 4 values, none where a buffer is sent, and one of a machine's devices
+-- at most 4 values, none if a buffer is sent, and one of a machine's devices
 abbrev pub is_fun_shape : FunShape → Bool
 is_fun_shape f = nat_le f.args 4 && (not f.send || f.args == 0) && is_device DEVICES_MAX f.device
 

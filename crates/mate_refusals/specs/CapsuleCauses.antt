@@ -1,4 +1,4 @@
--- Why a text is no capsule of a machine, as the program tells it.
+-- Why a text is no capsule of a machine, as the program reports it.
 use Rattle.std.specs.Prelude.{ℕ, List, codes}
 use Rattle.capsule_codec.specs.declared.decoding.CapsuleFault.{CapsuleFault}
 use Rattle.capsule_codec.specs.declared.decoding.CapsuleFault.TheVariants.{BadMagic, BadFormat, OtherVm, BadHandler, BadLength, BadVersion}

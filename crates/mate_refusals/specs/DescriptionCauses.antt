@@ -1,4 +1,4 @@
--- Why a description is refused, as the program tells it: without want of memory.
+-- Why a description is refused, as the program reports it, apart from lack of memory.
 use Rattle.std.specs.Prelude.{ℕ, List, ◌++◌, codes, decimal}
 use Rattle.vm_desc.specs.Keys.{word_of}
 use Rattle.vm_desc.specs.declared.fault.DescFault.{DescFault}
@@ -7,7 +7,7 @@ use Rattle.mate_refusals.specs.LineEnds.{name_line}
 use Rattle.mate_refusals.specs.declared.description_cause.DescriptionCause.{DescriptionCause}
 use Rattle.mate_refusals.specs.declared.description_cause.DescriptionCause.TheVariants as cause
 
--- the fault that a cause tells
+-- the fault that a cause reports
 abbrev pub fault_told : DescriptionCause → DescFault
 fault_told cause.NotToml = desc.NotToml
 fault_told (cause.BadField key) = desc.BadField key

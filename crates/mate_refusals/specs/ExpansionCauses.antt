@@ -1,4 +1,4 @@
--- Why a source with procedures has no expansion, as the program tells it: without want of memory.
+-- Why a source with procedures has no expansion, as the program reports it, apart from lack of memory.
 use Rattle.std.specs.Prelude.{ℕ, List, codes}
 use Rattle.proc_names.specs.declared.fault.ProcFault.{ProcFault}
 use Rattle.proc_names.specs.declared.fault.ProcFault.TheVariants as fault
@@ -16,7 +16,7 @@ spelling_fault (spelling.BigLiteral place) = fault.BigLiteral place
 spelling_fault (spelling.Unexpected place) = fault.Unexpected place
 spelling_fault (spelling.TooDeep place) = fault.TooDeep place
 
--- the fault that a cause tells
+-- the fault that a cause reports
 abbrev pub expansion_fault : ExpansionCause → ProcFault
 expansion_fault (Spelling why) = spelling_fault why
 expansion_fault (NoProc name place) = fault.NoProc name place

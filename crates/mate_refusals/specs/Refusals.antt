@@ -44,7 +44,7 @@ file_line name (cause.Code why) = codes "bad source " ++ name ++ codes " " ++ co
 file_line name (cause.Capsule why) = codes "bad capsule " ++ name ++ codes " " ++ capsule_words why
 file_line name (cause.Expansion why) = codes "bad source " ++ name ++ codes " " ++ expansion_words why
 
--- the one line that tells of it
+-- the one line that reports it
 abbrev pub line_of : Refusal → List ℕ
 line_of refusal.Usage = codes "usage\n"
 line_of (refusal.BadDescription why) = codes "bad description " ++ description_words why
@@ -56,11 +56,11 @@ line_of refusal.LogFull = codes "log full\n"
 line_of refusal.SinkFault = codes "sink fault\n"
 line_of refusal.NoMemory = codes "no memory\n"
 
--- the line was appended, or a prefix of it where the sink's faults rose
+-- the line was appended, or a prefix of it if the sink's faults rose
 abbrev pub TellsLine : Option (List ℕ) → ℕ → Option (List ℕ) → ℕ → List ℕ → Type 0
 TellsLine written faults written' faults' line = Sent written written' line ⊎ (Rose faults faults' × SentPart written written' line)
 
--- the refusal's status comes and its line is told, or want of memory comes and a prefix of the line is told
+-- the refusal's status comes and its line is written, or that of lack of memory comes and a prefix of the line is written
 abbrev pub TellsRefusal : Option (List ℕ) → ℕ → Option (List ℕ) → ℕ → Refusal → Status → Type 0
 TellsRefusal written faults written' faults' r s =
     ((s ≡ status_of r) × TellsLine written faults written' faults' (line_of r))

@@ -1,4 +1,4 @@
--- Why a report doesn't show serial behaviour, as the program tells it.
+-- Why a report doesn't show serial behaviour, as the program reports it.
 use Rattle.std.specs.Prelude.{ℕ, List, ◌++◌, codes, decimal}
 use Rattle.audit_verdict.specs.Words.{law_word}
 use Rattle.audit_verdict.specs.declared.law.Law.{Law}

@@ -1,4 +1,4 @@
--- Why a line of a script is refused, as the program tells it.
+-- Why a line of a script is refused, as the program reports it.
 use Rattle.std.specs.Prelude.{ℕ, List, ◌++◌, codes, decimal}
 use Rattle.script_reader.specs.declared.fault.Cause.{Cause}
 use Rattle.script_reader.specs.declared.fault.Cause.TheVariants.{Word, Number, Range, TimeBack, OldVersion, Name, Node, Packet}

@@ -1,4 +1,4 @@
--- Why a source's text is refused, as the program tells it: without want of memory.
+-- Why a source's text is refused, as the program reports it, apart from lack of memory.
 use Rattle.std.specs.Prelude.{ℕ, List, codes}
 use Rattle.vm_desc.specs.declared.description.Description.{Description}
 use Rattle.ts_syntax.specs.Cut.{bad_byte, big_literal}
@@ -19,7 +19,7 @@ spelling_told (spelling.BigLiteral place) = by_bytes (big_literal place)
 spelling_told (spelling.Unexpected place) = unexpected place
 spelling_told (spelling.TooDeep place) = too_deep place
 
--- the refusal that a cause tells
+-- the refusal that a cause reports
 abbrev pub refusal_told : SourceCause → TextRefusal
 refusal_told (cause.Spelling why) = spelling_told why
 refusal_told (cause.Undeclared name place) = by_check (check.Undeclared name place)

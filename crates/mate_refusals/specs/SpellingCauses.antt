@@ -1,4 +1,4 @@
--- Why a text spells no script, as the program tells it.
+-- Why a text spells no script, as the program reports it.
 use Rattle.std.specs.Prelude.{ℕ, List, codes}
 use Rattle.mate_refusals.specs.LineEnds.{number_line}
 use Rattle.mate_refusals.specs.declared.spelling_cause.SpellingCause.{SpellingCause}

@@ -63,7 +63,7 @@ abbrev pub ReadsCapsule : Description → List ℕ → Result Capsule CapsuleCau
 ReadsCapsule d text (Ok c) = SpellsCapsule d text (capsule_parts c) × IsOfMachine d (capsule_parts c)
 ReadsCapsule d text (Err r) = RefusesText d text r
 
--- the capsule that a text spells with its verified code, or why there is none; or memory is wanting
+-- the capsule that a text spells with its verified code, or why there is none; or memory runs out
 abbrev pub ReadsText : Description → List ℕ → Result (Option (Box VerifiedCapsule Global)) CapsuleCause → Type 0
 ReadsText d text (Ok (Some c)) = SpellsVerified d text (capsule_parts c.value.capsule) c.value.code
 ReadsText d text (Ok None) = ⊤

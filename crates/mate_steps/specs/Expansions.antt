@@ -1,4 +1,4 @@
--- The plain script that a source with procedures in a file stands for.
+-- The plain script that a source with procedures in a file expands to.
 use Rattle.std.specs.Prelude.{◌≡◌, ℕ, List, Result, Ok, Err, ◌⊎◌}
 use Rattle.proc_expansion.specs.Answer.{Expands}
 use Rattle.proc_names.specs.Named.{written_of}
@@ -15,7 +15,7 @@ use Rattle.mate_refusals.specs.declared.refusal.Refusal.TheVariants.{InFile, NoM
 use Rattle.mate_steps.specs.Parts.{Folder, file}
 use Rattle.mate_steps.specs.Steps.{judged, ◌▸◌}
 
--- the refusal of the source `name` for this fault, unless memory is wanting
+-- the refusal of the source `name` for this fault, unless memory runs out
 abbrev pub RefusesExpansion : List ℕ → ProcFault → Refusal → Type 0
 RefusesExpansion name fault r = ((why : ExpansionCause) × (fault ≡ expansion_fault why) × (r ≡ InFile name (cause.Expansion why)))
     ⊎ (r ≡ NoMemory)
@@ -23,9 +23,10 @@ RefusesExpansion name fault r = ((why : ExpansionCause) × (fault ≡ expansion_
 -- the script with procedures that the bytes of the source `name` spell
 abbrev pub script_with_procedures : List ℕ → List ℕ → Result PScript Refusal → Type 0
 script_with_procedures name bytes =
-    judged (λ s. ReadsProcedures bytes (Ok s)) (λ why. ReadsProcedures bytes (Err (expansion_fault why))) (λ why. InFile name (cause.Expansion why))
+    judged (λ s. ReadsProcedures bytes (Ok s)) (λ why. ReadsProcedures bytes (Err (expansion_fault why)))
+    (λ why. InFile name (cause.Expansion why))
 
--- the plain script that it stands for
+-- the plain script that it expands to
 abbrev pub expanded_script : List ℕ → ProcedureSource → Result Script Refusal → Type 0
 expanded_script name source =
     judged (λ s. Expands source (Ok s)) (λ why. Expands source (Err (expansion_fault why))) (λ why. InFile name (cause.Expansion why))

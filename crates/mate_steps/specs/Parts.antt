@@ -22,7 +22,7 @@ use Rattle.mate_steps.specs.Steps.{judged, obtained, ◌▸◌}
 
 -- ---- files
 
--- the files that are handed in: what they hold, where that is told, and whether a read fails by that alone
+-- the files that are handed in: what they hold, if that is given, and whether a read fails by that alone
 pub record Folder : Type 0 where
   pub told : Option Names
   pub steady : Bool
@@ -30,7 +30,7 @@ pub record Folder : Type 0 where
 abbrev pub IsRead : Folder → List ℕ → Vec ℕ → Type 0
 IsRead f name bytes = (length bytes.items ≤ FILE_MAX) × WhereTold f.told (λ names. names name ≡ Some bytes.items)
 
--- steady files fail exactly at a name that they don't hold, and are too large exactly where they hold more bytes
+-- steady files fail exactly at a name that they don't hold, and are too large exactly if they hold more bytes
 abbrev pub IsUnread : Folder → List ℕ → Unread → Type 0
 IsUnread f name Failed = IsTrue f.steady → WhereTold f.told (λ names. names name ≡ None)
 IsUnread f name Large = WhereTold f.told (λ names. IsSomeAnd (names name) (λ bytes. FILE_MAX < length bytes))
@@ -49,7 +49,7 @@ IsUnreadAnswer (Ok a) = ⊥
 IsUnreadAnswer (Err (InFile name why)) = IsUnreadCause why
 IsUnreadAnswer (Err _) = ⊥
 
--- a call that reads files leaves them as they are, and can't read one only where their count of faults rose in it
+-- a call that reads files leaves them as they are, and can't read one only if their count of faults rose in it
 pub record ReadsFiles {A : Type 0} (told : Option Names) (steady : Bool) (faults : ℕ) (told' : Option Names) (steady' : Bool)
     (faults' : ℕ) (answer : Result A Refusal) : Type 0 where
   pub same_told : told' ≡ told

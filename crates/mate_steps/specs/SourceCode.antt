@@ -17,7 +17,7 @@ use Rattle.mate_steps.specs.declared.code.CompiledScript.{CompiledScript}
 use Rattle.mate_steps.specs.declared.code.CodeFault.{CodeFault}
 use Rattle.mate_steps.specs.declared.code.CodeFault.TheVariants.{NoMemory, Uncompiled}
 
--- the tree that is compiled: the folded one where that is asked
+-- the tree that is compiled: the folded one if that is asked
 abbrev pub compiled_tree : Bool → Block → Block
 compiled_tree true tree = folded tree
 compiled_tree false tree = tree

@@ -3,12 +3,12 @@ use Rattle.std.specs.Prelude.{◌≡◌, Result, Ok, Err, ◌⊎◌}
 use Rattle.mate_refusals.specs.declared.refusal.Refusal.{Refusal}
 use Rattle.mate_refusals.specs.declared.refusal.Refusal.TheVariants.{NoMemory}
 
--- a value for which this holds; or memory is wanting
+-- a value for which this holds; or memory runs out
 abbrev pub obtained : {A : Type 0} → (A → Type 0) → Result A Refusal → Type 0
 obtained Is (Ok a) = Is a
 obtained Is (Err r) = r ≡ NoMemory
 
--- a value for which the test holds; or why it fails, which is the refusal; or memory is wanting
+-- a value for which the test holds; or why it fails, which is the refusal; or memory runs out
 abbrev pub judged : {A E : Type 0} → (A → Type 0) → (E → Type 0) → (E → Refusal) → Result A Refusal → Type 0
 judged Is IsNot refusal (Ok a) = Is a
 judged {E} Is IsNot refusal (Err r) = ((e : E) × IsNot e × (r ≡ refusal e)) ⊎ (r ≡ NoMemory)

@@ -12,7 +12,7 @@ use Rattle.memory_files.specs.declared.mem_files.MemFiles.{MemFiles}
 abbrev pub names_of : MemFiles → Names
 names_of files name = option_map (λ bytes. bytes.items) (get_by_text files.names name)
 
--- the bytes of each name, which are always told
+-- the bytes of each name, which are always given
 abbrev pub files_told : MemFiles → Option Names
 files_told files = Some (names_of files)
 

@@ -7,7 +7,7 @@ use Rattle.memory_files.specs.declared.mem_sink.MemSink.{MemSink}
 abbrev pub bytes_of : MemSink → List ℕ
 bytes_of sink = sink.bytes.items
 
--- the bytes that were written, which are always told
+-- the bytes that were written, which are always known
 abbrev pub sink_told : MemSink → Option (List ℕ)
 sink_told sink = Some (bytes_of sink)
 

@@ -1,4 +1,4 @@
--- What a call of a node leaves: the entries that it told, and a node that rests again.
+-- What a call of a node leaves: the entries that it made, and a node that rests again.
 use Rattle.std.specs.Prelude.{◌≡◌, ℕ, List, [], ◌∷◌, length}
 use Rattle.mate_num.specs.Store.{zero_store}
 use Rattle.mate_num.specs.declared.call.Stamp.{Stamp}
@@ -30,7 +30,7 @@ AtPace d s Rule told = (p : Pace) → IsPace (reading d s.log.all) s.contexts p 
 abbrev pub NobodyWaits : NodeState → ContextId → Type 0
 NobodyWaits r c = (n : ℕ) → IsWaiting r n → (r.invocations n).context ≡ c → ⊥
 
--- the store is told, and nothing else changes
+-- the store is recorded, and nothing else changes
 pub record TellsStore (d : Description) (old new : Parts) (at : Stamp) : Type 0 where
   pub again : RestsAgain d old new at (λ told. told ≡ Seen old.heap ∷ [])
   pub shown : (p : Pace) → IsPace (reading d old.log.all) old.contexts p

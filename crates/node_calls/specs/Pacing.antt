@@ -28,7 +28,7 @@ use Rattle.mate_journal.specs.Turns.{Turn, IsTurn, mark_of, entry_at, after_step
 abbrev pub most : Description → ℕ
 most d = (d.turns + 1) * CODE_MAX
 
--- the invocation in the context executed so many instructions, and goes on
+-- the invocation in the context executed n instructions, and goes on
 pub record HasGoneOn (d : Description) (old new : Parts) (c : ContextId) (n : ℕ) : Type 0 where
   pub order : KeepsOrder d new
   pub seat : Seat
@@ -53,7 +53,7 @@ pub record HasStopped (d : Description) (old new : Parts) (c : ContextId) (n ran
   pub executes : Executes (held_at mid.handlers.programs) mid.contexts mid.heap c how new.contexts new.heap
   pub rest : new ≡ record mid { contexts = new.contexts; heap = new.heap }
 
--- it executes n instructions, or fewer where it stops
+-- it executes n instructions, or fewer if it stops
 abbrev pub RunsTo : StepEnd → Description → Parts → Parts → ContextId → ℕ → ℕ → Type 0
 RunsTo Next d old new c n ran = (ran ≡ n) × HasGoneOn d old new c n
 RunsTo (Ask f args) d old new c n ran = HasStopped d old new c n ran (Ask f args)
@@ -63,7 +63,7 @@ RunsTo (Fault kind) d old new c n ran = HasStopped d old new c n ran (Fault kind
 abbrev pub RunsFor : Description → Parts → Parts → ContextId → ℕ → Ran → Type 0
 RunsFor d old new c n ran = RunsTo ran.how d old new c n ran.instructions
 
--- the invocation in the context asked or is over, and that was told
+-- the invocation in the context asked or is over, and that was recorded
 pub record HasMoved (d : Description) (old new : Parts) (at_ : Stamp) (c : ContextId) (n ran : ℕ) (told : JournalEntry) : Type 0 where
   pub invocation : ℕ
   pub number : invocation_in old.contexts c ≡ invocation
@@ -86,7 +86,7 @@ pub record HasMoved (d : Description) (old new : Parts) (at_ : Stamp) (c : Conte
   pub handlers : new.handlers ≡ old.handlers
   pub posts : new.posts ≡ old.posts
 
--- the invocation in the context has a turn of n instructions, of which it executes so many: those up to its next mark, which no
+-- the invocation in the context has a turn of n instructions, of which it executes `ran`: those up to its next mark, which no
 -- invocation has beyond the bound
 pub record TakesTurn (d : Description) (old new : Parts) (at_ : Stamp) (c : ContextId) (n ran : ℕ) : Type 0 where
   pub invocation : ℕ
@@ -105,7 +105,7 @@ pub record TakesTurn (d : Description) (old new : Parts) (at_ : Stamp) (c : Cont
   pub handlers : new.handlers ≡ old.handlers
   pub posts : new.posts ≡ old.posts
 
--- quanta in one; more than one only where a single invocation is ready
+-- quanta in one; more than one only if a single invocation is ready
 pub record AreQuanta (quantum ready n : ℕ) : Type 0 where
   pub more : ℕ
   pub are : n ≡ quantum + quantum * more
@@ -133,7 +133,7 @@ pub record Chains (d : Description) (old new : Parts) (told : List JournalEntry)
   pub within : AreWithin (machine_in d) (most d) (reading d old.log.all) p turns
   pub pace : IsPace (reading d new.log.all) new.contexts (pace_after (machine_in d) (reading d old.log.all) p turns)
 
--- turns follow one another until nobody is ready, and none has its mark beyond the bound
+-- turns follow one another until no invocation is ready, and none has its mark beyond the bound
 pub record SettlesWithin (m : Machine) (bound : ℕ) (r : NodeState) (p : Pace) (told : List JournalEntry) (q : Pace) : Type 0 where
   pub settles : Settles m r p told q
   pub within : AreWithin m bound r p settles.turns

@@ -1,4 +1,4 @@
--- What stands at a context: its invocation, its locks, whether it is ready, and the call that it waits with.
+-- What is at a context: its invocation, its locks, whether it is ready, and the call that it waits with.
 use Rattle.std.specs.Prelude.{◌≡◌, ◌≢◌, ◌<◌, ℕ, [], ◌∷◌, ◌++◌, Bool, true, false, List, Option, Some, None, IsSome, slice_index_or}
 use Rattle.mate_num.specs.declared.bounds.TheConstants.{CONTEXTS_MAX}
 use Rattle.mate_num.specs.declared.id.ContextId.{ContextId}
@@ -42,7 +42,7 @@ ready s set = record { seat = Some s; waits = None; holds = Some set; ready = tr
 abbrev pub waiting : Seat → LockSet → Asked → At
 waiting s set call = record { seat = Some s; waits = None; holds = Some set; ready = false; call = Some call }
 
--- this stands at the context, and what stood at the others
+-- this is at the context, and what was at the others
 pub record Becomes (old new : Contexts) (c : ContextId) (a : At) : Type 0 where
   pub here : at new c ≡ a
   pub others : (k : ContextId) → k.0 ≢ c.0 → at new k ≡ at old k
@@ -59,7 +59,7 @@ pub record AreIdle (s : Contexts) : Type 0 where
   pub locks : s.locks ≡ no_claims
   pub ring : s.ring ≡ []
 
--- whoever waits for locks is none of the ready ones
+-- an invocation that waits for locks is none of the ready ones
 pub record CanStart (s : Contexts) : Type 0 where
   pub absent : (c : ContextId) (set : LockSet) → (at s c).waits ≡ Some set → (at s c).ready ≡ false
 

@@ -5,7 +5,7 @@ use Rattle.node_heap.specs.Blocks.{rows}
 use Rattle.node_heap.specs.declared.heap.Heap.TheInside.{Inside}
 use Rattle.mate_num.specs.declared.store.Store.{Store}
 
--- the store that the block and the lengths stand for
+-- the store that the block and the lengths hold
 abbrev pub held_store : Inside → Store
 held_store h =
     record {

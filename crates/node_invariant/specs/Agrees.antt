@@ -24,7 +24,7 @@ code_for d i = image_code (shape_of d) i.program.image
 abbrev pub uses_for : Description → Invocation → Uses
 uses_for d i = uses_of (shape_of d) (code_for d i)
 
--- its run on a store, as if it were alone, after so many instructions
+-- its run on a store, as if it were alone, after `count` instructions
 abbrev pub own_run : Description → Invocation → ℕ → Store → Run
 own_run d i count store = run_after count (shape_of d) (code_for d i) store i.payload (answers_of i) d.turns
 
@@ -51,7 +51,7 @@ pub record IsFresh (d : Description) (i : Invocation) (s : Seat) : Type 0 where
   pub count : s.count ≡ 0
   pub calls : i.calls ≡ []
 
--- how the seat of an invocation in this phase stands
+-- the state of the seat of an invocation in this phase
 abbrev pub RunsOwn : Description → Phase → Invocation → Seat → Store → Store → Type 0
 RunsOwn d Unposted i s serial heap = Unit {0}
 RunsOwn d Queued i s serial heap = IsFresh d i s

@@ -19,7 +19,7 @@ use Rattle.node_invariant.specs.Fits.{AreInstalled, ContextsMatch}
 use Rattle.node_invariant.specs.Agrees.{Agrees}
 use Rattle.node_invariant.specs.Keeps.{reading, IsTimely}
 
--- the log tells the same as before; it may have an image or a store that no entry names yet
+-- the log records the same as before; it may have an image or a store that no entry names yet
 pub record IsPrepared (old before : Log) : Type 0 where
   pub journal : journal_of before ≡ journal_of old
   pub entries : before.entries ≡ old.entries
@@ -31,7 +31,7 @@ pub record AddsTidily (d : Description) (old : Log) (e : Entry) (new : Log) : Ty
   pub lengths : All (IsStoreOf d) old.stores → All (IsStoreOf d) new.stores
   pub full : HasFullImages old → HasFullImages new
 
--- the parts agree with what is heard after the entry
+-- the parts agree with the state after the entry
 pub record AgreesAfter (d : Description) (r : NodeState) (new : Parts) : Type 0 where
   pub posts : r.posts ≡ new.posts
   pub places : length new.handlers.programs ≡ length d.handlers.items

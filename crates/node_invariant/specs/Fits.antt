@@ -1,4 +1,4 @@
--- How the contexts of a node, and what it holds of its handlers, agree with what was heard of it.
+-- How the contexts of a node, and what it holds of its handlers, agree with the state that its journal leads to.
 use Rattle.std.specs.Prelude.{length, ◌≡◌, ℕ, ◌<◌, ◌≤◌, true, Option, Some, None}
 use Rattle.std.specs.Option.{option_map}
 use Rattle.mate_num.specs.declared.id.ContextId.{ContextId}
@@ -34,7 +34,7 @@ pub record IsHeld (d : Description) (x : Held) : Type 0 where
   pub version_is : 0 < x.version
   pub full : 0 < length x.image.items
 
--- what is held is what was heard to be installed
+-- what is held is what the journal records to be installed
 pub record AreInstalled (d : Description) (installed : HandlerId → Option HeldProgram) (held : Programs) : Type 0 where
   pub each : (h : HandlerId) (x : Held) → held h ≡ Some x → IsHeld d x
   pub same : (h : HandlerId) → installed h ≡ option_map (program_of h) (held h)

@@ -1,6 +1,5 @@
 -- What the parts of a node keep: its log is tidy; its journal is well formed, is serial and shows stores as they are, and the parts
--- agree with
--- what was heard.
+-- agree with the state that it leads to.
 use Rattle.std.specs.Prelude.{◌≡◌, ◌+◌, ◌≤◌, List, length, map, ◌++◌}
 use Rattle.mate_num.specs.declared.call.Stamp.{Stamp}
 use Rattle.mate_journal.specs.Log.{Log}
@@ -19,7 +18,7 @@ use Rattle.node_contexts.specs.Programs.{held_at}
 use Rattle.node_invariant.specs.Fits.{AreInstalled, ContextsMatch}
 use Rattle.node_invariant.specs.Agrees.{Agrees}
 
--- what was heard of a node by its log
+-- the state of a node that its log leads to
 unfoldable pub reading : Description → Log → NodeState
 reading d l = state_after_all (machine_in d) (first_state (machine_in d)) (journal_of l)
 
@@ -45,14 +44,14 @@ pub record IsTimely (at : Stamp) (l : Log) : Type 0 where
 abbrev pub event_at : Stamp → JournalEntry → TimedEntry
 event_at at told = record { stamp = at; told = told }
 
--- the log tells this more, with this stamp
+-- the log records this more, with this stamp
 pub record Grows (old new : Log) (at : Stamp) (told : List JournalEntry) : Type 0 where
   pub journal : journal_of new ≡ journal_of old ++ map (event_at at) told
   pub count : length new.entries ≡ length old.entries + length told
   pub spare : old.spare ≤ new.spare + length told
   pub timely : IsTimely at new
 
--- the log tells more that meets the rule
+-- the log records more that meets the rule
 pub record TellsMore (old new : Log) (at : Stamp) (Rule : List JournalEntry → Type 0) : Type 0 where
   pub told : List JournalEntry
   pub grows : Grows old new at told

@@ -16,7 +16,7 @@ abbrev pub code_in : Result Code DecodeFault → Code
 code_in (Ok code) = code
 code_in (Err fault) = []
 
--- the code of an image, which stands behind the first 16 bytes
+-- the code of an image, which is after the first 16 bytes
 unfoldable pub image_code : Shape → ArrayVec ℕ → Code
 image_code shape image = code_in (decoded (table_of shape) (drop 16 image.items))
 

@@ -1,4 +1,4 @@
--- The pace of a node, as its ring and its seats tell it.
+-- The pace of a node, as its ring and its seats give it.
 use Rattle.std.specs.Prelude.{◌≡◌, true, Some, map}
 use Rattle.mate_num.specs.declared.id.ContextId.{ContextId}
 use Rattle.mate_journal.specs.Journal.{is_started, NodeState}

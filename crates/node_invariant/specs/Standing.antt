@@ -1,10 +1,10 @@
--- What stands at a context whose invocation is in a phase.
+-- What is at a context whose invocation is in a phase.
 use Rattle.mate_num.specs.declared.lock_set.LockSet.{LockSet}
 use Rattle.mate_journal.specs.Journal.{Phase, Unposted, Queued, Ready, Waiting, Over}
 use Rattle.node_contexts.specs.At.{At, idle, queued, ready, waiting}
 use Rattle.node_contexts.specs.declared.seat.Seat.{Seat}
 
--- what stands at a context whose invocation is in this phase
+-- what is at a context whose invocation is in this phase
 abbrev pub standing : Phase → Seat → LockSet → At
 standing Unposted s set = idle
 standing Queued s set = queued s set

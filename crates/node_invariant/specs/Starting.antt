@@ -21,7 +21,7 @@ use Rattle.node_invariant.specs.Pace.{IsPace}
 abbrev pub IsPastLast : Machine → NodeState → ℕ → Type 0
 IsPastLast m r last = (k : ℕ) → (r.invocations k).phase ≡ Queued → (last < k) ⊎ IsHeldBack m r k
 
--- the number that a journal of the log started last, 0 where its last entry is no start
+-- the number that a journal of the log started last, 0 if its last entry is no start
 abbrev pub last_started : Log → ℕ
 last_started l = last_start 0 (journal_of l)
 
@@ -45,7 +45,7 @@ pub record Rests (d : Description) (s : Parts) : Type 0 where
 abbrev pub AllButHeld : Machine → NodeState → ℕ → Type 0
 AllButHeld m r n = (k : ℕ) → k ≢ n → (r.invocations k).phase ≡ Queued → IsHeldBack m r k
 
--- there is room for a start, where one can follow
+-- there is room for a start, if one can follow
 abbrev pub HasRoomToStart : Description → Parts → Type 0
 HasRoomToStart d s = AreOnce (s.contexts.locks.started ++ s.contexts.locks.waiting) → (n : ℕ)
     → ((reading d s.log.all).invocations n).phase ≡ Queued → (IsHeldBack (machine_in d) (reading d s.log.all) n → ⊥) → 1 ≤ s.log.all.spare
@@ -82,7 +82,7 @@ pub record StartsNone (d : Description) (old new : Parts) : Type 0 where
   pub same : new ≡ old
   pub held : AllHeldBack (machine_in d) (reading d old.log.all)
 
--- where all but one were held back, that one may have started, and now all are
+-- if all but one were held back, that one may have started, and now all are
 abbrev pub AtMost : Description → Parts → List JournalEntry → ℕ → Type 0
 AtMost d s told n =
     ((told ≡ []) × AllButHeld (machine_in d) (reading d s.log.all) n)

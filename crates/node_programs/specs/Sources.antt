@@ -39,7 +39,7 @@ abbrev pub uses_from : Shape → Option Checked → HeldProgram → Uses
 uses_from shape None h = (meaning_of shape).uses h
 uses_from shape (Some source) h = script_uses shape (tree_of source)
 
--- what held programs mean, where these programs are given; by instructions they go as their code does
+-- what held programs mean, if these programs are given; by instructions they go as their code does
 abbrev pub meaning_by : Description → List Program → Meaning
 meaning_by d ps = record (meaning_of (shape_of d)) {
   run = λ h store payload answers turns. run_from (shape_of d) (source_in ps h) h store payload answers turns;

@@ -15,7 +15,8 @@ names_of_functions desc = map (λ f. f.name) desc.functions.items
 -- a line: the opcode in two hexadecimal digits, the name, and the number of operand bytes
 abbrev pub table_row : List (List ℕ) → ℕ × Kind → List ℕ
 table_row functions entry =
-    encode_lower (entry.0 ∷ []) ++ codes " " ++ kind_name functions entry.1 ++ codes " " ++ decimal (width_of (form_of entry.1)) ++ codes "\n"
+    encode_lower (entry.0 ∷ []) ++ codes " " ++ kind_name functions entry.1
+    ++ codes " " ++ decimal (width_of (form_of entry.1)) ++ codes "\n"
 
 -- the lines of the opcodes, from 0 on
 abbrev pub table_rows : List (List ℕ) → List Kind → List ℕ

@@ -21,7 +21,7 @@ use Rattle.open_node.specs.declared.standing.Standing.TheVariants.{Can, Outside,
 abbrev pub Pacing : (Pace → List JournalEntry → Type 0) → Pace → List JournalEntry → Pace → Type 0
 Pacing Rule p told q = Rule p told × (q ≡ paced_all p told)
 
--- One turn of n instructions. So many are executed: those up to the next mark, which is within what one invocation executes at
+-- One turn of n instructions. Those are executed up to the next mark, which is within what one invocation executes at
 -- most from its start to its end.
 pub record HasStepped (m : Machine) (r : NodeState) (c : ContextId) (n ran : ℕ) (p : Pace) (told : List JournalEntry) (q : Pace) : Type
     0 where
@@ -38,7 +38,7 @@ pub record IsWaitingIn (r : NodeState) (c : ContextId) : Type 0 where
 abbrev pub IsNoneReady : NodeState → Type 0
 IsNoneReady r = (n : ℕ) → (r.invocations n).phase ≡ Ready → ⊥
 
--- what can go on: a ready invocation; where none is, one that waits for the outside; and nothing exactly where none is live
+-- what can go on: a ready invocation; if none is, one that waits for the outside; and nothing exactly if none is live
 abbrev pub StandsAs : NodeState → Standing → Type 0
 StandsAs r (Can c) = IsReadyIn r c
 StandsAs r (Outside c) = IsNoneReady r × IsWaitingIn r c
@@ -49,22 +49,22 @@ pub record IsAsked (r : NodeState) (c : ContextId) (a : Asked) : Type 0 where
   pub waits : (r.invocations a.inv).phase ≡ Waiting a.fun a.args
   pub context : (r.invocations a.inv).context ≡ c
 
--- the image is that of what is installed for the handler, whose version is none that stands for nothing
+-- the image is that of what is installed for the handler, under a version above 0
 pub record IsImageOf (r : NodeState) (h : HandlerId) (image : ArrayVec ℕ) : Type 0 where
   pub program : HeldProgram
   pub installed : r.installed h ≡ Some program
   pub is : program.image ≡ image
   pub version : 0 < program.version
 
--- what entries tell
+-- what entries record
 abbrev pub told_by_entries : Log → List Stamped → List JournalEntry
 told_by_entries l es = map (λ (e : Stamped). journal_entry l e.entry) es
 
--- what the entries from a position on tell
+-- what the entries from a position on record
 abbrev pub told_from : ℕ → Log → List JournalEntry
 told_from from l = told_by_entries l (drop from l.entries)
 
--- with the images and stores of some log the entries tell what those from the position on tell
+-- with the images and stores of some log the entries record what those from the position on record
 pub record TellFrom (from : ℕ) (l : Log) (es : List Stamped) : Type 0 where
   pub by : Log
   pub told : told_by_entries by es ≡ told_from from l

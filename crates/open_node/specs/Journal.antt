@@ -12,11 +12,10 @@ use Rattle.vm_desc.specs.declared.description.Description.{Description}
 use Rattle.journal_laws.specs.Apart.{EndAsPosted}
 use Rattle.journal_laws.specs.Progress.{IsNeverStuck}
 
--- The log is tidy. Its journal is well formed. Its invocations, run whole and one at a time in the order of their ends, give what it
--- tells, and it
--- shows stores as they are. An invocation waits to start only for conflicting ones, so that wherever no start follows some
--- invocation is ready, waits for the outside, or none is live; conflicting ones end in the order of their posts; and in each era the
--- calls to a device are in order.
+-- The log is tidy. Its journal is well formed. Its invocations, run whole and one at a time in the order of their ends,
+-- give what it records, and it shows stores as they are. An invocation waits to start only for conflicting ones, so that
+-- wherever no start follows some invocation is ready, waits for the outside, or none is live; conflicting ones end in the
+-- order of their posts; and in each era the calls to a device are in order.
 pub record KeepsJournal (d : Description) (m : Machine) (l : Log) : Type 0 where
   pub well_formed : IsWellFormed m (first_state m) (journal_of l)
   pub serial : IsSerial m (first_state m) (journal_of l)

@@ -10,9 +10,9 @@ use Rattle.mate_journal.specs.Pace.{Pace}
 use Rattle.mate_journal.specs.OpenLog.{Gone}
 use Rattle.node_invariant.specs.Keeps.{reading, Grows}
 
--- `log` is the whole log, of which `gone` may be forgotten. `line` has the ready invocations, the one that has the next turn first.
--- `counts` has for each context the number of its
--- invocation and how many instructions this one executed, or 0 and 0.
+-- `log` is the whole log, of which `gone` may be forgotten. `line` has the ready invocations, the one that has the next
+-- turn first. `counts` has for each context the number of its invocation and how many instructions this one executed, or 0
+-- and 0.
 pub record NodeView : Type 0 where
   pub description : Description
   pub log : Log
@@ -20,7 +20,7 @@ pub record NodeView : Type 0 where
   pub line : List ℕ
   pub counts : List (ℕ × ℕ)
 
--- what was heard of the node
+-- the state of the node
 abbrev pub heard_of : NodeView → NodeState
 heard_of v = reading v.description v.log
 
@@ -33,7 +33,7 @@ pub record HasPace (v : NodeView) (p : Pace) : Type 0 where
   pub counts : (c : ContextId) → is_started ((heard_of v).invocations (count_at v c).0).phase ≡ true
       → (count_at v c).1 ≡ p.counts (count_at v c).0
 
--- the node tells more with this stamp, and what it tells and the pace after it meet the rule
+-- the node records more with this stamp, and what it records and the pace after it meet the rule
 pub record Tells (old new : NodeView) (at : Stamp) (Rule : Pace → List JournalEntry → Pace → Type 0) : Type 0 where
   pub told : List JournalEntry
   pub description : new.description ≡ old.description

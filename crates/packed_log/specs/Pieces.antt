@@ -1,4 +1,4 @@
--- A row that is cut into pieces: their lengths, where they end, and the room that is left behind them.
+-- A row that is cut into pieces: their lengths, where they end, and the room that is left after them.
 use Rattle.std.specs.Prelude.{ℕ, ◌+◌, ◌-◌, List, [], ◌∷◌, take, drop}
 
 -- the lengths of the pieces of a row, and how many more cuts there is room for

@@ -1,4 +1,4 @@
--- Lists of images and of stores, with the room behind them; a store as the list of its parts.
+-- Lists of images and of stores, with the room after them; a store as the list of its parts.
 use Rattle.std.specs.Prelude.{◌≤◌, ℕ, ℤ, List, [], ◌∷◌, length, map, drop, slice_index_or, All}
 use Rattle.arrayvec.specs.ArrayVec.{ArrayVec}
 use Rattle.mate_num.specs.declared.store.Store.{Store}

@@ -27,11 +27,12 @@ pub record IsRightFragment (handlers handler version index count : ℕ) (large :
   pub bytes_high : length bytes ≤ full_len large
   pub full : index + 1 < count → length bytes ≡ full_len large
 
--- the packet is right for a machine with so many handlers
+-- the packet is right for a machine with this number of handlers
 abbrev pub IsRightPacket : ℕ → Packet → Type 0
 IsRightPacket handlers (Vector versions) = length versions.items ≡ handlers
 IsRightPacket handlers (Status handler version missing) = IsRightStatus handlers handler.0 version missing
-IsRightPacket handlers (Fragment handler version index count large bytes) = IsRightFragment handlers handler.0 version index count large bytes.items
+IsRightPacket handlers (Fragment handler version index count large bytes) =
+    IsRightFragment handlers handler.0 version index count large bytes.items
 IsRightPacket handlers (App payload) = length payload.items ≤ 10
 
 -- the numbers in a packet are in the ranges of their types: every packet's are

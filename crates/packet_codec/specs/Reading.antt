@@ -8,16 +8,16 @@ use Rattle.packet_codec.specs.declared.decoding.PacketFault.{PacketFault}
 use Rattle.packet_codec.specs.declared.decoding.PacketFault.TheVariants.{OtherVm, BadKind, BadLength, BadField}
 use Rattle.packet_codec.specs.Packet.{full_len}
 
--- the number that four bytes tell
+-- the number that four bytes give
 abbrev pub u32_of : ℕ → ℕ → ℕ → ℕ → ℕ
 u32_of a b c d = from_be_bytes w32 (a ∷ b ∷ c ∷ d ∷ [])
 
--- the numbers that the bytes tell, four for each
+-- the numbers that the bytes give, four for each
 abbrev pub versions_in : List ℕ → List ℕ
 versions_in (a ∷ b ∷ c ∷ d ∷ bytes) = u32_of a b c d ∷ versions_in bytes
 versions_in _ = []
 
--- the signed numbers that the bytes tell, two for each
+-- the signed numbers that the bytes give, two for each
 abbrev pub values_in : List ℕ → List ℤ
 values_in (a ∷ b ∷ bytes) = cast_signed w16 (from_be_bytes w16 (a ∷ b ∷ [])) ∷ values_in bytes
 values_in _ = []
@@ -49,7 +49,8 @@ status_read handlers _ = Err BadLength
 -- a handler of the machine, a version, 1 to 22 fragments, one of them, and a full piece unless it is the last one
 abbrev pub is_fragment : ℕ → ℕ → ℕ → ℕ → ℕ → Bool → ℕ → Bool
 is_fragment handlers handler version index count large len =
-    ((nat_lt handler handlers && not (version == 0)) && (nat_le count 22 && nat_lt index count)) && (index + 1 == count || nat_le (full_len large) len)
+    ((nat_lt handler handlers && not (version == 0)) && (nat_le count 22 && nat_lt index count))
+    && (index + 1 == count || nat_le (full_len large) len)
 
 abbrev pub fragment_read : ℕ → Bool → List ℕ → Result Packet PacketFault
 fragment_read handlers large (handler ∷ v0 ∷ v1 ∷ v2 ∷ v3 ∷ index ∷ count ∷ bytes) =
@@ -58,7 +59,7 @@ fragment_read handlers large (handler ∷ v0 ∷ v1 ∷ v2 ∷ v3 ∷ index ∷ 
     else Ok (Fragment (record { 0 = handler }) (u32_of v0 v1 v2 v3) index count large (record { items = bytes }))
 fragment_read handlers large _ = Err BadLength
 
--- by the kind, and by what stands behind the machine's number
+-- by the kind, and by what is after the machine's number
 abbrev pub body_in : ℕ → ℕ → List ℕ → Result Packet PacketFault
 body_in handlers kind body =
     if kind == 1 then vector_in handlers body

@@ -27,7 +27,7 @@ pub record IsTooNested (source : ProcedureSource) (depth : ℕ) : Type 0 where
   pub deep : DEPTH_MAX < acts_depth (expansion source).body
   pub counts : depth ≡ acts_depth (expansion source).body
 
--- the answer is the expansion, or why there is none; want of memory tells nothing
+-- the answer is the expansion, or why there is none; lack of memory says nothing
 abbrev pub Expands : ProcedureSource → Result Script ProcFault → Type 0
 Expands source (Ok script) = IsExpansion source script
 Expands source (Err (TooLarge count)) = IsTooLarge source count

@@ -1,4 +1,5 @@
--- The plain script that a script with procedures stands for: each parameter is a private variable, and each `do` its procedure's body.
+-- The plain script that a script with procedures expands to: each parameter is a private variable, and each
+-- `do` its procedure's body.
 use Rattle.std.specs.Prelude.{ℕ, zero, suc, List, [], ◌∷◌, ◌++◌, length, sum_by, Option, Some, None}
 use Rattle.ts_syntax.specs.declared.word.Word.{Word}
 use Rattle.ts_syntax.specs.Tree.{Trees, no_trees, tree_then, Act, set, set_item, append, take_last, clear, call_alone, if_then, if_else, for_next, while_do, run_procedure, Acts, no_acts, act_then, Procedure, ProcedureSource, Source}
@@ -45,7 +46,7 @@ abbrev mutual
   expanded_acts known h no_acts = []
   expanded_acts known h (act_then a more) = expanded_act known h a ++ expanded_acts known h more
 
--- a procedure behind others, whose parameters are numbered first
+-- a procedure after others, whose parameters are numbered first
 abbrev pub callee : List (List ℕ × Callee) → Procedure → Callee
 callee known p =
     let first : ℕ = sum_by (λ c. c.1.params) known in

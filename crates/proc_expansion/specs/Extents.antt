@@ -1,4 +1,4 @@
--- What the program's extents stand for.
+-- What the program's extents mean.
 use Rattle.std.specs.Prelude.{ℕ, min, List, map}
 use Rattle.ts_syntax.specs.Tree.{Act}
 use Rattle.ts_syntax.specs.Seen.{acts}

@@ -14,7 +14,7 @@ use Rattle.proc_expansion.specs.Plan.{bodies_of}
 abbrev pub acts_left : List Proc → Pending → List Act
 acts_left procs p = expanded_acts (take p.count (bodies_of procs)) (hiding_of p.hidden) (acts_of p.stmts.now)
 
--- the same of a body, where there is one
+-- the same of a body, if there is one
 abbrev pub left_if : List Proc → Option Pending → List Act
 left_if procs None = []
 left_if procs (Some p) = acts_left procs p

@@ -1,4 +1,4 @@
--- What the program's plan of an expansion stands for.
+-- What the program's plan of an expansion means.
 use Rattle.std.specs.Prelude.{ℕ, List, map}
 use Rattle.ts_syntax.specs.declared.procedure.Proc.{Proc}
 use Rattle.ts_syntax.specs.Seen.{procedure_of}

@@ -19,7 +19,7 @@ RunsWithFrames machine source tree =
     (store : Store) (msg : ArrayVec ℤ) (answers : List ℤ) (turns : ℕ) →
     run_of tree store msg answers turns ≡ run_with_frames machine source store msg answers turns
 
--- where the checks accept the expansion for a machine, its tree does so
+-- if the checks accept the expansion for a machine, its tree does so
 abbrev pub RunsAsExpanded : ProcedureSource → Type 0
 RunsAsExpanded source =
     (machine : Description) (tree : Block) → checked_source machine (expansion source) ≡ Ok tree → RunsWithFrames machine source tree

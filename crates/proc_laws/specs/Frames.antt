@@ -22,16 +22,16 @@ use Rattle.mate_num.specs.declared.outcome.Outcome.{Outcome}
 use Rattle.proc_names.specs.Places.{declared_as}
 use Rattle.proc_expansion.specs.InOrder.{declared_in_order}
 
--- parameter j of a procedure is number 8 + j, behind the script's own eight private variables
+-- parameter j of a procedure is number 8 + j, after the script's own eight private variables
 abbrev pub parameter_entries : ℕ → List Word → List Entry
 parameter_entries j [] = []
 parameter_entries j (w ∷ ws) = record { name = w.name; symbol = Variable (Private (8 + j)) } ∷ parameter_entries (j + 1) ws
 
--- the names within a body: the parameters stand before all others, and functions are what they were
+-- the names within a body: the parameters are before all others, and functions are what they were
 abbrev pub names_within : ScriptNames → List Word → ScriptNames
 names_within n params = record { machine = n.machine; declared = parameter_entries 0 params ++ n.declared }
 
--- a frame is what stands behind the eight; at the end of a call the one before is put back
+-- a frame is what is after the eight; at the end of a call the one before is put back
 abbrev pub with_frame : List ℤ → ScriptState → ScriptState
 with_frame values s = record s { privates = take 8 s.privates ++ values }
 
@@ -42,7 +42,7 @@ frame_dropped before (Over end s) = Over end s
 abbrev pub in_own_frame : (ScriptState → Evaluation ⊤) → List ℤ → ScriptState → Evaluation ⊤
 in_own_frame body values s = frame_dropped (drop 8 s.privates) (body (with_frame values s))
 
--- a part whose checks passed; one that is refused does nothing, and none runs where the expansion is accepted
+-- a part whose checks passed; one that is refused does nothing, and none runs if the expansion is accepted
 abbrev pub value_checked : Result Expression CheckFault → ScriptState → Evaluation ℤ
 value_checked (Ok e) s = value_of e s
 value_checked (Err fault) s = Done (pos 0) s
@@ -68,7 +68,7 @@ abbrev pub call_run : Option Runs → List ℤ → ScriptState → Evaluation �
 call_run None values s = Done tt s
 call_run (Some runs) values s = runs values s
 
--- a statement, and the statements of a block, with these names and behind these procedures
+-- a statement, and the statements of a block, with these names and after these procedures
 abbrev mutual
   pub act_run : List (List ℕ × Runs) → ScriptNames → Act → ScriptState → Evaluation ⊤
   act_run known n (set w e) s = stmt_checked (checked_stmt n (set w e)) s

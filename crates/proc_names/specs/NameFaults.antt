@@ -7,13 +7,13 @@ use Rattle.proc_names.specs.declared.fault.ProcFault.{ProcFault}
 use Rattle.proc_names.specs.declared.fault.ProcFault.TheVariants.{NoProc, Params, Again, Reserved}
 use Rattle.proc_names.specs.Places.{place_of_name, declared_as}
 
--- the first refusal, and the second one where the first part refuses nothing
+-- the first refusal, and the second one if the first part refuses nothing
 infixr 10 ◌<|>◌
 abbrev pub ◌<|>◌ : Option ProcFault → Option ProcFault → Option ProcFault
 (Some fault) <|> next = Some fault
 None <|> next = next
 
--- the refusal, where a test holds
+-- the refusal, if a test holds
 abbrev pub refused_if : Bool → ProcFault → Option ProcFault
 refused_if true fault = Some fault
 refused_if false fault = None
@@ -50,7 +50,7 @@ abbrev pub argument_total : Trees → ℕ
 argument_total no_trees = 0
 argument_total (tree_then e es) = suc (argument_total es)
 
--- a call of a procedure that is declared with so many parameters, or not at all
+-- a call of a procedure that is declared with this number of parameters, or not at all
 abbrev pub call_fault : Word → ℕ → Option ℕ → Option ProcFault
 call_fault w n None = Some (NoProc w.name w.place)
 call_fault w n (Some m) = if m == n then None else Some (Params w.place)
@@ -60,7 +60,7 @@ abbrev pub call_name_fault : List (List ℕ × ℕ) → Word → Trees → Optio
 call_name_fault known w es =
     word_fault w <|> call_fault w (argument_total es) (declared_as known w.name) <|> args_fault es
 
--- a statement, and the statements of a block, behind procedures of which the numbers of parameters are known
+-- a statement, and the statements of a block, after procedures of which the numbers of parameters are known
 abbrev mutual
   pub act_fault : List (List ℕ × ℕ) → Act → Option ProcFault
   act_fault known (set w e) = word_fault w <|> expr_fault e
@@ -80,7 +80,7 @@ abbrev mutual
   acts_fault known no_acts = None
   acts_fault known (act_then a more) = act_fault known a <|> acts_fault known more
 
--- the parameters of a head, behind those with these names
+-- the parameters of a head, after those with these names
 abbrev pub params_fault : List (List ℕ) → List Word → Option ProcFault
 params_fault seen [] = None
 params_fault seen (w ∷ ws) =
@@ -92,7 +92,7 @@ procedure_fault known p =
     word_fault p.name <|> refused_if (is_some (declared_as known p.name.name)) (Again p.name.name p.name.place)
     <|> params_fault [] p.params <|> acts_fault known p.body
 
--- procedures, and the statements behind them
+-- procedures, and the statements after them
 abbrev pub procedures_fault : List (List ℕ × ℕ) → List Procedure → Acts → Option ProcFault
 procedures_fault known [] body = acts_fault known body
 procedures_fault known (p ∷ ps) body =

@@ -14,7 +14,7 @@ number_of_name table name = tree.get_by (λ k. slice_cmp nat_cmp name k.now) tab
 abbrev pub Tabulates : NameTable → List (List ℕ) → Type 0
 Tabulates table names = (name : List ℕ) → number_of_name table name ≡ place_of_name names name
 
--- the number that is there, and else another one where a test holds
+-- the number that is there, and else another one if a test holds
 abbrev pub kept_or : Option ℕ → Bool → ℕ → Option ℕ
 kept_or (Some n) b m = Some n
 kept_or None true m = Some m

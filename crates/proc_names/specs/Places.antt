@@ -1,4 +1,4 @@
--- Names that stand before others.
+-- Names that are before others.
 use Rattle.std.specs.Prelude.{ℕ, List, Option, Some, None, nat_lt, if◌then◌else◌, bytes_eq}
 use Rattle.std.specs.List.{position_from}
 use Rattle.std.specs.Map.{lookup}
@@ -7,11 +7,11 @@ use Rattle.std.specs.Map.{lookup}
 abbrev pub place_of_name : List (List ℕ) → List ℕ → Option ℕ
 place_of_name names name = position_from (bytes_eq name) 0 names
 
--- a place, where it is below a number
+-- a place, if it is below a number
 abbrev pub place_below : ℕ → Option ℕ → Option ℕ
 place_below n None = None
 place_below n (Some i) = if nat_lt i n then Some i else None
 
--- what stands beside the first of a name
+-- what is beside the first of a name
 abbrev pub declared_as : {A : Type 0} → List (List ℕ × A) → List ℕ → Option A
 declared_as known name = lookup (bytes_eq name) known

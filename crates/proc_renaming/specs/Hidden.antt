@@ -1,4 +1,4 @@
--- What the program's hidden names stand for.
+-- What the program's hidden names mean.
 use Rattle.proc_renaming.specs.declared.hidden.Hidden.{Hidden}
 use Rattle.proc_renaming.specs.Renaming.{Hiding}
 

@@ -1,4 +1,4 @@
--- What stands for the names of a procedure's body in a plain script: each parameter is a private variable.
+-- What replaces the names of a procedure's body in a plain script: each parameter is a private variable.
 use Rattle.std.specs.Prelude.{ℕ, zero, suc, ◌+◌, ◌==◌, List, [], ◌∷◌, Option, Some, None, bytes_eq, decimal}
 use Rattle.std.specs.List.{position_from}
 use Rattle.ts_syntax.specs.declared.word.Word.{Word}
@@ -58,7 +58,8 @@ abbrev mutual
 -- arguments go into the variables of parameters, of which the first is variable k
 abbrev pub assigned : Hiding → ℕ → ℕ → Trees → List Act
 assigned h place k no_trees = []
-assigned h place k (tree_then e es) = set (record { name = parameter_name k; place = place }) (renamed_expr h e) ∷ assigned h place (k + 1) es
+assigned h place k (tree_then e es) =
+    set (record { name = parameter_name k; place = place }) (renamed_expr h e) ∷ assigned h place (k + 1) es
 
 -- a statement that has no block and runs no procedure, as a list; of any other it has nothing
 abbrev pub renamed_simple : Hiding → Act → List Act

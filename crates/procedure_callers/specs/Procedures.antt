@@ -30,7 +30,7 @@ setting name n = set (named name) (number n)
 abbrev pub inverting : List ℕ → Act
 inverting name = set (named name) (two Div (number 1) (variable (named name)))
 
--- these statements in so many blocks, one inside the other
+-- these statements in n blocks, one inside the other
 abbrev pub nested : ℕ → List Act → List Act
 nested zero body = body
 nested (suc n) body = while_do (number 0) (acts (nested n body)) ∷ []

@@ -25,7 +25,7 @@ pub record Ether : Type 0 where
 abbrev pub wires_of : Ether → ℕ → List Wire
 wires_of e node = slice_index_or e.wires node []
 
--- a transmission: its record stands first, then those of its losses; each link goes on to its next word
+-- a transmission: its record is first, then those of its losses; each link goes on to its next word
 abbrev pub transmitted : Ether → Sending → ArrayVec ℕ → Ether
 transmitted e s bytes = record {
   agenda = scheduled_all e.agenda (s.at.time + e.delay) (delivered s bytes (wires_of e s.node));

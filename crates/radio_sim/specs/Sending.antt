@@ -11,7 +11,7 @@ use Rattle.radio_sim.specs.Wires.{leaving}
 abbrev pub sent_record : Sending → ArrayVec ℕ → Aired
 sent_record s bytes = record { stamp = s.at; node = s.node; air = air.Sent s.number bytes }
 
--- something was recorded behind the old records
+-- something was recorded after the old records
 pub record IsFurther (old new : List Aired) : Type 0 where
   pub rest : List Aired
   pub is : new ≡ old ++ rest

@@ -1,4 +1,4 @@
--- What the fields of a record tell, each by one word, or by all that are left.
+-- What the fields of a record denote, each by one word, or by all that are left.
 use Rattle.std.specs.Prelude.{ℕ, ◌^◌, List, [], ◌∷◌, ℤ, Option, None, Some, if◌then◌else◌}
 use Rattle.std.specs.Option.{option_map}
 use Rattle.std.specs.Str.{bytes_eq}
@@ -28,6 +28,6 @@ drop_of word = named_among drop_word (drop.NoCode ∷ drop.AllBusy ∷ []) word
 unfoldable pub fault_of : List ℕ → Option FaultKind
 fault_of word = named_among fault_word (fault.DivZero ∷ fault.Index ∷ fault.BufferFull ∷ fault.BufferEmpty ∷ fault.Overrun ∷ []) word
 
--- the values that all words tell
+-- the values that all words denote
 abbrev pub payload_of : List (List ℕ) → Option (ArrayVec ℤ)
 payload_of words = option_map (λ vs. record { items = vs }) (values_after [] words)

@@ -12,11 +12,11 @@ is_lower_digit b = (nat_le 48 b && nat_le b 57) || (nat_le 97 b && nat_le b 102)
 abbrev pub is_hex_word : List ℕ → Bool
 is_hex_word word = (not (length word == 0) && length word % 2 == 0) && list_all is_lower_digit word
 
--- the bytes, at most so many, that a word tells
+-- the bytes, at most `most`, that a word denotes
 abbrev pub hex_of : ℕ → List ℕ → Option (ArrayVec ℕ)
 hex_of most word = if is_hex_word word && nat_le (length word) (2 * most) then Some (record { items = bytes_of_digits word }) else None
 
--- the image, and the packet, that a word tells
+-- the image, and the packet, that a word denotes
 abbrev pub image_of : List ℕ → Option (ArrayVec ℕ)
 image_of word = hex_of IMAGE_MAX word
 

@@ -18,7 +18,7 @@ name_of_handler h = h.name
 abbrev pub name_of_function : Function → List ℕ
 name_of_function f = f.name
 
--- the handler, the function and the context that a word tells: the first with that name
+-- the handler, the function and the context that a word names: the first with that name
 abbrev pub handler_of : Description → List ℕ → Option HandlerId
 handler_of d word = option_map (λ n. record { 0 = n }) (position (λ h. bytes_eq (name_of_handler h) word) d.handlers.items)
 

@@ -1,4 +1,4 @@
--- Logs that grow, and records of the air: what stands behind a place in them is in the ranges of its types.
+-- Logs that grow, and records of the air: what is after a place in them is in the ranges of its types.
 use Rattle.std.specs.Prelude.{◌≡◌, ◌≤◌, ℕ, List, length, drop, All}
 use Rattle.mate_journal.specs.Log.{Log}
 use Rattle.mate_journal.specs.OpenLog.{Gone}
@@ -10,7 +10,7 @@ pub record IsSizeOf (s : LogSize) (l : Log) : Type 0 where
   pub images : s.images ≡ length l.images
   pub stores : s.stores ≡ length l.stores
 
--- what stands behind so much of the log is in the ranges of its types
+-- what the log has beyond this size is in the ranges of its types
 pub record IsInRangeFrom (s : LogSize) (l : Log) : Type 0 where
   pub entries : All HasStampedRanges (drop s.entries l.entries)
   pub images : All HasImageRanges (drop s.images l.images)

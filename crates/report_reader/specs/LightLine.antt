@@ -7,7 +7,7 @@ use Rattle.report_reader.specs.declared.line.Told.{Told}
 use Rattle.report_reader.specs.declared.line.Told.TheVariants as told
 use Rattle.report_reader.specs.declared.line.Line.{Line}
 
--- what happened, with the image and the store that stand beside it
+-- what happened, with the image and the store that are beside it
 abbrev pub told_with : Bulk → LightTold → Told
 told_with x (light.OnAir a) = told.OnAir a
 told_with x (light.Made e) = told.Made e

@@ -1,4 +1,4 @@
--- What the words of a line tell.
+-- What the words of a line say.
 use Rattle.std.specs.Prelude.{ℕ, List, [], ◌∷◌, codes, Option}
 use Rattle.std.specs.Option.{option_map}
 use Rattle.vm_desc.specs.declared.description.Description.{Description}
@@ -86,7 +86,7 @@ got_of = reads number_of (λ n. reads node_of (λ from. only_at_end (told.OnAir 
 abbrev pub noise_told : List (List ℕ) → Option Told
 noise_told = reads packet_of (λ bytes. only_at_end (told.OnAir (air.Noise bytes)))
 
--- by the verb, and the words behind it
+-- by the verb, and the words after it
 abbrev pub told_by : Description → Verb → List (List ℕ) → Option Told
 told_by d verb.Post = post_of d
 told_by d verb.Drop = dropped_of d
@@ -113,7 +113,7 @@ told_of d = reads verb_of (told_by d)
 abbrev pub line_with : ℕ → ℕ → ℕ → Told → Line
 line_with event time node what = record { stamp = record { event = event; time = time }; node = node; told = what }
 
--- the line that bytes tell: the event, its time, the node and what happened
+-- the line that bytes spell: the event, its time, the node and what happened
 abbrev pub line_of_words : Description → List (List ℕ) → Option Line
 line_of_words d =
     reads unsigned_of (λ event. reads number_of (λ time. reads node_of

@@ -1,4 +1,4 @@
--- What a line of a report tells, and its text.
+-- What a line of a report says, and its text.
 use Rattle.std.specs.Prelude.{◌≡◌, ◌<◌, ◌≤◌, ◌^◌, ℕ, List, [], ◌∷◌, ◌++◌, codes, length, ⊤}
 use Rattle.arrayvec.specs.ArrayVec.{ArrayVec}
 use Rattle.mate_num.specs.declared.bounds.TheConstants.{IMAGE_MAX}
@@ -21,7 +21,7 @@ use Rattle.report_reader.specs.declared.line.Line.{Line}
 abbrev pub log_with : List (ArrayVec ℕ) → List Store → Log
 log_with images stores = record { entries = []; images = images; stores = stores; spare = 0 }
 
--- the words of what a line tells, each after a space, as they are written
+-- the words of what a line says, each after a space, as they are written
 abbrev pub told_words : Description → Told → List ℕ
 told_words d (told.OnAir a) = air_words a
 told_words d (told.Made e) = entry_words d (log_with [] []) e
@@ -38,7 +38,7 @@ line_text d l = line_words d l ++ codes "\n"
 
 -- ---- which lines are right for a description
 
--- what an entry names is there; an image and a store stand in the line itself
+-- what an entry names is there; an image and a store are in the line itself
 abbrev pub IsRightEntry : Description → Entry → Type 0
 IsRightEntry d (entry.Post n h c payload) = (h.0 < length d.handlers.items) × (c.0 < context_count d)
 IsRightEntry d (entry.Dropped h cause) = h.0 < length d.handlers.items

@@ -9,7 +9,7 @@ use Rattle.report_reader.specs.Told.{IsRightLine, HasLineRanges}
 use Rattle.report_reading.specs.LastLines.{HasLastRanges}
 use Rattle.report_reading.specs.declared.last_line.LastLine.{LastLine}
 
--- whether a line tells of the air, and whether it shows a store
+-- whether a line records what happened on the air, and whether it shows a store
 abbrev pub is_on_air : Told → Bool
 is_on_air (told.OnAir a) = true
 is_on_air (told.Made e) = false
@@ -29,14 +29,14 @@ line_mark l = record { stamp = l.stamp; node = l.node; is_seen = is_shown l.told
 abbrev pub line_marks : List Line → List Mark
 line_marks ls = map line_mark ls
 
--- Line `l` may stand behind `p`: events don't fall; within one, what happened on the air comes before the entries, and of
+-- Line `l` may be after `p`: events don't fall; within one, what happened on the air comes before the entries, and of
 -- each of these two kinds the nodes don't fall.
 pub record StandsBehind (p l : Line) : Type 0 where
   pub event : p.stamp.event ≤ l.stamp.event
   pub air_first : p.stamp.event ≡ l.stamp.event → IsTrue (is_on_air l.told) → IsTrue (is_on_air p.told)
   pub nodes : p.stamp.event ≡ l.stamp.event → is_on_air p.told ≡ is_on_air l.told → p.node ≤ l.node
 
--- Lines stand in order, and agree as the records of a tidy report do: one event has one time, and a later event no earlier
+-- Lines are in order, and agree as the records of a tidy report do: one event has one time, and a later event no earlier
 -- one; an event is of one node, but for event 0 and a last event that only shows stores.
 pub record AreInOrder (ls : List Line) : Type 0 where
   pub ordered : AllPairs StandsBehind ls

@@ -1,4 +1,4 @@
--- The last line of a report: its text, and what words tell as one.
+-- The last line of a report: its text, and which one words spell.
 use Rattle.std.specs.Prelude.{ℕ, ◌<◌, ◌^◌, Bool, true, false, if◌then◌else◌, List, ◌++◌, codes, Option, Some, None}
 use Rattle.std.specs.Str.{bytes_eq}
 use Rattle.report_text.specs.Words.{number}
@@ -28,12 +28,12 @@ is_whole_word word = if bytes_eq (codes "end") word then Some true else if bytes
 abbrev pub last_with : Bool → ℕ → ℕ → ℕ → LastLine
 last_with whole records events nodes = record { whole = whole; records = records; events = events; nodes = nodes }
 
--- the last line that words tell
+-- the last line that words spell
 abbrev pub last_of_words : List (List ℕ) → Option LastLine
 last_of_words =
     reads is_whole_word (λ whole. reads unsigned_of (λ records. reads unsigned_of (λ events. reads unsigned_of (λ nodes.
     only_at_end (last_with whole records events nodes)))))
 
--- the last line that bytes tell
+-- the last line that bytes spell
 abbrev pub last_in : List ℕ → Option LastLine
 last_in bytes = last_of_words (words_of bytes)

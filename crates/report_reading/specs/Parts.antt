@@ -1,4 +1,4 @@
--- The report that lines tell.
+-- The report that lines make.
 use Rattle.std.specs.Prelude.{◌≡◌, ℕ, suc, ◌==◌, max, List, [], ◌∷◌, ◌++◌, length, map, flat_map, fold, if◌then◌else◌}
 use Rattle.std.specs.List.{AllZip}
 use Rattle.mate_num.specs.declared.call.Stamp.{Stamp}
@@ -19,7 +19,7 @@ use Rattle.report_reading.specs.declared.last_line.LastLine.{LastLine}
 abbrev pub stamped : Stamp → Entry → Stamped
 stamped at e = record { stamp = at; entry = e }
 
--- a log with what one more line tells; images and stores are numbered in the order of their lines
+-- a log with what one more line records; images and stores are numbered in the order of their lines
 abbrev pub log_with_line : Log → Stamp → Told → Log
 log_with_line l at (told.OnAir a) = l
 log_with_line l at (told.Made e) = record l { entries = l.entries ++ stamped at e ∷ [] }
@@ -40,11 +40,11 @@ log_after node l line = if line.node == node then log_with_line l line.stamp lin
 abbrev pub no_log : Log
 no_log = record { entries = []; images = []; stores = []; spare = 0 }
 
--- the log of a node that lines tell
+-- the log of a node that lines make
 abbrev pub log_of : ℕ → List Line → Log
 log_of node ls = fold (log_after node) no_log ls
 
--- what a line tells of the air
+-- what a line records of the air
 abbrev pub aired_by : Stamp → ℕ → Told → List Aired
 aired_by at node (told.OnAir a) = record { stamp = at; node = node; air = a } ∷ []
 aired_by at node (told.Made e) = []

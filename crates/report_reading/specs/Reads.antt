@@ -1,4 +1,4 @@
--- What the bytes of a report tell: a report, or the first line that doesn't fit.
+-- What the bytes of a report spell: a report, or the first line that doesn't fit.
 use Rattle.std.specs.Prelude.{◌≡◌, ◌<◌, ◌+◌, ℕ, List, [], ◌∷◌, ◌++◌, length, flat_map, ◌⊎◌, Result, Ok, Err, ⊤}
 use Rattle.vm_desc.specs.declared.description.Description.{Description}
 use Rattle.mate_journal.specs.declared.report.Report.{Report}
@@ -21,12 +21,12 @@ pub record AreLines (d : Description) (bytes : List ℕ) (ls : List Line) (e : L
   pub last : FitsLast ls e
   pub text : bytes ≡ text_of_lines d ls ++ last_text e
 
--- neither a line nor a last line that fits after those before stands at the front of what is left
+-- neither a line nor a last line that fits after those before is at the front of what is left
 pub record NothingFits (d : Description) (before : List Line) (left : List ℕ) : Type 0 where
   pub line : (l : Line) (more : List ℕ) → AreFitting d (before ++ l ∷ []) → left ≡ line_text d l ++ more → ⊥
   pub last : (e : LastLine) (more : List ℕ) → FitsLast before e → left ≡ last_text e ++ more → ⊥
 
--- something stands behind a last line
+-- something is after a last line
 pub record GoesOnBehind (before : List Line) (left : List ℕ) : Type 0 where
   pub e : LastLine
   pub more : List ℕ

@@ -38,7 +38,7 @@ pub record IsAt (d : Description) (bytes left : List ℕ) (p : Parts) : Type 0 w
   pub text : bytes ≡ text_of_lines d ls ++ left
   pub few : length ls + length left ≤ 4000000000
 
--- no LF stands among the bytes
+-- no LF is among the bytes
 abbrev pub IsOneLine : List ℕ → Type 0
 IsOneLine bytes = list_all (λ b. not (b == 10)) bytes ≡ true
 
@@ -48,7 +48,7 @@ TakesLine d ls l new (Ok done) = HasRead d (ls ++ l ∷ []) new
 TakesLine d ls l new (Err (BadLine line)) = (AreFitting d (ls ++ l ∷ []) → ⊥) × (line ≡ length ls + 1)
 TakesLine d ls l new (Err NoMemory) = ⊤
 
--- the bytes of a line that tell no record
+-- the bytes of a line that spell no record
 pub record TellsNone (d : Description) (bytes : List ℕ) : Type 0 where
   pub whole : IsOneLine bytes
   pub none : (l : Line) → IsSound d l → bytes ≡ line_words d l → ⊥

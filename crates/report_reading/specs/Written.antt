@@ -25,7 +25,7 @@ image_at l i = slice_index_or l.images i (record { items = [] })
 abbrev pub store_at : Log → ℕ → Store
 store_at l i = slice_index_or l.stores i (record { shared = record { items = [] }; buffers = record { items = [] } })
 
--- what the line of an entry tells
+-- what the line of an entry says
 abbrev pub told_by_entry : Log → Entry → Told
 told_by_entry l (entry.Post n h c payload) = told.Made (entry.Post n h c payload)
 told_by_entry l (entry.Dropped h cause) = told.Made (entry.Dropped h cause)

@@ -37,7 +37,7 @@ pub record IsOfNode (t : LogTally) (events : ℕ) (whole : Bool) (s : Summary) :
   pub events_are : s.events ≡ events
   pub whole_is : s.whole ≡ whole
 
--- what was counted of a run on so many nodes before anything happened
+-- what was counted of a run on this number of nodes before anything happened
 pub record IsNewTally (handlers nodes : ℕ) (t : RunTally) : Type 0 where
   pub count : length t.nodes.items ≡ nodes
   pub none : All (λ (a : LogTally). IsLogTally handlers a []) t.nodes.items
@@ -52,7 +52,7 @@ entries_summed kind ts = sum_by (λ t. entries_counted kind t.counts) ts
 abbrev pub newest_counted : ℕ → List LogTally → ℕ
 newest_counted h ts = fold (λ version t. max version (versions_at h t.versions.items).newest) 0 ts
 
--- how many nodes have it as their last one; 0 where there is none
+-- how many nodes have it as their last one; 0 if there is none
 abbrev pub holders_counted : ℕ → List LogTally → ℕ
 holders_counted h ts = if newest_counted h ts == 0 then 0
     else count_by (λ t. (versions_at h t.versions.items).last == newest_counted h ts) ts

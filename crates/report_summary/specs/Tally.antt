@@ -75,7 +75,7 @@ pub record IsAirTallyUpTo (n : ℕ) (t : AirTally) : Type 0 where
   pub records : t.records ≤ n
   pub counts : (k : AirKind) → air_counted k t ≤ n
 
--- what was counted of these entries, on a machine of so many handlers
+-- what was counted of these entries, on a machine with this number of handlers
 pub record IsLogTally (handlers : ℕ) (t : LogTally) (es : List Stamped) : Type 0 where
   pub size : length t.versions.items ≡ handlers
   pub entries : t.entries ≡ length es
@@ -96,13 +96,13 @@ pub record IsAirTally (t : AirTally) (aired : List Aired) : Type 0 where
 
 -- ---- on the way
 
--- a version more of a handler, where there is this handler
+-- a version more of a handler, if there is this handler
 pub record InstallsVersion (old new : List Versions) (g version : ℕ) : Type 0 where
   pub size : length new ≡ length old
   pub versions : (h : ℕ) → h < length old → versions_at h new ≡ (if g == h then with_version (versions_at h old) version
       else versions_at h old)
 
--- what an entry installs is told
+-- what an entry installs is noted
 pub record Notes (old new : List Versions) (e : Entry) : Type 0 where
   pub size : length new ≡ length old
   pub versions : (h : ℕ) → h < length old → versions_at h new ≡ with_version_if (installed h e) (versions_at h old)

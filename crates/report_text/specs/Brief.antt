@@ -56,7 +56,7 @@ newest h logs = fold max 0 (flat_map (versions h) logs)
 abbrev pub last : ℕ → Log → ℕ
 last h l = fold (λ before version. version) 0 (versions h l)
 
--- how many nodes have a handler's newest version as their last one; 0 where there is none
+-- how many nodes have a handler's newest version as their last one; 0 if there is none
 abbrev pub holders : ℕ → List Log → ℕ
 holders h logs = if newest h logs == 0 then 0 else count_by (λ l. last h l == newest h logs) logs
 

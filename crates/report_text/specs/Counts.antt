@@ -22,7 +22,7 @@ air_in air_kind.Sent c = c.sent
 air_in air_kind.Got c = c.got
 air_in air_kind.Lost c = c.lost
 
--- one where it is so, and else none
+-- one if it is so, and else none
 abbrev pub one_if : Bool → ℕ
 one_if true = 1
 one_if false = 0

@@ -39,12 +39,12 @@ pub record AreLeftFrom (r : Report) (air : ℕ) (cursors : List ℕ) (event : �
   pub in_logs : (k : ℕ) (d : Log) → k < length r.nodes
       → IsLeftFrom entry_event event (slice_index_or r.nodes k d).entries (slice_index_or cursors k 0)
 
--- the greatest number that is a bound; None where each number is one
+-- the greatest number that is a bound; None if each number is one
 abbrev pub IsGreatest : Option ℕ → (ℕ → Type 0) → Type 0
 IsGreatest None IsBound = (n : ℕ) → IsBound n
 IsGreatest (Some m) IsBound = IsBound m × ((n : ℕ) → IsBound n → n ≤ m)
 
--- the lesser of two numbers, where there are two
+-- the lesser of two numbers, if there are two
 abbrev pub lesser : Option ℕ → Option ℕ → Option ℕ
 lesser None b = b
 lesser (Some m) None = Some m

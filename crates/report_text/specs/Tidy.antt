@@ -54,9 +54,8 @@ abbrev pub AreOfOneNode : List Mark → Mark → Mark → Type 0
 AreOfOneNode ms a b = a.stamp.event ≡ b.stamp.event → (a.node ≡ b.node) ⊎ ((a.stamp.event ≡ 0) ⊎ IsLastSeen ms a.stamp.event)
 
 -- A report is tidy for a description: its logs are, and no image is empty; node numbers and packets are in range; event
--- numbers don't fall on the air, nor do nodes within one event there; events agree in time and, but for the first and the last, are
--- each of one
--- node.
+-- numbers don't fall on the air, nor do nodes within one event there; events agree in time and, but for the first and the
+-- last, are each of one node.
 pub record IsTidy (d : Description) (r : Report) : Type 0 where
   pub nodes_low : 1 ≤ length r.nodes
   pub nodes_high : length r.nodes ≤ 64

@@ -13,7 +13,7 @@ use Rattle.run_record.specs.declared.record.Record.{Record}
 abbrev pub HasLog : Record → ℕ → Log → Type 0
 HasLog r node l = slice_get r.logs.items node ≡ Some l
 
--- nothing happened on so many nodes
+-- nothing happened on this number of nodes
 pub record IsEmptyRecord (nodes : ℕ) (r : Record) : Type 0 where
   pub count : length r.logs.items ≡ nodes
   pub empty : All IsEmpty r.logs.items
@@ -26,30 +26,30 @@ pub record IsSameRecord (old new : Record) : Type 0 where
   pub air : new.air ≡ old.air
   pub places : length new.places ≡ length old.places
 
--- behind so many images and stores what the entry names has a number of 32 bits
+-- after these numbers of images and stores, what the entry names has a number of 32 bits
 abbrev pub NumberFits : ℕ → ℕ → Entry → Type 0
 NumberFits images stores (entry.Install h version image) = images + image < 4294967296
 NumberFits images stores (entry.Seen store) = stores + store < 4294967296
 NumberFits images stores _ = ⊤
 
--- the second log fits behind the first
+-- the second log fits after the first
 pub record FitsBehind (own told : Log) : Type 0 where
   pub images : length own.images + length told.images < 4000000000
   pub stores : length own.stores + length told.stores < 4000000000
   pub names : All (λ (s : Stamped). NumberFits (length own.images) (length own.stores) s.entry) told.entries
 
--- this may be told behind what the node told
+-- this may be recorded after what the node recorded
 pub record MayAdd (r : Record) (node : ℕ) (told : Log) : Type 0 where
   pub fits : (own : Log) → HasLog r node own → FitsBehind own told
   pub short : length told.entries + length told.images + length told.stores < 2 ^ 63
 
--- the node told this behind what it told, and that happened on the air
+-- the node recorded this after what it recorded, and that happened on the air
 pub record HasAdded (old new : Record) (node : ℕ) (told : Log) (aired : List Aired) : Type 0 where
   pub logs : (own : Log) → HasLog old node own → AllZip IsSameLog new.logs.items (slice_set old.logs.items node (joined own told))
   pub air : new.air ≡ old.air ++ aired
   pub places : length new.places ≡ length old.places
 
--- each log has so much room
+-- each log has at least this much room
 abbrev pub HaveRoom : ℕ → Record → Type 0
 HaveRoom room r = All (λ (l : Log). room ≤ l.spare) r.logs.items
 

@@ -8,7 +8,7 @@ use Rattle.report_summary.specs.declared.tally.LogTally.{LogTally}
 use Rattle.report_summary.specs.declared.summary.Summary.{Summary}
 use Rattle.run_steps.specs.Running.{report_with}
 
--- it is the summary of the node's report, where the tally counts all but what is at hand
+-- it is the summary of the node's report, if the tally counts all but what is at hand
 pub record Sums (v : NodeView) (t : LogTally) (events : ℕ) (whole : Bool) (s : Summary) : Type 0 where
   pub small : IsSmall s
   pub of : (d : Description) → IsLogTally (length d.handlers.items) t (take v.gone.entries v.log.entries)

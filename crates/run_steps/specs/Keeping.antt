@@ -1,4 +1,4 @@
--- A new node of a run, and whether what it told is kept.
+-- A new node of a run, and whether what it recorded is kept.
 use Rattle.std.specs.Prelude.{◌≡◌, ⊤}
 use Rattle.vm_desc.specs.declared.description.Description.{Description}
 use Rattle.mate_journal.specs.Log.{IsEmpty}
@@ -15,7 +15,7 @@ pub record IsNewNode (d : Description) (v : NodeView) : Type 0 where
   pub pace : HasPace v no_pace
   pub whole : v.gone ≡ nothing_gone
 
--- no more is gone than was, where what is written is kept
+-- no more is gone than was, if what is written is kept
 abbrev pub StaysAsToldTo : Written → Gone → Gone → Type 0
 StaysAsToldTo Kept old new = new ≡ old
 StaysAsToldTo Forgotten old new = ⊤

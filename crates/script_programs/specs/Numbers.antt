@@ -10,12 +10,12 @@ file_of (step.Install handler version program) = Some program
 file_of (step.Load program) = Some program
 file_of _ = None
 
--- a step behind n files names the next one, or none; and this holds of the number of files then
+-- a step after n files names the next one, or none; and this holds of the number of files then
 abbrev pub NamesNext : Option ℕ → ℕ → (ℕ → Type 0) → Type 0
 NamesNext None n Then = Then n
 NamesNext (Some k) n Then = (k ≡ n) × Then (n + 1)
 
--- behind n files, the steps name the files from the n-th on, up to so many
+-- after n files, the steps name the files from the n-th on, and the number of files is `total` at the end
 abbrev pub IsNumbered : ℕ → List Step → ℕ → Type 0
 IsNumbered n [] total = n ≡ total
 IsNumbered n (x ∷ xs) total = NamesNext (file_of x) n (λ m. IsNumbered m xs total)

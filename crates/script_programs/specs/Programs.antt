@@ -47,7 +47,7 @@ gives_program given (Ok None) = ⊥
 gives_program given (Ok (Some p)) = given (Ok p)
 gives_program given (Err r) = given (Err r)
 
--- no program is named, unless memory is wanting
+-- no program is named, unless memory runs out
 abbrev pub gives_none : Result (Option Program) Refusal → Type 0
 gives_none (Ok None) = ⊤
 gives_none (Ok (Some p)) = ⊥

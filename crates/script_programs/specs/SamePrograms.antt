@@ -1,4 +1,4 @@
--- Programs that can't be told apart by what they mean and install.
+-- Programs that mean the same and install the same.
 use Rattle.std.specs.Prelude.{◌≡◌, List, [], ◌∷◌, Option, Some, None, ⊤}
 use Rattle.mate_journal.specs.declared.program.Program.{Program}
 use Rattle.ts_syntax.specs.Checked.{tree_of}

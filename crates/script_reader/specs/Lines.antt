@@ -12,7 +12,7 @@ abbrev pub is_some_part : List ℕ → Bool
 is_some_part [] = false
 is_some_part (byte ∷ bytes) = true
 
--- the words stand between blanks
+-- the words of a line, which are between blanks
 abbrev pub split_words : List ℕ → List (List ℕ)
 split_words line = filter is_some_part (slice_split is_blank line)
 

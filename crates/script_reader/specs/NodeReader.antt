@@ -29,7 +29,7 @@ IsNewer newest (step.Answer ctx value) = Unit {0}
 IsNewer newest step.Show = Unit {0}
 IsNewer newest step.Reset = Unit {0}
 
--- what a line says is right behind so many files and those versions
+-- what a line says is right after this number of files and those versions
 pub record IsRightSaid (d : Description) (newest : List ℕ) (files : ℕ) (said : Said) : Type 0 where
   pub right : IsRightStep d (files_after files said.file) said.step
   pub newer : IsNewer newest said.step

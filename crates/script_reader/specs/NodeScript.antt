@@ -1,4 +1,4 @@
--- The node script in bytes, line by line; where a line is refused, the first such line and its first cause.
+-- The node script in bytes, line by line; if a line is refused, the first such line and its first cause.
 use Rattle.std.specs.Prelude.{ℕ, if◌then◌else◌, List, [], ◌∷◌, ◌++◌, length, codes, slice_index, slice_set, replicate, Option, Some, None}
 use Rattle.std.specs.Prelude.{Result, Ok, Err}
 use Rattle.std.specs.Str.{bytes_eq}
@@ -58,7 +58,7 @@ an_answer d = do
 abbrev pub alone : Step → WordReading Said
 alone s = give (record { step = s; file = None })
 
--- what stands behind the first words of the lines that name no file, no handler and no number of instructions
+-- what is after the first words of the lines that name no file, no handler and no number of instructions
 unfoldable pub behind_others : Description → List ℕ → WordReading Said
 behind_others d verb =
     if bytes_eq verb (codes "run") then alone step.Run
@@ -67,7 +67,7 @@ behind_others d verb =
     else if bytes_eq verb (codes "reset") then alone step.Reset
     else found (Err Word)
 
--- what stands behind a line's first word
+-- what is after a line's first word
 unfoldable pub behind : Description → List ℕ → ℕ → List ℕ → WordReading Said
 behind d newest files verb =
     if bytes_eq verb (codes "install") then an_install d newest files

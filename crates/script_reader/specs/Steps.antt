@@ -11,7 +11,7 @@ pub record NodeScript : Type 0 where
   pub steps : List Step
   pub files : List (List ℕ)
 
--- a handler of the machine, a version, and one of so many files
+-- a handler of the machine, a version, and one of this number of files
 pub record IsRightInstall (d : Description) (files : ℕ) (handler version program : ℕ) : Type 0 where
   pub handler_high : handler < length d.handlers.items
   pub version_low : 1 ≤ version
@@ -27,7 +27,7 @@ pub record IsRightTurn (d : Description) (context n : ℕ) : Type 0 where
   pub low : 1 ≤ n
   pub high : n ≤ 1000000
 
--- the step's numbers are the machine's, and its file is one of so many
+-- the step's numbers are the machine's, and its file is one of this number of files
 abbrev pub IsRightStep : Description → ℕ → Step → Type 0
 IsRightStep d files (step.Install handler version program) = IsRightInstall d files handler.0 version program
 IsRightStep d files (step.Load program) = program < files

@@ -50,7 +50,7 @@ ReadsWords view reading before (Err cause) after = reading before ≡ Err cause
 abbrev pub is_printable : ℕ → Bool
 is_printable byte = nat_le 33 byte && nat_le byte 126
 
--- the word, where its characters are printable
+-- the word, if its characters are printable
 abbrev pub printed : List ℕ → Result (List ℕ) Cause
 printed w = if list_all is_printable w then Ok w else Err Word
 

@@ -42,7 +42,7 @@ aired_at at node a = record { stamp = at; node = node; air = a }
 
 -- ---- the radio
 
--- the radio of this world, where these nodes sent so far, in order; the script has what a radio reads of a world
+-- the radio of this world, if these nodes sent so far, in order; the script has what a radio reads of a world
 abbrev pub air_script : World → Script
 air_script w = record {
   nodes = w.nodes;
@@ -59,7 +59,7 @@ pub record IsAirOf (w : World) (senders : List ℕ) (e : Ether) : Type 0 where
   pub stands : IsEtherOf (air_script w) senders e
   pub delay : e.delay ≡ w.description.radio.delay
 
--- more records, and at each time more items behind those that came there
+-- more records, and at each time more items after those that came there
 pub record EtherGrows (old new : Ether) (airs : List Aired) (items : List (Timed Event)) : Type 0 where
   pub air : new.air ≡ old.air ++ airs
   pub gone : new.gone ≡ old.gone
@@ -78,7 +78,7 @@ abbrev pub AreFitPackets : World → List Packet → Type 0
 AreFitPackets w [] = Unit {0}
 AreFitPackets w (p ∷ ps) = IsFitPacket w p × AreFitPackets w ps
 
--- the packets that the node sends next, where these nodes sent before
+-- the packets that the node sends next, if these nodes sent before
 abbrev pub sendings_next : ℕ → List ℕ → List Packet → List Sending
 sendings_next node senders packets = numbered_sendings (suc (length senders)) (count_by (λ k. k == node) senders) packets
 

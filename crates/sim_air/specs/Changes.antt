@@ -25,7 +25,7 @@ abbrev pub if_begins : Option ℕ → List Air
 if_begins None = []
 if_begins (Some length) = air.Interval length ∷ []
 
--- the items that are left where those of a group are cancelled, or nothing is
+-- the items that are left if those of a group are cancelled, or nothing is
 abbrev pub left_items : Bool → ℕ → List (Timed Event) → List (Timed Event)
 left_items ends g xs = if ends then filter (is_other group_of g) xs else xs
 

@@ -12,7 +12,7 @@ use Rattle.radio_sim.specs.declared.event.Event.{Event}
 use Rattle.radio_sim.specs.declared.event.Event.TheVariants as radio
 use Rattle.trickle_timer.specs.Timer.{Timer}
 
--- the stamp of what stands before the first event
+-- the stamp of what is before the first event
 abbrev pub beginning : Stamp
 beginning = record { event = 0; time = 0 }
 

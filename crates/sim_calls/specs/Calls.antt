@@ -1,4 +1,4 @@
--- How a node's counts and random words stand for the functions that it called.
+-- How a node's counts and random words agree with the functions that it called.
 use Rattle.std.specs.Prelude.{◌≡◌, ℕ, ◌+◌, ◌*◌, ◌-◌, ◌/◌, ◌%◌, ◌^◌, ◌<◌, ◌==◌, min, List, length, slice_index, count_by, ℤ, pos}
 use Rattle.mate_num.specs.declared.id.FunId.{FunId}
 use Rattle.rand_pcg.specs.Lcg.{Lcg, started, increment_of, advance}
@@ -31,7 +31,7 @@ pub record HasSensors (w : World) (d : Description) (values : List Series) : Typ
   pub description : w.description ≡ d
   pub series : w.series ≡ series_in values
 
--- the answer to a call, where these were called before
+-- the answer to a call, if these were called before
 abbrev pub call_answer : World → ℕ → List FunId → FunId → ℕ → CallAnswer
 call_answer w node called f now = record { time = now + latency_of w f; value = answer_at w node called f (now + latency_of w f) }
 
@@ -46,7 +46,7 @@ value_by values n node word time kind.Id = pos node
 value_by values n node word time kind.Rand = pos (word % 32768)
 value_by values n node word time kind.Clock = pos (time / 1000 % 32768)
 
--- the random words that are left behind the answer
+-- the random words that are left after the answer
 abbrev pub words_past : FunKind → Lcg → Lcg
 words_past kind.Sense words = words
 words_past (kind.Act args) words = words

@@ -1,4 +1,4 @@
--- What an event records, cancels and schedules behind its node's turns.
+-- What an event records, cancels and schedules after its node's turns.
 use Rattle.std.specs.Prelude.{◌≡◌, ℕ, ◌≤◌, ◌==◌, if◌then◌else◌, List, [], ◌∷◌, ◌++◌, map, drop, None}
 use Rattle.mate_num.specs.declared.call.Stamp.{Stamp}
 use Rattle.open_node.specs.View.{heard_of}
@@ -32,7 +32,8 @@ abbrev pub CallNothing : List JournalEntry → Type 0
 CallNothing [] = Unit {0}
 CallNothing (t ∷ told) = (asked_of t ≡ None) × CallNothing told
 
--- its node did its part, which calls nothing, and had its turns; the log's entries from a position on are what it told in these
+-- its node did its part, which calls nothing, and had its turns; the log's entries from a position on are
+-- those that it made in these
 pub record HasSettled (w : World) (s : WorldState) (m : Moment) (from : ℕ) (x : Mote) (r : Effect) : Type 0 where
   pub front : List JournalEntry
   pub quiet : CallNothing front
@@ -46,7 +47,7 @@ pub record HasSettled (w : World) (s : WorldState) (m : Moment) (from : ℕ) (x 
   pub apart : WaitApart (heard_of x.node)
   pub awaited : AreAwaited (heard_of x.node) (told_from from x.node.log)
 
--- what the rules record, leave and schedule stands on the radio, and the node knows whether a pump is due and what was called
+-- what the rules record, leave and schedule is on the radio, and the node knows whether a pump is due and what was called
 pub record IsFinished (w : World) (s : WorldState) (m : Moment) (at : Stamp) (old new : Ether) (before after : Mote) : Type 0 where
   pub due : (t : ℕ) → t ≤ w.until → due_at t new.agenda.items ≡ map (radio_event w) ((after_moment w s m).due t)
   pub air : new.air ≡ old.air ++ map (aired_at at (event_node w m.cause)) (air_made w s m)

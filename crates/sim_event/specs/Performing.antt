@@ -1,4 +1,4 @@
--- One event of a run: what stands before it, and what stands after it.
+-- One event of a run: the state before it, and the state after it.
 use Rattle.std.specs.Prelude.{◌≡◌, ℕ, suc, ◌<◌, ◌≤◌, List, [], ◌∷◌, length, map}
 use Rattle.mate_num.specs.declared.call.Stamp.{Stamp}
 use Rattle.mate_journal.specs.Journal.{journal_of}
@@ -37,7 +37,7 @@ pub record IsMoteAfter (w : World) (ms : List Moment) (k : ℕ) (m : Mote) : Typ
 abbrev pub coming : ℕ → Cause → Moment
 coming time c = record { time = time; cause = c; told = []; pace = no_pace }
 
--- the event is the next that is due behind these events, it was taken from the radio, and it has room
+-- the event is the next that is due after these events, it was taken from the radio, and it has room
 pub record MayPerform (w : World) (ms : List Moment) (c : Cause) (number : ℕ) (event : Event) (at : Stamp) (e : Ether) (x : Mote) : Type
     0 where
   pub come : HaveCome w ms

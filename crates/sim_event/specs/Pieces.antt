@@ -29,7 +29,7 @@ abbrev pub next_items : Option ℕ → ℕ → HandlerId → ℕ → List (Timed
 next_items None node h now = []
 next_items (Some period) node h now = record { time = now + period; item = radio.Period node h } ∷ []
 
--- the next period behind one that came
+-- the next period after one that came
 abbrev pub period_items : Description → Event → ℕ → List (Timed Event)
 period_items d (radio.Planned line) now = []
 period_items d (radio.Period node h) now = next_items (handler_period d h) node h now

@@ -1,4 +1,5 @@
--- An event on one node, by the rules of a world: how a mote stands for the node, what an event may be, and what its own part leaves.
+-- An event on one node, by the rules of a world: how a mote agrees with the node, what an event may be, and
+-- what its own part leaves.
 use Rattle.std.specs.Prelude.{◌≡◌, ℕ, zero, suc, ◌+◌, ◌<◌, Bool, true, false, not, ◌&&◌, List, [], ◌∷◌, ◌++◌, length, slice_get}
 use Rattle.std.specs.Option.{option_to_list}
 use Rattle.mate_num.specs.declared.bounds.TheConstants.{CONTEXTS_MAX}
@@ -70,7 +71,7 @@ pub record IsEffectBy (n : Node) (e : NodeEffect) (r : Effect) : Type 0 where
 abbrev pub IsEffectOf : Node → Cause → World → Effect → Type 0
 IsEffectOf n c w r = IsEffectBy n (node_effect w n c) r
 
--- the node tells what the event's deed makes, and its timer, its exchange and its pump are those after the event
+-- the node records what the event's deed makes, and its timer, its exchange and its pump are those after the event
 pub record Handled (w : World) (k : ℕ) (n : Node) (c : Cause) (at : Stamp) (old new : Mote) (r : Effect) : Type 0 where
   pub tells : Tells old.node new.node at (Pacing (DeedMakes w.machine (node_effect w n c).deed n.reading))
   pub timer : new.timer ≡ timer_after n (node_effect w n c) at.time
@@ -79,7 +80,7 @@ pub record Handled (w : World) (k : ℕ) (n : Node) (c : Cause) (at : Stamp) (ol
   pub calls : AreCallsOf w k n.called new.calls
   pub effect : IsEffectOf n c w r
 
--- ---- by the rules' effect, whatever the node is that the mote stands for
+-- ---- by the rules' effect, whatever the node is that the mote agrees with
 
 -- the program that the effect installs, if it installs one, is taken
 abbrev pub TakesProgram : World → Node → NodeEffect → Type 0

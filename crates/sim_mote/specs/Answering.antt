@@ -6,7 +6,7 @@ use Rattle.world_rules.specs.Cause as event
 use Rattle.world_rules.specs.World.{World, latency_of}
 use Rattle.world_rules.specs.State.{Scheduled, answer_at}
 
--- the answer to a call of f by the invocation n, where these were called before
+-- the answer to a call of f by the invocation n, if these were called before
 abbrev pub answer_item : World → ℕ → ℕ → NodeState → List FunId → FunId → ℕ → Scheduled
 answer_item w node time r called f n = record {
   time = time + latency_of w f;

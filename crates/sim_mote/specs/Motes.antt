@@ -32,7 +32,7 @@ use Rattle.sim_mote.specs.declared.mote.Mote.{Mote}
 
 -- ---- at the start
 
--- nothing is installed, told, held or called, and the first interval runs
+-- nothing is installed, recorded, held or called, and the first interval runs
 pub record BeginsMote (d : Description) (random node : ℕ) (m : Mote) : Type 0 where
   pub description : m.node.description ≡ d
   pub empty : IsEmpty m.node.log
@@ -45,7 +45,7 @@ pub record BeginsMote (d : Description) (random node : ℕ) (m : Mote) : Type 0 
 
 -- ---- before an event
 
--- an event of this stamp can be told on the node
+-- an event of this stamp can be recorded on the node
 pub record IsTellable (v : NodeView) (at : Stamp) : Type 0 where
   pub timely : IsTimely at v.log
   pub few : length v.log.entries < 4000000000
@@ -63,9 +63,9 @@ noting a = record plain_effect { first = Some a }
 abbrev pub sending_one : Packet → Effect
 sending_one p = record plain_effect { sends = record { items = p ∷ [] } }
 
--- ---- what is told
+-- ---- what is recorded
 
--- the node tells this, and the rest stays as it is
+-- the node records this, and the rest stays as it is
 pub record TellsAlone (at : Stamp) (Rule : Pace → List JournalEntry → Pace → Type 0) (old new : Mote) : Type 0 where
   pub tells : Tells old.node new.node at Rule
   pub same : new ≡ record old { node = new.node }

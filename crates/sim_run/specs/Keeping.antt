@@ -1,4 +1,4 @@
--- What the nodes and the radio of a world have at hand of what they told.
+-- What the nodes and the radio of a world have at hand of what they recorded.
 use Rattle.std.specs.Prelude.{◌≡◌, ◌<◌, ℕ, List, length, slice_get, slice_set, Some, All}
 use Rattle.mate_journal.specs.Log.{IsSameLog}
 use Rattle.mate_journal.specs.OpenLog.{nothing_gone, gone_of}
@@ -15,7 +15,7 @@ pub record IsWhole (s : Simulation) : Type 0 where
   pub nodes : All (λ (m : Mote). m.node.gone ≡ nothing_gone) s.motes.items
   pub air : s.radio.gone ≡ 0
 
--- all that the node told is forgotten, and nothing else of it changed but the room of its log
+-- all that the node recorded is forgotten, and nothing else of it changed but the room of its log
 pub record HasForgotten (old new : Mote) : Type 0 where
   pub description : new.node.description ≡ old.node.description
   pub log : IsSameLog new.node.log old.node.log
@@ -28,12 +28,12 @@ pub record HasForgotten (old new : Mote) : Type 0 where
 abbrev pub HaveForgotten : ℕ → List Mote → List Mote → Type 0
 HaveForgotten n old new = HaveChanged HasForgotten n old new
 
--- so little was told by the node and on the air that more can be counted
+-- so little was recorded by the node and on the air that more can be counted
 pub record IsFew (s : Simulation) (node : ℕ) : Type 0 where
   pub log : (m : Mote) → slice_get s.motes.items node ≡ Some m → length m.node.log.entries < 3999999999
   pub air : length s.radio.air < 4000000000
 
--- all that the node and the radio told is forgotten, and nothing else changed but the room of the node's log
+-- all that the node and the radio recorded is forgotten, and nothing else changed but the room of the node's log
 pub record LetsGo (old new : Simulation) (node : ℕ) : Type 0 where
   pub before : Mote
   pub after : Mote
@@ -43,7 +43,7 @@ pub record LetsGo (old new : Simulation) (node : ℕ) : Type 0 where
   pub radio : new.radio ≡ record old.radio { gone = length old.radio.air }
   pub records : new.records ≡ old.records
 
--- so it is where what was told is to be forgotten
+-- that is forgotten if it is to be, and else nothing changed
 abbrev pub LetsGoAsTold : Written → Simulation → Simulation → ℕ → Type 0
 LetsGoAsTold Kept old new node = new ≡ old
 LetsGoAsTold Forgotten old new node = LetsGo old new node

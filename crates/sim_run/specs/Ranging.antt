@@ -1,15 +1,15 @@
--- What the nodes and the radio of a world told is in the ranges of its types.
+-- What the nodes and the radio of a world recorded is in the ranges of its types.
 use Rattle.std.specs.Prelude.{◌≤◌, List, length, All}
 use Rattle.mate_journal.specs.Ranges.{HasAiredRanges}
 use Rattle.report_ranges.specs.Growth.{IsInRange}
 use Rattle.sim_mote.specs.declared.mote.Mote.{Mote}
 use Rattle.sim_run.specs.declared.simulation.Simulation.{Simulation}
 
--- what a node told
+-- what a node recorded
 abbrev pub IsMoteInRange : Mote → Type 0
 IsMoteInRange m = IsInRange m.node.log m.node.gone
 
--- what each of them told
+-- what each of them recorded
 abbrev pub AreMotesInRange : List Mote → Type 0
 AreMotesInRange motes = All IsMoteInRange motes
 

@@ -18,7 +18,7 @@ use Rattle.sim_event.specs.Finishing.{IsTakenFrom}
 use Rattle.sim_event.specs.Performing.{IsRadioAfter, IsMoteAfter, coming}
 use Rattle.sim_run.specs.declared.simulation.Simulation.{Simulation}
 
--- so many events came, and the radio, the nodes and the count of records are those after them
+-- `events` events came, and the radio, the nodes and the count of records are those after them
 pub record StandsAfter (w : World) (events : ℕ) (s : Simulation) : Type 0 where
   pub moments : List Moment
   pub come : HaveCome w moments
@@ -29,7 +29,7 @@ pub record StandsAfter (w : World) (events : ℕ) (s : Simulation) : Type 0 wher
   pub records : s.records ≡ (state w moments).records
   pub well_formed : (k : ℕ) → k < w.nodes → HasWellFormed w k moments
 
--- the next event that is due was taken from the radio: it has this stamp and, where it is to be begun, room
+-- the next event that is due was taken from the radio: it has this stamp and, if it is to be begun, room
 pub record StandsAtNext (w : World) (event : Event) (at : Stamp) (s : Simulation) : Type 0 where
   pub moments : List Moment
   pub cause : Cause

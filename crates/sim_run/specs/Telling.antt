@@ -1,4 +1,4 @@
--- What an event of a world tells: its lines in the report, and what its node and the air go on with.
+-- What an event of a world records: its lines in the report, and what its node and the air go on with.
 use Rattle.std.specs.Prelude.{◌≡◌, ℕ, ◌<◌, List, ◌++◌, length, drop, slice_get, slice_set, Some, All}
 use Rattle.mate_journal.specs.Log.{GoesOn}
 use Rattle.mate_journal.specs.declared.report.Report.{Report}
@@ -11,7 +11,7 @@ use Rattle.sim_run.specs.Keeping.{LetsGoAsTold}
 use Rattle.sim_run.specs.declared.simulation.Written.{Written}
 use Rattle.sim_run.specs.declared.simulation.Simulation.{Simulation}
 
--- the report of what stands
+-- the report of what is at hand
 abbrev pub report_now : Simulation → Report
 report_now s = so_far (mote_logs s.motes.items) s.radio.air
 
@@ -19,7 +19,7 @@ report_now s = so_far (mote_logs s.motes.items) s.radio.air
 abbrev pub LogsAreKept : List Mote → Type 0
 LogsAreKept motes = All (λ (m : Mote). KeepsJournal m.node.description (machine_in m.node.description) m.node.log) motes
 
--- what a node and the radio tell in an event are its lines, behind those of all events before it; and nothing is forgotten in it
+-- what a node and the radio record in an event are its lines, after those of all events before it; and nothing is forgotten in it
 pub record AddsEvent (number : ℕ) (old new : Simulation) (node : ℕ) : Type 0 where
   pub before : Mote
   pub after : Mote
@@ -33,7 +33,7 @@ pub record AddsEvent (number : ℕ) (old new : Simulation) (node : ℕ) : Type 0
   pub adds : AddsLines (report_now old) (report_now new) number (drop (length old.radio.air) new.radio.air) after.node.log
       (length before.node.log.entries) node
 
--- the event came where what was told before it was let go, or kept
+-- the event came, after the records before it were let go, or kept
 pub record HasComeOn (written : Written) (number : ℕ) (old new : Simulation) (node : ℕ) : Type 0 where
   pub mid : Simulation
   pub lets_go : LetsGoAsTold written old mid node

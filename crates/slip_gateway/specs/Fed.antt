@@ -27,9 +27,11 @@ is_fresh s = is_fresh_in s.escapes s.image.items
 
 -- one more byte of the frame
 abbrev pub added : Slip → ℕ → Slip
-added s b = if length s.image.items == IMAGE_MAX then record s { too_long = true } else record s { image = record { items = s.image.items ++ b ∷ [] } }
+added s b =
+    if length s.image.items == IMAGE_MAX then record s { too_long = true }
+    else record s { image = record { items = s.image.items ++ b ∷ [] } }
 
--- the byte behind an ESC
+-- the byte after an ESC
 abbrev pub replaced : Slip → ℕ → Slip
 replaced s b =
     if b == ESC_END then added (record s { escapes = Whole }) END else
@@ -66,9 +68,10 @@ framed_behind long image None = frame.BadEscape
 framed_behind true image (Some more) = frame.TooLong
 framed_behind false image (Some more) = whole_frame (image ++ more)
 
--- the reader is behind these bytes of a frame: whatever follows, it gives what they and that give
+-- the reader is after these bytes of a frame: whatever follows, it gives what they and that give
 pub record IsBehind (s : Slip) (begun : List ℕ) : Type 0 where
-  pub gives : (more : List ℕ) → framed_behind s.too_long s.image.items (unescaped_in s.escapes more) ≡ framed (unescaped false (begun ++ more))
+  pub gives : (more : List ℕ) → framed_behind s.too_long s.image.items (unescaped_in s.escapes more)
+      ≡ framed (unescaped false (begun ++ more))
   pub starts : is_fresh s ≡ is_nil begun
 
 -- the reader was given these bytes, in whatever pieces

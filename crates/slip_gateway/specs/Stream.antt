@@ -10,21 +10,21 @@ use Rattle.slip_gateway.specs.declared.frames.Frame.TheVariants.{Whole, TooLong,
 abbrev pub is_end_byte : ℕ → Bool
 is_end_byte b = b == END
 
--- the pieces that bytes close, each at its END, where some bytes of the first piece stand before them
+-- the pieces that bytes close, each at its END, if some bytes of the first piece are before them
 abbrev pub closed_pieces : List ℕ → List ℕ → List (List ℕ)
 closed_pieces begun [] = []
 closed_pieces begun (b ∷ bs) = if is_end_byte b then begun ∷ closed_pieces [] bs else closed_pieces (begun ++ b ∷ []) bs
 
--- the bytes of the piece that is open behind them
+-- the bytes of the piece that is open after them
 abbrev pub rest_behind : List ℕ → List ℕ → List ℕ
 rest_behind begun [] = begun
 rest_behind begun (b ∷ bs) = if is_end_byte b then rest_behind [] bs else rest_behind (begun ++ b ∷ []) bs
 
--- the first byte, where there is one, before those of a frame
+-- the first byte, if there is one, before those of a frame
 abbrev pub with_byte : ℕ → Option (List ℕ) → Option (List ℕ)
 with_byte b bytes = option_map (λ bs. b ∷ bs) bytes
 
--- the bytes of a frame, each escape replaced, where an ESC stands before them or not; none where an escape is broken
+-- the bytes of a frame, each escape replaced, whether an ESC is before them or not; none if an escape is broken
 abbrev pub unescaped : Bool → List ℕ → Option (List ℕ)
 unescaped false [] = Some []
 unescaped true [] = None
@@ -46,11 +46,11 @@ abbrev pub frame_of : List ℕ → List Frame
 frame_of [] = []
 frame_of (b ∷ bs) = framed (unescaped false (b ∷ bs)) ∷ []
 
--- the frames that bytes close, where some bytes of the first one stand before them
+-- the frames that bytes close, if some bytes of the first one are before them
 abbrev pub frames_behind : List ℕ → List ℕ → List Frame
 frames_behind begun bytes = flat_map frame_of (closed_pieces begun bytes)
 
--- the frames of a stream, and what stands behind its last END
+-- the frames of a stream, and what is after its last END
 abbrev pub frames : List ℕ → List Frame
 frames bytes = frames_behind [] bytes
 

@@ -51,7 +51,7 @@ interval length time w = record { begin = time; length = length; point = time + 
 abbrev pub shortened : TrickleSet → ℕ → Option ℕ
 shortened set i = if nat_lt set.imin i then Some set.imin else None
 
--- the length of the interval that begins with the event, if one does, where the running one has length i
+-- the length of the interval that begins with the event, if one does; the running one has length i
 abbrev pub next_length : TrickleSet → ℕ → TimerEvent → Option ℕ
 next_length set i Consistent = None
 next_length set i Inconsistent = shortened set i

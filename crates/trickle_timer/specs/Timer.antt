@@ -1,4 +1,4 @@
--- A timer as a value, one step of it, and how it stands for all that happened to its node.
+-- A timer as a value, one step of it, and how it sums up all that happened to its node.
 use Rattle.std.specs.Prelude.{◌≡◌, ℕ, ◌+◌, ◌/◌, ◌<◌, ◌≤◌, min, List, [], ◌∷◌, ◌++◌, length, Bool, true, false, IsTrue}
 use Rattle.std.specs.Option.{option_map_or}
 use Rattle.mate_num.specs.declared.bounds.TheConstants.{HOUR}
@@ -36,12 +36,12 @@ after_happening t h =
     (next_length t.set t.running.length h.event)
     (record t { running = counted t.running h.event })
 
--- what is heard
+-- the event of a packet that is heard
 abbrev pub packet_event : Bool → TimerEvent
 packet_event true = Consistent
 packet_event false = Inconsistent
 
--- the timer stands for all that happened since that start: its interval is the last of them
+-- the timer sums up all that happened since that start: its interval is the last of them
 pub record IsTimerOf (s : Start) (happened : List TimerHappening) (t : Timer) : Type 0 where
   pub earlier : List Interval
   pub running : Interval
@@ -52,7 +52,7 @@ pub record IsTimerOf (s : Start) (happened : List TimerHappening) (t : Timer) : 
     words = advance 64 multiplier_64 (length earlier + 1) (stream s.random s.node);
   }
 
--- the new timer is the old one after the happening, and so it goes on to stand for all that happened
+-- the new timer is the old one after the happening, and so it goes on to sum up all that happened
 pub record TimerContinues (old new : Timer) (h : TimerHappening) : Type 0 where
   pub next : new ≡ after_happening old h
   pub stands : (s : Start) (happened : List TimerHappening) → IsTimerOf s happened old → IsTimerOf s (happened ++ h ∷ []) new

@@ -17,12 +17,12 @@ use Rattle.ts_blocks.specs.declared.opening.Opening.TheVariants as opening
 use Rattle.ts_syntax.specs.Machine.{Frame, dialect_of, then_part, for_part, while_part, in_if, in_while, State, block, stmt_named, cleared, for_word, do_word, word, expr_due, with_act}
 use Rattle.ts_syntax.specs.Parsing.{Reads}
 
--- the opening by `do`, where a dialect has one
+-- the opening by `do`, if a dialect has one
 abbrev pub do_opening : Dialect → Option Opening
 do_opening dialect.Plain = None
 do_opening dialect.Procedures = Some opening.Do
 
--- the first token, where there is one, begins a statement
+-- the first token, if there is one, begins a statement
 abbrev pub opening_of : Dialect → Token → TokenKind → Option Opening
 opening_of d t (kind.Name n) = Some (opening.Named (word n t.from))
 opening_of d t kind.Clear = Some opening.Clear
@@ -61,11 +61,12 @@ pub record FrameIn (d : Dialect) : Type 0 where
   pub frame : Frame
   pub speaks : dialect_of frame ≡ d
 
--- a statement is read from where it is due, behind others of an open block of a script of the dialect
+-- a statement is read from where it is due, after others of an open block of a script of the dialect
 abbrev pub ReadsStmtIn : Dialect → List Token → (Acts → Frame → State) → Result (Stmt × Bor (List Token)) Halt → Type 0
-ReadsStmtIn d tokens due result = Reads {K = Acts × FrameIn d} tokens (λ k. due k.0 k.1.frame) (λ s k. block (with_act k.0 (act_of s)) k.1.frame) result
+ReadsStmtIn d tokens due result = Reads {K = Acts × FrameIn d} tokens (λ k. due k.0 k.1.frame)
+    (λ s k. block (with_act k.0 (act_of s)) k.1.frame) result
 
--- the branches of an `if` behind `then`
+-- the branches of an `if` after `then`
 pub record Choice (d : Dialect) : Type 0 where
   pub test : Tree
   pub before : Acts
@@ -82,7 +83,7 @@ then_block k = block no_acts (then_part k.test k.before k.frame.frame)
 abbrev pub choice_made : {d : Dialect} → Choice d → Acts → Option (List Stmt) → State
 choice_made k a b = block (with_act k.before (if_made k.test a b)) k.frame.frame
 
--- behind the first branch
+-- after the first branch
 pub record Branch (d : Dialect) : Type 0 where
   pub choice : Choice d
   pub body : Acts

@@ -30,7 +30,7 @@ TakesEnd k tokens (Ok rest) = StartsEnd k tokens rest.now
 TakesEnd k tokens (Err halt.Memory) = ⊥
 TakesEnd k tokens (Err (halt.At rest)) = LacksEnd k tokens rest.now
 
--- a block with them behind it
+-- a block with them after it
 abbrev pub ClosedBlock : TokenKind → ReadBlock → ReadBlock → Type 0
 ClosedBlock k (Ok x) (Ok y) = (y.0 ≡ x.0) × StartsEnd k x.1.now y.1.now
 ClosedBlock k (Ok x) (Err e) = TakesEnd k x.1.now (Err e)

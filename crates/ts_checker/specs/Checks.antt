@@ -60,7 +60,7 @@ abbrev pub sent_name : ScriptNames → ℕ → Option Word → Result BufId Chec
 sent_name n place None = Err (Kind place)
 sent_name n place (Some w) = buffer_at n w
 
--- the buffer that a call sends, of a function whose name stands at the place: its one argument, a name alone
+-- the buffer that a call sends, of a function whose name is at the place: its one argument, a name alone
 abbrev pub sent : ScriptNames → ℕ → Trees → Result BufId CheckFault
 sent n place no_trees = Err (Arity place)
 sent n place (tree_then e no_trees) = sent_name n place (name_alone e)
@@ -104,7 +104,7 @@ abbrev mutual
   checked_args n allowed (tree_then e es) =
       checked_expr n allowed e >>= (λ a. checked_args n allowed es >>= (λ more. Ok (argument a more)))
 
--- the step of a `for`: 1 where none is written, else from -32767 to 32767, and not 0
+-- the step of a `for`: 1 if none is written, else from -32767 to 32767, and not 0
 abbrev pub step_number : Bool → ℕ → ℤ
 step_number true size = neg_ℤ (pos size)
 step_number false size = pos size
@@ -113,7 +113,7 @@ abbrev pub checked_step : Option Step → Result ℤ CheckFault
 checked_step None = Ok (pos 1)
 checked_step (Some s) = unless_refused (nat_lt 0 s.size && nat_le s.size 32767) (Kind s.place) >>= (λ _. Ok (step_number s.minus s.size))
 
--- the head of a `for`: no call stands in its limit
+-- the head of a `for`: no call is in its limit
 pub record CheckedHead : Type 0 where
   pub var : CVar
   pub from : Expression

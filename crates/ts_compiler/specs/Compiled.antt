@@ -30,7 +30,7 @@ pub record HasLongCode (tree : Block) (size : ℕ) : Type 0 where
   pub over : CODE_MAX < script_size tree
   pub size_is : size ≡ capped (script_size tree)
 
--- which of them the result tells; each is told exactly where it holds, since no two hold at once
+-- which of them the result says; it says each exactly if it holds, since no two hold at once
 abbrev pub Compiles : Shape → Block → Result (ArrayVec ℕ) CompileFault → Type 0
 Compiles shape tree (Ok code) = IsCompiled shape tree code
 Compiles shape tree (Err (StackDepth need)) = NeedsDeeperStack tree need

@@ -12,7 +12,7 @@ use Rattle.ts_meaning.specs.Translation.{size_of_instrs, get_code, set_code, wit
 abbrev pub capped : ℕ → ℕ
 capped n = min n 1000000000
 
--- more instructions have room behind those that were written
+-- more instructions have room after those that were written
 pub record HasRoom (written more : List Instr) : Type 0 where
   pub fits : size_of_instrs written + size_of_instrs more ≤ CODE_MAX
 
@@ -21,7 +21,7 @@ pub record WritesInstrs (old more new : List Instr) : Type 0 where
   pub code : new ≡ old ++ more
   pub size : size_of_instrs new ≡ size_of_instrs old + size_of_instrs more
 
--- at a place, a test, and a part that runs where it is true: else it goes on so many bytes behind the part
+-- at a place, a test, and a part that runs if it is true: else it goes on `behind` bytes after the part
 abbrev pub guarded_code : ℕ → Expression → Block → ℕ → List Instr
 guarded_code place e a behind =
     expr_code e ++ Jz (place + expr_size e + 3 + block_size a + behind) ∷ block_code (place + expr_size e + 3) a

@@ -1,4 +1,4 @@
--- What is found of what was found before: the same faults, and want of memory.
+-- What is found of what was found before: the same faults, and lack of memory.
 use Rattle.std.specs.Prelude.{◌≡◌, List, Result, Ok, Err}
 use Rattle.std.proofs.Common.{Bor}
 use Rattle.std.specs.Result.{IsErrAnd}
@@ -17,7 +17,7 @@ use Rattle.ts_syntax.specs.Tree.{Tree, two}
 abbrev pub Found : Type 0
 Found = Result (Box Expr Global × Bor (List Token)) Halt
 
--- a node, where there was memory for it
+-- a node, if there was memory for it
 abbrev pub Made : {E : Type 0} → Result (Box Expr Global) E → List Token → Found → Type 0
 Made (Ok e) ts (Ok y) = (y.0 ≡ e) × (y.1.now ≡ ts)
 Made (Ok e) ts (Err f) = ⊥

@@ -38,7 +38,7 @@ operated op None r = None
 operated op (Some a) None = None
 operated op (Some a) (Some b) = result_ok (applied op a b)
 
--- the value, and where there is none the operation
+-- the value, and if there is none the operation
 abbrev pub value_or : Option ℤ → Expression → Expression
 value_or None e = e
 value_or (Some n) e = Num n
@@ -72,11 +72,11 @@ abbrev mutual
   folded_args no_arguments = no_arguments
   folded_args (argument e es) = argument (folded_expr e) (folded_args es)
 
--- whether a test holds, where it is a number
+-- whether a test holds, if it is a number
 abbrev pub decision : Expression → Option Bool
 decision e = option_map is_truth (literal_of e)
 
--- what is left of a statement: the one part or the other, where its test is decided, and else the statement
+-- what is left of a statement: the one part or the other, if its test is decided, and else the statement
 abbrev pub branch_left : Option Bool → List Statement → List Statement → Statement → List Statement
 branch_left None a b x = x ∷ []
 branch_left (Some true) a b x = a

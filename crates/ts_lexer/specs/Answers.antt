@@ -7,7 +7,7 @@ use Rattle.ts_syntax.specs.Cut.{CutFault, cut_in, bad_byte, big_literal}
 use Rattle.ts_lexer.specs.declared.fault.TokenFault.{TokenFault}
 use Rattle.ts_lexer.specs.declared.fault.TokenFault.TheVariants.{BadByte, BigLiteral, NoMemory}
 
--- the first fault of a text that is cut so; want of memory says nothing of it
+-- the first fault of a text that is cut so; lack of memory says nothing of it
 abbrev pub HasFault : Result (List Token) CutFault → TokenFault → Type 0
 HasFault cut (BadByte place) = cut ≡ Err (bad_byte place)
 HasFault cut (BigLiteral place) = cut ≡ Err (big_literal place)

@@ -10,7 +10,7 @@ use Rattle.ts_syntax.specs.Faults.{Spells}
 use Rattle.ts_lexer.specs.Bare.{bare}
 use Rattle.ts_lexer.specs.Spans.{BeginsWith, Passes}
 
--- a text that can stand in a name token or a keyword: at most 16 letters, digits and `_`, of which the first is no digit
+-- a text that can be in a name token or a keyword: at most 16 letters, digits and `_`, of which the first is no digit
 pub record IsWord (w : List ℕ) : Type 0 where
   pub begins : BeginsWith begins_name w
   pub passes : Passes in_name w

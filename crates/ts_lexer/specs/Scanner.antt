@@ -10,7 +10,7 @@ use Rattle.ts_lexer.specs.declared.scanner.Scanner.{Scanner}
 abbrev pub due : Scanner → Result (List Token) CutFault
 due s = with_front s.tokens (all_in s.dialect (cut_from s.place between s.rest.now))
 
--- so many bytes were taken off the rest
+-- `len` bytes were taken off the rest
 pub record TakesBytes (old new : Scanner) (len : ℕ) : Type 0 where
   pub rest : new.rest.now ≡ drop len old.rest.now
   pub place : new.place ≡ old.place + len
@@ -49,7 +49,7 @@ abbrev pub LooksThrough : Result (List Token) CutFault → Result (Unit {0}) Tok
 LooksThrough cut (Ok u) = (tokens : List Token) × (cut ≡ Ok tokens)
 LooksThrough cut (Err f) = HasFault cut f
 
--- what is cut is this behind some tokens
+-- what is cut is this after some tokens
 pub record LeadsOn (whole rest : Result (List Token) CutFault) : Type 0 where
   pub front : List Token
   pub is : whole ≡ with_front front rest

@@ -22,12 +22,12 @@ Passes p (b ∷ bs) = (p b ≡ true) × Passes p bs
 abbrev pub begins_sign : ℕ → Bool
 begins_sign b = not (is_blank b || b == 33 || begins_name b || is_digit b)
 
--- the value of digits, behind others of the value n
+-- the value of digits, after others of the value n
 abbrev pub digits_value : ℕ → List ℕ → ℕ
 digits_value n [] = n
 digits_value n (b ∷ bs) = digits_value (n * 10 + (b - 48)) bs
 
--- the sign that begins with `<`, by the bytes behind it, and its length
+-- the sign that begins with `<`, by the bytes after it, and its length
 abbrev pub less_sign : List ℕ → TokenKind × ℕ
 less_sign [] = (kind.Lt, 1)
 less_sign (b ∷ bs) = if b == 61 then (kind.Le, 2) else (if b == 62 then (kind.Ne, 2) else (kind.Lt, 1))

@@ -39,7 +39,7 @@ abbrev pub value_or_fault : {A : Type 0} → Result A FaultKind → ScriptState 
 value_or_fault (Ok a) s = Done a s
 value_or_fault (Err kind) s = Over (Fault kind) s
 
--- the value of a private variable, and 0 where there is no such variable
+-- the value of a private variable, and 0 if there is no such variable
 abbrev pub private_at : ScriptState → ℕ → ℤ
 private_at s i = slice_index_or s.privates i (pos 0)
 

@@ -19,7 +19,7 @@ abbrev pub size_of_instrs : List Instr → ℕ
 size_of_instrs [] = 0
 size_of_instrs (i ∷ is) = size_of i + size_of_instrs is
 
--- a number: in one byte where it goes from 0 to 255, and else in two
+-- a number: in one byte if it goes from 0 to 255, and else in two
 abbrev pub number_code : ℤ → Instr
 number_code (pos n) = if nat_lt n 256 then instr.PushB n else instr.PushW (pos n)
 number_code (negsuc n) = instr.PushW (negsuc n)
@@ -68,7 +68,7 @@ abbrev mutual
   args_code no_arguments = []
   args_code (argument e es) = expr_code e ++ args_code es
 
--- the stack that an expression needs; and arguments, above so many values that are there already
+-- the stack that an expression needs; and arguments, above n values that are there already
 abbrev mutual
   pub expr_need : Expression → ℕ
   expr_need (Num n) = 1
@@ -117,21 +117,21 @@ abbrev pub within_code : ℤ → Instr
 within_code (pos step) = instr.Le
 within_code (negsuc step) = instr.Ge
 
--- the places in a `while` that begins at a place: of its body, and behind it
+-- the places in a `while` that begins at a place: of its body, and after it
 abbrev pub while_body : ℕ → Expression → ℕ
 while_body place e = place + expr_size e + 3
 
 abbrev pub while_end : ℕ → Expression → Block → ℕ
 while_end place e a = while_body place e + block_size a + 3
 
--- the places in an `if` with an `else`: of its `else`, and behind it
+-- the places in an `if` with an `else`: of its `else`, and after it
 abbrev pub else_begin : ℕ → Expression → Block → ℕ
 else_begin place e a = place + expr_size e + 3 + block_size a + 3
 
 abbrev pub else_end : ℕ → Expression → Block → Block → ℕ
 else_end place e a b = else_begin place e a + block_size b
 
--- the places in a `for`: of its test, of its body, and behind it
+-- the places in a `for`: of its test, of its body, and after it
 abbrev pub for_test : ℕ → Expression → ℕ
 for_test place from = place + expr_size from + 2
 

@@ -38,7 +38,7 @@ abbrev pub FindsDecl : List Token → Option (DeclKind × Bor (List Token)) → 
 FindsDecl tokens (Some x) = StartsDecl x.0 tokens x.1.now
 FindsDecl tokens None = LacksDecl tokens
 
--- the head of a procedure, behind its `(`
+-- the head of a procedure, after its `(`
 pub record Header : Type 0 where
   pub name : Word
   pub decls : List Decl
@@ -61,7 +61,7 @@ routine_due k = header_read k.header k.params
 abbrev pub routine_read : Routine → Acts → State
 routine_read k a = procedures k.header.decls (k.header.procs ++ procedure k.header.name k.params a ∷ [])
 
--- where the statements of a script stand, behind its declarations and procedures
+-- where the statements of a script are, after its declarations and procedures
 abbrev pub script_frame : Dialect → List Decl → List Procedure → Frame
 script_frame dialect.Plain ds ps = top ds
 script_frame dialect.Procedures ds ps = main ds ps

@@ -9,13 +9,13 @@ use Rattle.ts_syntax.specs.Seen.{tree_of}
 use Rattle.ts_syntax.specs.Spelling.{name, spelled, step_spelled}
 use Rattle.ts_syntax.specs.Text.{written, begun}
 
--- the tokens are printed behind those that were printed before
+-- the tokens are printed after those that were printed before
 pub record PrintsTokens (bytes : Option (List ℕ)) (faults : ℕ) (old : Printer) (bytes' : Option (List ℕ)) (faults' : ℕ) (new : Printer)
     (ks : List TokenKind) : Type 0 where
   pub prints : Prints bytes faults old.pen.result bytes' faults' new.pen.result (written old.begun ks)
   pub begun : new.begun ≡ begun old.begun ks
 
--- what stands before an argument
+-- what is before an argument
 abbrev pub comma_before : Bool → List TokenKind
 comma_before true = []
 comma_before false = kind.Comma ∷ []
@@ -24,7 +24,7 @@ comma_before false = kind.Comma ∷ []
 abbrev pub head_spelled : ForHead → List TokenKind
 head_spelled h = kind.For ∷ name h.var ∷ kind.Eq ∷ spelled (tree_of h.from) ++ (kind.To ∷ spelled (tree_of h.to) ++ step_spelled h.step)
 
--- the sign that ends a declaration, where one ends
+-- the sign that ends a declaration, if one ends
 abbrev pub closing : Bool → List TokenKind
 closing true = kind.Semi ∷ []
 closing false = []

@@ -37,7 +37,7 @@ pub record IsMisnamed (bytes : List ℕ) (fault : ProcFault) : Type 0 where
   pub written : IsProcedureText bytes source
   pub names : name_fault source ≡ Some fault
 
--- the script, or the first refusal: the bytes come before the grammar, and the grammar before the names; want of memory tells nothing
+-- the script, or the first refusal: the bytes come before the grammar, and the grammar before the names; lack of memory says nothing
 abbrev pub ReadsProcedures : List ℕ → Result PScript ProcFault → Type 0
 ReadsProcedures bytes (Ok script) = IsProcedureText bytes (written_of script)
 ReadsProcedures bytes (Err (BadByte place)) = cut_in Procedures bytes ≡ Err (bad_byte place)

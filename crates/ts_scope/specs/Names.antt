@@ -1,4 +1,4 @@
--- The names of a script: what declarations make of them, and what a name stands for where it is used.
+-- The names of a script: what declarations make of them, and what a name means where it is used.
 use Rattle.std.specs.Prelude.{ℕ, ◌+◌, nat_lt, Bool, true, false, if◌then◌else◌, List, [], ◌∷◌, ◌++◌, Option, Some, None, is_none, ok_or}
 use Rattle.std.specs.Prelude.{position, count_by, Result, Ok, Err, bytes_eq, ⊤}
 use Rattle.mate_num.specs.declared.id.FunId.{FunId}
@@ -19,7 +19,7 @@ use Rattle.ts_scope.specs.declared.fault.CheckFault.{CheckFault}
 use Rattle.ts_scope.specs.declared.fault.CheckFault.TheVariants.{Undeclared, NotInVm, Twice, Kind, TooManyPrivates}
 use Rattle.ts_scope.specs.Refusal.{◌>>=◌, unless_refused}
 
--- the names of a script: its machine's, and those that it declared so far, each with what it stands for
+-- the names of a script: its machine's, and those that it declared so far, each with what it means
 pub record ScriptNames : Type 0 where
   pub machine : Description
   pub declared : List Entry
@@ -28,7 +28,7 @@ pub record ScriptNames : Type 0 where
 abbrev pub names_before : Description → ScriptNames
 names_before machine = record { machine = machine; declared = [] }
 
--- what a declared name stands for
+-- what a declared name means
 abbrev pub symbol_of : List Entry → List ℕ → Option Symbol
 symbol_of [] name = None
 symbol_of (x ∷ xs) name = if bytes_eq name x.name then Some x.symbol else symbol_of xs name
@@ -87,7 +87,7 @@ variable n w = found_symbol n w >>= as_variable w.place
 abbrev pub buffer : ScriptNames → Word → Result BufId CheckFault
 buffer n w = found_symbol n w >>= as_buffer w.place
 
--- the function of a name, where the first one's number is i
+-- the function of a name, if the first one's number is i
 abbrev pub function_from : ℕ → List Function → List ℕ → Option (FunId × FunKind)
 function_from i [] name = None
 function_from i (f ∷ fs) name = if bytes_eq name f.name then Some (record { 0 = i }, f.kind) else function_from (i + 1) fs name

@@ -8,7 +8,7 @@ abbrev pub ◌>>=◌ : {A B : Type 0} → Result A CheckFault → (A → Result 
 (Ok x) >>= next = next x
 (Err e) >>= next = Err e
 
--- the refusal, where a test doesn't hold
+-- the refusal, if a test doesn't hold
 abbrev pub unless_refused : Bool → CheckFault → Result ⊤ CheckFault
 unless_refused true e = Ok tt
 unless_refused false e = Err e

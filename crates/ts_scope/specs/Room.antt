@@ -15,7 +15,7 @@ is_listed d (Variable (Shared v)) name = stands_in d.shared.items name
 is_listed d (Variable (Private i)) name = true
 is_listed d (Buffer p) name = stands_in d.buffers.items name
 
--- no name stands twice, each is the machine's or private, and at most 8 are private
+-- no name is there twice, each is the machine's or private, and at most 8 are private
 pub record IsFit (d : Description) (names : List Entry) : Type 0 where
   pub distinct : IsDistinct bytes_eq (map (λ x. x.name) names)
   pub listed : IsTrue (list_all (λ x. is_listed d x.symbol x.name) names)

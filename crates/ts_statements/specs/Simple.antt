@@ -16,16 +16,16 @@ use Rattle.ts_syntax.specs.declared.halt.Halt.TheVariants as halt
 use Rattle.ts_syntax.specs.Machine.{Frame, for_part, Whole, in_set, in_set_item, in_append, in_to, State, have, block, set_to, set_taken, append_to, item_indexed, expr_due, with_act}
 use Rattle.ts_syntax.specs.Parsing.{Reads, reads, Starts, Lacks}
 
--- a statement is read from where it is due, behind others of an open block
+-- a statement is read from where it is due, after others of an open block
 abbrev pub ReadsStmt : List Token → (Acts → Frame → State) → Result (Stmt × Bor (List Token)) Halt → Type 0
 ReadsStmt tokens due result = Reads {K = Acts × Frame} tokens (λ k. due k.0 k.1) (λ s k. block (with_act k.0 (act_of s)) k.1) result
 
--- behind `x =`: a buffer whose last value is taken, or none
+-- after `x =`: a buffer whose last value is taken, or none
 abbrev pub FindsTaken : List Token → Option (Word × Bor (List Token)) → Type 0
 FindsTaken tokens (Some x) = (w : Word) (a : Acts) (f : Frame) → reads tokens (set_to w a f) ≡ reads x.1.now (set_taken w x.0 a f)
 FindsTaken tokens None = (w : Word) (a : Acts) (f : Frame) → reads tokens (set_to w a f) ≡ reads tokens (expr_due (in_set w a f))
 
--- where a value that is set stands: behind `p []`, or behind `p [i]`
+-- where a value that is set is: after `p []`, or after `p [i]`
 pub data Target : Type 0 where
   of_append : Word → Acts → Frame → Target
   of_item : Word → Tree → Acts → Frame → Target
@@ -42,7 +42,7 @@ abbrev pub value_set : Target → Tree → State
 value_set (of_append w a f) e = block (with_act a (append w e)) f
 value_set (of_item w i a f) e = block (with_act a (set_item w i e)) f
 
--- the limit of a `for`, and then its step, where its first value was read
+-- the limit of a `for`, and then its step, after its first value was read
 pub record Bound : Type 0 where
   pub var : Word
   pub from : Tree
@@ -58,7 +58,7 @@ limit_read k e = have e (in_to k.var k.from k.before k.frame)
 abbrev pub limited : Bound → Tree → Option Step → State
 limited k e s = block no_acts (for_part k.var k.from e s k.before k.frame)
 
--- the step, where the limit was read
+-- the step, after the limit was read
 pub record Limit : Type 0 where
   pub bound : Bound
   pub to : Tree

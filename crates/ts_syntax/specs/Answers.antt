@@ -13,7 +13,7 @@ pub record IsTakenWhole (d : Dialect) (ks : List TokenKind) (places : List ℕ) 
   pub left : List ℕ
   pub reads : run ks places (start d) ≡ Ok (source, left)
 
--- the tokens before rest begin a script, and don't with the first of rest; where there is none, they are no script
+-- the tokens before rest begin a script, and don't with the first of rest; if there is none, they are no script
 pub record Refused (d : Dialect) (ks rest : List TokenKind) : Type 0 where
   pub front : List TokenKind
   pub are : ks ≡ front ++ rest

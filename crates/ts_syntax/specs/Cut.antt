@@ -59,7 +59,7 @@ pub data CutFault : Type 0 where
   bad_byte : ℕ → CutFault
   big_literal : ℕ → CutFault
 
--- what a byte stands in: nothing yet, a comment, a name or keyword so far, a literal so far, or behind `<` or `>`
+-- what a byte is in: nothing yet, a comment, a name or keyword so far, a literal so far, or after `<` or `>`
 pub data Mode : Type 0 where
   between : Mode
   comment : Mode
@@ -68,7 +68,7 @@ pub data Mode : Type 0 where
   less : (from : ℕ) → Mode
   greater : (from : ℕ) → Mode
 
--- what a byte does: a fault, or the tokens that end before or with it, and what the next byte stands in
+-- what a byte does: a fault, or the tokens that end before or with it, and what the next byte is in
 pub data CutStep : Type 0 where
   stop : CutFault → CutStep
   go : List Token → Mode → CutStep
@@ -123,7 +123,7 @@ abbrev pub with_front : List Token → Result (List Token) CutFault → Result (
 with_front ts (Ok us) = Ok (ts ++ us)
 with_front ts (Err f) = Err f
 
--- the rest of the text behind a turn, where rest gives the tokens of a mode there
+-- the rest of the text after a turn, where rest gives the tokens of a mode there
 abbrev pub turned : (Mode → Result (List Token) CutFault) → CutStep → Result (List Token) CutFault
 turned rest (stop f) = Err f
 turned rest (go ts m) = with_front ts (rest m)
@@ -137,7 +137,7 @@ cut_from i m (b ∷ bs) = turned (λ n. cut_from (i + 1) n bs) (turn i m b)
 abbrev pub cut : List ℕ → Result (List Token) CutFault
 cut bytes = cut_from 0 between bytes
 
--- what a kind of token is in a dialect: where a script may have procedures, the names `proc` and `do` are keywords
+-- what a kind of token is in a dialect: if a script may have procedures, the names `proc` and `do` are keywords
 abbrev pub procedure_kind : TokenKind → TokenKind
 procedure_kind (kind.Name w) = keyword_among (kind.Proc ∷ kind.Do ∷ []) w
 procedure_kind k = k

@@ -46,7 +46,7 @@ pub record Depth : Type 0 where
   pub blocks : ℕ
   -- the counted tokens since the last break, or since the start
   pub counted : ℕ
-  -- whether the token before it is `end`, behind which a keyword opens nothing
+  -- whether the token before it is `end`, after which a keyword opens nothing
   pub ended : Bool
 
 -- the depth at the start
@@ -82,7 +82,7 @@ counted_after d breaker = 0
 counted_after d counter = d.counted + 1
 counted_after d bystander = d.counted
 
--- the depth behind a token
+-- the depth after a token
 abbrev pub after : Depth → TokenKind → Depth
 after d k = record { blocks = blocks_after d (role k); counted = counted_after d (role k); ended = is_end_token k }
 

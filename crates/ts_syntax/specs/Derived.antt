@@ -1,4 +1,4 @@
--- Which trees the grammar derives: each operand stands at a level that its place allows, and a `do` in the dialect with
+-- Which trees the grammar derives: each operand is at a level that its place allows, and a `do` is in the dialect with
 -- procedures alone.
 use Rattle.std.specs.Prelude.{◌≡◌, ◌⊎◌, ℕ, Bool, true, false, nat_le, List, [], ◌∷◌}
 use Rattle.ts_syntax.specs.declared.bin_op.BinOp.{BinOp}
@@ -30,7 +30,7 @@ rank at_product = 5
 rank at_sign = 6
 rank at_atom = 7
 
--- the level at which an operator's tree stands
+-- the level of an operator's tree
 abbrev pub level_of : BinOp → Level
 level_of op.Or = at_or
 level_of op.And = at_and
@@ -78,7 +78,7 @@ right_of op.Mul = at_sign
 right_of op.Div = at_sign
 right_of op.Rem = at_sign
 
--- the level at which a tree stands
+-- the level of a tree
 abbrev pub level : Tree → Level
 level (number n) = at_atom
 level (variable w) = at_atom
@@ -97,11 +97,11 @@ abbrev pub Holds : Bool → Type 0
 Holds true = Unit {0}
 Holds false = ⊥
 
--- the tree stands at this level or at a tighter one
+-- the tree is at this level or at a tighter one
 abbrev pub IsPart : Level → Tree → Type 0
 IsPart n e = Holds (nat_le (rank n) (rank (level e)))
 
--- each operand in an expression stands at the level that its place needs
+-- each operand in an expression is at the level that its place needs
 abbrev mutual
   pub Derived : Tree → Type 0
   Derived (number n) = Unit {0}
@@ -169,7 +169,7 @@ abbrev pub ProceduresIn : Dialect → List Procedure → Type 0
 ProceduresIn dialect.Plain ps = ps ≡ []
 ProceduresIn dialect.Procedures ps = ProceduresDerived ps
 
--- a script that a dialect's grammar derives; where the dialect has no procedures, the script has none
+-- a script that a dialect's grammar derives; if the dialect has no procedures, the script has none
 pub record IsDerivedIn (d : Dialect) (s : ProcedureSource) : Type 0 where
   pub decls : DeclsDerived s.decls
   pub procs : ProceduresIn d s.procs

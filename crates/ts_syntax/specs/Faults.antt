@@ -1,4 +1,4 @@
--- When tokens spell a script, and where the first fault of tokens stands that don't.
+-- When tokens spell a script, and the place of the first fault if they don't.
 use Rattle.std.specs.Prelude.{◌≡◌, ℕ, List, [], ◌∷◌, ◌++◌, length, Some, None}
 use Rattle.ts_syntax.specs.declared.token.Token.{Token}
 use Rattle.ts_syntax.specs.declared.token.TokenKind.{TokenKind}
@@ -30,7 +30,7 @@ abbrev pub StopsIn : Dialect → List TokenKind → List TokenKind → Type 0
 StopsIn d front [] = IsScriptIn d front → ⊥
 StopsIn d front (k ∷ ks) = BeginsScriptIn d (front ++ k ∷ []) → ⊥
 
--- the place of the token that doesn't fit; the text's length where the text ends too early
+-- the place of the token that doesn't fit; the text's length if the text ends too early
 abbrev pub place_of : ℕ → List Token → ℕ
 place_of len [] = len
 place_of len (t ∷ ts) = t.from
@@ -45,7 +45,7 @@ pub record IsUnexpectedIn (d : Dialect) (tokens : List Token) (len place : ℕ) 
   pub within : first_deep (kinds front) ≡ None
   pub stands : place ≡ place_of len rest
 
--- the place of the first token that lies too deep, where all up to it fit
+-- the place of the first token that lies too deep, if all up to it fit
 pub record IsTooDeepIn (d : Dialect) (tokens : List Token) (place : ℕ) : Type 0 where
   pub front : List Token
   pub token : Token

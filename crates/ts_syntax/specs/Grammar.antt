@@ -104,7 +104,7 @@ pub data Whole : Part → List TokenKind → Type 0 where
   w_more : {p : Part} {ms xs ys : List TokenKind} → Whole p xs → Whole (many p) ys → ms ≡ xs ++ ys → Whole (many p) ms
 
 -- tokens begin a part: none begin every part, and one begins what it is; a part and then another is begun in the
--- first, or in the second behind the whole first; `{ x }` in its first x, or later behind a whole one
+-- first, or in the second after the whole first; `{ x }` in its first x, or later after a whole one
 pub data BeginsPart : Part → List TokenKind → Type 0 where
   b_none : {p : Part} → BeginsPart p []
   b_name : {n : List ℕ} → BeginsPart NAME (kind.Name n ∷ [])

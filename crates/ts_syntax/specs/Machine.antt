@@ -1,4 +1,4 @@
--- The grammar of each dialect as a machine that reads one token after another. A continuation says where a part stands.
+-- The grammar of each dialect as a machine that reads one token after another. A continuation says where a part is.
 use Rattle.std.specs.Prelude.{ℕ, Bool, true, false, List, [], ◌∷◌, ◌++◌, Option, Some, None, Result, Ok, Err}
 use Rattle.ts_syntax.specs.declared.bin_op.BinOp.{BinOp}
 use Rattle.ts_syntax.specs.declared.bin_op.BinOp.TheVariants as op
@@ -172,7 +172,7 @@ step_frame a (while_part e b f) kind.End = Some (while_ended e a b f)
 step_frame a (proc_part w ws ds ps) kind.End = Some (proc_ended (procedure w ws a) ds ps)
 step_frame a f m = None
 
--- a `do` where a dialect has one
+-- a `do` if a dialect has one
 abbrev pub step_do : Dialect → Acts → Frame → Option State
 step_do dialect.Plain a f = None
 step_do dialect.Procedures a f = Some (do_word a f)
@@ -186,7 +186,7 @@ step_block a f kind.While p = Some (expr_due (in_while a f))
 step_block a f kind.Do p = step_do (dialect_of f) a f
 step_block a f m p = step_frame a f m
 
--- behind a whole expression
+-- after a whole expression
 abbrev pub step_whole : Tree → Whole → TokenKind → ℕ → Option State
 step_whole e (in_paren k) kind.Close p = Some (give k (paren e))
 step_whole e (in_item w k) kind.CloseBox p = Some (give k (item w e))
@@ -208,7 +208,7 @@ step_whole e (in_to w s a f) m p = step_block no_acts (for_part w s e None a f) 
 step_whole e (in_while a f) m p = step_block no_acts (while_part e a f) m p
 step_whole e k m p = None
 
--- behind each level of an expression: a sign of this level, or what follows at a looser one
+-- after each level of an expression: a sign of this level, or what follows at a looser one
 abbrev pub step_have : Tree → Whole → TokenKind → ℕ → Option State
 step_have e k kind.Or p = Some (want_inverse (first_and (in_or e k)))
 step_have e k m p = step_whole e k m p
@@ -254,7 +254,7 @@ step_product e k kind.Slash p = Some (want (in_product op.Div e k))
 step_product e k kind.Percent p = Some (want (in_product op.Rem e k))
 step_product e k m p = give_product e k m p
 
--- behind an operand
+-- after an operand
 abbrev pub step_given : Operand → Tree → TokenKind → ℕ → Option State
 step_given (in_negative k) e m p = step_given k (negative e) m p
 step_given (first_product k) e m p = step_product e k m p
@@ -274,7 +274,7 @@ abbrev pub step_want_inverse : Inverse → TokenKind → ℕ → Option State
 step_want_inverse k kind.Not p = Some (want_inverse (in_inverse k))
 step_want_inverse k m p = step_want (inverse_due k) m p
 
--- behind a name in an expression, and behind `size (`
+-- after a name in an expression, and after `size (`
 abbrev pub step_named : Word → Operand → TokenKind → ℕ → Option State
 step_named w k kind.Open p = Some (opened w k)
 step_named w k kind.OpenBox p = Some (expr_due (in_item w k))
@@ -331,14 +331,14 @@ abbrev pub step_name : TokenKind → ℕ → (Word → State) → Option State
 step_name (kind.Name n) p q = Some (q (word n p))
 step_name m p q = None
 
--- behind the first name of a statement
+-- after the first name of a statement
 abbrev pub step_stmt : Word → Acts → Frame → TokenKind → Option State
 step_stmt w a f kind.Eq = Some (set_to w a f)
 step_stmt w a f kind.OpenBox = Some (boxed w a f)
 step_stmt w a f kind.Open = Some (call_opened w a f)
 step_stmt w a f m = None
 
--- behind `x =`, `x = y` and `x = y [`: a taking, or an expression
+-- after `x =`, `x = y` and `x = y [`: a taking, or an expression
 abbrev pub step_set : Word → Acts → Frame → TokenKind → ℕ → Option State
 step_set w a f (kind.Name n) p = Some (set_named w (word n p) a f)
 step_set w a f m p = step_want_inverse (due (in_set w a f)) m p
@@ -351,7 +351,7 @@ abbrev pub step_set_boxed : Word → Word → Acts → Frame → TokenKind → �
 step_set_boxed w v a f kind.CloseBox p = Some (set_taken w v a f)
 step_set_boxed w v a f m p = step_want_inverse (due (in_item v (inverse_due (due (in_set w a f))))) m p
 
--- behind `p [`: an appending, or an index
+-- after `p [`: an appending, or an index
 abbrev pub step_boxed : Word → Acts → Frame → TokenKind → ℕ → Option State
 step_boxed w a f kind.CloseBox p = Some (append_to w a f)
 step_boxed w a f m p = step_want_inverse (due (in_index w a f)) m p
@@ -364,7 +364,7 @@ abbrev pub step_run : Word → Acts → Frame → TokenKind → ℕ → Option S
 step_run w a f kind.Close p = Some (closed (run_procedure w no_trees) a f)
 step_run w a f m p = step_want_inverse (due (in_do w no_trees a f)) m p
 
--- behind `step`, and behind `step -`
+-- after `step`, and after `step -`
 abbrev pub step_signed_by : Bool → Word → Tree → Tree → Acts → Frame → TokenKind → ℕ → Option State
 step_signed_by b w s t a f (kind.Num n) p = Some (block no_acts (for_part w s t (Some (record { minus = b; size = n; place = p })) a f))
 step_signed_by b w s t a f m p = None
@@ -373,7 +373,7 @@ abbrev pub step_stepped : Word → Tree → Tree → Acts → Frame → TokenKin
 step_stepped w s t a f kind.Minus p = Some (step_signed w s t a f)
 step_stepped w s t a f m p = step_signed_by false w s t a f m p
 
--- where procedures stand, and behind the declarations of a dialect
+-- where procedures are, and after the declarations of a dialect
 abbrev pub step_procedures : List Decl → List Procedure → TokenKind → ℕ → Option State
 step_procedures ds ps kind.Proc p = Some (proc_word ds ps)
 step_procedures ds ps m p = step_block no_acts (main ds ps) m p
@@ -382,7 +382,7 @@ abbrev pub step_declared : Dialect → List Decl → TokenKind → ℕ → Optio
 step_declared dialect.Plain ds m p = step_block no_acts (top ds) m p
 step_declared dialect.Procedures ds m p = step_procedures ds [] m p
 
--- the parameters of a procedure, from behind `(` on
+-- the parameters of a procedure, after its `(`
 abbrev pub step_proc_opened : Word → List Decl → List Procedure → TokenKind → ℕ → Option State
 step_proc_opened w ds ps (kind.Name n) p = Some (param_read w [] (word n p) ds ps)
 step_proc_opened w ds ps kind.Close p = Some (block no_acts (proc_part w [] ds ps))
@@ -393,7 +393,7 @@ step_param_read w ws v ds ps kind.Comma = Some (param_due w (ws ++ v ∷ []) ds 
 step_param_read w ws v ds ps kind.Close = Some (block no_acts (proc_part w (ws ++ v ∷ []) ds ps))
 step_param_read w ws v ds ps m = None
 
--- where declarations stand
+-- where declarations are
 abbrev pub step_decls : Dialect → List Decl → TokenKind → ℕ → Option State
 step_decls d ds kind.Shared p = Some (decl_name d decl.Shared true ds)
 step_decls d ds kind.Private p = Some (decl_name d decl.Private true ds)
@@ -408,7 +408,7 @@ step_decl_more d k ds kind.Comma = Some (decl_name d k false ds)
 step_decl_more d k ds kind.Semi = Some (decls d ds)
 step_decl_more d k ds m = None
 
--- one token, with the place that a name or a step's literal stands at
+-- one token, with the place of a name or of a step's literal
 abbrev pub step : State → TokenKind → ℕ → Option State
 step (decls d ds) m p = step_decls d ds m p
 step (decl_name d k b ds) m p = step_name m p (λ w. decl_more d k (ds ++ declared k b w ∷ []))
@@ -482,7 +482,7 @@ abbrev pub places_after : Bool → List ℕ → List ℕ
 places_after true ps = other_places ps
 places_after false ps = ps
 
--- the script that was read, where the text may end; a plain one has no procedures
+-- the script that was read, if the text may end; a plain one has no procedures
 abbrev pub read_script : List Decl → List Procedure → Acts → ProcedureSource
 read_script ds ps a = record { decls = ds; procs = ps; body = a }
 
@@ -505,7 +505,7 @@ abbrev pub going : Option State → (State → Outcome) → List TokenKind → O
 going (Some q) next ks = next q
 going None next ks = Err ks
 
--- the machine reads tokens, and the places that names and steps stand at
+-- the machine reads tokens, and the places of names and steps
 abbrev pub run : List TokenKind → List ℕ → State → Outcome
 run [] ps q = ending (finish q) ps
 run (k ∷ ks) ps q = going (step q k (first_place ps)) (run ks (places_after (takes q k) ps)) (k ∷ ks)

@@ -1,4 +1,4 @@
--- What a part of the parser does, said by the machine: at each place where the part may stand.
+-- What a part of the parser does, said by the machine: at each place where the part may be.
 use Rattle.std.specs.Prelude.{◌≡◌, ℕ, Bool, List, [], ◌∷◌, ◌++◌, Option, Some, None, Result, Ok, Err}
 use Rattle.std.proofs.Common.{Bor}
 use Rattle.std.specs.Result.{IsErrAnd}
@@ -25,7 +25,7 @@ noted_then (t ∷ ts) = note t t.kind ts ++ noted_then ts
 abbrev pub reads : List Token → State → Outcome
 reads ts q = run (kinds ts) (noted_then ts) q
 
--- a result, where it isn't for want of memory
+-- a result, unless memory runs out
 abbrev pub Gives : {X : Type 0} → Result X Halt → (X → Type 0) → (List Token → Type 0) → Type 0
 Gives (Ok x) P Q = P x
 Gives (Err halt.Memory) P Q = Unit {0}
@@ -34,20 +34,21 @@ Gives (Err (halt.At rest)) P Q = Q rest.now
 -- a part is read from where it is due to what it leads to, or the machine stops at the rest
 abbrev pub Reads : {X K : Type 0} → List Token → (K → State) → (X → K → State) → Result (X × Bor (List Token)) Halt → Type 0
 Reads {X} {K} tokens due got result =
-    Gives result (λ x. (k : K) → reads tokens (due k) ≡ reads x.1.now (got x.0 k)) (λ rest. (k : K) → reads tokens (due k) ≡ Err (kinds rest))
+    Gives result (λ x. (k : K) → reads tokens (due k) ≡ reads x.1.now (got x.0 k))
+    (λ rest. (k : K) → reads tokens (due k) ≡ Err (kinds rest))
 
--- the first token is of a kind that the test allows, where there is one
+-- the first token is of a kind that the test allows, if there is one
 abbrev pub Head : (TokenKind → Bool) → List Token → Type 0
 Head P [] = Unit {0}
 Head P (t ∷ ts) = Holds (P t.kind)
 
--- the first token is of this kind, as its number tells
+-- the first token is of this kind, by its number
 pub record Starts (k : TokenKind) (tokens rest : List Token) : Type 0 where
   pub token : Token
   pub are : tokens ≡ token ∷ rest
   pub kind : kind_code token.kind ≡ kind_code k
 
--- the first token, where there is one, is of another kind
+-- the first token, if there is one, is of another kind
 abbrev pub Lacks : TokenKind → List Token → Type 0
 Lacks k [] = Unit {0}
 Lacks k (t ∷ ts) = kind_code t.kind ≡ kind_code k → ⊥
@@ -58,7 +59,7 @@ Takes k tokens (Ok rest) = Starts k tokens rest.now
 Takes k tokens (Err halt.Memory) = ⊥
 Takes k tokens (Err (halt.At rest)) = (rest.now ≡ tokens) × Lacks k tokens
 
--- a part that was read, and a token of this kind taken behind it
+-- a part that was read, and a token of this kind taken after it
 abbrev pub Ended : {X : Type 0} → TokenKind → Result (X × Bor (List Token)) Halt → Result (X × Bor (List Token)) Halt → Type 0
 Ended k (Err e) result = IsErrAnd result (λ x. x ≡ e)
 Ended k (Ok x) (Ok y) = (y.0 ≡ x.0) × Starts k x.1.now y.1.now
@@ -77,7 +78,7 @@ pub record StartsName (w : Word) (tokens rest : List Token) : Type 0 where
   pub name : token.kind ≡ kind.Name w.name
   pub place : w.place ≡ token.from
 
--- the first token, where there is one, is no name
+-- the first token, if there is one, is no name
 abbrev pub LacksName : List Token → Type 0
 LacksName [] = Unit {0}
 LacksName (t ∷ ts) = (n : List ℕ) → t.kind ≡ kind.Name n → ⊥
@@ -108,7 +109,7 @@ comparison_sign kind.Le = Some op.Le
 comparison_sign kind.Ge = Some op.Ge
 comparison_sign k = None
 
--- the first token is an operator, as the function tells
+-- the first token is an operator, by the function
 pub record StartsOperator (f : TokenKind → Option BinOp) (o : BinOp) (tokens rest : List Token) : Type 0 where
   pub token : Token
   pub are : tokens ≡ token ∷ rest
@@ -122,7 +123,7 @@ abbrev pub FindsOperator : (TokenKind → Option BinOp) → List Token → Optio
 FindsOperator f tokens (Some x) = StartsOperator f x.0 tokens x.1.now
 FindsOperator f tokens None = LacksOperator f tokens
 
--- where the arguments of a call stand: in an expression, in a statement alone, or behind `do`
+-- where the arguments of a call are: in an expression, in a statement alone, or after `do`
 pub data Caller : Type 0 where
   of_operand : Word → Operand → Caller
   of_stmt : Word → Acts → Frame → Caller

@@ -25,7 +25,7 @@ abbrev pub is_variable : Shape → CVar → Bool
 is_variable s (variable.Shared v) = is_shared s v
 is_variable s (variable.Private i) = is_private i
 
--- the function is there, sends no buffer, and takes so many arguments
+-- the function is there, sends no buffer, and takes this number of arguments
 abbrev pub takes : Option FunShape → ℕ → Bool
 takes None count = false
 takes (Some f) count = not f.send && f.args == count
@@ -71,7 +71,7 @@ is_step (pos zero) = false
 is_step (pos (suc n)) = nat_lt n 32767
 is_step (negsuc n) = nat_lt n 32767
 
--- the head of a `for` is right: no call stands in its limit
+-- the head of a `for` is right: no call is in its limit
 abbrev pub is_head : Shape → CVar → Expression → Expression → ℤ → Bool
 is_head s x from to step = is_variable s x && is_right_expr s true from && is_right_expr s false to && is_step step
 

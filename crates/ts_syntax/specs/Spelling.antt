@@ -74,8 +74,10 @@ abbrev mutual
   act_spelled (clear w) = kind.Clear ∷ kind.Open ∷ name w ∷ kind.Close ∷ kind.Semi ∷ []
   act_spelled (call_alone w es) = name w ∷ kind.Open ∷ args_spelled es ++ kind.Close ∷ kind.Semi ∷ []
   act_spelled (if_then e a) = kind.If ∷ spelled e ++ (kind.Then ∷ acts_spelled a ++ kind.End ∷ kind.If ∷ [])
-  act_spelled (if_else e a b) = kind.If ∷ spelled e ++ (kind.Then ∷ acts_spelled a ++ (kind.Else ∷ acts_spelled b ++ kind.End ∷ kind.If ∷ []))
-  act_spelled (for_next w f t s a v) = kind.For ∷ name w ∷ kind.Eq ∷ spelled f ++ (kind.To ∷ spelled t ++ (step_spelled s ++ (acts_spelled a ++ kind.Next ∷ name v ∷ [])))
+  act_spelled (if_else e a b) =
+      kind.If ∷ spelled e ++ (kind.Then ∷ acts_spelled a ++ (kind.Else ∷ acts_spelled b ++ kind.End ∷ kind.If ∷ []))
+  act_spelled (for_next w f t s a v) =
+      kind.For ∷ name w ∷ kind.Eq ∷ spelled f ++ (kind.To ∷ spelled t ++ (step_spelled s ++ (acts_spelled a ++ kind.Next ∷ name v ∷ [])))
   act_spelled (while_do e a) = kind.While ∷ spelled e ++ (acts_spelled a ++ kind.End ∷ kind.While ∷ [])
   act_spelled (run_procedure w es) = kind.Do ∷ name w ∷ kind.Open ∷ args_spelled es ++ kind.Close ∷ kind.Semi ∷ []
 
@@ -94,7 +96,8 @@ params_spelled (w ∷ ws) = name w ∷ other_params_spelled ws
 
 -- a procedure's tokens, and those of procedures
 abbrev pub procedure_spelled : Procedure → List TokenKind
-procedure_spelled p = kind.Proc ∷ name p.name ∷ kind.Open ∷ params_spelled p.params ++ (kind.Close ∷ acts_spelled p.body ++ kind.End ∷ kind.Proc ∷ [])
+procedure_spelled p =
+    kind.Proc ∷ name p.name ∷ kind.Open ∷ params_spelled p.params ++ (kind.Close ∷ acts_spelled p.body ++ kind.End ∷ kind.Proc ∷ [])
 
 abbrev pub procedures_spelled : List Procedure → List TokenKind
 procedures_spelled [] = []
@@ -106,17 +109,17 @@ decl_keyword decl.Shared = kind.Shared
 decl_keyword decl.Private = kind.Private
 decl_keyword decl.Buffer = kind.Buffer
 
--- what stands before a declared name: its keyword, or a comma behind a name of the same declaration
+-- what is before a declared name: its keyword, or a comma after a name of the same declaration
 abbrev pub decl_start : Bool → DeclKind → TokenKind
 decl_start true k = decl_keyword k
 decl_start false k = kind.Comma
 
--- the sign that ends a declaration, where another one follows
+-- the sign that ends a declaration, if another one follows
 abbrev pub decl_end : Bool → List TokenKind
 decl_end true = kind.Semi ∷ []
 decl_end false = []
 
--- what stands between a declared name and those after it
+-- what is between a declared name and those after it
 abbrev pub decls_gap : List Decl → List TokenKind
 decls_gap [] = kind.Semi ∷ []
 decls_gap (d ∷ ds) = decl_end d.first
@@ -179,7 +182,7 @@ abbrev mutual
 abbrev pub decls_places : List Decl → List ℕ
 decls_places ds = map (λ d. d.word.place) ds
 
--- the places that a script keeps, in the order in which they stand
+-- the places that a script keeps, in their order in the text
 abbrev pub source_places : Source → List ℕ
 source_places s = decls_places s.decls ++ acts_places s.body
 
@@ -197,7 +200,7 @@ procedures_places (p ∷ ps) = procedure_places p ++ procedures_places ps
 abbrev pub procedure_source_places : ProcedureSource → List ℕ
 procedure_source_places s = decls_places s.decls ++ (procedures_places s.procs ++ acts_places s.body)
 
--- the place of a token where it is a literal
+-- the place of a token if it is a literal
 abbrev pub number_place : Token → TokenKind → List ℕ
 number_place t (kind.Num n) = t.from ∷ []
 number_place t k = []
@@ -206,7 +209,7 @@ abbrev pub first_number : List Token → List ℕ
 first_number [] = []
 first_number (t ∷ ts) = number_place t t.kind
 
--- the place of the literal that tokens begin with, behind a `-` or not
+-- the place of the literal that tokens begin with, after a `-` or not
 abbrev pub literal_place : Token → TokenKind → List Token → List ℕ
 literal_place t kind.Minus ts = first_number ts
 literal_place t k ts = number_place t k

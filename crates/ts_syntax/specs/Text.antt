@@ -45,17 +45,17 @@ token_text kind.Percent = codes "%"
 token_text (kind.Name n) = n
 token_text (kind.Num n) = decimal n
 
--- the space between two tokens, where one was written before
+-- the space between two tokens, if one was written before
 abbrev pub space : Bool → List ℕ
 space true = codes " "
 space false = []
 
--- tokens behind others, or at the start
+-- tokens after others, or at the start
 unfoldable pub written : Bool → List TokenKind → List ℕ
 written b [] = []
 written b (k ∷ ks) = space b ++ token_text k ++ written true ks
 
--- whether a token was written, behind these
+-- whether a token was written, after these
 abbrev pub begun : Bool → List TokenKind → Bool
 begun b [] = b
 begun b (k ∷ ks) = true

@@ -24,7 +24,7 @@ mutual
     no_trees : Trees
     tree_then : Tree → Trees → Trees
 
--- a statement, a case for each of its forms, of which the last stands in scripts with procedures alone; and the statements of a block
+-- a statement, a case for each of its forms, of which the last is in scripts with procedures alone; and the statements of a block
 mutual
   pub data Act : Type 0 where
     set : Word → Tree → Act

@@ -41,5 +41,5 @@ pub record HasItems (d : Description) : Type 0 where
   pub each_shared : IsTrue (list_all is_name d.shared.items)
   pub each_buffer : IsTrue (list_all is_name d.buffers.items)
   pub each_device : IsTrue (list_all is_name d.devices.items)
-  -- no name stands twice in its list
+  -- no name is twice in its list
   pub distinct : duplicate_of (parts_of d) ≡ None

@@ -69,7 +69,7 @@ abbrev pub first_of_two : Option (List ℕ) → Option (List ℕ) → Option (Li
 first_of_two None later = later
 first_of_two (Some name) later = Some name
 
--- the first name that stands earlier in its list: shared variables and buffers are one list
+-- the first name that its list repeats: shared variables and buffers are one list
 abbrev pub duplicate_among : List (List ℕ) → List (List ℕ) → List (List ℕ) → List Handler → List Function → Option (List ℕ)
 duplicate_among shared buffers devices handlers functions =
     first_of_two (first_repeat (shared ++ buffers))
@@ -88,7 +88,7 @@ are_handlers hs = (between 1 8 (length hs) && list_all is_handler hs) && nat_le 
 abbrev pub are_functions : ℕ → List Function → Bool
 are_functions devices fs = nat_le (length fs) 32 && list_all (is_function devices) fs
 
--- at most so many names
+-- at most `most` names, each of them right
 abbrev pub are_names : ℕ → List (List ℕ) → Bool
 are_names most names = nat_le (length names) most && list_all is_name names
 

@@ -33,19 +33,19 @@ has_form (c ∷ cs) = (nat_le (length cs) 15 && begins_name c) && list_all conti
 abbrev pub is_name : List ℕ → Bool
 is_name text = has_form text && not (is_keyword text)
 
--- the name stands in the list
+-- the name is in the list
 abbrev pub stands_in : List (List ℕ) → List ℕ → Bool
 stands_in names name = list_any (λ other. bytes_eq name other) names
 
--- the first of the names that stands before, in `seen` or among them
+-- the first of the names that occurs before it, in `seen` or among them
 abbrev pub repeat_after : List (List ℕ) → List (List ℕ) → Option (List ℕ)
 repeat_after seen [] = None
 repeat_after seen (name ∷ names) = if stands_in seen name then Some name else repeat_after (seen ++ name ∷ []) names
 
--- the first name that stands earlier in its list
+-- the first name that its list repeats
 abbrev pub first_repeat : List (List ℕ) → Option (List ℕ)
 first_repeat names = repeat_after [] names
 
--- the text as a name, where it has a name's form
+-- the text as a name, if it has a name's form
 abbrev pub name_of : List ℕ → Option (List ℕ)
 name_of text = if is_name text then Some text else None

@@ -10,7 +10,7 @@ use Rattle.vm_desc.specs.declared.handler.Handler.{Handler}
 abbrev pub few_contexts : List Handler → Result (Unit {0}) DescFault
 few_contexts handlers = if nat_lt 16 (context_sum handlers) then Err (OverLimit key.HandlerContexts) else Ok tt
 
--- no name stands twice in its list
+-- no name is twice in its list
 abbrev pub no_repeat : Option (List ℕ) → Result (Unit {0}) DescFault
 no_repeat None = Ok tt
 no_repeat (Some twice) = Err (Duplicate twice)

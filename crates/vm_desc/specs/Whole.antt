@@ -22,7 +22,7 @@ parts_of d = record {
 abbrev pub context_count : Description → ℕ
 context_count d = context_sum d.handlers.items
 
--- the built-in machine: one handler `main`, the shared variables `a` to `d`, and the settings that hold where none are given
+-- the built-in machine: one handler `main`, the shared variables `a` to `d`, and the settings that hold if none are given
 abbrev pub builtin_parts : Parts
 builtin_parts = record {
   vm_id = 1;

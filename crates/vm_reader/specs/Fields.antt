@@ -27,12 +27,12 @@ abbrev pub taken : {A : Type 0} → Key → Option A → Result A DescFault
 taken key None = Err (BadField key)
 taken key (Some x) = Ok x
 
--- BadField with the key, where a rule doesn't hold
+-- BadField with the key, if a rule doesn't hold
 abbrev pub allowed : Key → Bool → Result (Unit {0}) DescFault
 allowed key true = Ok tt
 allowed key false = Err (BadField key)
 
--- the value of a key that may be absent, where there may be a default
+-- the value of a key that may be absent, if there may be a default
 abbrev pub field : {A : Type 0} → Key → (Data → Option A) → Option A → Option Data → Result A DescFault
 field key read default None = taken key default
 field key read default (Some d) = taken key (read d)
@@ -54,17 +54,17 @@ abbrev pub item_count : Items → ℕ
 item_count no_items = 0
 item_count (item d ds) = suc (item_count ds)
 
--- the items as names, where all are names
+-- the items as names, if all are names
 abbrev pub all_names : Items → Option (List (List ℕ))
 all_names no_items = Some []
 all_names (item d ds) = option_and_then (λ x. option_map (λ xs. x ∷ xs) (all_names ds)) (name d)
 
--- a list of at most so many items
+-- a list of at most `most` items
 abbrev pub list_up_to : Key → ℕ → Option Items → Result Items DescFault
 list_up_to key most None = Err (BadField key)
 list_up_to key most (Some ds) = if nat_lt most (item_count ds) then Err (OverLimit key) else Ok ds
 
--- a list of at most so many names; none where the key is absent
+-- a list of at most `most` names; none if the key is absent
 abbrev pub names : Key → ℕ → Option Data → Result (List (List ℕ)) DescFault
 names key most None = Ok []
 names key most (Some d) = list_up_to key most (as_array d) >>= (λ ds. taken key (all_names ds))
@@ -79,7 +79,7 @@ abbrev pub tables_in : Items → List Members
 tables_in no_items = []
 tables_in (item d ds) = option_map_or (λ ms. ms ∷ tables_in ds) (as_table d) (tables_in ds)
 
--- a list of at most so many items, all of them tables
+-- a list of at most `most` items, all of them tables
 abbrev pub tables : Key → ℕ → Data → Result (List Members) DescFault
 tables key most d = list_up_to key most (as_array d) >>= (λ ds. allowed key (are_tables ds) >>= (λ _. Ok (tables_in ds)))
 

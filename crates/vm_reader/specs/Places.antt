@@ -1,4 +1,4 @@
--- Which keys stand where in a description.
+-- Which keys a description may have, and where.
 use Rattle.std.specs.Prelude.{ℕ, List, [], ◌∷◌, codes, Bool, true, ◌&&◌, if◌then◌else◌, Option, Some, None, is_some, unwrap_or}
 use Rattle.std.specs.Option.{option_or}
 use Rattle.std.specs.Str.{bytes_eq}
@@ -7,7 +7,7 @@ use Rattle.vm_desc.specs.Names.{stands_in}
 use Rattle.vm_reader.specs.declared.known.Place.{Place}
 use Rattle.vm_reader.specs.declared.known.Place.TheVariants as place
 
--- the keys that stand in one table
+-- the keys of one table
 abbrev pub known_words : Place → List (List ℕ)
 known_words place.Document =
     codes "vm" ∷ codes "shared" ∷ codes "buffers" ∷ codes "devices" ∷ codes "turns" ∷ codes "quantum" ∷ []
@@ -17,11 +17,11 @@ known_words place.Trickle = codes "imin" ∷ codes "doublings" ∷ codes "k" ∷
 known_words place.Radio = codes "delay" ∷ codes "gap" ∷ []
 known_words place.Value = []
 
--- a value that holds no keys stands under such a key
+-- a value that holds no keys is under such a key
 abbrev pub value_place : Place → List ℕ → Option Place
 value_place p word = if stands_in (known_words p) word then Some place.Value else None
 
--- a table, or tables, of a document stand under such a key
+-- a table, or tables, of a document are under such a key
 abbrev pub table_below : Place → List ℕ → Option Place
 table_below place.Document word =
     if bytes_eq word (codes "handler") then Some place.Handler
@@ -35,11 +35,11 @@ table_below place.Trickle word = None
 table_below place.Radio word = None
 table_below place.Value word = None
 
--- the place of what stands under a key, and nothing for a key that isn't known there
+-- the place of what is under a key, and none for a key that isn't known there
 abbrev pub known_below : Place → List ℕ → Option Place
 known_below p word = option_or (table_below p word) (value_place p word)
 
--- each key inside, at any depth and through lists, is known where it stands
+-- each key inside, at any depth and through lists, is known where it is
 abbrev mutual
   pub has_known : Place → Data → Bool
   has_known p (string s) = true
@@ -56,4 +56,5 @@ abbrev mutual
 
   pub members_have_known : Place → Members → Bool
   members_have_known p no_members = true
-  members_have_known p (member k d ms) = (is_some (known_below p k) && has_known (unwrap_or (known_below p k) place.Value) d) && members_have_known p ms
+  members_have_known p (member k d ms) =
+      (is_some (known_below p k) && has_known (unwrap_or (known_below p k) place.Value) d) && members_have_known p ms

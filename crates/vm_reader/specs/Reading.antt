@@ -1,5 +1,5 @@
--- The description that a text gives, key by key; where a rule is broken, the first refusal. Each line of a list below
--- reads one key: its name in refusals, its range, its default where it has one, and its place in the text.
+-- The description that a text gives, key by key; if a rule is broken, the first refusal. Each line of a list below
+-- reads one key: its name in refusals, its range, its default if it has one, and its place in the text.
 use Rattle.std.specs.Prelude.{ℕ, List, [], ◌∷◌, ◌+◌, ◌*◌, ◌%◌, ◌^◌, ◌==◌, length, codes, nat_lt, nat_le, if◌then◌else◌, Option, Some, None, option_map, option_and_then, Result, Ok, Err}
 use Rattle.std.specs.List.{position}
 use Rattle.std.specs.Str.{bytes_eq}

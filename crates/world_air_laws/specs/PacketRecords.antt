@@ -1,4 +1,4 @@
--- What the air tells of packets, over whole runs: each is decided link by link, and nothing else is lost or arrives.
+-- What the air's records say of packets, over whole runs: each is decided link by link, and nothing else is lost or arrives.
 use Rattle.std.specs.Prelude.{◌≡◌, ℕ, ◌<◌, ◌≤◌, Bool, true, false, not, ◌&&◌, ◌||◌, IsTrue, List, [], ◌∷◌, ◌++◌, ◌⊎◌, map, length, Some}
 use Rattle.std.specs.Prelude.{slice_get}
 use Rattle.std.specs.List.{filter, flat_map, range_with_len}
@@ -42,12 +42,12 @@ is_sent_air (air.Noise bytes) = false
 abbrev pub is_of_sending : Aired → Bool
 is_of_sending r = is_sent_air r.air || is_lost_air r.air
 
--- of what is sent and lost, each packet stands followed by exactly its losses in link order, and there is nothing else
+-- of what is sent and lost, each packet is followed by exactly its losses in link order, and there is nothing else
 abbrev pub PacketsAreDecided : World → Type 0
 PacketsAreDecided w = (ms : List Moment) → filter is_of_sending (airs w ms)
     ≡ flat_map (λ x. record_sent x ∷ records_lost w x) (transmissions (airs w ms))
 
--- each loss stands directly behind its packet or another of its losses; `behind` says whether what stands before the records is one of
+-- each loss is directly after its packet or another of its losses; `behind` says whether what is before the records is one of
 -- these
 abbrev pub losses_follow : Bool → List Aired → Bool
 losses_follow behind [] = true
@@ -59,7 +59,7 @@ LossesFollowDirectly w = (ms : List Moment) → IsTrue (losses_follow false (air
 -- ---- arrivals
 
 -- At each time there arrives, in order of transmission and then in link order, what the packets bring over the links that
--- don't lose them, each once, and nothing else; something is still on its way only where the run didn't reach the time.
+-- don't lose them, each once, and nothing else; something is still on its way only if the run didn't reach the time.
 pub record ArriveInOrder (w : World) (ms : List Moment) (t : ℕ) : Type 0 where
   pub due : List Arrival
   pub all : arrivals_at t (airs w ms) ++ due ≡ flat_map (brings_at w t) (transmissions (airs w ms))

@@ -1,4 +1,4 @@
--- What the air tells of timers, over whole runs: the beginnings of intervals, and what is done at their points.
+-- What the air's records say of timers, over whole runs: the beginnings of intervals, and what is done at their points.
 use Rattle.std.specs.Prelude.{◌≡◌, ℕ, ◌+◌, ◌<◌, ◌==◌, if◌then◌else◌, List, [], ◌∷◌, ◌++◌, ◌⊎◌, map, Option, Some, None}
 use Rattle.std.specs.List.{filter_map}
 use Rattle.mate_journal.specs.declared.air.Air.{Air}
@@ -67,7 +67,7 @@ point_told k r = if r.node == k then done_then r.stamp.time (by r.air) else None
   by (air.Got number from) = None
   by (air.Noise bytes) = None
 
--- what the rule decides at a point of the node, where the event is one
+-- what the rule decides at a point of the node, if the event is one
 abbrev pub point_of : World → ℕ → Node → ℕ → Cause → List PointDone
 point_of w k n time (event.Planned line) = []
 point_of w k n time (event.Period node h) = []
@@ -95,7 +95,7 @@ abbrev pub EndsAreTimely : World → Type 0
 EndsAreTimely w = (before : List Moment) (m : Moment) (k : ℕ) → HaveCome w (m ∷ before) → m.cause ≡ event.Expire k
     → m.time ≡ ((state w before).nodes k).timer.running.begin + ((state w before).nodes k).timer.running.length
 
--- an interval that runs behind `before` comes to its point, and to its end, unless an event cancels it: one in which a new interval begins
+-- an interval that runs after `before` comes to its point, and to its end, unless an event cancels it: one in which a new interval begins
 pub record RunsItsCourse (w : World) (before later : List Moment) (k : ℕ) (i : trickle.Interval) : Type 0 where
   pub point : IsDone (state w (later ++ before)) i.point → HasEvent later i.point (event.Fire k) ⊎ IsCancelled w before later (event.Fire k)
   pub ends : IsDone (state w (later ++ before)) (i.begin + i.length) → HasEvent later (i.begin + i.length) (event.Expire k)

@@ -1,4 +1,4 @@
--- The packets that the records of the air tell of: what each link decides, and what a packet brings.
+-- The packets that the air's records are of: what each link decides, and what a packet brings.
 use Rattle.std.specs.Prelude.{ℕ, ◌+◌, ◌%◌, Bool, not, nat_lt, ◌==◌, if◌then◌else◌, List, [], ◌∷◌, ◌++◌, map, Option, Some, None, count_by}
 use Rattle.std.specs.List.{filter, filter_map, fold}
 use Rattle.arrayvec.specs.ArrayVec.{ArrayVec}

@@ -29,12 +29,12 @@ linked_world = record {
   newest = replicate 8 0;
 }
 
--- the line is refused for this cause, unless memory is wanting
+-- the line is refused for this cause, unless memory runs out
 abbrev pub RefusesLine : Cause → Result Command Refusal → Type 0
 RefusesLine cause (Ok c) = ⊥
 RefusesLine cause (Err r) = (r ≡ refusal.Bad cause) ⊎ (r ≡ refusal.NoMemory)
 
--- the script is refused at this line for this cause, unless memory is wanting
+-- the script is refused at this line for this cause, unless memory runs out
 abbrev pub RefusesWorld : ℕ → Cause → Result World ScriptFault → Type 0
 RefusesWorld line cause (Ok w) = ⊥
 RefusesWorld line cause (Err f) = (f ≡ fault.BadLine line cause) ⊎ (f ≡ fault.NoMemory)

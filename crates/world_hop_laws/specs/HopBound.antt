@@ -37,7 +37,7 @@ pub record HoldsBy (w : World) (p : HeldProgram) (b by : ℕ) (before later : Li
   pub in_time : last_time (older ++ before) ≤ by
   pub holds : HoldsVersion w (version_of p) b (older ++ before)
 
--- Let a program be injected on a node, and let b be d hops away. Where the run reached the time 3 * L * d later, and no
+-- Let a program be injected on a node, and let b be d hops away. If the run reached the time 3 * L * d later, and no
 -- newer one was injected and no node reset until then, b holds it by then.
 abbrev pub HopBound : World → Type 0
 HopBound w = (before later : List Moment) (m : Moment) (i b d : ℕ) (p : HeldProgram) → HaveCome w (later ++ (m ∷ before))

@@ -81,7 +81,7 @@ pub record InstalledBy (w : World) (p : HeldProgram) (b by : ℕ) (before later 
       → p.version ≤ held_version p.handler.0 ((state w (mid ++ (older ++ before))).nodes b).exchange
 
 -- In the world of a right script without loss or suppression let a program be injected on a node, and let b be d hops away.
--- Where the run reached the time 3 * L * d later, and no newer one was injected and no node reset until then, b installed
+-- If the run reached the time 3 * L * d later, and no newer one was injected and no node reset until then, b installed
 -- it by then, and holds it or a newer one ever after.
 abbrev pub InjectedIsInstalled : Type 0
 InjectedIsInstalled = (d : Description) (meaning : Meaning) (script : Script) (programs : ℕ → HeldProgram)

@@ -11,7 +11,7 @@ use Rattle.world_rules.specs.State.{Moment, WorldState, node_at, node_after, cal
 use Rattle.world_rules.specs.Run.{HaveCome, IsDone}
 use Rattle.world_laws.specs.Causes.{HasEvent, IsCancelled}
 
--- the answer to a call of f by invocation n in the event, behind these entries of it
+-- the answer to a call of f by invocation n in the event, after these entries of it
 abbrev pub answer_for : World → WorldState → Moment → List JournalEntry → ℕ → FunId → Cause
 answer_for w s m front n f =
     event.Due (event_node w m.cause) ((node_after w (node_at w s m) m).reading.invocations n).context n

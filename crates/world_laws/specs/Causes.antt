@@ -22,7 +22,7 @@ abbrev pub scheduled_for : World → ℕ → List Moment → List Cause
 scheduled_for w t [] = (world_start w).due t
 scheduled_for w t (m ∷ before) = scheduled_for w t before ++ of_time t (schedules w (state w before) m)
 
--- at one time the events stand in the order in which they were scheduled, each once, and before those still due
+-- at one time the events are in the order in which they were scheduled, each once, and before those still due
 abbrev pub ComeInOrder : World → Type 0
 ComeInOrder w = (ms : List Moment) (t : ℕ) → HaveCome w ms → IsSublist (came_at t ms ++ (state w ms).due t) (scheduled_for w t ms)
 

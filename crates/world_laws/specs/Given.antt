@@ -1,5 +1,5 @@
--- What the journals of a whole run tell of what comes from outside the invocations: posts, answers, installs, resets, and stores that
--- are seen.
+-- What the journals of a whole run record of what comes from outside the invocations: posts, answers, installs, resets,
+-- and stores that are seen.
 use Rattle.std.specs.Prelude.{◌≡◌, ℕ, ◌==◌, if◌then◌else◌, List, [], ◌∷◌, ◌++◌, map, ℤ, Option, Some, None, All}
 use Rattle.std.specs.List.{filter_map}
 use Rattle.arrayvec.specs.ArrayVec.{ArrayVec}
@@ -34,7 +34,7 @@ given_in Reset = Some GivesReset
 given_in (Seen store) = Some SeesItsStore
 given_in (Void cause) = Some Refuses
 
--- what an event gives its node, in order: before an install and a reset the store is seen, and behind the install of a handler
+-- what an event gives its node, in order: before an install and a reset the store is seen, and after the install of a handler
 -- that runs once there is an occasion for it
 abbrev pub given_by : Machine → Deed → List Given
 given_by m Nothing = []
@@ -44,7 +44,7 @@ given_by m (Answering inv value) = GivesAnswer inv value ∷ []
 given_by m Showing = SeesItsStore ∷ []
 given_by m Resetting = SeesItsStore ∷ GivesReset ∷ []
 
--- an event's entries tell just that: nothing else is posted, answered, installed or reset, and nothing is refused
+-- an event's entries record just that: nothing else is posted, answered, installed or reset, and nothing is refused
 abbrev pub EventsGiveTheirs : World → Type 0
 EventsGiveTheirs w = (before : List Moment) (m : Moment) → HaveCome w (m ∷ before)
     → filter_map given_in m.told ≡ given_by w.machine (effect_at w (state w before) m).deed
@@ -84,6 +84,6 @@ abbrev pub PostsHaveTheirPayload : World → Type 0
 PostsHaveTheirPayload w = (before : List Moment) (m : Moment) → HaveCome w (m ∷ before)
     → All (HasPayload (payload_given (effect_at w (state w before) m).deed)) m.told
 
--- the calls by whose places answers are chosen are all calls that the node's journal tells
+-- the calls by whose places answers are chosen are all calls that the node's journal records
 abbrev pub CalledAreTold : World → Type 0
 CalledAreTold w = (k : ℕ) (ms : List Moment) → ((state w ms).nodes k).called ≡ calls_in (untimed (journal w k ms))

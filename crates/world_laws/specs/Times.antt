@@ -22,7 +22,7 @@ abbrev pub last_time : List Moment → ℕ
 last_time [] = 0
 last_time (m ∷ before) = m.time
 
--- among the events `later`, which came on top of `before`, stands m: those newer than it, and those older
+-- among the events `later`, which came on top of `before`, is m: those newer than it, and those older
 pub record StandsIn (later : List Moment) (m : Moment) : Type 0 where
   pub newer : List Moment
   pub older : List Moment

@@ -20,7 +20,7 @@ use Rattle.world_lines.specs.declared.draft.Draft.{Draft}
 use Rattle.world_lines.specs.WorldLines.{WorldSaid, SaysNodes, SaysRandom, SaysUntil, SaysSuppress, SaysLink, SaysSeries, SaysPlanned}
 use Rattle.world_lines.specs.WorldLines.{WorldProgress, is_free, is_linked}
 
--- what a function returned, seen by view, and the words that it left are what the reading gives, where memory was not refused
+-- what a function returned, seen by view, and the words that it left are what the reading gives, if memory was not refused
 abbrev pub ReadsWithMemory : {X Y : Type 0} → (X → Y) → WordReading Y → List (List ℕ) → Result X Refusal → List (List ℕ) → Type 0
 ReadsWithMemory view reading before (Ok x) after = reading before ≡ Ok (record { value = view x; rest = after })
 ReadsWithMemory view reading before (Err (refusal.Bad cause)) after = reading before ≡ Err cause
@@ -95,7 +95,7 @@ IsRightWorldSaid d p (SaysPlanned e file) = IsRightEvent d p e file
 abbrev pub is_of_pair : ℕ → ℕ → Series → Bool
 is_of_pair node fun s = (s.node == node) && (s.fun.0 == fun)
 
--- how many series stand up to the one of a node and a function, counted from a number on; 0 for none
+-- how many series there are up to the one of a node and a function, counted from a number on; 0 for none
 abbrev pub place_from : ℕ → ℕ → ℕ → List Series → ℕ
 place_from n node fun [] = 0
 place_from n node fun (s ∷ series) = if is_of_pair node fun s then n else place_from (n + 1) node fun series

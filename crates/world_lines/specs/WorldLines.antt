@@ -43,14 +43,14 @@ switch_of w =
     else if bytes_eq w (codes "off") then Ok false
     else Err Word
 
--- behind `suppress`
+-- after `suppress`
 unfoldable pub a_switch : WordReading Bool
 a_switch = a_word >>= (λ w. found (switch_of w))
 
 abbrev pub is_linked : ℕ → ℕ → List Link → Bool
 is_linked from to links = list_any (λ l. (l.from == from) && (l.to == to)) links
 
--- another node, to which no link leads yet, nor from it where both directions are meant
+-- another node, to which no link leads yet, nor from it if both directions are meant
 abbrev pub is_free : List Link → Bool → ℕ → ℕ → Bool
 is_free links both from to = not (from == to) && (not (is_linked from to links) && not (both && is_linked to from links))
 
@@ -119,7 +119,7 @@ behind_time d p time verb =
     else if bytes_eq verb (codes "noise") then a_noise d p.world time
     else found (Err Word)
 
--- behind the word `at`
+-- after the word `at`
 unfoldable pub an_event : Description → WorldProgress → WordReading WorldSaid
 an_event d p = do
   time ← a_time p.world.until p.time
@@ -128,7 +128,7 @@ an_event d p = do
 
 -- ---- a whole line
 
--- where the first word is the one that has to come
+-- if the first word is the one that has to come
 abbrev pub by_its_verb : {A : Type 0} → List ℕ → List ℕ → WordReading A → WordReading A
 by_its_verb verb wanted reading = if bytes_eq verb wanted then reading else found (Err Word)
 
@@ -150,7 +150,7 @@ a_setting d p verb =
     else if bytes_eq verb (codes "series") then a_series d p.world
     else by_its_verb verb (codes "at") (an_event d p)
 
--- what stands behind a line's first word
+-- what is after a line's first word
 abbrev pub behind_verb : Description → WorldProgress → Stage → List ℕ → WordReading WorldSaid
 behind_verb d p stage.Nodes verb = some_nodes verb >>= (λ nodes. give (SaysNodes nodes))
 behind_verb d p stage.Random verb = a_random verb >>= (λ random. give (SaysRandom random))

@@ -15,7 +15,7 @@ use Rattle.script_reader.specs.declared.fault.Cause.{Cause}
 use Rattle.script_reader.specs.declared.fault.Cause.TheVariants.{Word, Number, Range, TimeBack, Name, Node, Packet}
 use Rattle.script_reader.specs.Words.{WordReading, ◌>>=◌, found, a_word, a_number, values_from}
 
--- one of so many nodes
+-- one of this number of nodes
 unfoldable pub a_node : ℕ → WordReading ℕ
 a_node nodes = a_number 0 (nodes - 1) Node
 
@@ -34,7 +34,7 @@ if_senses n kind.Id = Err Name
 if_senses n kind.Rand = Err Name
 if_senses n kind.Clock = Err Name
 
--- the function with a name, among those from a number on, where it reads a sensor
+-- the function with a name, among those from a number on, if it reads a sensor
 abbrev pub sensor_from : List ℕ → ℕ → List Function → Result FunId Cause
 sensor_from w n [] = Err Name
 sensor_from w n (f ∷ functions) = if bytes_eq f.name w then if_senses n f.kind else sensor_from w (n + 1) functions

@@ -32,7 +32,7 @@ planned_line time node what = record { time = time; node = node; what = what }
 abbrev pub injected : ℕ → ℕ → ℕ → ℕ → ℕ → Planned
 injected time node program handler version = planned_line time node (what.Inject program (record { 0 = handler }) version)
 
--- version 1 of a handler; and version 2, whose programs come behind those of all versions 1
+-- version 1 of a handler; and version 2, whose programs come after those of all versions 1
 abbrev pub first_injection : ℕ → ℕ → Planned
 first_injection nodes h = injected (1000 * (h + 1)) (7 * h % nodes) h h 1
 
@@ -45,7 +45,7 @@ posting number handlers nodes j =
     planned_line (2000 * j) ((number % nodes + 13 * j) % nodes)
     (what.Post (record { 0 = j % handlers }) (record { items = pos (j % 100) ∷ [] }))
 
--- all injections by handler, and then so many posts by number
+-- all injections by handler, and then `posts` posts by number
 abbrev pub unsorted : ℕ → ℕ → ℕ → ℕ → List Planned
 unsorted number handlers nodes posts =
     map (first_injection nodes) (range_with_len 0 handlers)
@@ -56,7 +56,7 @@ abbrev pub put : Planned → List Planned → List Planned
 put e [] = e ∷ []
 put e (x ∷ events) = if nat_lt x.time e.time then x ∷ put e events else e ∷ x ∷ events
 
--- the events by time, where those of one time keep their order; behind them come others
+-- the events by time, where those of one time keep their order; after them come others
 abbrev pub sorted_onto : List Planned → List Planned → List Planned
 sorted_onto [] events = events
 sorted_onto (e ∷ more) events = put e (sorted_onto more events)

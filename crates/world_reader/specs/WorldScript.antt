@@ -1,4 +1,4 @@
--- The world script in bytes, line by line; where a line is refused, the first such line and its first cause.
+-- The world script in bytes, line by line; if a line is refused, the first such line and its first cause.
 use Rattle.std.specs.Prelude.{ℕ, ◌<◌, Bool, true, if◌then◌else◌, List, [], ◌∷◌, ◌++◌, slice_set, replicate, Result, Ok, Err}
 use Rattle.vm_desc.specs.declared.description.Description.{Description}
 use Rattle.script_reader.specs.declared.fault.Cause.{Cause}
@@ -26,7 +26,7 @@ turned_back l = record { from = l.to; to = l.from; loss = l.loss }
 abbrev pub links_of : Link → Bool → List Link
 links_of l both = if both then l ∷ turned_back l ∷ [] else l ∷ []
 
--- the values go behind those of the same node and function, or are a new series
+-- the values go after those of the same node and function, or are a new series
 abbrev pub with_series : Series → List Series → List Series
 with_series s [] = s ∷ []
 with_series s (r ∷ series) = if is_of_pair s.node s.fun.0 r then record r { values = r.values ++ s.values } ∷ series
@@ -63,7 +63,7 @@ after_world_line d p words =
     if is_skipped words then Ok p
     else when_told p (a_world_line d p words)
 
--- before the first line; the numbers of a script stand in place of these before they are used
+-- before the first line; the numbers of a script replace these before they are used
 abbrev pub no_world : WorldProgress
 no_world = record {
   stage = stage.Nodes;

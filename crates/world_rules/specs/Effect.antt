@@ -23,9 +23,8 @@ use Rattle.world_rules.specs.Cause.{Cause}
 use Rattle.world_rules.specs.Cause as event
 use Rattle.world_rules.specs.World.{World, PlannedLine, Want, Inject, Post, Show, ResetNode, Noise, handlers, receiver, receivers}
 
--- what was heard of a node: its journal, the pace of its invocations, its Trickle timer, what happened to its exchange, the latest
--- first, whether a
--- pump is due, and the functions that it called, in order
+-- a node: the state that its journal leads to, the pace of its invocations, its Trickle timer, what happened to its exchange,
+-- the latest first, whether a pump is due, and the functions that it called, in order
 pub record Node : Type 0 where
   pub reading : NodeState
   pub pace : Pace
@@ -124,7 +123,7 @@ event_node w (event.Pump node) = node
 event_node w (event.Due node c inv value) = node
 event_node w (event.Deliver link number packet) = receiver w link
 
--- the length of the Trickle interval that begins, where one does
+-- the length of the Trickle interval that begins, if one does
 abbrev pub begun_length : Node → NodeEffect → Option ℕ
 begun_length n e = of_event e.timer where
   of_event : Option trickle.TimerEvent → Option ℕ

@@ -17,7 +17,7 @@ use Rattle.world_rules.specs.State.{Moment, state}
 use Rattle.world_rules.specs.Run.{HaveCome, IsAtEnd, airs, IsJournalOf}
 
 -- A node's journal is right by itself: it is well formed; its invocations, run whole and one at a time in the order of
--- their ends, give what it tells; it shows stores as they are; an invocation waits to start only for conflicting ones; and
+-- their ends, give what it records; it shows stores as they are; an invocation waits to start only for conflicting ones; and
 -- in each era the calls to a device are in order.
 pub record IsRightJournal (w : World) (es : List Entered) : Type 0 where
   pub well_formed : IsWellFormed w.machine (first_state w.machine) es
@@ -26,14 +26,14 @@ pub record IsRightJournal (w : World) (es : List Entered) : Type 0 where
   pub grants : GrantsInOrder w.machine (first_state w.machine) 0 es
   pub devices : AsksDevicesInOrder w.machine.device_of es
 
--- a node's log tells its journal in this run, which is right, and is tidy
+-- a node's log records its journal in this run, which is right, and is tidy
 pub record IsLogOf (w : World) (how : RunEnd) (ms : List Moment) (k : ℕ) (l : Log) : Type 0 where
   pub journal : IsJournalOf w how ms k (journal_of l)
   pub right : IsRightJournal w (journal_of l)
   pub tidy : IsTidyLog w.description l
   pub images : HasFullImages l
 
--- The report is of a run of the world that ends so: of events, each of a cause that was due, with what it made. It tells
+-- The report is of a run of the world that ends so: of events, each of a cause that was due, with what it made. It records
 -- each node's log and what happened on the air, whether the run is whole, and how many events came.
 pub record IsWorldReport (w : World) (how : RunEnd) (r : Report) : Type 0 where
   pub moments : List Moment

@@ -17,7 +17,7 @@ use Rattle.world_rules.specs.World.{World}
 use Rattle.world_rules.specs.Effect.{Deed, Nothing, Installing, Posting, Answering, Showing, Resetting, event_node}
 use Rattle.world_rules.specs.State.{Moment, WorldState, node_at, effect_at, air_made, state}
 
--- which entries may be made, at what was heard before them and the pace before them
+-- which entries may be made, at the state and the pace before them
 abbrev pub MakingRule : Type 1
 MakingRule = NodeState → Pace → List JournalEntry → Type 0
 
@@ -49,8 +49,8 @@ pub record IsNext (s : WorldState) (time : ℕ) (cause : Cause) : Type 0 where
   pub due : s.due time ≡ cause ∷ others
   pub none_before : (t : ℕ) → t < time → s.due t ≡ []
 
--- An event may come where fewer than 1,000,000 records stand before it: it is the next one that is due, at or before the
--- end. It makes its deed's entries, and then its node has turns until nobody is ready there.
+-- An event may come if fewer than 1,000,000 records are before it: it is the next one that is due, at or before the
+-- end. It makes its deed's entries, and then its node has turns until none of its invocations is ready.
 pub record MayCome (w : World) (s : WorldState) (m : Moment) : Type 0 where
   pub room : s.records < records_max
   pub next : IsNext s m.time m.cause
@@ -67,7 +67,7 @@ HaveCome w (m ∷ before) = HaveCome w before × MayCome w (state w before) m
 abbrev pub IsDone : WorldState → ℕ → Type 0
 IsDone s until = (t : ℕ) → t ≤ until → s.due t ≡ []
 
--- a whole run did all that was due up to its end; a full one stops where an event is left and the records are too many
+-- a whole run did all that was due up to its end; a full one stops if an event is left and the records are too many
 abbrev pub IsAtEnd : World → RunEnd → WorldState → Type 0
 IsAtEnd w Whole s = IsDone s w.until
 IsAtEnd w Full s = (records_max ≤ s.records) × (time : ℕ) × (cause : Cause) × (time ≤ w.until) × IsNext s time cause

@@ -1,4 +1,4 @@
--- A world's state: what is due at each time, and what was heard of each node; and the state after an event.
+-- A world's state: what is due at each time, and each node's state; and the state after an event.
 use Rattle.std.specs.Prelude.{ℕ, suc, ◌+◌, ◌*◌, ◌/◌, ◌%◌, min, pred, Bool, true, false, not, ◌&&◌, ◌||◌, nat_lt, ◌==◌, if◌then◌else◌, List}
 use Rattle.std.specs.Prelude.{[], ◌∷◌, ◌++◌, map, length, drop, ℤ, pos, Option, Some, None, slice_index_or, count_by}
 use Rattle.std.specs.List.{filter, filter_map, flat_map, range_with_len}
@@ -103,7 +103,7 @@ messages w told = filter_map (message_in w) told
 abbrev pub series_value : List ℤ → ℕ → ℤ
 series_value values i = slice_index_or values (min i (pred (length values))) (pos 0)
 
--- the answer at this time to a call of f on the node, where these were called before
+-- the answer at this time to a call of f on the node, if these were called before
 abbrev pub answer_at : World → ℕ → List FunId → FunId → ℕ → ℤ
 answer_at w node called f time = by (called_kind w f) where
   by : FunKind → ℤ
@@ -191,7 +191,8 @@ air_made w s m =
     ++ flat_map (air_of_sending w node) (sendings w s node (packets_of w s m))
 
 abbrev pub timer_after : Node → NodeEffect → ℕ → Timer
-timer_after n e time = option_map_or (λ (t : trickle.TimerEvent). after_happening n.timer (record { event = t; time = time })) e.timer n.timer
+timer_after n e time =
+    option_map_or (λ (t : trickle.TimerEvent). after_happening n.timer (record { event = t; time = time })) e.timer n.timer
 
 abbrev pub is_pump : Cause → Bool
 is_pump (event.Planned line) = false

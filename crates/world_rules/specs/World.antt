@@ -121,7 +121,7 @@ want_of programs (what.Noise bytes) = Noise bytes
 abbrev pub line_planned : (ℕ → HeldProgram) → Planned → PlannedLine
 line_planned programs p = record { time = p.time; node = p.node; what = want_of programs p.what }
 
--- the values of a node's sensor, none where the script has no series of it
+-- the values of a node's sensor, none if the script has no series of it
 abbrev pub series_in : List Series → ℕ → ℕ → List ℤ
 series_in [] node fun = []
 series_in (s ∷ series) node fun = if (s.node == node) && (s.fun.0 == fun) then s.values else series_in series node fun

@@ -33,7 +33,7 @@ pub record MayFinish (d : Description) (script : Script) (radio : Ether) (x : Mo
   pub interval : r.begins ≡ true → time ≤ x.timer.running.begin
   pub counts : length x.calls.counts.items ≡ length d.functions.items
 
--- it is this moment of a run, behind its node's turns
+-- it is this moment of a run, after its node's turns
 pub record IsMoment (w : World) (s : WorldState) (m : Moment) (radio : Ether) (x : Mote) (number : ℕ) (event : Event) (r : Effect)
     (from time : ℕ) : Type 0 where
   pub time_is : m.time ≡ time

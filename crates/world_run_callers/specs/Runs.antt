@@ -1,4 +1,4 @@
--- What is told of a run's end.
+-- What a run's end shows.
 use Rattle.std.specs.Prelude.{◌≡◌, ℕ, ◌≤◌, ◌<◌, List, [], ◌∷◌, ◌++◌, length}
 use Rattle.mate_num.specs.declared.store.Store.{Store}
 use Rattle.mate_journal.specs.Log.{Log}
@@ -7,14 +7,14 @@ use Rattle.world_rules.specs.Run.{HaveCome}
 use Rattle.world_rules.specs.State.{Moment, state}
 use Rattle.world_rules.specs.World.{World}
 
--- so many events came, and 1,000,000 records stand behind them, or more
+-- `events` events came, with 1,000,000 records or more
 pub record IsFullBehind (w : World) (events : ℕ) : Type 0 where
   pub moments : List Moment
   pub come : HaveCome w moments
   pub count : events ≡ length moments
   pub full : 1000000 ≤ (state w moments).records
 
--- so many events came, the last one where fewer than 1,000,000 records stood
+-- `events` events came, the last one with fewer than 1,000,000 records before it
 pub record CameWithRoom (w : World) (events : ℕ) : Type 0 where
   pub moments : List Moment
   pub come : HaveCome w moments

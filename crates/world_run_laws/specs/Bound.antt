@@ -26,7 +26,7 @@ pub record InjectsOn (script : Script) (i time node : ℕ) (h : HandlerId) (vers
   pub program : ℕ
   pub line : slice_get script.events i ≡ Some (record { time = time; node = node; what = what.Inject program h version })
 
--- no line behind line i, up to a time, resets a node or injects for the handler
+-- no line after line i, up to a time, resets a node or injects for the handler
 abbrev pub IsLeftAlone : Script → ℕ → HandlerId → ℕ → Type 0
 IsLeftAlone script i h by = (j : ℕ) (l : Planned) → i < j → slice_get script.events j ≡ Some l → l.time ≤ by
     → (l.what ≢ what.Reset) × IfInjects l.what (λ g version. g ≢ h)
@@ -44,8 +44,8 @@ pub record TellsInstallBy (m : Machine) (h : HandlerId) (version by : ℕ) (es :
   pub in_time : entry.stamp.time ≤ by
   pub ever : AtEachPlace (λ (r : NodeState). version ≤ held r h) m (next_state m (state_after_all m (first_state m) front) entry.told) rest
 
--- In a report of the world of a right script without loss or suppression let line i inject a version on node a, let b be so
--- many hops away, and let the line be left alone for 3 * L a hop. Where the run reached that time, b's journal installs the
+-- In a report of the world of a right script without loss or suppression let line i inject a version on node a, let b be
+-- `hops` hops away, and let the line be left alone for 3 * L a hop. If the run reached that time, b's journal installs the
 -- version by then, and the node holds it or a newer one ever after.
 abbrev pub ReportsKeepTheBound : Type 0
 ReportsKeepTheBound = (d : Description) (script : Script) (ps : List Program) (how : RunEnd) (r : Report) (i time a b hops : ℕ)
@@ -62,14 +62,15 @@ ReportsKeepTheBound = (d : Description) (script : Script) (ps : List Program) (h
 pub data ShowsTime (script : Script) (r : Report) (t : ℕ) : Type 0 where
   whole : r.whole ≡ true → t ≤ script.until → ShowsTime script r t
   aired : (x : Aired) → Contains r.air x → t < x.stamp.time → ShowsTime script r t
-  told : (k : ℕ) (l : Log) (e : TimedEntry) → slice_get r.nodes k ≡ Some l → Contains (journal_of l) e → t < e.stamp.time → ShowsTime script r t
+  told : (k : ℕ) (l : Log) (e : TimedEntry) → slice_get r.nodes k ≡ Some l → Contains (journal_of l) e
+      → t < e.stamp.time → ShowsTime script r t
 
 abbrev pub ShownIsReached : Type 0
 ShownIsReached = (d : Description) (script : Script) (ps : List Program) (how : RunEnd) (r : Report) (t : ℕ)
     → (of : IsWorldReport (source_world d script ps) how r) → ShowsTime script r t → HasReached (source_world d script ps) how of.moments t
 
--- The report of a right script without loss or suppression keeps the bound where it shows that its run reached the time: let line
--- i inject a version on node a, let b be so many hops away, and let the line be left alone for 3 * L a hop; then b's journal
+-- The report of a right script without loss or suppression keeps the bound if it shows that its run reached the time: let line
+-- i inject a version on node a, let b be `hops` hops away, and let the line be left alone for 3 * L a hop; then b's journal
 -- installs the version by then, and the node holds it or a newer one ever after.
 abbrev pub KeepsTheBound : Description → Script → List Program → Report → Type 0
 KeepsTheBound d script ps r = IsOpenScript script → (i time a b hops : ℕ) (h : HandlerId) (version : ℕ)

@@ -18,11 +18,10 @@ use Rattle.world_rules.specs.Report.{IsWorldReport}
 use Rattle.world_state_laws.specs.SourceWorld.{source_world}
 use Rattle.world_run_laws.specs.Bound.{KeepsTheBound}
 
--- It is a report of a run, that ends so, of the world whose programs, which are right, mean their sources. It is tidy, and its numbers
--- are in the ranges
--- of their types: so its text is read back. Where suppression
--- is off and no link loses a packet, it keeps the hop bound. In each node's journal, wherever no start follows, some invocation
--- is ready, or one waits for the outside, or none is live; and conflicting invocations end in the order of their posts.
+-- It is a report of a run, that ends so, of the world whose programs, which are right, mean their sources. It is tidy, and
+-- its numbers are in the ranges of their types: so its text is read back. If suppression is off and no link loses a packet,
+-- it keeps the hop bound. In each node's journal, wherever no start follows, some invocation is ready, or one waits for the
+-- outside, or none is live; and conflicting invocations end in the order of their posts.
 pub record IsReportOfWorld (d : Description) (script : Script) (ps : List Program) (how : RunEnd) (r : Report) : Type 0 where
   pub right : AreProgramsOfWorld d script ps
   pub run : IsWorldReport (source_world d script ps) how r

@@ -16,13 +16,13 @@ use Rattle.world_script.specs.declared.world.What.{What}
 use Rattle.world_script.specs.declared.world.What.TheVariants as what
 use Rattle.script_reader.specs.Steps.{IsRightInstall, IsRightPost}
 
--- more values behind those of the series at a place
+-- more values after those of the series at a place
 abbrev pub with_values : ℕ → List ℤ → List Series → List Series
 with_values place values [] = []
 with_values zero values (s ∷ series) = record s { values = s.values ++ values } ∷ series
 with_values (suc place) values (s ∷ series) = s ∷ with_values place values series
 
--- between two of so many nodes
+-- between two of this number of nodes
 pub record IsRightLink (nodes : ℕ) (l : Link) : Type 0 where
   pub from_high : l.from < nodes
   pub to_high : l.to < nodes
@@ -32,7 +32,7 @@ pub record IsRightLink (nodes : ℕ) (l : Link) : Type 0 where
 abbrev pub AreOtherLinks : Link → Link → Type 0
 AreOtherLinks l k = l.from ≡ k.from → l.to ≡ k.to → ⊥
 
--- some values, which a sensor of one of so many nodes gives
+-- some values, which a sensor of one of this number of nodes gives
 pub record IsRightSeries (d : Description) (nodes : ℕ) (s : Series) : Type 0 where
   pub node_high : s.node < nodes
   pub senses : IsSomeAnd (slice_get d.functions.items s.fun.0) (λ (f : Function). f.kind ≡ Sense)
@@ -47,7 +47,7 @@ pub record IsRightNoise (d : Description) (bytes : List ℕ) : Type 0 where
   pub few : length bytes ≤ 64
   pub noise : IsTrue (is_noise d bytes)
 
--- the numbers are the machine's, and the file is one of so many
+-- the numbers are the machine's, and the file is one of this number
 abbrev pub IsRightWhat : Description → ℕ → What → Type 0
 IsRightWhat d files (what.Inject program handler version) = IsRightInstall d files handler.0 version program
 IsRightWhat d files (what.Post handler payload) = IsRightPost d handler.0 payload.items

@@ -10,7 +10,7 @@ use Rattle.sim_run.specs.Running.{StandsAfter}
 use Rattle.sim_run.specs.Telling.{LogsAreKept}
 use Rattle.sim_run.specs.declared.simulation.Simulation.{Simulation}
 
--- all that the node told was counted, for so many handlers; or all but what it has at hand
+-- all that the node recorded was counted, for n handlers; or all but what it has at hand
 abbrev pub IsCounted : ℕ → LogTally → Mote → Type 0
 IsCounted n t m = IsLogTally n t m.node.log.entries
 
@@ -27,7 +27,7 @@ pub record AreCounted (Is : LogTally → Mote → Type 0) (ts : List LogTally) (
   pub count : length ts ≡ length motes
   pub each : (k : ℕ) (t : LogTally) (m : Mote) → slice_get ts k ≡ Some t → slice_get motes k ≡ Some m → Is t m
 
--- what stands was counted
+-- all that is at hand was counted
 pub record IsTallied (n : ℕ) (t : RunTally) (s : Simulation) : Type 0 where
   pub nodes : AreCounted (IsCounted n) t.nodes.items s.motes.items
   pub air : IsAirTally t.air s.radio.air

@@ -1,2 +1,2 @@
--- What a run promises of the report of a world stands in `world_run_laws`.
+-- What a run promises of the report of a world is in `world_run_laws`.
 pub use Rattle.world_run_laws.specs.Promise.{IsReportOfWorld, WorldRunGives}

@@ -29,7 +29,7 @@ pub record IsRecordBefore (r : Record) (s : Simulation) (node : ℕ) : Type 0 wh
   pub air : s.radio.air ≡ r.air ++ drop s.radio.gone s.radio.air
   pub places : length r.places ≡ length s.motes.items
 
--- the node has no more at hand than a store that was seen, behind this log of the record
+-- the node has no more at hand than a store that was seen, after this log of the record
 pub record HasStoreBehind (own : Log) (m : Mote) : Type 0 where
   pub front : Log
   pub same : IsSameLog own front
@@ -45,7 +45,7 @@ pub record HaveStoresBehind (r : Record) (motes : List Mote) : Type 0 where
   pub places : length r.places ≡ length motes
   pub each : (k : ℕ) (own : Log) (m : Mote) → HasLog r k own → slice_get motes k ≡ Some m → HasStoreBehind own m
 
--- ---- where a record is kept, or none
+-- ---- with a record that is kept, or without one
 
 abbrev pub IsRecorded : Option Record → Simulation → Type 0
 IsRecorded None s = ⊤

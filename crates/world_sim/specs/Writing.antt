@@ -23,11 +23,11 @@ use Rattle.sim_run.specs.declared.simulation.Simulation.{Simulation}
 
 -- ---- what a part of a run writes
 
--- so much was written of a world's report so far
+-- this much of a world's report was written so far
 abbrev pub HasWrittenNow : Description → Simulation → Option (List ℕ) → ℕ → Option (List ℕ) → ℕ → Type 0
 HasWrittenNow d s out0 f0 out f = HasWritten out0 f0 out f (lines d (report_now s))
 
--- there is a report of a run that was written so, and it is what is recorded, where a record is kept
+-- there is a report of a run that was written so, and it is what is recorded, if a record is kept
 pub record WritesRecorded (d : Description) (Is : OfRun) (out out' : Option (List ℕ)) (before now : ℕ) (pass : Pass)
     (kept : Option Record) : Type 0 where
   pub ended : Simulation

@@ -50,7 +50,7 @@ IsExpected w n time (event.Pump node) = Unit {0}
 IsExpected w n time (event.Due node c inv value) = AwaitsAlone n.reading c inv
 IsExpected w n time (event.Deliver link number packet) = (link < length w.links) × IsFitPacket w packet
 
--- what stands between events lets this one come to the node: it is expected, and its program, if it has one, is taken
+-- the state between events lets this one come to the node: it is expected, and its program, if it has one, is taken
 pub record MayComeTo (w : World) (n : Node) (time : ℕ) (c : Cause) : Type 0 where
   pub expected : IsExpected w n time c
   pub installs : (p : HeldProgram) → (node_effect w n c).deed ≡ Installing p → IsTaken w n p

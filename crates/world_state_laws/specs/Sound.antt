@@ -1,4 +1,4 @@
--- What stands between the events of a right world: whatever comes next finds what it needs.
+-- The state between the events of a right world: whatever comes next finds what it needs.
 use Rattle.std.specs.Prelude.{◌≡◌, ℕ, ◌<◌, ◌≤◌, List, [], ◌∷◌, length, slice_get, IsSomeAnd, All, ⊤}
 use Rattle.vm_desc.specs.declared.description.Description.{Description}
 use Rattle.mate_journal.specs.Journal.{first_state}
@@ -34,12 +34,12 @@ abbrev pub AreOfNodes : World → List Cause → Type 0
 AreOfNodes w [] = Unit {0}
 AreOfNodes w (c ∷ cs) = (event_node w c < w.nodes) × AreOfNodes w cs
 
--- the messages of the calls that these events told are right for the machine
+-- the messages of the calls that these events recorded are right for the machine
 abbrev pub HaveFitMessages : World → List Moment → Type 0
 HaveFitMessages w [] = Unit {0}
 HaveFitMessages w (m ∷ before) = HaveFitMessages w before × AreFitPackets w (messages w m.told)
 
--- the node told a well-formed journal in these events
+-- the node made a well-formed journal in these events
 abbrev pub HasWellFormed : World → ℕ → List Moment → Type 0
 HasWellFormed w k ms = IsWellFormed w.machine (first_state w.machine) (journal w k ms)
 

@@ -7,6 +7,6 @@ use Rattle.vm_desc.specs.declared.description.Description.{Description}
 use Rattle.world_script.specs.declared.world.World.{World as Script}
 use Rattle.world_rules.specs.World.{World, world_of}
 
--- the world of a script with its programs, each of which means its source where it has one, and else its code
+-- the world of a script with its programs, each of which means its source if it has one, and else its code
 abbrev pub source_world : Description → Script → List Program → World
 source_world d script ps = world_of d (meaning_by d ps) script (program_at ps)

@@ -17,22 +17,22 @@ use Rattle.world_rules.specs.Run.{airs, journal}
 abbrev pub so_far : List Log → List Aired → Report
 so_far logs air = record { nodes = logs; air = air; events = 0; whole = false }
 
--- each log tells its node's journal of these events
+-- each log records its node's journal of these events
 abbrev pub TellJournals : World → List Moment → List Log → Type 0
 TellJournals w ms logs = (k : ℕ) (l : Log) → k < length logs → journal_of (slice_index_or logs k l) ≡ journal w k ms
 
--- so many lines more, behind those of all events before this one
+-- an event's lines more, after those of all events before it
 pub record AddsLines (old new : Report) (event : ℕ) (aired : List Aired) (log : Log) (from node : ℕ) : Type 0 where
   pub lines_are : (d : Description) → lines d new ≡ lines d old ++ event_piece d aired log from node
   pub before : (d : Description) → lines d old ≡ flat_map (event_lines d new) (below event)
 
--- before any event the first intervals stand on the air, and nothing is told
+-- before any event the first intervals are on the air, and nothing is recorded
 abbrev pub StartsWithIntervals : World → Type 0
 StartsWithIntervals w = (d : Description) (logs : List Log) (first : Log) → All (λ (l : Log). l.entries ≡ []) logs → 0 < length logs
     → slice_index_or logs 0 first ≡ first
     → lines d (so_far logs (airs w [])) ≡ event_piece d (airs w []) first 0 0
 
--- an event's lines are what it records on the air, and what its node tells
+-- an event's lines are what it records on the air, and what its node records
 abbrev pub EventsAddTheirLines : World → Type 0
 EventsAddTheirLines w = (ms : List Moment) (m : Moment) (logs : List Log) (k : ℕ) (old new : Log) → TellJournals w ms logs
     → k < length logs → slice_index_or logs k old ≡ old
@@ -40,7 +40,7 @@ EventsAddTheirLines w = (ms : List Moment) (m : Moment) (logs : List Log) (k : �
     → AddsLines (so_far logs (airs w ms)) (so_far (slice_set logs k new) (airs w (m ∷ ms))) (suc (length ms))
     (drop (length (airs w ms)) (airs w (m ∷ ms))) new (length old.entries) k
 
--- at a whole run's end each node tells one thing more, under the next number: its store
+-- at a whole run's end each node records one thing more, under the next number: its store
 pub record ShowTheirStores (w : World) (ms : List Moment) (olds news : List Log) : Type 0 where
   pub count : length news ≡ length olds
   pub old : TellJournals w ms olds
@@ -54,7 +54,7 @@ abbrev pub store_lines : Description → ℕ → List Log → List ℕ
 store_lines d node [] = []
 store_lines d node (l ∷ ls) = event_piece d [] l (length l.entries - 1) node ++ store_lines d (suc node) ls
 
--- these are then the last lines, behind those of all events
+-- these are then the last lines, after those of all events
 abbrev pub StoresAddTheirLines : World → Type 0
 StoresAddTheirLines w = (ms : List Moment) (olds news : List Log) → ShowTheirStores w ms olds news → (d : Description)
     → (lines d (so_far news (airs w ms)) ≡ lines d (so_far olds (airs w ms)) ++ store_lines d 0 news)
