@@ -18,6 +18,7 @@ impl Model for Images {
     ghost use Rattle.std.specs.Prelude.{◌≤◌, ◌/◌, ℕ, List, length, map, min, All};
     ghost use Rattle.arrayvec.specs.ArrayVec.{ArrayVec};
     ghost use Rattle.packed_log.specs.Stores.{Listed, in_vec};
+    ghost use Rattle.mate_num.specs.declared.bounds.TheConstants.{IMAGE_MAX};
 
     ghost Value = { Listed (ArrayVec ℕ) };
 
@@ -102,6 +103,7 @@ impl<'a> Model for ImageRef<'a> {
     ghost use Rattle.std.specs.Prelude.{◌≤◌, ℕ, length};
     ghost use Rattle.arrayvec.specs.ArrayVec.{ArrayVec};
     ghost use Rattle.packed_log.specs.Stores.{in_vec};
+    ghost use Rattle.mate_num.specs.declared.bounds.TheConstants.{IMAGE_MAX};
 
     ghost Value = { ArrayVec ℕ };
 
