@@ -67,7 +67,7 @@ follows_step : (set : TrickleSet) (words : Lcg) (n : ℕ) (i : Interval) (g : Ti
     → option_map_or (λ l. i ∷ intervals_from set words (n + 1) (interval l g.time (lcg_word words n)) (later ++ h ∷ [])) next (intervals_from set words n (record i { heard = count i.heard g.event }) (later ++ h ∷ [])) ≡ earlier ++ intervals_from set words (n + length earlier) running (h ∷ [])
 follows_step set words n i g later h earlier running None new same e = same earlier running e
 follows_step set words n i g later h earlier running (Some l) new same e =
-    let begun = interval l g.time (lcg_word words n) in follows_new set words n i begun_timer later h earlier running (new begun_timer) e
+    let begun_timer = interval l g.time (lcg_word words n) in follows_new set words n i begun_timer later h earlier running (new begun_timer) e
 
 -- the intervals of one happening more are those before the running one, and those from it on
 pub intervals_from-append : (set : TrickleSet) (words : Lcg) (n : ℕ) (i : Interval) (happened : List TimerHappening) (h : TimerHappening) (earlier : List Interval) (running : Interval)

@@ -27,7 +27,7 @@ pub struct Trickle {
     begin: u32,
     length: u32,
     point: u32,
-    packet_event: u16,
+    heard: u16,
 }
 
 impl Model for Trickle {
@@ -74,7 +74,7 @@ impl Trickle {
             begin: now,
             length: set.imin,
             point,
-            packet_event: 0,
+            heard: 0,
         }
     }
 
@@ -83,7 +83,7 @@ impl Trickle {
     pub fn hear(&mut self, consistent: bool, now: u32) -> bool
         requires hour { now ≤ 3600000 }
         requires within { self.old.running.begin ≤ now }
-        ensures begun_timer { result ≡ (not consistent && nat_lt self.old.set.imin self.old.running.length) }
+        ensures begun { result ≡ (not consistent && nat_lt self.old.set.imin self.old.running.length) }
         ensures next { TimerContinues self.old self.new (record { event = packet_event consistent; time = now }) }
     {
         if consistent {
@@ -98,7 +98,7 @@ impl Trickle {
     pub fn reset(&mut self, now: u32) -> bool
         requires hour { now ≤ 3600000 }
         requires within { self.old.running.begin ≤ now }
-        ensures begun_timer { result ≡ nat_lt self.old.set.imin self.old.running.length }
+        ensures begun { result ≡ nat_lt self.old.set.imin self.old.running.length }
         ensures next { TimerContinues self.old self.new (record { event = Reset; time = now }) }
     {
         if self.length > self.set.imin {
