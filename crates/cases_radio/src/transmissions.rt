@@ -8,6 +8,7 @@ use mate_journal::{Air, Aired};
 use mate_num::{NoMemory, PacketBytes};
 use radio_sim::Event;
 use std::alloc::Global;
+use vm_desc::Description;
 
 /// A packet that is to be sent.
 #[derive(Drop)]
@@ -16,7 +17,12 @@ struct Packet {
     bytes: PacketBytes,
 }
 
-pub fn answer(alloc: Global, bench: &mut Bench, asked: &str) -> Result<String, NoMemory> {
+pub fn answer(
+    alloc: Global,
+    desc: &Description,
+    bench: &mut Bench,
+    asked: &str,
+) -> Result<String, NoMemory> {
     let mut packets = Vec::new(alloc);
     for word in asked.split(' ') {
         let Some((time, packet)) = packet_of(word) else {
@@ -28,7 +34,7 @@ pub fn answer(alloc: Global, bench: &mut Bench, asked: &str) -> Result<String, N
         bench.schedule(time, Event::Planned(line))?;
         packets.push(packet)?;
     }
-    run(bench, packets.as_slice())?;
+    run(desc, bench, packets.as_slice())?;
     aired(alloc, bench)
 }
 
@@ -48,13 +54,13 @@ fn bytes_of(digits: &str) -> Option<PacketBytes> {
 }
 
 /// Sends the packets at their times, and notes where they come.
-fn run(bench: &mut Bench, packets: &[Packet]) -> Result<(), NoMemory> {
+fn run(desc: &Description, bench: &mut Bench, packets: &[Packet]) -> Result<(), NoMemory> {
     for _ in 0..1_000_000 {
         let Some((_, event)) = bench.next() else {
             break;
         };
         match event {
-            Event::Planned(line) => send(bench, packets, line)?,
+            Event::Planned(line) => send(desc, bench, packets, line)?,
             Event::Deliver { link, number, .. } => bench.note(link, number)?,
             _ => Step::Refused,
         };
@@ -62,9 +68,14 @@ fn run(bench: &mut Bench, packets: &[Packet]) -> Result<(), NoMemory> {
     Ok(())
 }
 
-fn send(bench: &mut Bench, packets: &[Packet], line: u32) -> Result<Step, NoMemory> {
+fn send(
+    desc: &Description,
+    bench: &mut Bench,
+    packets: &[Packet],
+    line: u32,
+) -> Result<Step, NoMemory> {
     match packets.get(line as usize) {
-        Some(packet) => bench.transmit(packet.node, &packet.bytes),
+        Some(packet) => bench.transmit(desc, packet.node, &packet.bytes),
         None => Ok(Step::Refused),
     }
 }

@@ -2,8 +2,9 @@
 
 ghost use Rattle.std.specs.Prelude.{◌≡◌, ◌<◌};
 
+use crate::shared::SharedPacket;
 use event_queue::Grouped;
-use mate_num::{ContextId, HandlerId, PacketBytes};
+use mate_num::{ContextId, HandlerId};
 
 /// The cause of an event to come.
 #[derive(Drop)]
@@ -38,7 +39,7 @@ pub enum Event {
     Deliver {
         link: u32,
         number: u32,
-        bytes: PacketBytes,
+        bytes: SharedPacket,
     },
 }
 

@@ -5,8 +5,8 @@ pub mod event;
 pub mod past;
 pub mod radio;
 pub mod shared;
-pub mod waiting;
 pub mod wire;
 
 pub use event::{Cancel, Event};
 pub use radio::Radio;
+pub use shared::SharedPacket;

@@ -13,7 +13,6 @@ ghost use Rattle.radio_sim.specs.Sending.{sent_record, AreLeaving, IsFurther};
 
 use crate::event::{Cancel, Event};
 use crate::past::PastAir;
-use crate::waiting::Waiting;
 use crate::wire::{Sending, Wire, Wires, copy_of};
 use event_queue::{Queue, Timed};
 use mate_journal::{Air, Aired, Airs};
@@ -31,8 +30,7 @@ const NODES: usize = 256;
 /// the air; memory has what was recorded since the last `forget`.
 #[derive(Drop)]
 pub struct Radio {
-    alloc: Global,
-    queue: Queue<Waiting>,
+    queue: Queue<Event>,
     past: PastAir,
     // how many records are gone
     gone: usize,
@@ -44,7 +42,7 @@ pub struct Radio {
     /// The links that leave each node.
     wires: Vec<Wires>,
     /// The deliveries of a transmission, none between two calls.
-    carried: VecDeque<Waiting>,
+    carried: VecDeque<Event>,
 }
 
 impl Model for Radio {
@@ -80,7 +78,6 @@ impl Radio {
         let wires = wires_of(alloc, world.random, world.links.as_slice())?;
         let queue = Queue::new(alloc, world.until)?;
         Ok(Radio {
-            alloc,
             queue,
             past: PastAir::new(),
             gone: 0,
@@ -101,14 +98,19 @@ impl Radio {
         ensures due { OnOk result (Adds self.old.agenda time event self.new.agenda) }
         ensures now { self.new.agenda.now ≡ self.old.agenda.now }
     {
-        let waiting = Waiting::of(self.alloc, event)?;
-        self.queue.schedule(time, waiting)
+        self.queue.schedule(time, event)
     }
 
     /// The node sends a packet in the event `at`. It has the next number. On each link that leaves the node, in their
-    /// order, the next word of the link decides: the packet is lost, or it comes `delay` ms later. `NoMemory` leaves the
-    /// radio as it was.
-    pub fn transmit(&mut self, node: u8, bytes: &PacketBytes, at: Stamp) -> Result<(), NoMemory>
+    /// order, the next word of the link decides: the packet is lost, or it comes `delay` ms later. Its bytes are read once,
+    /// for the machine. `NoMemory` leaves the radio as it was.
+    pub fn transmit(
+        &mut self,
+        desc: &Description,
+        node: u8,
+        bytes: &PacketBytes,
+        at: Stamp,
+    ) -> Result<(), NoMemory>
         requires ahead { self.old.agenda.now ≤ at.time }
         requires hour { at.time ≤ HOUR }
         requires few { length self.old.air < 4000000000 }
@@ -129,6 +131,7 @@ impl Radio {
         let wires = &mut self.wires[node as usize];
         let result = send(
             wires,
+            desc,
             sending,
             bytes,
             self.delay,
@@ -154,7 +157,7 @@ impl Radio {
         ensures none { IfNone result (self.new ≡ self.old) }
     {
         let Timed { time, item } = self.queue.next()?;
-        Some((time, item.into_event()))
+        Some((time, item))
     }
 
     /// Cancels events of a node: the others stay, in their order.
@@ -210,12 +213,13 @@ impl Radio {
 /// Records the packet and what the links lose, and schedules what they deliver.
 fn send(
     wires: &Wires,
+    desc: &Description,
     sending: Sending,
     bytes: &PacketBytes,
     delay: u32,
-    queue: &mut Queue<Waiting>,
+    queue: &mut Queue<Event>,
     air: &mut Airs,
-    carried: &mut VecDeque<Waiting>,
+    carried: &mut VecDeque<Event>,
 ) -> Result<(), NoMemory>
     requires none { carried.old.items ≡ [] }
     requires ahead { queue.old.now ≤ sending.at.time }
@@ -236,7 +240,7 @@ fn send(
             bytes: copy_of(bytes),
         },
     })?;
-    wires.carry(sending, bytes, air, carried)?;
+    wires.carry(desc, sending, bytes, air, carried)?;
     queue.schedule_all(sending.at.time + delay, carried)
 }
 

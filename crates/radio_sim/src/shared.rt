@@ -1,53 +1,93 @@
-//! The bytes of a packet that comes over several links.
+//! A packet that comes over several links.
 
-ghost use Rattle.std.specs.Prelude.{◌≡◌, IfOk};
+ghost use Rattle.std.specs.Prelude.{◌≡◌, length, IfOk, IfSome};
+ghost use Rattle.radio_sim.specs.Shared.{IsReadAs};
 
 use crate::wire::copy_of;
 use mate_num::{NoMemory, PacketBytes};
+use packet_codec::{Packet, decode};
 use std::alloc::Global;
 use std::marker::Model;
 use std::rc::Rc;
+use vm_desc::Description;
 
-/// The bytes of a packet, which stand in one place for all links that deliver it. Contracts see the bytes.
+/// The bytes of a packet, and what they are to a machine.
 #[derive(Drop)]
-pub struct SharedBytes {
-    bytes: Rc<PacketBytes>,
+struct Reading {
+    bytes: PacketBytes,
+    /// The number of the machine, and how many handlers it has.
+    vm_id: u32,
+    handlers: usize,
+    /// The packet, where the bytes are one.
+    packet: Option<Packet>,
 }
 
-impl Model for SharedBytes {
+/// A packet, whose bytes stand in one place for all links that deliver it, with what they are to a machine, so that they are
+/// read once. Contracts see the bytes.
+#[derive(Drop)]
+pub struct SharedPacket {
+    reading: Rc<Reading>,
+}
+
+impl Model for SharedPacket {
     ghost use Rattle.std.specs.Prelude.{ℕ};
     ghost use Rattle.arrayvec.specs.ArrayVec.{ArrayVec};
+    ghost use Rattle.radio_sim.specs.Shared.{IsRightReading};
 
     ghost Value = { ArrayVec ℕ };
 
-    ghost view = { λ s. s.bytes.value };
+    ghost view = { λ s. s.reading.value.bytes };
+
+    ghost invariant = { λ s. IsRightReading s.reading.value };
 }
 
-impl SharedBytes {
-    /// A copy of the bytes, with one owner.
-    pub fn new(alloc: Global, bytes: &PacketBytes) -> Result<SharedBytes, NoMemory>
+impl SharedPacket {
+    /// A copy of the bytes, with one owner, read for a machine.
+    pub fn new(
+        alloc: Global,
+        desc: &Description,
+        bytes: &PacketBytes,
+    ) -> Result<SharedPacket, NoMemory>
         ensures { IfOk result (λ shared. shared ≡ bytes.now) }
     {
-        match Rc::new(alloc, copy_of(bytes)) {
-            Ok(bytes) => Ok(SharedBytes { bytes }),
+        let reading = Reading {
+            bytes: copy_of(bytes),
+            vm_id: desc.vm_id,
+            handlers: desc.handlers.len(),
+            packet: decode(desc, bytes.as_slice()).ok(),
+        };
+        match Rc::new(alloc, reading) {
+            Ok(reading) => Ok(SharedPacket { reading }),
             Err(_) => Err(NoMemory),
         }
     }
 
-    /// The same bytes for one owner more. `NoMemory` comes where a machine word doesn't count the owners.
-    pub fn share(&self) -> Result<SharedBytes, NoMemory>
+    /// The same packet for one owner more. `NoMemory` comes where a machine word doesn't count the owners.
+    pub fn share(&self) -> Result<SharedPacket, NoMemory>
         ensures { IfOk result (λ shared. shared ≡ self.now) }
     {
-        match self.bytes.clone() {
-            Ok(bytes) => Ok(SharedBytes { bytes }),
+        match self.reading.clone() {
+            Ok(reading) => Ok(SharedPacket { reading }),
             Err(_) => Err(NoMemory),
         }
     }
 
-    /// The bytes as a value of their own.
-    pub fn copied(&self) -> PacketBytes
-        ensures { result ≡ self.now }
+    /// The bytes.
+    pub fn bytes(&self) -> &PacketBytes
+        ensures { result.now ≡ self.now }
     {
-        copy_of(self.bytes.as_ref())
+        &self.reading.as_ref().bytes
+    }
+
+    /// The packet that the bytes are to the machine, where they were read for it and are one.
+    pub fn packet(&self, desc: &Description) -> Option<&Packet>
+        ensures { IfSome result (λ packet. IsReadAs desc.now.vm_id (length desc.now.handlers.items) self.now.items packet.now) }
+    {
+        let reading = self.reading.as_ref();
+        if reading.vm_id == desc.vm_id && reading.handlers == desc.handlers.len() {
+            reading.packet.as_ref()
+        } else {
+            None
+        }
     }
 }

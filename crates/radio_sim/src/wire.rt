@@ -4,8 +4,8 @@ ghost use Rattle.std.specs.Prelude.{◌≡◌, ◌%◌, [], ◌∷◌, ◌++◌,
 ghost use Rattle.radio_sim.specs.Sending.{IsFurther};
 ghost use Rattle.radio_sim.specs.Wires.{wire_after, turned_wire, losts, delivered};
 
-use crate::shared::SharedBytes;
-use crate::waiting::Waiting;
+use crate::event::Event;
+use crate::shared::SharedPacket;
 use mate_journal::{Air, Aired, Airs};
 use mate_num::{NoMemory, PacketBytes, Stamp};
 use rand_core::utils::NextWord;
@@ -13,6 +13,7 @@ use rand_pcg::Lcg64Xsh32;
 use std::alloc::Global;
 use std::collections::VecDeque;
 use std::marker::Model;
+use vm_desc::Description;
 use world_script::Link;
 
 /// A link that leaves a node.
@@ -107,16 +108,17 @@ impl Wires {
     /// Each link carries the packet or loses it, in their order. `NoMemory` leaves what was recorded before.
     pub fn carry(
         &self,
+        desc: &Description,
         sending: Sending,
         bytes: &PacketBytes,
         air: &mut Airs,
-        carried: &mut VecDeque<Waiting>,
+        carried: &mut VecDeque<Event>,
     ) -> Result<(), NoMemory>
         ensures air { IfOk result (λ _. air.new ≡ air.old ++ losts sending self.now) }
         ensures carried { IfOk result (λ _. carried.new.items ≡ carried.old.items ++ delivered sending bytes.now self.now) }
         ensures kept { IsFurther air.old air.new }
     {
-        let shared = SharedBytes::new(self.alloc, bytes)?;
+        let shared = SharedPacket::new(self.alloc, desc, bytes)?;
         for wire in &self.wires {
             if wire.loses() {
                 air.push(Aired {
@@ -129,8 +131,11 @@ impl Wires {
                 })?;
             } else {
                 let copy = shared.share()?;
-                let delivery = Waiting::delivery(wire.link, sending.number, copy);
-                carried.push_back(delivery)?;
+                carried.push_back(Event::Deliver {
+                    link: wire.link,
+                    number: sending.number,
+                    bytes: copy,
+                })?;
             }
         }
         Ok(())

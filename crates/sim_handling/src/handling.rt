@@ -23,10 +23,10 @@ ghost use Rattle.sim_handling.specs.Handling.{IsMoteOf, IsFitEvent, IsOpenExchan
 ghost use Rattle.sim_handling.specs.Handling.{receivers_below};
 
 use mate_journal::{Air, Programs};
-use mate_num::{HandlerId, NoMemory, PacketBytes, Payload, Stamp};
+use mate_num::{HandlerId, NoMemory, Payload, Stamp};
 use packet_codec::{Packet, decode};
-use radio_sim::Event;
 use radio_sim::wire::copy_of;
+use radio_sim::{Event, SharedPacket};
 use sim_mote::{Effect, Mote};
 use vm_desc::{Description, HandlerKind};
 use world_script::{Link, What, World};
@@ -127,13 +127,13 @@ fn follow(
     }
 }
 
-/// The packet of this number comes to the node over the link.
+/// What comes over the link with this number is heard, if it is a packet of the machine.
 fn receive(
     mote: &mut Mote,
     desc: &Description,
     link: &Link,
     number: u32,
-    bytes: &PacketBytes,
+    bytes: &SharedPacket,
     at: Stamp,
     effect: &mut Effect,
 ) -> Result<(), NoMemory>
@@ -152,10 +152,41 @@ fn receive(
         effect.new) }
     ensures right { OnOk result (All (IsRightPacket (length desc.now.handlers.items)) effect.new.sends.items) }
 {
-    let Ok(packet) = decode(desc, bytes.as_slice()) else {
-        return Ok(());
-    };
-    hear(mote, desc, &packet, at, effect)?;
+    if let Some(packet) = bytes.packet(desc) {
+        return get(mote, desc, link, number, packet, at, effect);
+    }
+    // (what was read for another machine, or is no packet)
+    match decode(desc, bytes.bytes().as_slice()) {
+        Ok(packet) => get(mote, desc, link, number, &packet, at, effect),
+        Err(_) => Ok(()),
+    }
+}
+
+/// The packet of this number comes to the node over the link.
+fn get(
+    mote: &mut Mote,
+    desc: &Description,
+    link: &Link,
+    number: u32,
+    packet: &Packet,
+    at: Stamp,
+    effect: &mut Effect,
+) -> Result<(), NoMemory>
+    requires machine { mote.old.node.description ≡ desc.now }
+    requires packet { IsRightPacket (length desc.now.handlers.items) packet.now }
+    requires is_open { IsOpenExchange mote.old.exchange }
+    requires handlers { length mote.old.exchange.handlers ≡ length desc.now.handlers.items }
+    requires tellable { IsTellable mote.old.node at }
+    requires few { length mote.old.node.log.entries < 1000000000 }
+    requires paced { IsPaced mote.old.node }
+    requires hour { at.time ≤ 3600000 }
+    requires within { mote.old.timer.running.begin ≤ at.time }
+    requires plain { effect.old ≡ plain_effect }
+    ensures does { OnOk result (DoesBy at (λ w n. record (of_packet w n.exchange packet.now) { first = Got number link.now.from ∷ [] })
+        mote.old mote.new effect.new) }
+    ensures right { OnOk result (All (IsRightPacket (length desc.now.handlers.items)) effect.new.sends.items) }
+{
+    hear(mote, desc, packet, at, effect)?;
     effect.first = Some(Air::Got {
         number,
         from: link.from,

@@ -2,7 +2,10 @@
 
 ghost use Rattle.std.specs.Prelude.{◌≡◌, ◌+◌, ◌<◌, ◌≤◌, ◌∷◌, [], List, length, slice_get, Some, All, IfOk, OnOk, ◌⊎◌};
 ghost use Rattle.world_script.specs.World.{IsRightWorld};
-ghost use Rattle.mate_journal.specs.Log.{IsEmpty};
+ghost use Rattle.mate_journal.specs.Log.{IsEmpty, IsSameLog};
+ghost use Rattle.mate_journal.specs.OpenLog.{gone_of};
+ghost use Rattle.mate_journal.specs.Pace.{Pace};
+ghost use Rattle.open_node.specs.View.{HasPace};
 ghost use Rattle.mate_journal.specs.declared.program.Program.{Program as ProgramOfFile};
 ghost use Rattle.mate_journal.specs.declared.air.Air.TheVariants as air;
 ghost use Rattle.sim_air.specs.Air.{aired_at};
@@ -20,6 +23,8 @@ ghost use Rattle.sim_run.specs.Telling.{HasComeOn, LogsAreKept};
 
 use mate_journal::{NodeLog, Programs, RECORDS_MAX};
 use mate_num::{NoMemory, Stamp};
+use open_node::OpenNode;
+use packet_codec::Packet;
 use radio_sim::{Event, Radio};
 use report_ranges::{LogSize, air_is_in_range_from, log_is_in_range_from};
 use sim_air::{begin_node, schedule_lines};
@@ -69,7 +74,7 @@ impl Simulation {
     }
 
     /// The event comes, with this stamp. What its node and the radio told before it is forgotten, where that is to be forgotten, and
-    /// the node then has the spare room. It answers its node. The effect is nothing before it and after it.
+    /// the node then has the spare room, if it may tell something. It answers its node. The effect is nothing before it and after it.
     pub fn step(
         &mut self,
         desc: &Description,
@@ -95,7 +100,7 @@ impl Simulation {
         states_are_sound();
         text_grows_by_events();
         let number = node_of(world, event);
-        self.let_go(number, written, room);
+        self.let_go(number, written, may_tell(desc, event), room);
         let mote = &mut self.motes[usize::from(number)];
         let before = mote.node.kept();
         let size = LogSize::of(before);
@@ -122,8 +127,8 @@ impl Simulation {
         Ok(number)
     }
 
-    /// Behind an event of the node, where a next one may come: lets go what it told.
-    pub fn leave(&mut self, number: u8, room: &mut NodeLog)
+    /// Behind an event of the node, where a next one may come: lets go what it told, and has the room back.
+    pub fn leave(&mut self, desc: &Description, event: &Event, number: u8, room: &mut NodeLog)
         requires node { number < length self.old.motes.items }
         requires few { self.old.records < 1000000 → IsFew self.old number }
         requires empty { IsEmpty room.old }
@@ -134,12 +139,13 @@ impl Simulation {
         if self.records >= RECORDS_MAX {
             return;
         }
-        self.let_go(number, Written::Forgotten, room);
+        self.let_go(number, Written::Forgotten, may_tell(desc, event), room);
         let _kept = self.motes[usize::from(number)].node.kept();
     }
 
-    /// Forgets what a node and the radio told, where that is to be forgotten, and trades the node's room for the spare one.
-    pub(crate) fn let_go(&mut self, number: u8, written: Written, room: &mut NodeLog)
+    /// Forgets what a node and the radio told, where that is to be forgotten, and trades the node's room for the spare one, where it
+    /// trades.
+    pub(crate) fn let_go(&mut self, number: u8, written: Written, trades: bool, room: &mut NodeLog)
         requires node { number < length self.old.motes.items }
         requires log { (mote : MoteState) → slice_get self.old.motes.items number ≡ Some mote → length mote.node.log.entries < 3999999999 }
         requires air { length self.old.radio.air < 4000000000 }
@@ -151,12 +157,28 @@ impl Simulation {
             Written::Kept => {}
             Written::Forgotten => {
                 let node = &mut self.motes[usize::from(number)].node;
-                node.forget();
-                node.trade(room);
+                forget_told(node, trades, room);
                 self.radio.forget();
             }
         }
     }
+}
+
+/// Forgets what the node told, and trades its room for the spare one, where it trades.
+fn forget_told(node: &mut OpenNode, trades: bool, room: &mut NodeLog)
+    requires few { length node.old.log.entries < 4000000000 }
+    requires empty { IsEmpty room.old }
+    ensures description { node.new.description ≡ node.old.description }
+    ensures log { IsSameLog node.new.log node.old.log }
+    ensures gone { node.new.gone ≡ gone_of node.old.log }
+    ensures pace { (p : Pace) → HasPace node.old p → HasPace node.new p }
+    ensures empty { IsEmpty room.new }
+{
+    node.forget();
+    if !trades {
+        return;
+    }
+    node.trade(room);
 }
 
 /// So many records, with those of one event more. `NoMemory` comes where a machine word doesn't count them.
@@ -223,5 +245,25 @@ fn node_of(world: &World, event: &Event) -> u8
         Event::Pump { node } => *node,
         Event::Due { node, .. } => *node,
         Event::Deliver { link, .. } => world.links.as_slice()[*link as usize].to,
+    }
+}
+
+/// Whether the node may tell something in the event. Of its timer's events and of most packets it tells nothing, so it needs no
+/// room then.
+fn may_tell(desc: &Description, event: &Event) -> bool {
+    match event {
+        Event::Planned(_) => true,
+        Event::Period { .. } => true,
+        Event::Fire { .. } => false,
+        Event::Expire { .. } => false,
+        Event::Pump { .. } => false,
+        Event::Due { .. } => true,
+        Event::Deliver { bytes, .. } => match bytes.packet(desc) {
+            Some(Packet::Vector { .. }) => false,
+            Some(Packet::Status { .. }) => false,
+            Some(Packet::Fragment { .. }) => true,
+            Some(Packet::App { .. }) => true,
+            None => true,
+        },
     }
 }

@@ -20,8 +20,8 @@ ghost use Rattle.world_state_laws.specs.Coming.{code_world, MayComeTo};
 ghost use Rattle.sim_handling.specs.Handling.{IsMoteOf, IsOpenExchange, IsPaced};
 
 use mate_journal::Programs;
-use mate_num::{NoMemory, PacketBytes, Stamp};
-use radio_sim::Event;
+use mate_num::{NoMemory, Stamp};
+use radio_sim::{Event, SharedPacket};
 use sim_handling::handle;
 use sim_mote::{Effect, Mote};
 use vm_desc::Description;
@@ -67,7 +67,7 @@ pub fn a_packet_is_got_from_its_sender(
     world: &World,
     programs: &Programs,
     number: u32,
-    bytes: PacketBytes,
+    bytes: SharedPacket,
     at: Stamp,
 ) -> Result<Effect, NoMemory>
     requires machine { mote.old.node.description ≡ desc.now }

@@ -131,7 +131,7 @@ fn count_step(
         effect,
     )?;
     count_event(tally, sim, node);
-    sim.leave(node, room);
+    sim.leave(desc, event, node, room);
     Ok(())
 }
 

@@ -248,7 +248,7 @@ fn write_step<S: Sink>(
     if let Err(fault) = write_piece(desc, sim, node, out) {
         return Err(stopped_at(at.event, stopped(fault)));
     }
-    sim.leave(node, room);
+    sim.leave(desc, event, node, room);
     Ok(())
 }
 

@@ -1,6 +1,5 @@
 use Rattle.std.proofs.Common.{◌∙◌, sym, ap, List, [], ◌∷◌, ◌++◌, subst, arith}
 use Rattle.mate_journal.specs.declared.air.Aired.{Aired}
-use Rattle.radio_sim.specs.declared.event.Event.{Event}
 use Rattle.radio_sim.specs.Sending.{IsFurther}
 use Rattle.radio_sim.proofs.WireLemmas.{carried_none, lost_more, delivered_more, carried_all, further, further_none}
 use Rattle.radio_sim.proofs.wire.Wires.carry.Goals as goal
@@ -28,7 +27,7 @@ loop-wire-preserved c = elim c.if-loses.branch [
       c.loop-wire.invariant (omega arith) c.wire-item.is (sym c.loses.ensures ∙ w.if-loses.true) (w.air-is ∙ w.in_ok-push.ensures) (ap (λ q. q.items) w.carried-is)
   | else-loses+in_ok-copy+in_ok-push_back w ↦
       delivered_more c.args.sending c.args.bytes.now w.in_ok-copy.copy c.deref-wire-items.result.now c.loop-wire.wire-index c.wire-item.result c.args.air.now c.loop-wire.air c.if-loses.air c.args.carried.now.items c.loop-wire.carried.items c.if-loses.carried.items
-      c.loop-wire.invariant (omega arith) c.wire-item.is (sym c.loses.ensures ∙ w.if-loses.false) w.air-is (w.in_ok-copy.ensures ∙ c.in_ok-shared.ensures) (ap (λ q. q.items) w.carried-is ∙ w.in_ok-push_back.ensures.items ∙ ap (λ (e : Event). c.loop-wire.carried.items ++ e ∷ []) w.delivery-delivery.ensures)
+      c.loop-wire.invariant (omega arith) c.wire-item.is (sym c.loses.ensures ∙ w.if-loses.false) w.air-is (w.in_ok-copy.ensures ∙ c.in_ok-shared.ensures) (ap (λ q. q.items) w.carried-is ∙ w.in_ok-push_back.ensures.items)
 ]
 
 pub returns-clause-air : goal.returns-clause-air

@@ -16,37 +16,30 @@ returns-in-Forgotten-clause-lets_go c =
     let x = c.index_mut.result.now in
     let low : c.from.result < length motes = search rules in
     let found : slice_get motes c.args.number ≡ Some x = ap (slice_get motes) (sym c.from.ensures) ∙ slice_get-get_or motes c.from.result x low ∙ ap (λ (m : Mote). Some m) (sym c.index_mut.ensures.value) in
-    let after : Mote = record x { node = c.trade.new.self } in
-    let mid : Simulation = record { radio = c.forget-in-Forgotten.new.self; motes = with_item c.args.self.now.motes c.from.result after; records = c.args.self.now.records } in
+    let after : Mote = record x { node = c.forget_told.new.node } in
+    let mid : Simulation = record { radio = c.forget.new.self; motes = with_item c.args.self.now.motes c.from.result after; records = c.args.self.now.records } in
     let gone : LetsGo c.args.self.now mid c.args.number = record {
       before = x;
       after = after;
       found = found;
       motes = ap (λ n. slice_set motes n after) c.from.ensures;
       forgets = record {
-        description = ap (λ (v : NodeView). v.description) c.trade.ensures.same ∙ c.forget.ensures.same.description;
-        log = record {
-          entries = ap (λ (v : NodeView). v.log.entries) c.trade.ensures.same ∙ c.forget.ensures.same.log.entries;
-          images = ap (λ (v : NodeView). v.log.images) c.trade.ensures.same ∙ c.forget.ensures.same.log.images;
-          stores = ap (λ (v : NodeView). v.log.stores) c.trade.ensures.same ∙ c.forget.ensures.same.log.stores;
-        };
-        gone = ap (λ (v : NodeView). v.gone) c.trade.ensures.same ∙ c.forget.ensures.same.gone;
-        pace = λ p pace. c.trade.ensures.pace p (c.forget.ensures.pace p pace);
+        description = c.forget_told.ensures.description;
+        log = c.forget_told.ensures.log;
+        gone = c.forget_told.ensures.gone;
+        pace = c.forget_told.ensures.pace;
         rest = refl;
         few = c.requires.log x found;
       };
-      radio = c.forget-in-Forgotten.ensures;
+      radio = c.forget.ensures;
       records = refl;
     } in
     subst (λ (written : Written). LetsGoAsTold written c.args.self.now mid c.args.number) (sym c.in-Forgotten.is) gone
 
-pub forget-requires : goal.forget-requires
-forget-requires c =
+pub forget_told-requires-clause-few : goal.forget_told-requires-clause-few
+forget_told-requires-clause-few c =
     let motes = c.args.self.now.motes.items in
     let x = c.index_mut.result.now in
     let low : c.from.result < length motes = search rules in
     let few = c.requires.log x (ap (slice_get motes) (sym c.from.ensures) ∙ slice_get-get_or motes c.from.result x low ∙ ap (λ (m : Mote). Some m) (sym c.index_mut.ensures.value)) in
     omega (arith, few)
-
-pub trade-requires-clause-gone : goal.trade-requires-clause-gone
-trade-requires-clause-gone c = c.forget.ensures.same.gone ∙ sym (gone-same c.forget.new.self.log c.index_mut.result.now.node.log c.forget.ensures.same.log)
