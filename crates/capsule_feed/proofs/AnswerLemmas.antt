@@ -1,5 +1,5 @@
 -- Answers by the versions that are held.
-use Rattle.std.proofs.Common.{◌≡◌, ap, refl, ℕ, List, [], ◌∷◌, ◌++◌}
+use Rattle.std.proofs.Common.{◌≡◌, ◌∙◌, ap, refl, ℕ, List, [], ◌∷◌}
 use Rattle.std.specs.Prelude.{◌==◌, nat_lt, if◌then◌else◌, Result, Ok, Err}
 use Rattle.capsule_codec.specs.Image.{CapsuleParts}
 use Rattle.capsule_codec.specs.Reading.{capsule_in}
@@ -15,7 +15,6 @@ use Rattle.slip_gateway.specs.declared.frames.Frame.TheVariants.{Whole, TooLong,
 use Rattle.vm_desc.specs.Shapes.{shape_of}
 use Rattle.vm_desc.specs.declared.description.Description.{Description}
 use Rattle.capsule_feed.specs.Answers.{Held, if_newer, verify_fault, verified_answer, decoded_answer, answer_to, held_after, answers_from}
-use Rattle.capsule_feed.specs.Reading.{held_behind}
 use Rattle.capsule_feed.specs.declared.answer.Answer.{Answer}
 use Rattle.capsule_feed.specs.declared.answer.Answer.TheVariants.{Installed, NotNewer, NoCapsule, BadCode, Long, Broken}
 
@@ -55,14 +54,13 @@ after-same f g (BadCode why) same h = same h
 after-same f g Long same h = same h
 after-same f g Broken same h = same h
 
--- ---- one more frame
-
-pub behind-push : (d : Description) (held : Held) (fs : List Frame) (f : Frame) (h : ℕ)
-    → held_behind d held (fs ++ f ∷ []) h ≡ held_after (held_behind d held fs) (answer_to d (held_behind d held fs) f) h
-behind-push d held [] f h = refl
-behind-push d held (x ∷ fs) f h = behind-push d (held_after held (answer_to d held x)) fs f h
-
-pub answers-push : (d : Description) (held : Held) (fs : List Frame) (f : Frame)
-    → answers_from d held (fs ++ f ∷ []) ≡ answers_from d held fs ++ answer_to d (held_behind d held fs) f ∷ []
-answers-push d held [] f = refl
-answers-push d held (x ∷ fs) f = ap (λ (more : List Answer). answer_to d held x ∷ more) (answers-push d (held_after held (answer_to d held x)) fs f)
+-- and all later ones
+pub answers-same : (d : Description) (f g : Held) (fs : List Frame) → ((h : ℕ) → f h ≡ g h) → answers_from d f fs ≡ answers_from d g fs
+answers-same d f g [] same = refl
+answers-same d f g (x ∷ fs) same =
+    let a : Answer = answer_to d f x in
+    let b : Answer = answer_to d g x in
+    let alike : a ≡ b = same-answer d f g x same in
+    ap (λ (y : Answer). y ∷ answers_from d (held_after f a) fs) alike
+    ∙ ap (λ (more : List Answer). b ∷ more) (answers-same d (held_after f a) (held_after g b) fs
+    (λ h. after-same f g a same h ∙ ap (λ (y : Answer). held_after g y h) alike))

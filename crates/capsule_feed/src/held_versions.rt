@@ -1,9 +1,11 @@
 //! The versions that a node holds for its handlers, as capsules come in.
 
-ghost use Rattle.std.specs.Prelude.{◌≡◌, ◌<◌, ℕ};
+ghost use Rattle.std.specs.Prelude.{◌≡◌, ◌<◌, ℕ, MatchResult};
 ghost use Rattle.capsule_codec.specs.Image.{capsule_parts};
 ghost use Rattle.capsule_codec.specs.Reading.{capsule_in};
 ghost use Rattle.mate_code.specs.Table.{table_of};
+ghost use Rattle.slip_gateway.specs.Pieces.{IsWholeFrame, fault_frame};
+ghost use Rattle.slip_gateway.specs.declared.frames.Frame.{Frame};
 ghost use Rattle.vm_desc.specs.Shapes.{shape_of};
 ghost use Rattle.capsule_feed.specs.Answers.{answer_to, decoded_answer, held_after, if_newer};
 ghost use Rattle.capsule_feed.specs.Lines.{HasHandler};
@@ -13,7 +15,7 @@ use capsule_codec::{Capsule, decode};
 use code_verifier::verify;
 use mate_code::Table;
 use mate_num::HANDLERS_MAX;
-use slip_gateway::Frame;
+use slip_gateway::FrameFault;
 use vm_desc::Description;
 
 /// The version that is held for each handler, 0 for none.
@@ -34,17 +36,24 @@ impl HeldVersions {
         }
     }
 
-    /// The answer to a frame, by the machine and its opcode table; a capsule that it installs is held from then on.
-    pub(crate) fn answer(&mut self, desc: &Description, table: &Table, frame: &Frame) -> Answer
+    /// The answer to a frame of these bytes, or to one that isn't whole, by the machine and its opcode table; a capsule that
+    /// it installs is held from then on.
+    pub(crate) fn answer(
+        &mut self,
+        desc: &Description,
+        table: &Table,
+        frame: Result<&[u8], FrameFault>,
+    ) -> Answer
         requires { table.now ≡ table_of (shape_of desc.now) }
-        ensures answer { result ≡ answer_to desc.now (held_by self.old) frame.now }
+        ensures answer { (f : Frame) → MatchResult frame.entry (λ bytes. IsWholeFrame f bytes.now) (λ fault. f ≡ fault_frame fault)
+            → result ≡ answer_to desc.now (held_by self.old) f }
         ensures held { (h : ℕ) → held_by self.new h ≡ held_after (held_by self.old) result h }
         ensures handler { HasHandler desc.now result }
     {
         match frame {
-            Frame::Whole(image) => self.answer_image(desc, table, image.as_slice()),
-            Frame::TooLong => Answer::Long,
-            Frame::BadEscape => Answer::Broken,
+            Ok(image) => self.answer_image(desc, table, image),
+            Err(FrameFault::TooLong) => Answer::Long,
+            Err(FrameFault::BadEscape) => Answer::Broken,
         }
     }
 

@@ -1,62 +1,79 @@
 //! The answers to the frames of a stream, as lines.
 
-ghost use Rattle.std.specs.Prelude.{◌≡◌, ◌<◌, ℕ, List, [], ◌∷◌, ◌++◌};
+ghost use Rattle.std.specs.Prelude.{◌≡◌, ◌<◌, ℕ};
 ghost use Rattle.mate_files.specs.Pen.{Prints};
 ghost use Rattle.mate_files.specs.Sink.{Puts};
 ghost use Rattle.mate_code.specs.Table.{table_of};
+ghost use Rattle.slip_gateway.specs.Pieces.{frame_at};
 ghost use Rattle.vm_desc.specs.Shapes.{shape_of};
+ghost use Rattle.capsule_feed.specs.Answers.{answer_to, held_after};
 ghost use Rattle.capsule_feed.specs.Lines.{feed_text, answer_line, HasHandler};
-ghost use Rattle.capsule_feed.specs.Reading.{HasAnswered, PrintsNext};
+ghost use Rattle.capsule_feed.specs.Reading.{held_by, PrintsPiece};
 
 use crate::answer::Answer;
 use crate::held_versions::HeldVersions;
 use mate_code::Table;
 use mate_files::{Pen, Sink, SinkFault};
-use slip_gateway::{Slip, frames_are_few};
+use slip_gateway::{Slip, first_piece, has_escape, plain_frame};
 use vm_desc::{Description, shape};
 
-/// A stream that is read, and what a new node holds behind its frames.
+/// What a new node holds behind the frames that were answered, and room for one of them.
 #[derive(Drop)]
 struct StreamAnswers {
-    slip: Slip,
     held: HeldVersions,
     // How many frames were answered.
     number: u64,
+    // Where the escapes of a frame are replaced.
+    slip: Slip,
 }
 
 impl StreamAnswers {
-    /// Nothing was read.
+    /// Nothing was answered.
     fn new() -> StreamAnswers
-        ensures { (d : Description) → HasAnswered d result [] }
+        ensures number { result.number ≡ 0 }
+        ensures held { (h : ℕ) → held_by result.held h ≡ 0 }
     {
         StreamAnswers {
-            slip: Slip::new(),
             held: HeldVersions::new(),
             number: 0,
+            slip: Slip::new(),
         }
     }
 
-    /// Reads the next byte, and prints the line of the frame that it closes, by the machine's opcode table.
-    fn print_next<S: Sink>(
+    /// The answer to the frame of a piece.
+    fn answer(&mut self, desc: &Description, table: &Table, piece: &[u8]) -> Answer
+        requires { table.now ≡ table_of (shape_of desc.now) }
+        ensures answer { result ≡ answer_to desc.now (held_by self.old.held) (frame_at piece.now) }
+        ensures held { (h : ℕ) → held_by self.new.held h ≡ held_after (held_by self.old.held) result h }
+        ensures number { self.new.number ≡ self.old.number }
+        ensures handler { HasHandler desc.now result }
+    {
+        if has_escape(piece) {
+            self.slip.read_piece(piece);
+            return self.held.answer(desc, table, self.slip.frame());
+        }
+        self.held.answer(desc, table, plain_frame(piece))
+    }
+
+    /// Prints the line of the frame that a piece gives, by the machine's opcode table; an empty one gives none.
+    fn print_piece<S: Sink>(
         &mut self,
         pen: &mut Pen,
         out: &mut S,
         desc: &Description,
         table: &Table,
-        byte: u8,
+        piece: &[u8],
     )
         requires few { self.old.number < u64.MAX }
         requires table { table.now ≡ table_of (shape_of desc.now) }
-        ensures reads { (fed : List ℕ) → HasAnswered desc.now self.old fed → HasAnswered desc.now self.new (fed ++ byte ∷ []) }
-        ensures prints { (fed : List ℕ) → HasAnswered desc.now self.old fed
-            → PrintsNext desc.now fed byte (S.written out.old) (S.faults out.old) pen.old.result (S.written out.new) (S.faults out.new)
-            pen.new.result }
+        ensures { PrintsPiece desc.now self.old self.new piece.now (S.written out.old) (S.faults out.old) pen.old.result
+            (S.written out.new) (S.faults out.new) pen.new.result }
     {
-        let Some(frame) = self.slip.read_byte(byte) else {
+        if piece.is_empty() {
             return;
-        };
+        }
         self.number += 1;
-        let answer = self.held.answer(desc, table, &frame);
+        let answer = self.answer(desc, table, piece);
         print_line(pen, out, desc, self.number, answer);
     }
 }
@@ -73,7 +90,7 @@ fn print_line<S: Sink>(pen: &mut Pen, out: &mut S, desc: &Description, number: u
 }
 
 /// Writes what a new node of the machine answers to the frames of a stream, a line each, with the frame's number from 1.
-/// It takes no memory, and reads the stream a byte at a time. Where `out` fails, a prefix was written.
+/// It takes no memory: a frame is read where it stands in the stream, unless escapes are to be replaced in it. Where `out` fails, a prefix was written.
 pub fn write_answers<S: Sink>(
     desc: &Description,
     stream: &[u8],
@@ -81,12 +98,14 @@ pub fn write_answers<S: Sink>(
 ) -> Result<(), SinkFault>
     ensures { Puts (S.written out.old) (S.faults out.old) (S.written out.new) (S.faults out.new) result (feed_text desc.now stream.now) }
 {
-    frames_are_few();
+    prove!(stream.len() <= usize::MAX);
     let mut pen = Pen::new();
     let mut answers = StreamAnswers::new();
     let table = Table::of(&shape(desc));
-    for byte in stream {
-        answers.print_next(&mut pen, out, desc, &table, *byte);
+    let mut rest = stream;
+    while let Some((piece, behind)) = first_piece(rest) {
+        answers.print_piece(&mut pen, out, desc, &table, piece);
+        rest = behind;
     }
     pen.finish()
 }

@@ -1,6 +1,6 @@
 -- The reader keeps what it needs of the bytes of a frame.
-use Rattle.std.proofs.Common.{◌≡◌, ◌≢◌, ℕ, ◌+◌, ◌<◌, ◌≤◌, Bool, true, false, List, [], ◌∷◌, ◌++◌, length, take, drop, get_or, Option, Some, None, refl, ap, sym, ◌∙◌, subst, arith, append_assoc, suc, add-one, not}
-use Rattle.std.specs.Prelude.{◌==◌, if◌then◌else◌, option_to_list, count_by, cond, IsTrue, ◌↔◌}
+use Rattle.std.proofs.Common.{◌≡◌, ◌≢◌, ℕ, ◌+◌, ◌<◌, ◌≤◌, Bool, true, false, List, [], ◌∷◌, ◌++◌, length, take, drop, get_or, Option, Some, None, refl, ap, sym, ◌∙◌, subst, arith, append_assoc, suc, add-one, not, inl, inr}
+use Rattle.std.specs.Prelude.{◌==◌, if◌then◌else◌, option_to_list, count_by, cond, IsTrue, ◌↔◌, ◌⊎◌}
 use Rattle.std.specs.List.{flat_map}
 use Rattle.std.proofs.lemmas.Bool.{eqb-true, lt-leb, le-leb, eq-eqb, ne_eqb}
 use Rattle.std.proofs.lemmas.List.Concat.{flat_map-cons}
@@ -12,6 +12,7 @@ use Rattle.arrayvec.specs.ArrayVec.{ArrayVec}
 use Rattle.mate_num.specs.declared.bounds.TheConstants.{IMAGE_MAX}
 use Rattle.slip_gateway.specs.Stream.{is_end_byte, with_byte, unescaped, whole_frame, framed, frame_of, rest_behind, unfinished, frames_behind, frames}
 use Rattle.slip_gateway.specs.Fed.{fresh_slip, is_nil, is_fresh_in, is_fresh, added, replaced, pushed, frame_given, frame_left, unescaped_in, framed_behind, IsBehind, HasFed}
+use Rattle.slip_gateway.specs.Pieces.{frame_at, IsWholeFrame}
 use Rattle.slip_gateway.proofs.StreamLemmas.{rest_behind-append, frames_behind-append, rest-append, frames-append}
 use Rattle.slip_gateway.specs.declared.frames.Frame.{Frame}
 use Rattle.slip_gateway.specs.declared.frames.Frame.TheVariants as frame
@@ -132,6 +133,27 @@ given-behind image false Whole h =
 given-behind image long Open h = refl
 given-behind image long Broken h = refl
 
+-- and so what it gives is the frame of the bytes that it read
+pub ended : (s : Slip) (begun : List ℕ) → length s.image.items ≤ IMAGE_MAX → IsBehind s begun → frame_given s.escapes s.too_long s.image.items ≡ frame_at begun
+ended s begun fits h =
+    given-behind s.image s.too_long s.escapes fits ∙ h.gives [] ∙ ap (λ (bs : List ℕ). framed (unescaped false bs)) (append-nil begun)
+
+-- which is too long, whole or broken, by what the reader keeps
+pub ends_long : (s : Slip) (begun : List ℕ) → length s.image.items ≤ IMAGE_MAX → s.escapes ≡ Whole → s.too_long ≡ true → IsBehind s begun → frame_at begun ≡ frame.TooLong
+ends_long s begun fits escapes long h =
+    sym (ended s begun fits h) ∙ ap (λ (e : Escapes). frame_given e s.too_long s.image.items) escapes ∙ ap (λ (l : Bool). frame_given Whole l s.image.items) long
+
+pub ends_whole : (s : Slip) (begun bytes : List ℕ) → bytes ≡ s.image.items → length s.image.items ≤ IMAGE_MAX → s.escapes ≡ Whole → s.too_long ≡ false
+    → IsBehind s begun → IsWholeFrame (frame_at begun) bytes
+ends_whole s begun bytes is fits escapes long h =
+    sym (ended s begun fits h) ∙ ap (λ (e : Escapes). frame_given e s.too_long s.image.items) escapes ∙ ap (λ (l : Bool). frame_given Whole l s.image.items) long
+    ∙ ap (λ (bs : List ℕ). frame.Whole (record { items = bs })) (sym is)
+
+pub ends_broken : (s : Slip) (begun : List ℕ) → length s.image.items ≤ IMAGE_MAX → (s.escapes ≡ Open) ⊎ (s.escapes ≡ Broken) → IsBehind s begun
+    → frame_at begun ≡ frame.BadEscape
+ends_broken s begun fits (inl begins) h = sym (ended s begun fits h) ∙ ap (λ (e : Escapes). frame_given e s.too_long s.image.items) begins
+ends_broken s begun fits (inr broken) h = sym (ended s begun fits h) ∙ ap (λ (e : Escapes). frame_given e s.too_long s.image.items) broken
+
 frame_of-begun : (begun : List ℕ) → is_nil begun ≡ false → frame_of begun ≡ framed (unescaped false begun) ∷ []
 frame_of-begun [] e = absurd (cc)
 frame_of-begun (b ∷ bs) e = refl
@@ -145,7 +167,7 @@ frame_left-behind s begun fits h = by (is_fresh s) refl where
   by : (t : Bool) → is_fresh s ≡ t → option_to_list (if t then None else Some (frame_given s.escapes s.too_long s.image.items)) ≡ frame_of begun
   by true e = sym (frame_of-nil begun (sym h.starts ∙ e))
   by false e =
-      ap (λ (f : Frame). f ∷ []) (given-behind s.image s.too_long s.escapes fits ∙ h.gives [] ∙ ap (λ (bs : List ℕ). framed (unescaped false bs)) (append-nil begun))
+      ap (λ (f : Frame). f ∷ []) (ended s begun fits h)
       ∙ sym (frame_of-begun begun (sym h.starts ∙ e))
 
 -- ---- reading bytes

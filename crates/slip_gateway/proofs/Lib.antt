@@ -1,3 +1,4 @@
 pub mod StreamLemmas
 pub mod FedLemmas
 mod EndLemmas
+mod PieceLemmas

@@ -1,2 +1,3 @@
 pub mod Stream
 pub mod Fed
+pub mod Pieces

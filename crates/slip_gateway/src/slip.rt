@@ -1,12 +1,15 @@
 //! The reader of a stream: it is given the bytes in pieces, and keeps what the pieces so far leave open.
 
-ghost use Rattle.std.specs.Prelude.{◌≡◌, ◌≢◌, ◌+◌, ◌≤◌, List, ℕ, [], ◌∷◌, ◌++◌, OnOk, OnErr, IsTrue, ◌↔◌, count_by, vec_len, vec_capacity, option_to_list, length};
+ghost use Rattle.std.specs.Prelude.{◌≡◌, ◌≢◌, ◌+◌, ◌≤◌, List, ℕ, [], ◌∷◌, ◌++◌, OnOk, OnErr, IsTrue, ◌↔◌, count_by, vec_len, vec_capacity, option_to_list, length, MatchResult};
 ghost use Rattle.mate_num.specs.declared.bounds.TheConstants.{IMAGE_MAX};
 ghost use Rattle.slip_gateway.specs.Fed.{fresh_slip, is_fresh, added, replaced, pushed, frame_left, IsBehind, HasFed};
+ghost use Rattle.slip_gateway.specs.Pieces.{frame_at, IsWholeFrame, fault_frame};
 ghost use Rattle.slip_gateway.specs.Stream.{is_end_byte, rest_behind, unfinished, frames_behind, frames};
 
 use crate::frames::{Frame, Frames};
+use crate::pieces::FrameFault;
 use mate_num::{Image, NoMemory};
+use memchr::memrchr;
 use std::mem;
 
 /// Ends a frame.
@@ -59,13 +62,10 @@ pub fn rest_of(stream: &[u8]) -> &[u8]
     ensures rest { result.now ≡ unfinished stream.now }
     ensures within { length result.now ≤ length stream.now }
 {
-    let mut start = 0;
-    for (place, byte) in stream.iter().enumerate() {
-        if *byte == END {
-            start = place + 1;
-        }
+    match memrchr(END, stream) {
+        Some(place) => &stream[place + 1..],
+        None => stream,
     }
-    &stream[start..]
 }
 
 // How many frames a piece closes at most.
@@ -119,6 +119,38 @@ impl Slip {
             return None;
         }
         self.close()
+    }
+
+    /// Reads the bytes of a frame, as they stand before its `END`, in place of all that was read. It takes no memory.
+    pub fn read_piece(&mut self, piece: &[u8])
+        ensures { IsBehind self.new piece.now }
+    {
+        self.clear();
+        for byte in piece {
+            self.push(*byte);
+        }
+    }
+
+    /// The bytes of the frame that has begun, its escapes replaced, if it ends here.
+    pub fn frame(&self) -> Result<&[u8], FrameFault>
+        ensures { (begun : List ℕ) → IsBehind self.now begun →
+            MatchResult result (λ bytes. IsWholeFrame (frame_at begun) bytes.now) (λ fault. frame_at begun ≡ fault_frame fault) }
+    {
+        let _fits = self.image.is_full();
+        match self.escapes {
+            Escapes::Whole if self.too_long => Err(FrameFault::TooLong),
+            Escapes::Whole => Ok(self.image.as_slice()),
+            Escapes::Open | Escapes::Broken => Err(FrameFault::BadEscape),
+        }
+    }
+
+    // Forgets what was read.
+    fn clear(&mut self)
+        ensures { self.new ≡ fresh_slip }
+    {
+        self.image.clear();
+        self.too_long = false;
+        self.escapes = Escapes::Whole;
     }
 
     /// Whether bytes stand behind the last `END`.
