@@ -6,9 +6,9 @@ use Rattle.packet_codec.specs.Packet.{IsRightPacket, HasPacketRanges}
 use Rattle.radio_sim.specs.declared.shared.Reading.{Reading}
 
 -- to the machine with this number and so many handlers, the bytes are this packet and no other
-pub record IsReadAs (vm_id handlers : ℕ) (bytes : List ℕ) (packet : Packet) : Type 0 where
+pub record IsPacketOf (vm_id handlers : ℕ) (bytes : List ℕ) (packet : Packet) : Type 0 where
   pub right : IsRightPacket handlers packet
   pub only : (other : Packet) → IsRightPacket handlers other → HasPacketRanges other → bytes ≡ packet_bytes vm_id other → packet ≡ other
 
 abbrev pub IsRightReading : Reading → Type 0
-IsRightReading r = IfSome r.packet (IsReadAs r.vm_id r.handlers r.bytes.items)
+IsRightReading r = IfSome r.packet (IsPacketOf r.vm_id r.handlers r.bytes.items)

@@ -1,7 +1,7 @@
 //! A packet that comes over several links.
 
 ghost use Rattle.std.specs.Prelude.{◌≡◌, length, IfOk, IfSome};
-ghost use Rattle.radio_sim.specs.Shared.{IsReadAs};
+ghost use Rattle.radio_sim.specs.Shared.{IsPacketOf};
 
 use crate::wire::copy_of;
 use mate_num::{NoMemory, PacketBytes};
@@ -81,7 +81,7 @@ impl SharedPacket {
 
     /// The packet that the bytes are to the machine, where they were read for it and are one.
     pub fn packet(&self, desc: &Description) -> Option<&Packet>
-        ensures { IfSome result (λ packet. IsReadAs desc.now.vm_id (length desc.now.handlers.items) self.now.items packet.now) }
+        ensures { IfSome result (λ packet. IsPacketOf desc.now.vm_id (length desc.now.handlers.items) self.now.items packet.now) }
     {
         let reading = self.reading.as_ref();
         if reading.vm_id == desc.vm_id && reading.handlers == desc.handlers.len() {
