@@ -6,7 +6,7 @@ ghost use Rattle.packet_codec.specs.Packet.{IsRightPacket};
 
 use arrayvec::ArrayVec;
 use capsule_exchange::{Exchange, Heard};
-use mate_num::{HandlerId, Image, NoMemory};
+use mate_num::{FRAGMENTS_MAX, HandlerId, Image, NoMemory};
 use packet_codec::Packet;
 use std::alloc::{AllocError, Global};
 
@@ -146,7 +146,7 @@ fn is_right(handlers: usize, packet: &Packet) -> bool
             let full = if *large { 48 } else { 24 };
             usize::from(handler.0) < handlers
                 && *version >= 1
-                && *count <= 22
+                && usize::from(*count) <= FRAGMENTS_MAX
                 && *index < *count
                 && !bytes.is_empty()
                 && bytes.len() <= full

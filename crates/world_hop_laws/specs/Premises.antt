@@ -1,5 +1,6 @@
 -- What the hop bound takes for granted holds of every description with a right script and its programs.
 use Rattle.std.specs.Prelude.{◌≡◌, ℕ, ◌+◌, ◌*◌, ◌≤◌, false, List, ◌∷◌, ◌++◌, All, Some, slice_get}
+use Rattle.mate_num.specs.declared.bounds.TheConstants.{FRAGMENTS_MAX}
 use Rattle.mate_num.specs.declared.id.HandlerId.{HandlerId}
 use Rattle.vm_desc.specs.declared.description.Description.{Description}
 use Rattle.vm_desc.specs.Limits.{longest}
@@ -57,7 +58,7 @@ RightScriptsPlanRightly = (d : Description) (meaning : Meaning) (script : Script
 
 -- the image of every capsule has 1 to 22 fragments
 abbrev pub CapsulesHaveFewFragments : Type 0
-CapsulesHaveFewFragments = (c : CapsuleParts) → IsCapsule c → (1 ≤ count_of (capsule_image c)) × (count_of (capsule_image c) ≤ 22)
+CapsulesHaveFewFragments = (c : CapsuleParts) → IsCapsule c → (1 ≤ count_of (capsule_image c)) × (count_of (capsule_image c) ≤ FRAGMENTS_MAX)
 
 -- no install is refused
 abbrev pub ScriptsInstallsAreNewer : Type 0

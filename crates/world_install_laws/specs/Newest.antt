@@ -1,5 +1,6 @@
 -- A version of a handler, and that nothing newer was installed.
 use Rattle.std.specs.Prelude.{◌≡◌, ℕ, ◌<◌, ◌≤◌, List, [], ◌∷◌}
+use Rattle.mate_num.specs.declared.bounds.TheConstants.{FRAGMENTS_MAX}
 use Rattle.mate_journal.specs.Machine.{HeldProgram}
 use Rattle.capsule_codec.specs.Fragments.{count_of}
 use Rattle.world_rules.specs.World.{World, handlers}
@@ -16,7 +17,7 @@ pub record IsWorldVersion (w : World) (v : Version) : Type 0 where
   pub handler : v.handler < handlers w
   pub low : 1 ≤ v.version
   pub some : 1 ≤ count_of v.image
-  pub few : count_of v.image ≤ 22
+  pub few : count_of v.image ≤ FRAGMENTS_MAX
 
 -- the newest that was installed for its handler, and of this version only with this image
 abbrev pub IsNewest : World → Version → List Moment → Type 0
