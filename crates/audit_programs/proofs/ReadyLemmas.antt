@@ -42,7 +42,7 @@ conflict-told d p q a b r of_p of_q told =
 -- a run keeps them
 run_on-lengths : (d : Description) (ps : List Program) (store : Store) (i : Invocation) → AreRightPrograms d ps → HasLengthsOf (machine_by d ps) store → HasLengthsOf (machine_by d ps) (run_on (machine_by d ps) store i).store
 run_on-lengths d ps store i right long =
-    let r : Reading = record { serial = store; posts = 0; installed = λ _. None; invocations = λ _. i } in
+    let r : NodeState = record { serial = store; posts = 0; installed = λ _. None; invocations = λ _. i } in
     lengths d ps right r 0 long
 
 -- the run of a ready program, with the answers of an invocation

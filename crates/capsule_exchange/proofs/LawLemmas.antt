@@ -46,7 +46,7 @@ part_is h version (Fragment g told index count large bytes) part is =
           let both = and_parts (eqb g.0 h) (eqb told version) own in
           let handler : g.0 ≡ h = eqb-true g.0 h both.0 in
           let same : told ≡ version = eqb-true told version both.1 in
-          let made : Part = record { index = index; count = count; large = large; bytes = bytes } in
+          let made : TargetFragment = record { index = index; count = count; large = large; bytes = bytes } in
           let one : Some made ≡ Some part = rw own at is in
           let part_same : made ≡ part = cc in
           ap (λ (k : ℕ). Fragment (record { 0 = k }) told index count large bytes) handler

@@ -210,7 +210,7 @@ fragment_state g version index count large bytes hs some within =
     let h = g.0 in
     let p = Fragment g version index count large bytes in
     let s = state_after hs h in
-    let part : Part = record { index = index; count = count; large = large; bytes = bytes } in
+    let part : TargetFragment = record { index = index; count = count; large = large; bytes = bytes } in
     let own : eqb g.0 g.0 ≡ true = eq-eqb _ _ refl in
     let told : version_in h p ≡ version = rw own refl in
     let newer = is_newer h hs version in

@@ -64,7 +64,7 @@ events-once n (e ∷ es) (f ∷ fs) of of' same =
     let told : e.told ≡ f.told = cc in
     let others : untimed es ≡ untimed fs = cc in
     let stamps : e.stamp ≡ f.stamp = All-head Of e es of ∙ sym (All-head Of f fs of') in
-    let first : e ≡ f = ap (λ (s : Stamp). let x : Event = record { stamp = s; told = e.told } in x) stamps ∙ ap (λ (t : JournalEntry). let x : Event = record { stamp = f.stamp; told = t } in x) told in
+    let first : e ≡ f = ap (λ (s : Stamp). let x : TimedEntry = record { stamp = s; told = e.told } in x) stamps ∙ ap (λ (t : JournalEntry). let x : TimedEntry = record { stamp = f.stamp; told = t } in x) told in
     ap (λ (x : TimedEntry). x ∷ es) first ∙ ap (λ (xs : List TimedEntry). f ∷ xs) (events-once n es fs (All-tail Of e es of) (All-tail Of f fs of') others)
 
 -- two runs of a script are the same

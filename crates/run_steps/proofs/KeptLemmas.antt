@@ -70,7 +70,7 @@ pub ranges-told : (old new : NodeView) (kept kept' : Log) (size : LogSize) (at :
     → KeepsJournal new.description (machine_in new.description) new.log → IsKept (record { all = old.log; gone = old.gone }) kept → IsSizeOf size kept → Tells old new at Rule
     → IsKept (record { all = new.log; gone = new.gone }) kept' → IsInRangeFrom size kept' → InRange old → InRange new
 ranges-told old new kept kept' size at Rule keeps keeps' held sized t held' rest has =
-    let front : List Event = map (event_at at) t.told in
+    let front : List TimedEntry = map (event_at at) t.told in
     log-goes-on old.log new.log kept kept' old.gone new.gone size held sized (GoesOn-journal old.log new.log front keeps.tidy.numbered keeps'.tidy.numbered t.grows.journal) t.gone held' rest has
 
 -- the same, of the node as it is seen where it is read and where it is called
@@ -90,7 +90,7 @@ pub goes-on-as : (self first old new last : NodeView) → self ≡ first → sel
 goes-on-as self first old new last a b e at Rule keeps keeps' t =
     let keeps_old : KeepsJournal old.description (machine_in old.description) old.log = subst (λ (v : NodeView). KeepsJournal v.description (machine_in v.description) v.log) (sym a ∙ b) keeps in
     let keeps_new : KeepsJournal new.description (machine_in new.description) new.log = subst (λ (v : NodeView). KeepsJournal v.description (machine_in v.description) v.log) (sym e) keeps' in
-    let front : List Event = map (event_at at) t.told in
+    let front : List TimedEntry = map (event_at at) t.told in
     subst (λ (v : NodeView). GoesOn v.log new.log) (sym b) (GoesOn-journal old.log new.log front keeps_old.tidy.numbered keeps_new.tidy.numbered t.grows.journal)
 
 -- ---- the lines of what is at hand

@@ -44,7 +44,7 @@ use Rattle.run_steps.specs.Running.{MakesOn, stamp_at, HasRun, IsReportOf}
 -- ---- logs
 
 length-journal : (l : Log) → length (journal_of l) ≡ length l.entries
-length-journal l = length-map l.entries (λ (e : Stamped). let x : Event = record { stamp = e.stamp; told = journal_entry l e.entry } in x)
+length-journal l = length-map l.entries (λ (e : Stamped). let x : TimedEntry = record { stamp = e.stamp; told = journal_entry l e.entry } in x)
 
 -- the next event of a script may follow an event of it
 next-timely : (n : ℕ) (l : Log) → IsTimely (stamp_at n) l → IsTimely (stamp_at (suc n)) l
@@ -108,7 +108,7 @@ one-more : (d : Description) (ps : List Program) (done : List Step) (step : Step
 one-more d ps done step old new h few t ranges stamp =
     let made = t.paces h.pace h.has in
     let at : Stamp = stamp_at (suc (length done)) in
-    let front : List Event = map (event_at at) t.told in
+    let front : List TimedEntry = map (event_at at) t.told in
     let long : length (done ++ step ∷ []) ≡ suc (length done) = length-append done (step ∷ []) ∙ omega arith in
     let count : length (map (step_of ps) done) ≡ length done = length-map done (step_of ps) in
     let entries : length (journal_of old.log) ≡ length old.log.entries = length-journal old.log in
@@ -220,7 +220,7 @@ whole-run d ps steps old new h t =
     let m : Machine = machine_in d in
     let shown = t.paces h.pace h.has in
     let at : Stamp = stamp_at (suc (length steps)) in
-    let last : List Event = map (event_at at) t.told in
+    let last : List TimedEntry = map (event_at at) t.told in
     let count : length (map (step_of ps) steps) ≡ length steps = length-map steps (step_of ps) in
     let by_description : ShowsOnce m (heard_of old) h.pace t.told = subst (λ (x : Description). ShowsOnce (machine_in x) (heard_of old) h.pace t.told) h.description shown.1.0 in
     let by_heard : ShowsOnce m (state_after_all m (first_state m) (journal_of old.log)) h.pace t.told = subst (λ (r : NodeState). ShowsOnce m r h.pace t.told) (heard-is d old h.description) by_description in (

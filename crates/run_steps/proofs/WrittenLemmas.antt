@@ -73,7 +73,7 @@ module _ (d : Description) where
   -- the events of a node's log, up to a stamp that may follow
   pub log-upto : (l : Log) (n : ℕ) → KeepsJournal d (machine_in d) l → IsTimely (stamp_at n) l → All (λ (e : Stamped). e.stamp.event ≤ n) l.entries
   log-upto l n keeps timely =
-      All-of_map (λ (e : TimedEntry). e.stamp.event ≤ n) (λ (s : Stamped). let x : Event = record { stamp = s.stamp; told = journal_entry l s.entry } in x) l.entries
+      All-of_map (λ (e : TimedEntry). e.stamp.event ≤ n) (λ (s : Stamped). let x : TimedEntry = record { stamp = s.stamp; told = journal_entry l s.entry } in x) l.entries
       (stamps-upto (journal_of l) (stamp_at n) keeps.well_formed.in_time timely.after_last)
 
   named-entry : (l : Log) (e : Entry) → IsNamedBelow (length l.images) (length l.stores) e → IsNamed l e
@@ -110,7 +110,7 @@ module _ (d : Description) where
 
     new-events : All (λ (e : Stamped). e.stamp.event ≡ n + 1) (drop (length old.entries) new.entries)
     new-events =
-        let long : length (journal_of old) ≡ length old.entries = length-map old.entries (λ (s : Stamped). let x : Event = record { stamp = s.stamp; told = journal_entry old s.entry } in x) in
+        let long : length (journal_of old) ≡ length old.entries = length-map old.entries (λ (s : Stamped). let x : TimedEntry = record { stamp = s.stamp; told = journal_entry old s.entry } in x) in
         let is : map (event_of new) (drop (length old.entries) new.entries) ≡ front =
         sym (map-drop (event_of new) (length old.entries) new.entries) ∙ ap (λ (es : List TimedEntry). drop (length old.entries) es) grows.journal
         ∙ ap (λ (k : ℕ). drop k (journal_of old ++ front)) (sym long) ∙ drop-append_seam (journal_of old) front in

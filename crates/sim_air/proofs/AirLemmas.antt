@@ -242,7 +242,7 @@ packets-more ps i p below is = ap (λ (q : Packet). take i ps ++ q ∷ []) is �
 pub messages-more : (w : World) (l : Log) (es : List Stamped) (i : ℕ) (e : Stamped) → i < length es → e ≡ get_or es i e
     → messages w (map (λ (x : Stamped). journal_entry l x.entry) (take i es)) ++ option_to_list (message_in w (journal_entry l e.entry)) ≡ messages w (map (λ (x : Stamped). journal_entry l x.entry) (take (i + 1) es))
 messages-more w l es i e below is =
-    let t : Stamped → Told = λ x. journal_entry l x.entry in
+    let t : Stamped → JournalEntry = λ x. journal_entry l x.entry in
     let one : option_to_list (message_in w (journal_entry l e.entry)) ≡ messages w (journal_entry l e.entry ∷ []) = single (message_in w (journal_entry l e.entry)) in
     ap (λ (ps : List Packet). messages w (map (λ (x : Stamped). journal_entry l x.entry) (take i es)) ++ ps) one
     ∙ sym (filter_map-append (message_in w) (map (λ (x : Stamped). journal_entry l x.entry) (take i es)) (journal_entry l e.entry ∷ []))

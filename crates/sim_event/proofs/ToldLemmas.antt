@@ -22,16 +22,16 @@ map-told : (at : Stamp) (told : List JournalEntry) → map (λ (e : TimedEntry).
 map-told at [] = refl
 map-told at (t ∷ told) = ap (λ (ts : List JournalEntry). t ∷ ts) (map-told at told)
 
-told-of : (l : Log) (es : List Stamped) → map (λ (e : TimedEntry). e.told) (map (λ (e : Stamped). let v : Event = record { stamp = e.stamp; told = journal_entry l e.entry } in v) es) ≡ map (λ (e : Stamped). journal_entry l e.entry) es
+told-of : (l : Log) (es : List Stamped) → map (λ (e : TimedEntry). e.told) (map (λ (e : Stamped). let v : TimedEntry = record { stamp = e.stamp; told = journal_entry l e.entry } in v) es) ≡ map (λ (e : Stamped). journal_entry l e.entry) es
 told-of l [] = refl
 told-of l (e ∷ es) = ap (λ (ts : List JournalEntry). journal_entry l e.entry ∷ ts) (told-of l es)
 
 -- the entries behind those that a log had are what it tells more
 pub told-behind : (old new : Log) (at : Stamp) (told : List JournalEntry) → Grows old new at told → told_from (length old.entries) new ≡ told
 told-behind old new at told g =
-    let T : List TimedEntry → List Told = map (λ (e : TimedEntry). e.told) in
-    let V : Stamped → Event = λ e. record { stamp = e.stamp; told = journal_entry new e.entry } in
-    let long : length (journal_of old) ≡ length old.entries = length-map old.entries (λ (e : Stamped). let v : Event = record { stamp = e.stamp; told = journal_entry old e.entry } in v) in
+    let T : List TimedEntry → List JournalEntry = map (λ (e : TimedEntry). e.told) in
+    let V : Stamped → TimedEntry = λ e. record { stamp = e.stamp; told = journal_entry new e.entry } in
+    let long : length (journal_of old) ≡ length old.entries = length-map old.entries (λ (e : Stamped). let v : TimedEntry = record { stamp = e.stamp; told = journal_entry old e.entry } in v) in
     sym (told-of new (drop (length old.entries) new.entries))
     ∙ ap (map (λ (e : TimedEntry). e.told)) (sym (drop-map V (length old.entries) new.entries)
     ∙ ap (drop (length old.entries)) g.journal

@@ -24,7 +24,7 @@ tellable-same old mid at same t =
 pub heard-same : (old mid : NodeView) → IsSameNode old mid → heard_of mid ≡ heard_of old
 unfolding reading
 heard-same old mid same =
-    let R : Description → List TimedEntry → Reading = λ d es. state_after_all (machine_in d) (first_state (machine_in d)) es in
+    let R : Description → List TimedEntry → NodeState = λ d es. state_after_all (machine_in d) (first_state (machine_in d)) es in
     ap (λ (d : Description). R d (journal_of mid.log)) same.description ∙ ap (λ (es : List TimedEntry). R old.description es) (journal_of-same old.log mid.log same.log)
 
 pub grows-behind : (old mid new : Log) (at : Stamp) (told : List JournalEntry) → IsSameLog mid old → old.spare ≤ mid.spare → Grows mid new at told → Grows old new at told

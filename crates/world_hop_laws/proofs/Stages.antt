@@ -77,7 +77,7 @@ own_part v i = record { index = i; count = count_of v.image; large = nat_lt 528 
 
 fragment-has : (v : Version) (hs : List Happening) (i : ℕ) → IsTame v (own_fragment v i) → AreTame v (heard_since v.handler hs) → Aims v hs → Has (target_parts v.handler (Hears (own_fragment v i) ∷ hs)) i
 fragment-has v hs i tame all aims =
-    let part : Part = record { index = i; count = count_of v.image; large = nat_lt 528 (length v.image); bytes = record { items = piece_at v.image i } } in
+    let part : TargetFragment = record { index = i; count = count_of v.image; large = nat_lt 528 (length v.image); bytes = record { items = piece_at v.image i } } in
     let is : part_in v.handler v.version (own_fragment v i) ≡ Some part = rw (same_number v.handler, same_number v.version) refl in
     let grown : target_parts v.handler (Hears (own_fragment v i) ∷ hs) ≡ target_parts v.handler hs ++ part ∷ [] =
     parts-grow v hs (own_fragment v i) aims.0 tame ∙ ap (λ (o : Option TargetFragment). target_parts v.handler hs ++ cons_option o []) is in

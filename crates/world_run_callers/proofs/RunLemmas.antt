@@ -54,7 +54,7 @@ of_log : (w : World) (ms : List Moment) (events : ℕ) (l : Log) → events ≡ 
 of_log w ms events l count told =
     let sees = told.journal.ends in
     let stamp : Stamp = record { event = suc (length ms); time = w.until } in
-    let stamped : JournalEntry → Event = λ t. record { stamp = stamp; told = t } in
+    let stamped : JournalEntry → TimedEntry = λ t. record { stamp = stamp; told = t } in
     record {
       before = journal w 0 ms;
       store = sees.shown.seen;
