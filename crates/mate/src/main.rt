@@ -5,6 +5,7 @@ use mate_cli::mate;
 use mate_files::{OsFiles, OsSink, Sink, SinkFault};
 use mate_refusals::{Refusal, Status};
 use std::alloc::Global;
+use std::env::FillError;
 use std::io::{BufWriter, ErrorKind, Write};
 use std::process::ExitCode;
 use std::rt::Env;
@@ -19,9 +20,12 @@ const LINE: usize = 256;
 /// How many bytes of stack the deepest source takes, whatever the command.
 const STACK: usize = 196_608;
 
+/// How many bytes of the first word are looked at before the stack is taken.
+const NAME: usize = 8;
+
 fn main(rt: HostRuntime) -> ExitCode {
     let mut err = OsSink::new(rt.stderr());
-    if stack_middle() != STACK / 16 {
+    if may_read_sources(&rt) && stack_middle() != STACK / 16 {
         return ExitCode::from(Refusal::NoMemory.refuse(&mut err).code());
     }
     let status = match words(&rt) {
@@ -79,6 +83,17 @@ fn words(rt: &(impl Env + AllocGlobal)) -> Result<Vec<String>, Refusal> {
         words.push(word).map_err(|_| Refusal::NoMemory)?;
     }
     Ok(words)
+}
+
+/// Whether the words may be those of a command that reads sources: all others begin with `table`, `check` or `feed`, or there are none.
+/// The first word is copied to the stack, so that no heap is taken before the stack is.
+fn may_read_sources(rt: &impl Env) -> bool {
+    let mut name = [0; NAME];
+    match rt.arg(1, &mut name) {
+        Ok(length) => !matches!(&name[..length], b"table" | b"check" | b"feed"),
+        Err(FillError::TooLong) => true,
+        Err(FillError::NotPresent) => false,
+    }
 }
 
 /// Takes the stack that the deepest source needs, before the heap or a file takes what a limit of the address space leaves: where
