@@ -1,4 +1,5 @@
 pub mod SplitLemmas
+mod SpellLemmas
 pub mod NumberLemmas
 pub mod PayloadLemmas
 pub mod StepLemmas

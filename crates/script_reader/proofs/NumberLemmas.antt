@@ -1,7 +1,8 @@
 -- Numbers in words.
-use Rattle.std.proofs.Common.{◌≡◌, ℕ, ℤ, pos, neg_ℤ, ◌^◌, ◌<◌, ◌≤◌, Bool, true, false, ◌&&◌, ◌==◌, not, nat_le, cond, List, [], ◌∷◌, length, Result, Ok, Err, Option, Some, None, MatchOption, zero, suc, get_or, take, take_all, ◌+◌, ◌*◌, lit<, lit≤, refl, ◌∙◌, ap, subst, arith}
+use Rattle.std.proofs.Common.{sym, ◌≡◌, ℕ, ℤ, pos, neg_ℤ, ◌^◌, ◌<◌, ◌≤◌, Bool, true, false, ◌&&◌, ◌==◌, not, nat_le, cond, List, [], ◌∷◌, length, Result, Ok, Err, zero, suc, get_or, take, take_all, ◌+◌, ◌*◌, lit<, lit≤, refl, ◌∙◌, ap, subst, arith}
 use Rattle.std.specs.List.{list_all}
-use Rattle.std.specs.Char.{digit_value}
+use Rattle.std.specs.Char.{is_ascii_digit, digit_value}
+use Rattle.std.specs.Cmp.Derive.{both_true}
 use Rattle.std.specs.Str.{IsUtf8}
 use Rattle.std.specs.Str.Parse.{digits_value}
 use Rattle.std.proofs.lemmas.Bool.{and_parts, leb-true}
@@ -12,8 +13,8 @@ use Rattle.std.proofs.lemmas.Int.Digits.{digits_value_more}
 use Rattle.std.specs.Int.{w16}
 use mir.Val.{SFits}
 use Rattle.script_reader.specs.declared.fault.Cause.{Cause}
-use Rattle.script_reader.specs.declared.fault.Cause.TheVariants.{Range}
-use Rattle.script_reader.specs.Words.{TakenWords, and_then, found, printed, within, signed, number_read, value_read, a_value, is_printable}
+use Rattle.script_reader.specs.declared.fault.Cause.TheVariants.{Number, Range}
+use Rattle.script_reader.specs.Words.{TakenWords, and_then, found, printed, within, is_numeral, signed, number_read, a_number, value_read, a_value, is_printable}
 
 -- where a digit more is too much, so are all
 pub overflows : (w : List ℕ) (place n : ℕ) → n ≡ digits_value 10 (take place w) → place < length w
@@ -45,6 +46,33 @@ all_ascii (b ∷ w) h (suc i) = all_ascii w (and_parts (is_printable b) (list_al
 
 pub IsUtf8-printable : (w : List ℕ) → list_all is_printable w ≡ true → IsUtf8 w
 IsUtf8-printable w h = IsUtf8-from_ascii w (all_ascii w h)
+
+-- ---- numbers
+
+digit-printable : (b : ℕ) → is_ascii_digit b ≡ true → is_printable b ≡ true
+digit-printable b h = grind (arith, nat_tests, and_parts)
+
+digits-printable : (w : List ℕ) → list_all is_ascii_digit w ≡ true → list_all is_printable w ≡ true
+digits-printable [] h = refl
+digits-printable (b ∷ w) h =
+    let parts = and_parts (is_ascii_digit b) (list_all is_ascii_digit w) h in
+    both_true (digit-printable b parts.0) (digits-printable w parts.1)
+
+-- a word that spells a number has printable characters
+number-printed : (low high : ℕ) (outside : Cause) (w : List ℕ) (n : ℕ) → Ok n ≡ within low high outside (number_read w) → printed w ≡ Ok w
+number-printed low high outside w n is = by (is_numeral w) refl
+  where
+    by : (b : Bool) → is_numeral w ≡ b → printed w ≡ Ok w
+    by true e =
+        let digits = and_parts (not (length w == 0)) (list_all is_ascii_digit w) e in
+        rw (digits-printable w digits.1) refl
+    by false e = let none : Ok n ≡ within low high outside (Err Number) = rw e at is in absurd (cc)
+
+-- it is read as that number
+pub number-read : (low high : ℕ) (outside : Cause) (w : List ℕ) (words : List (List ℕ)) (n : ℕ) → Ok n ≡ within low high outside (number_read w)
+    → a_number low high outside (w ∷ words) ≡ Ok (record { value = n; rest = words })
+unfolding a_number
+number-read low high outside w words n is = rw (number-printed low high outside w n is) (rw (sym is) refl)
 
 -- ---- values
 

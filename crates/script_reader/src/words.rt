@@ -2,7 +2,7 @@
 
 ghost use Rattle.std.specs.Prelude.{◌≡◌, ◌<◌, ◌≤◌, ◌+◌, ◌*◌, ◌^◌, ◌∷◌, [], length, true, not, ◌==◌, IfOk, MatchOption, MatchResult, pos};
 ghost use Rattle.std.specs.Prelude.{neg_ℤ, Ok, Err};
-ghost use Rattle.std.specs.List.{prefix_len, list_all};
+ghost use Rattle.std.specs.List.{prefix_len, list_all, zip};
 ghost use Rattle.std.specs.Char.{is_ascii_digit, digit_value};
 ghost use Rattle.std.specs.Str.{bytes_eq};
 ghost use Rattle.std.specs.Str.Parse.{digits_value};
@@ -103,8 +103,13 @@ impl<'a> Words<'a> {
         ensures low { IfOk result (λ n. low ≤ n) }
         ensures high { IfOk result (λ n. n ≤ high) }
     {
-        let word = self.plain()?;
-        number_in(word, low, high, outside)
+        let Some(word) = self.next() else {
+            return Err(Cause::Word);
+        };
+        match number_in(word, low, high, outside) {
+            Ok(number) => Ok(number),
+            Err(cause) => Err(cause_in(word, cause)),
+        }
     }
 
     /// A value of a script.
@@ -163,11 +168,18 @@ impl<'a> Words<'a> {
     }
 }
 
-/// Whether the bytes are those of the text.
+/// Whether the bytes are those of the text, which is short: they are compared one by one.
 pub(crate) fn spells(bytes: &[u8], text: &str) -> bool
     ensures { result ≡ bytes_eq bytes.now text.now }
 {
-    bytes == text.as_bytes()
+    bytes.len() == text.len() && are_same(bytes, text.as_bytes())
+}
+
+// Whether the bytes are the same, as far as both go.
+fn are_same(bytes: &[u8], others: &[u8]) -> bool
+    ensures { result ≡ list_all (λ p. p.0 == p.1) (zip bytes.now others.now) }
+{
+    bytes.iter().zip(others).all(|(byte, other)| byte == other)
 }
 
 // A space or a tab.
@@ -258,6 +270,17 @@ fn with_digit(number: u64, digit: u8) -> Option<u64>
     ensures { MatchOption result (2 ^ 64 ≤ number * 10 + digit_value digit) (λ n. n ≡ number * 10 + digit_value digit) }
 {
     number.checked_mul(10)?.checked_add((digit - b'0') as u64)
+}
+
+// The first cause for which a word is refused that would be refused with this one if its characters were printable. Digits are, so a
+// word that spells a number needs no such test.
+fn cause_in(word: &[u8], cause: Cause) -> Cause
+    ensures { MatchResult (printed word.now) (λ _. result ≡ cause) (λ first. result ≡ first) }
+{
+    match plain(word) {
+        Ok(_) => cause,
+        Err(first) => first,
+    }
 }
 
 // The number from `low` to `high` that the word spells.
