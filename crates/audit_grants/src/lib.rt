@@ -1,7 +1,8 @@
-//! The grant rule, tried on a journal that is read entry by entry.
+//! The grant rule, tried at one entry of a journal after another.
 #![tactic(auto)]
 
 pub mod granting;
 pub mod waiting;
 
-pub use granting::grants_in_order;
+pub use granting::{is_granted, start_of};
+pub use waiting::all_held_back;

@@ -68,7 +68,7 @@ fn starts_rightly(trial: &Trial, roll: &ReadyRoll, seat: &Seat, number: u32) -> 
 }
 
 /// Whether each queued one is held back.
-pub(crate) fn all_held_back(trial: &Trial, roll: &ReadyRoll) -> bool
+pub fn all_held_back(trial: &Trial, roll: &ReadyRoll) -> bool
     requires { All (IsSeatReady trial.now roll.now) roll.now.roll.seats.items }
     ensures { result ≡ told.all_held_back (conflict_of trial.now.desc.now) (roll_in trial.now.log.now.images roll.now.roll) }
 {

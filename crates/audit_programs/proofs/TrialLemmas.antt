@@ -21,7 +21,7 @@ use Rattle.audit_finite.specs.Following.{stamps_rise, may_follow, follow_one_ano
 use Rattle.audit_rules.specs.Tests.{installs_right, images_right}
 use Rattle.audit_roll.specs.Views.{HasHandlerBelow, seat_in, roll_in}
 use Rattle.audit_roll.specs.declared.seat.Seat.{Seat}
-use Rattle.whole_runs.specs.Ready.{IsReadyAs, ready_at}
+use Rattle.whole_runs.specs.Ready.{IsReadyAs, installed_programs, ready_at}
 use Rattle.whole_runs.specs.declared.ready.ReadyProgram.{ReadyProgram}
 use Rattle.audit_programs.specs.Trials.{machine_for, events_from, no_entry, told_at, IsTried, HasReadUpTo, IsSeatReady, AreReady}
 use Rattle.audit_programs.specs.declared.ready_roll.ReadyRoll.{ReadyRoll}
@@ -89,18 +89,18 @@ AreReady-kept d l x e programs other before h p is = before h p (sym (installed-
 none-ready : (d : Description) (programs : List (Option ReadyProgram)) → AreReady d nobody.installed programs
 none-ready d programs h p is = cc
 
-pub HasReadUpTo-begins : (t : Trial) (x : ReadyRoll) → IsTried t → LiveAreInstalled nobody → roll_in t.log.now.images x.roll ≡ nobody → x.ready.programs.items ≡ replicate 8 None → HasReadUpTo t 0 x
+pub HasReadUpTo-begins : (t : Trial) (x : ReadyRoll) → IsTried t → LiveAreInstalled nobody → roll_in t.log.now.images x.roll ≡ nobody → installed_programs x.ready ≡ replicate 8 None → HasReadUpTo t 0 x
 HasReadUpTo-begins t x tried nobody_installed is places = record {
   follow = subst (λ (r : told.Roll). follow_one_another (machine_for t) r (events_from t 0) ≡ true) (sym is)
       (and_parts (stamps_rise (journal_of t.log.now)) (follow_one_another (machine_for t) nobody (journal_of t.log.now)) tried.follow).1;
   images = subst (λ (r : told.Roll). images_right t.programs.now r (events_from t 0) ≡ true) (sym is) tried.images;
   installed = subst LiveAreInstalled (sym is) nobody_installed;
   places = ap (λ (ps : List (Option ReadyProgram)). length ps) places;
-  ready = subst (λ (r : told.Roll). AreReady t.desc.now r.installed x.ready.programs.items) (sym is) (none-ready t.desc.now x.ready.programs.items);
+  ready = subst (λ (r : told.Roll). AreReady t.desc.now r.installed (installed_programs x.ready)) (sym is) (none-ready t.desc.now (installed_programs x.ready));
 }
 
 pub HasReadUpTo-next : (t : Trial) (place : ℕ) (x y : ReadyRoll) → place < length t.log.now.entries → HasReadUpTo t place x → (may_follow (machine_for t) (roll_in t.log.now.images x.roll) (told_at t place) ≡ true → LiveAreInstalled (roll_in t.log.now.images x.roll) → LiveAreInstalled (rolled (roll_in t.log.now.images x.roll) (told_at t place)))
-    → roll_in t.log.now.images y.roll ≡ rolled (roll_in t.log.now.images x.roll) (told_at t place) → length y.ready.programs.items ≡ 8 → AreReady t.desc.now (rolled (roll_in t.log.now.images x.roll) (told_at t place)).installed y.ready.programs.items
+    → roll_in t.log.now.images y.roll ≡ rolled (roll_in t.log.now.images x.roll) (told_at t place) → length (installed_programs y.ready) ≡ 8 → AreReady t.desc.now (rolled (roll_in t.log.now.images x.roll) (told_at t place)).installed (installed_programs y.ready)
     → HasReadUpTo t (place + 1) y
 HasReadUpTo-next t place x y within read goes_on is places ready =
     let images = t.log.now.images in
@@ -111,7 +111,7 @@ HasReadUpTo-next t place x y within read goes_on is places ready =
       images = subst (λ (r : told.Roll). images_right t.programs.now r (events_from t (place + 1)) ≡ true) (sym is) right.1;
       installed = subst LiveAreInstalled (sym is) (goes_on follow.0 read.installed);
       places = places;
-      ready = subst (λ (r : told.Roll). AreReady t.desc.now r.installed y.ready.programs.items) (sym is) ready;
+      ready = subst (λ (r : told.Roll). AreReady t.desc.now r.installed (installed_programs y.ready)) (sym is) ready;
     }
 
 -- the program of each live invocation is ready

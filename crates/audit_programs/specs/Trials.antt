@@ -15,7 +15,7 @@ use Rattle.audit_rules.specs.Tests.{images_right}
 use Rattle.audit_roll.specs.Views.{seat_in, roll_in}
 use Rattle.audit_roll.specs.declared.seat.Seat.{Seat}
 use Rattle.vm_desc.specs.declared.description.Description.{Description}
-use Rattle.whole_runs.specs.Ready.{IsReadyAs, ready_at}
+use Rattle.whole_runs.specs.Ready.{IsReadyAs, installed_programs, ready_at}
 use Rattle.whole_runs.specs.declared.ready.ReadyProgram.{ReadyProgram}
 use Rattle.audit_programs.specs.declared.ready_roll.ReadyRoll.{ReadyRoll}
 use Rattle.audit_programs.specs.declared.trial.Trial.{Trial}
@@ -54,10 +54,10 @@ pub record HasReadUpTo (t : Trial) (place : ℕ) (x : ReadyRoll) : Type 0 where
   pub follow : follow_one_another (machine_for t) (roll_in t.log.now.images x.roll) (events_from t place) ≡ true
   pub images : images_right t.programs.now (roll_in t.log.now.images x.roll) (events_from t place) ≡ true
   pub installed : LiveAreInstalled (roll_in t.log.now.images x.roll)
-  pub places : length x.ready.programs.items ≡ 8
-  pub ready : AreReady t.desc.now (roll_in t.log.now.images x.roll).installed x.ready.programs.items
+  pub places : length (installed_programs x.ready) ≡ 8
+  pub ready : AreReady t.desc.now (roll_in t.log.now.images x.roll).installed (installed_programs x.ready)
 
 -- the program of a live invocation is ready
 abbrev pub IsSeatReady : Trial → ReadyRoll → Seat → Type 0
-IsSeatReady t x s = IsSomeAnd (ready_at x.ready.programs.items s.handler)
+IsSeatReady t x s = IsSomeAnd (ready_at (installed_programs x.ready) s.handler)
     (IsReadyAs t.desc.now (seat_in t.log.now.images s).invocation.program)

@@ -69,7 +69,7 @@ impl<'a> ReadyRoll<'a> {
     ghost use Rattle.audit_finite.specs.Shown.{HasLengthsOf};
     ghost use Rattle.audit_rules.specs.Tests.{conflict_of, installs_right};
     ghost use Rattle.audit_roll.specs.Views.{seat_in, roll_in};
-    ghost use Rattle.whole_runs.specs.Ready.{IsReadyAs};
+    ghost use Rattle.whole_runs.specs.Ready.{IsReadyAs, installed_programs};
     ghost use Rattle.audit_programs.specs.Trials.{IsTried, HasReadUpTo, IsSeatReady, AreReady, machine_for, told_at};
 
     /// Before the first entry.
@@ -98,12 +98,18 @@ impl<'a> ReadyRoll<'a> {
             OnOk result (roll_in images self.new.roll ≡ rolled (roll_in images self.old.roll) (told_at trial.now place)) }
     {
         let entry = &trial.log.entries()[place].entry;
-        self.make_ready(trial, place, entry);
+        self.make_ready(alloc, trial, place, entry)?;
         self.roll.hear(alloc, entry)
     }
 
     /// What the entry installs, if it installs something, is made ready.
-    fn make_ready(&mut self, trial: &Trial<'a>, place: usize, entry: &Entry)
+    fn make_ready(
+        &mut self,
+        alloc: Global,
+        trial: &Trial<'a>,
+        place: usize,
+        entry: &Entry,
+    ) -> Result<(), NoMemory>
         requires tried { IsTried trial.now }
         requires read { HasReadUpTo trial.now place self.old }
         requires range { IsEntryInRange trial.now.desc.now entry.now }
@@ -112,10 +118,10 @@ impl<'a> ReadyRoll<'a> {
         requires given { let l = trial.now.log.now in
             installs_right trial.now.programs.now (roll_in l.images self.old.roll) (journal_entry l entry.now) ≡ true }
         ensures roll { self.new.roll ≡ self.old.roll }
-        ensures places { length self.new.ready.programs.items ≡ 8 }
+        ensures places { OnOk result (length (installed_programs self.new.ready) ≡ 8) }
         ensures ready { let l = trial.now.log.now in
-            AreReady trial.now.desc.now (rolled (roll_in l.images self.old.roll) (journal_entry l entry.now)).installed
-            self.new.ready.programs.items }
+            OnOk result (AreReady trial.now.desc.now (rolled (roll_in l.images self.old.roll) (journal_entry l entry.now)).installed
+            (installed_programs self.new.ready)) }
     {
         let _place = place;
         match entry {
@@ -126,10 +132,11 @@ impl<'a> ReadyRoll<'a> {
             } => {
                 let program = program_named(trial, &mut self.last, *handler, *version, *image);
                 self.ready
-                    .install(*handler, ReadyProgram::of(trial.desc, program));
+                    .install(alloc, *handler, ReadyProgram::of(trial.desc, program))?;
             }
             _ => {}
         }
+        Ok(())
     }
 
     /// The program of a live invocation.

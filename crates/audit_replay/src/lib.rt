@@ -1,4 +1,4 @@
-//! Serial replay and stores seen, tried on a journal that is read entry by entry.
+//! Serial replay and stores seen, tried at one entry of a journal after another.
 #![tactic(auto)]
 
 pub mod ending;
@@ -8,5 +8,6 @@ pub mod same;
 pub mod showing;
 pub mod stores;
 
-pub use replay::replays_right;
-pub use stores::stores_right;
+pub use replay::{run_at, zero_store};
+pub use rerun::all_so_far;
+pub use stores::shows_right;

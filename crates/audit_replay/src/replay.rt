@@ -1,11 +1,10 @@
-//! Serial replay along a journal.
+//! Serial replay at one entry of a journal.
 
 ghost use Rattle.std.specs.Prelude.{◌≡◌, length, IfOk, IsTrue};
 ghost use Rattle.std.specs.List.{list_all};
 ghost use Rattle.mate_num.specs.Store.{zero_store as zeros};
-ghost use Rattle.mate_journal.specs.Journal.{journal_of, journal_entry};
+ghost use Rattle.mate_journal.specs.Journal.{journal_entry};
 ghost use Rattle.audit_finite.specs.Rerun as told;
-ghost use Rattle.audit_finite.specs.Roll.{nobody};
 ghost use Rattle.audit_finite.specs.Shown.{HasLengthsOf};
 ghost use Rattle.audit_rules.specs.Tests.{conflict_of};
 ghost use Rattle.audit_roll.specs.Views.{roll_in};
@@ -21,7 +20,7 @@ use std::alloc::Global;
 use vm_desc::Description;
 
 /// The store at the beginning of an era.
-pub(crate) fn zero_store(desc: &Description) -> Store
+pub fn zero_store(desc: &Description) -> Store
     ensures { result ≡ zeros (length desc.now.shared.items) (length desc.now.buffers.items) }
 {
     Heap::new(desc.shared.len() as u8, desc.buffers.len() as u8).store()
@@ -78,7 +77,7 @@ fn end_at(
 }
 
 /// Whether the runs at the entry are right; the store then is the serial one after it.
-fn run_at(
+pub fn run_at(
     alloc: Global,
     trial: &Trial,
     roll: &ReadyRoll,
@@ -117,26 +116,4 @@ fn run_at(
         Entry::Seen { .. } => Ok(true),
         Entry::Void { .. } => Ok(true),
     }
-}
-
-/// Whether the invocations of the journal, run whole and one after another in the order of their ends, give the ends and the calls that
-/// it records. Each is run where it ends or where its era does. `NoMemory` comes only where memory for live invocations, their programs
-/// and their calls is refused.
-pub fn replays_right(alloc: Global, trial: &Trial) -> Result<bool, NoMemory>
-    requires { IsTried trial.now }
-    ensures { let m = machine_for trial.now in
-        IfOk result (λ b. b ≡ told.replays_right m (conflict_of trial.now.desc.now) nobody m.zero_store (journal_of trial.now.log.now)) }
-{
-    let mut roll = ReadyRoll::new(alloc, trial)?;
-    let mut store = zero_store(trial.desc);
-    let entries = trial.log.entries();
-    for place in 0..entries.len() {
-        let entry = &entries[place].entry;
-        let right = run_at(alloc, trial, &roll, place, &mut store, entry)?;
-        if !right {
-            return Ok(false);
-        }
-        roll.hear(alloc, trial, place)?;
-    }
-    all_so_far(alloc, trial, &roll, &store)
 }

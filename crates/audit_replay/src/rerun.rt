@@ -79,7 +79,7 @@ fn runs_rightly(
 }
 
 /// Whether that holds of each one.
-pub(crate) fn all_so_far(
+pub fn all_so_far(
     alloc: Global,
     trial: &Trial,
     roll: &ReadyRoll,

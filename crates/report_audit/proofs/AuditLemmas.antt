@@ -1,5 +1,5 @@
 -- The first law that a log fails, and the verdict on a report, step by step.
-use Rattle.std.proofs.Common.{◌≡◌, ◌<◌, ◌≤◌, ◌⊎◌, ℕ, ◌+◌, Bool, true, false, List, [], ◌∷◌, length, Option, None, Some, refl, sym, ◌∙◌, ap, subst, inl, inr, arith}
+use Rattle.std.proofs.Common.{◌≡◌, ◌<◌, ◌≤◌, ◌⊎◌, ℕ, ◌+◌, Bool, true, false, List, length, Option, None, Some, sym, ◌∙◌, ap, subst, inl, inr, arith}
 use Rattle.std.specs.Prelude.{IfSome, MatchOption, slice_get, slice_index_or, if◌then◌else◌}
 use Rattle.std.proofs.lemmas.Bool.{cases_lt}
 use Rattle.std.proofs.lemmas.Option.{slice_get-get_or}
@@ -30,17 +30,6 @@ module _ (f i s h g : Bool) where
 
   pub at-images : true ≡ f → false ≡ i → Some law.Image ≡ first_of_tests f i s h g
   at-images e k = ap (λ (b : Bool). first_of_tests true b s h g) k ∙ ap (λ (b : Bool). first_of_tests b i s h g) e
-
-  pub at-serial : true ≡ f → true ≡ i → false ≡ s → Some law.D8 ≡ first_of_tests f i s h g
-  at-serial e k m = ap (λ (b : Bool). first_of_tests true true b h g) m ∙ ap (λ (b : Bool). first_of_tests true b s h g) k ∙ ap (λ (b : Bool). first_of_tests b i s h g) e
-
-  pub at-shown : true ≡ f → true ≡ i → true ≡ s → false ≡ h → Some law.D9 ≡ first_of_tests f i s h g
-  at-shown e k m n =
-      ap (λ (b : Bool). first_of_tests true true true b g) n ∙ ap (λ (b : Bool). first_of_tests true true b h g) m ∙ ap (λ (b : Bool). first_of_tests true b s h g) k ∙ ap (λ (b : Bool). first_of_tests b i s h g) e
-
-  pub at-granted : (b : Bool) → true ≡ f → true ≡ i → true ≡ s → true ≡ h → b ≡ g → first_of_tests true true true true b ≡ first_of_tests f i s h g
-  at-granted b e k m n o =
-      ap (λ (b : Bool). first_of_tests true true true true b) o ∙ ap (λ (b : Bool). first_of_tests true true true b g) n ∙ ap (λ (b : Bool). first_of_tests true true b h g) m ∙ ap (λ (b : Bool). first_of_tests true b s h g) k ∙ ap (λ (b : Bool). first_of_tests b i s h g) e
 
 -- ---- node by node
 

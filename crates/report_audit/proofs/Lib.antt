@@ -1,1 +1,3 @@
 pub mod AuditLemmas
+pub mod FoldLemmas
+pub mod ImageLemmas

@@ -6,12 +6,10 @@ ghost use Rattle.node_programs.specs.Right.{AreRightPrograms};
 ghost use Rattle.report_text.specs.Tidy.{IsTidy};
 ghost use Rattle.audit_rules.specs.Tests.{failed_by};
 ghost use Rattle.audit_rules.specs.Verdicts.{IsVerdict};
-ghost use Rattle.audit_programs.specs.Trials.{IsTried};
 
 use crate::images::images_right;
-use audit_grants::grants_in_order;
+use crate::runs::first_failed_of;
 use audit_programs::Trial;
-use audit_replay::{replays_right, stores_right};
 use audit_roll::entries_follow;
 use audit_rules::{Law, Verdict};
 use mate_journal::{NodeLog, Programs, Report};
@@ -35,7 +33,7 @@ fn first_failed(
     if !follow {
         return Ok(Some(Law::D7));
     }
-    let images = images_right(alloc, desc, programs, log)?;
+    let images = images_right(desc, programs, log);
     if !images {
         return Ok(Some(Law::Image));
     }
@@ -45,26 +43,6 @@ fn first_failed(
         log,
     };
     first_failed_of(alloc, &trial)
-}
-
-/// The first law that a log fails whose entries follow one another and whose installs are of the programs.
-fn first_failed_of(alloc: Global, trial: &Trial) -> Result<Option<Law>, NoMemory>
-    requires { IsTried trial.now }
-    ensures { IfOk result (λ law. law ≡ failed_by trial.now.desc.now trial.now.programs.now trial.now.log.now) }
-{
-    let serial = replays_right(alloc, trial)?;
-    if !serial {
-        return Ok(Some(Law::D8));
-    }
-    let shown = stores_right(alloc, trial)?;
-    if !shown {
-        return Ok(Some(Law::D9));
-    }
-    let granted = grants_in_order(alloc, trial)?;
-    if !granted {
-        return Ok(Some(Law::D10));
-    }
-    Ok(None)
 }
 
 /// Whether a report shows serial behaviour of the programs: `Serial` exactly where each node's journal keeps each law, and else the least

@@ -3,6 +3,7 @@
 
 pub mod auditing;
 pub mod images;
+pub mod runs;
 
 pub use audit_rules::{Law, Verdict};
 pub use auditing::audit;

@@ -1,5 +1,5 @@
 -- The words that begin a record.
-use Rattle.std.specs.Prelude.{ℕ, List, [], ◌∷◌, codes, Option}
+use Rattle.std.specs.Prelude.{ℕ, List, [], ◌∷◌, ◌==◌, codes, Option, if◌then◌else◌}
 use Rattle.report_fields.specs.Fields.{named_among}
 use Rattle.report_reader.specs.declared.verb.Verb.{Verb}
 use Rattle.report_reader.specs.declared.verb.Verb.TheVariants as verb
@@ -30,3 +30,19 @@ verbs =
 
 unfoldable pub verb_of : List ℕ → Option Verb
 verb_of word = named_among verb_word verbs word
+
+-- the verb whose word has these letters, the first and the third one
+abbrev pub likely : ℕ → ℕ → Verb
+likely first third =
+    if first == 112 then verb.Post else
+    (if first == 100 then verb.Drop else
+    (if first == 97 then (if third == 107 then verb.Ask else verb.Answer) else
+    (if first == 104 then verb.Halt else
+    (if first == 102 then verb.Fault else
+    (if first == 114 then verb.Reset else
+    (if first == 118 then verb.Void else
+    (if first == 105 then (if third == 115 then verb.Install else verb.Interval) else
+    (if first == 107 then verb.Keep else
+    (if first == 115 then (if third == 97 then verb.Start else (if third == 101 then verb.Seen else verb.Sent)) else
+    (if first == 108 then verb.Lost else
+    (if first == 103 then verb.Got else verb.Noise)))))))))))

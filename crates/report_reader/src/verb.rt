@@ -1,8 +1,7 @@
 //! The words that begin a record.
 
 ghost use Rattle.std.specs.Prelude.{◌≡◌};
-ghost use Rattle.report_fields.specs.Fields.{named_among};
-ghost use Rattle.report_reader.specs.Verbs.{verb_word, verb_of};
+ghost use Rattle.report_reader.specs.Verbs.{verb_word, likely, verb_of};
 
 /// What kind of record a line is of.
 #[derive(Clone, Copy, PartialEq, Eq, Debug)]
@@ -25,26 +24,6 @@ pub enum Verb {
     Got,
     Noise,
 }
-
-const VERBS: [Verb; 17] = [
-    Verb::Post,
-    Verb::Drop,
-    Verb::Start,
-    Verb::Ask,
-    Verb::Answer,
-    Verb::Halt,
-    Verb::Fault,
-    Verb::Install,
-    Verb::Reset,
-    Verb::Seen,
-    Verb::Void,
-    Verb::Interval,
-    Verb::Keep,
-    Verb::Sent,
-    Verb::Lost,
-    Verb::Got,
-    Verb::Noise,
-];
 
 impl Verb {
     fn word(self) -> &'static [u8]
@@ -72,22 +51,42 @@ impl Verb {
     }
 }
 
-/// The first of some verbs whose word this is.
-fn named(verbs: &[Verb], word: &[u8]) -> Option<Verb>
-    ensures { result ≡ named_among verb_word verbs.now word.now }
+/// The verb whose word has these letters, the first and the third one; of other letters it is any.
+fn likely(first: u8, third: u8) -> Verb
+    ensures { result ≡ likely first third }
 {
-    for verb in verbs {
-        if verb.word() == word {
-            return Some(*verb);
-        }
+    match first {
+        b'p' => Verb::Post,
+        b'd' => Verb::Drop,
+        b'a' if third == b'k' => Verb::Ask,
+        b'a' => Verb::Answer,
+        b'h' => Verb::Halt,
+        b'f' => Verb::Fault,
+        b'r' => Verb::Reset,
+        b'v' => Verb::Void,
+        b'i' if third == b's' => Verb::Install,
+        b'i' => Verb::Interval,
+        b'k' => Verb::Keep,
+        b's' if third == b'a' => Verb::Start,
+        b's' if third == b'e' => Verb::Seen,
+        b's' => Verb::Sent,
+        b'l' => Verb::Lost,
+        b'g' => Verb::Got,
+        _ => Verb::Noise,
     }
-    None
 }
 
-/// The verb that a word names.
-#[tactic(auto, unfolding(crate::specs::Verbs::verb_of))]
+/// The verb that a word names. It is compared with one word only.
 pub fn verb_of(word: &[u8]) -> Option<Verb>
     ensures { result ≡ verb_of word.now }
 {
-    named(&VERBS, word)
+    let [first, _, third, ..] = word else {
+        return None;
+    };
+    let verb = likely(*first, *third);
+    if verb.word() == word {
+        Some(verb)
+    } else {
+        None
+    }
 }

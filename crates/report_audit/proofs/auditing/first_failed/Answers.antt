@@ -37,7 +37,7 @@ returns-then-not-images c =
     let S : Bool = replays_right m (conflict_of d) nobody m.zero_store es in
     let H : Bool = stores_right m nobody m.zero_store es in
     let G : Bool = grants_in_order (conflict_of d) nobody 0 es in
-    at-images F I S H G (sym c.if-not-follow.false ∙ c.in_ok-follow.ensures (meaning_by d ps)) (sym c.if-not-images.true ∙ c.in_ok-images.ensures)
+    at-images F I S H G (sym c.if-not-follow.false ∙ c.in_ok-follow.ensures (meaning_by d ps)) (sym c.if-not-images.true ∙ c.images_right-images.ensures)
 
 pub first_failed_of-requires : goal.first_failed_of-requires
 first_failed_of-requires c =
@@ -46,5 +46,5 @@ first_failed_of-requires c =
       tidy = c.requires.tidy;
       programs = c.requires.right;
       follow = sym (c.in_ok-follow.ensures (meaning_by c.args.desc.now c.args.programs.now)) ∙ c.if-not-follow.false;
-      images = sym c.in_ok-images.ensures ∙ c.if-not-images.false;
+      images = sym c.images_right-images.ensures ∙ c.if-not-images.false;
     }

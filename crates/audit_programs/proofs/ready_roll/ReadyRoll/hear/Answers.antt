@@ -7,6 +7,7 @@ use Rattle.audit_finite.specs.Roll.{rolled}
 use Rattle.audit_finite.proofs.InstalledLemmas.{LiveAreInstalled-step}
 use Rattle.audit_roll.specs.Views.{roll_in}
 use Rattle.audit_roll.specs.declared.roll.Roll.{Roll}
+use Rattle.whole_runs.specs.Ready.{installed_programs}
 use Rattle.audit_programs.specs.Trials.{AreReady, machine_for, told_at}
 use Rattle.audit_programs.specs.declared.ready_roll.ReadyRoll.{ReadyRoll}
 use Rattle.audit_programs.proofs.TrialLemmas.{HasReadUpTo-next, entry-at, named-below}
@@ -39,6 +40,6 @@ returns-clause-read c =
     OnOk-map c.hear.result
     (λ heard.
     HasReadUpTo-next t place x y c.requires.within c.requires.read (λ may live. LiveAreInstalled-step (machine_for t) (roll_in l.images x.roll) (told_at t place) may live)
-    (heard ∙ ap (λ (r : Roll). rolled (roll_in l.images r) (journal_entry l e.entry)) c.make_ready.ensures.roll ∙ ap (λ (g : JournalEntry). rolled (roll_in l.images x.roll) g) told) c.make_ready.ensures.places
-    (subst (λ (g : JournalEntry). AreReady t.desc.now (rolled (roll_in l.images x.roll) g).installed y.ready.programs.items) told c.make_ready.ensures.ready))
+    (heard ∙ ap (λ (r : Roll). rolled (roll_in l.images r) (journal_entry l e.entry)) c.make_ready.ensures.roll ∙ ap (λ (g : JournalEntry). rolled (roll_in l.images x.roll) g) told) c.in_ok-make_ready.ensures.places
+    (subst (λ (g : JournalEntry). AreReady t.desc.now (rolled (roll_in l.images x.roll) g).installed (installed_programs y.ready)) told c.in_ok-make_ready.ensures.ready))
     (c.hear.ensures l)

@@ -1,0 +1,16 @@
+use Rattle.std.proofs.Common.{◌≡◌, true, false, sym, ◌∙◌}
+use Rattle.std.proofs.lemmas.Slice.Eq.{bytes_eq-Decides}
+use Rattle.report_reader.proofs.VerbLemmas.{short-word, word-named, word-unnamed}
+use Rattle.report_reader.proofs.verb.verb_of.Goals as goal
+
+pub returns-in_default : goal.returns-in_default
+returns-in_default c = short-word c.args.word.now c.in_default.len_below
+
+pub returns-then-eq : goal.returns-then-eq
+returns-then-eq c =
+    word-named c.args.word.now c.likely-verb.result (sym ((bytes_eq-Decides c.word.result.now c.args.word.now).0 (sym c.if-eq.ensures)) ∙ c.word.ensures)
+
+pub returns-else-eq : goal.returns-else-eq
+returns-else-eq c =
+    word-unnamed c.args.word.now c.likely-verb.result c.likely-verb.ensures
+    (λ same. let t : true ≡ false = sym ((bytes_eq-Decides c.word.result.now c.args.word.now).1 (c.word.ensures ∙ sym same)) ∙ sym c.if-eq.ensures in cc)
