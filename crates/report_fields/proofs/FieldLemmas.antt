@@ -87,8 +87,8 @@ position-name {A} name_of (x ∷ xs) word i h =
           subst P at this
     ]
 
-name_in : (o : Option (List ℕ)) (word : List ℕ) → o ≡ Some word → Rattle.report_text.specs.Words.name_of o ≡ word
-name_in o word h = ap Rattle.report_text.specs.Words.name_of h
+name_in : (o : Option (List ℕ)) (word : List ℕ) → o ≡ Some word → Rattle.report_text.specs.Words.name_or_none o ≡ word
+name_in o word h = ap Rattle.report_text.specs.Words.name_or_none h
 
 pub record TellsHandler (d : Description) (w : List ℕ) (h : HandlerId) : Type 0 where
   pub word : w ≡ handler_name d h
