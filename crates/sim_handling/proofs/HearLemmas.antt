@@ -120,7 +120,7 @@ does-vector at old new r p versions timely is hears =
     let count = length old.node.description.handlers.items in
     let w : World = code_world old.node.description script ps in
     let h = hears count n.exchange versions known is in
-    let event : trickle.Event = heard_as (bytes_eq versions.items (held_versions count n.exchange)) in
+    let event : trickle.TimerEvent = heard_as (bytes_eq versions.items (held_versions count n.exchange)) in
     let asks : List Packet = asks_after count (Vector versions) n.exchange in
     let E : NodeEffect = quietly [] (Hears (Vector versions) ∷ []) (Some event) asks in
     subst (λ (q : Packet). DoesEffect w (seen_as old n) (of_packet w n.exchange q) at old new r) (sym is)
