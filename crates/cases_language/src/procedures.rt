@@ -22,7 +22,9 @@ pub fn answer(alloc: Global, case: &str) -> Result<String, AllocError> {
 /// The script of at most 1,048,576 bytes; of longer ones, that the byte there is wrong.
 fn script(alloc: Global, bytes: &[u8]) -> Result<ProcScript, SourceFault> {
     if bytes.len() > FILE_MAX {
-        return Err(SourceFault::BadByte { place: FILE_MAX });
+        return Err(SourceFault::BadByte {
+            place: FILE_MAX as u32,
+        });
     }
     let tokens = tokens_in(alloc, Dialect::Procedures, bytes)?;
     parse_procedures(alloc, &tokens, bytes.len() as u32)

@@ -11,6 +11,7 @@ use radio_sim::wire::{Sending, Wire, Wires};
 use rand_pcg::Lcg64Xsh32;
 use std::alloc::Global;
 use std::collections::VecDeque;
+use vm_desc::Description;
 use world_script::Link;
 
 pub fn a_pump_is_no_timer() -> u16
@@ -54,6 +55,7 @@ fn a_link(loss: u16, word: u32) -> Wire
 
 pub fn a_word_at_the_loss_is_carried(
     alloc: Global,
+    desc: &Description,
     sending: Sending,
     bytes: &PacketBytes,
     air: &mut Airs,
@@ -63,12 +65,13 @@ pub fn a_word_at_the_loss_is_carried(
     let mut wires = Wires::new(alloc);
     wires.push(a_link(300, 5300))?;
     let mut carried = VecDeque::new(alloc);
-    wires.carry(sending, bytes, air, &mut carried)?;
+    wires.carry(desc, sending, bytes, air, &mut carried)?;
     Ok(carried.len())
 }
 
 pub fn a_loss_names_the_end_of_the_link(
     alloc: Global,
+    desc: &Description,
     sending: Sending,
     bytes: &PacketBytes,
     air: &mut Airs,
@@ -79,5 +82,5 @@ pub fn a_loss_names_the_end_of_the_link(
     let mut wires = Wires::new(alloc);
     wires.push(a_link(300, 5299))?;
     let mut carried = VecDeque::new(alloc);
-    wires.carry(sending, bytes, air, &mut carried)
+    wires.carry(desc, sending, bytes, air, &mut carried)
 }
