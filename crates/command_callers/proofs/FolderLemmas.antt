@@ -3,7 +3,7 @@ use Rattle.std.proofs.Common.{◌≡◌, ◌≢◌, ◌<◌, ◌≤◌, ◌∙�
 use Rattle.std.specs.Prelude.{IsSomeAnd, IfErr, IfOk}
 use Rattle.std.specs.Global.{Vec}
 use Rattle.mate_files.specs.Files.{Names, WhereTold}
-use Rattle.ts_syntax.specs.Checked.{tree_of}
+use Rattle.ts_checked.specs.Checked.{tree_of}
 use Rattle.ts_syntax.specs.declared.script.Script.{Script}
 use Rattle.ts_checker.specs.Accepted.{IsAccepted}
 use Rattle.mate_steps.specs.declared.code.CompiledScript.{CompiledScript}

@@ -3,8 +3,8 @@ use Rattle.std.proofs.Common.{◌≡◌, ◌≤◌, ◌∙◌, inl, inr, ℕ, fa
 use Rattle.std.specs.Prelude.{All, IfOk, IfSome}
 use Rattle.std.proofs.lemmas.List.Elements.{All-nil, All-cons}
 use Rattle.mate_journal.specs.declared.program.Program.{Program}
-use Rattle.ts_syntax.specs.Checked.{tree_of}
-use Rattle.ts_syntax.specs.declared.checked.Checked.{Checked}
+use Rattle.ts_checked.specs.Checked.{tree_of}
+use Rattle.ts_checked.specs.declared.checked.Checked.{Checked}
 use Rattle.ts_checker.specs.Accepted.{IsAccepted}
 use Rattle.script_reader.specs.NodeScript.{node_script_in}
 use Rattle.script_reader.specs.Steps.{NodeScript}

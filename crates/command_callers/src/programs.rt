@@ -2,7 +2,7 @@
 
 ghost use Rattle.std.specs.Prelude.{◌≡◌, ◌≤◌, ℕ, List, [], ◌∷◌, length, codes, None, Some, Err, All, IfOk, IfSome};
 ghost use Rattle.mate_num.specs.declared.bounds.TheConstants.{FILE_MAX};
-ghost use Rattle.ts_syntax.specs.Checked.{tree_of};
+ghost use Rattle.ts_checked.specs.Checked.{tree_of};
 ghost use Rattle.ts_checker.specs.Accepted.{IsAccepted};
 ghost use Rattle.script_reader.specs.NodeScript.{node_script_in};
 ghost use Rattle.script_reader.specs.Steps.{IsRightSteps};

@@ -1,7 +1,7 @@
 //! Sources and names that exclude wrong bodies of `check` and of a `Scope`.
 
 ghost use Rattle.std.specs.Prelude.{◌≡◌, [], ◌∷◌, negsuc, codes, IfOk, IsOkAnd, IsErrAnd, Ok, Err, None, Some, true};
-ghost use Rattle.ts_syntax.specs.Checked.{tree_of};
+ghost use Rattle.ts_checked.specs.Checked.{tree_of};
 ghost use Rattle.ts_syntax.specs.Seen.{source_seen};
 ghost use Rattle.ts_syntax.specs.Tree.{no_acts, act_then, clear, number};
 ghost use Rattle.ts_checker.specs.Answer.{GivesChecked};
@@ -11,9 +11,10 @@ ghost use Rattle.language_callers.specs.Scripts.{with_step};
 ghost use Rattle.language_callers.specs.Sources.{word, actuator, private_entry, nine_privates, calling_f, for_x, f_in_the_limit};
 
 use std::alloc::Global;
+use ts_checked::{CVar, Checked};
 use ts_checker::{CheckFault, check};
 use ts_scope::Scope;
-use ts_syntax::{CVar, Checked, Decl, Script, Word};
+use ts_syntax::{Decl, Script, Word};
 use vm_desc::Description;
 
 pub fn an_undeclared_name_is_refused(

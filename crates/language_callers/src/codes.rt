@@ -2,15 +2,15 @@
 
 ghost use Rattle.std.specs.Prelude.{◌≡◌, ◌<◌, ◌≤◌, [], ◌∷◌, Err, IfOk, IsOk};
 ghost use Rattle.mate_code.specs.Table.{table_of};
-ghost use Rattle.ts_syntax.specs.Checked.{checked_shape, tree_of};
-ghost use Rattle.ts_syntax.specs.Statement.{no_statements};
+ghost use Rattle.ts_checked.specs.Checked.{checked_shape, tree_of};
+ghost use Rattle.ts_checked.specs.Statement.{no_statements};
 ghost use Rattle.ts_meaning.specs.Translation.{script_need, script_size};
 ghost use Rattle.language_callers.specs.Scripts.{first_set};
 
 use mate_code::Table;
 use mate_num::Code;
+use ts_checked::Checked;
 use ts_compiler::{CompileFault, compile};
-use ts_syntax::Checked;
 
 pub fn no_statement_is_one_byte(table: &Table, script: &Checked) -> Result<Code, CompileFault>
     requires table { table.now ≡ table_of (checked_shape script.now) }

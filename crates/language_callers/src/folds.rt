@@ -1,15 +1,15 @@
 //! Scripts that exclude wrong bodies of `fold`.
 
 ghost use Rattle.std.specs.Prelude.{◌≡◌, negsuc, IfOk};
-ghost use Rattle.ts_syntax.specs.Checked.{tree_of};
-ghost use Rattle.ts_syntax.specs.Expression.{MsgSize, Num, Neg, Not};
-ghost use Rattle.ts_syntax.specs.Statement.{no_statements, Append, Clear};
+ghost use Rattle.ts_checked.specs.Checked.{tree_of};
+ghost use Rattle.ts_checked.specs.Expression.{MsgSize, Num, Neg, Not};
+ghost use Rattle.ts_checked.specs.Statement.{no_statements, Append, Clear};
 ghost use Rattle.language_callers.specs.Scripts.{two_calls, cleared_by, clearing, compared, by_zero, only, whole};
 
 use mate_num::{BufId, FunId, NoMemory};
 use std::alloc::Global;
+use ts_checked::Checked;
 use ts_fold::fold;
-use ts_syntax::Checked;
 
 pub fn calls_stay(alloc: Global, script: &Checked, fun: FunId) -> Result<Checked, NoMemory>
     requires { tree_of script.now ≡ two_calls fun }

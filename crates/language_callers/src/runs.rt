@@ -4,15 +4,15 @@ ghost use Rattle.std.specs.Prelude.{◌≡◌, [], ◌∷◌, pos, negsuc, Ok, I
 ghost use Rattle.mate_num.specs.Store.{zero_store, set_value, set_buffer};
 ghost use Rattle.mate_num.specs.declared.call.End.TheVariants.{Halt, Fault, Wants};
 ghost use Rattle.mate_num.specs.declared.call.FaultKind.TheVariants.{Overrun};
-ghost use Rattle.ts_syntax.specs.Checked.{tree_of};
-ghost use Rattle.ts_syntax.specs.Statement.{no_statements};
+ghost use Rattle.ts_checked.specs.Checked.{tree_of};
+ghost use Rattle.ts_checked.specs.Statement.{no_statements};
 ghost use Rattle.language_callers.specs.Scripts.{two_calls, without_end, false_and_call, first_taken};
 
 use mate_num::{BufId, FaultKind, FunId, NoMemory, Outcome, Payload, Store};
 use std::alloc::Global;
+use ts_checked::{BinOp, CVar, Checked};
 use ts_meaning::apply;
 use ts_play::{Played, play};
-use ts_syntax::{BinOp, CVar, Checked};
 
 pub fn no_statement_changes_the_store(
     alloc: Global,

@@ -9,9 +9,9 @@ use Rattle.mate_num.specs.declared.shape.Shape.{Shape}
 use Rattle.mate_code.specs.Code.{instr_bytes, code_bytes}
 use Rattle.mate_code.specs.Table.{Layout, table_of}
 use Rattle.mate_code.specs.declared.instr.Instr.TheVariants.{Halt}
-use Rattle.ts_syntax.specs.Checked.{tree_of}
-use Rattle.ts_syntax.specs.Right.{is_right}
-use Rattle.ts_syntax.specs.Statement.{Block}
+use Rattle.ts_checked.specs.Checked.{tree_of}
+use Rattle.ts_checked.specs.Right.{is_right}
+use Rattle.ts_checked.specs.Statement.{Block}
 use Rattle.ts_meaning.specs.Laws.{RunsAsItsScript}
 use Rattle.ts_meaning.specs.Translation.{block_code}
 use Rattle.ts_meaning.proofs.RunScripts.{accepted-RunsAsItsScript}

@@ -4,8 +4,8 @@ use Rattle.arrayvec.specs.ArrayVec.{ArrayVec}
 use Rattle.mate_num.specs.declared.shape.Shape.{Shape}
 use Rattle.mate_num.specs.declared.store.Store.{Store}
 use Rattle.mate_code.specs.Run.{code_run}
-use Rattle.ts_syntax.specs.Statement.{Block}
-use Rattle.ts_syntax.specs.Checked.{checked_shape, tree_of}
+use Rattle.ts_checked.specs.Statement.{Block}
+use Rattle.ts_checked.specs.Checked.{checked_shape, tree_of}
 use Rattle.ts_meaning.specs.Meaning.{run_of}
 use Rattle.ts_meaning.specs.Laws.{RunsAsItsScript, UsesAsItsScript}
 use Rattle.ts_meaning.specs.Translation.{code_of}

@@ -1,8 +1,8 @@
 -- The compiled script of a source in a file, with its code.
 use Rattle.std.specs.Prelude.{ℕ, Bool, List, Result, Ok, Err}
-use Rattle.ts_syntax.specs.Statement.{Block}
-use Rattle.ts_syntax.specs.Checked.{tree_of}
-use Rattle.ts_syntax.specs.declared.checked.Checked.{Checked}
+use Rattle.ts_checked.specs.Statement.{Block}
+use Rattle.ts_checked.specs.Checked.{tree_of}
+use Rattle.ts_checked.specs.declared.checked.Checked.{Checked}
 use Rattle.ts_checker.specs.Accepted.{IsAccepted}
 use Rattle.mate_steps.specs.SourceCode.{IsCompiledOf, HasNoCode}
 use Rattle.mate_steps.specs.declared.code.CompiledScript.{CompiledScript}

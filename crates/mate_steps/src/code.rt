@@ -1,16 +1,16 @@
 //! From an accepted script to its code.
 
 ghost use Rattle.std.specs.Prelude.{◌≡◌, ◌≤◌, true, false, length, IfOk};
-ghost use Rattle.ts_syntax.specs.Checked.{tree_of, checked_shape as shape_of_script};
+ghost use Rattle.ts_checked.specs.Checked.{tree_of, checked_shape as shape_of_script};
 ghost use Rattle.vm_desc.specs.Shapes.{shape_of};
 ghost use Rattle.mate_steps.specs.SourceCode.{GivesCode};
 
 use mate_num::Code;
 use opcode_gen::table;
 use std::alloc::Global;
+use ts_checked::Checked;
 use ts_compiler::{CompileFault, compile};
 use ts_fold::fold;
-use ts_syntax::Checked;
 use vm_desc::Description;
 
 /// A script as it is compiled, and its code.

@@ -10,8 +10,8 @@ use Rattle.capsule_codec.specs.declared.capsule.Capsule.{Capsule}
 use Rattle.code_verifier.specs.Verified.{VerifiedCode}
 use Rattle.mate_files.specs.Files.{Names}
 use Rattle.mate_journal.specs.declared.program.Program.{Program}
-use Rattle.ts_syntax.specs.Checked.{tree_of}
-use Rattle.ts_syntax.specs.declared.checked.Checked.{Checked}
+use Rattle.ts_checked.specs.Checked.{tree_of}
+use Rattle.ts_checked.specs.declared.checked.Checked.{Checked}
 use Rattle.script_reader.specs.NodeScript.{node_script_in}
 use Rattle.script_reader.specs.Steps.{NodeScript}
 use Rattle.script_reader.specs.declared.fault.Cause.{Cause}

@@ -1,8 +1,8 @@
 -- Programs that mean the same and install the same.
 use Rattle.std.specs.Prelude.{◌≡◌, List, [], ◌∷◌, Option, Some, None, ⊤}
 use Rattle.mate_journal.specs.declared.program.Program.{Program}
-use Rattle.ts_syntax.specs.Checked.{tree_of}
-use Rattle.ts_syntax.specs.declared.checked.Checked.{Checked}
+use Rattle.ts_checked.specs.Checked.{tree_of}
+use Rattle.ts_checked.specs.declared.checked.Checked.{Checked}
 
 -- the same tree, or none
 abbrev pub SameSource : Option Checked → Option Checked → Type 0

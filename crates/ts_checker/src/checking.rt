@@ -2,15 +2,16 @@
 
 ghost use Rattle.std.specs.Prelude.{◌≡◌, IfOk};
 ghost use Rattle.vm_desc.specs.Shapes.{shape_of as shape_of_machine};
-ghost use Rattle.ts_syntax.specs.Checked.{checked_shape, tree_of};
+ghost use Rattle.ts_checked.specs.Checked.{checked_shape, tree_of};
 ghost use Rattle.ts_syntax.specs.Seen.{source_seen};
 ghost use Rattle.ts_checker.specs.Answer.{GivesChecked};
 ghost use Rattle.ts_checker.specs.Checks.{checked_source};
 
 use crate::stmts::block;
 use std::alloc::Global;
+use ts_checked::Checked;
 use ts_scope::{CheckFault, Scope};
-use ts_syntax::{Checked, Script};
+use ts_syntax::Script;
 use vm_desc::{Description, shape};
 
 /// Checks a script for the machine of `desc`, and resolves its names. The answer is the checked tree, or the

@@ -3,7 +3,7 @@
 ghost use Rattle.std.specs.Prelude.{◌≡◌, Ok, IfOk};
 ghost use Rattle.mate_code.specs.Code.{decoded};
 ghost use Rattle.mate_code.specs.Table.{table_of};
-ghost use Rattle.ts_syntax.specs.Checked.{checked_shape, tree_of};
+ghost use Rattle.ts_checked.specs.Checked.{checked_shape, tree_of};
 ghost use Rattle.ts_meaning.specs.Laws.{RunsAsItsScript, UsesAsItsScript};
 ghost use Rattle.ts_meaning.specs.Translation.{code_of};
 ghost use Rattle.ts_compiler.specs.Compiled.{Compiles, AreAccepted};
@@ -13,10 +13,10 @@ use crate::extent::script_extent;
 use crate::fault::CompileFault;
 use mate_code::{Table, encode};
 use mate_num::{CODE_MAX, Code, STACK_MAX};
+use ts_checked::Checked;
 use ts_meaning::{
     code_is_encodable, code_is_verified, code_runs_as_its_script, code_uses_as_its_script,
 };
-use ts_syntax::Checked;
 
 /// The code of a checked script, for the machine whose table it is. `StackDepth` comes exactly where the script
 /// needs a stack of more than 16 values, and `TooLong` exactly where it doesn't but its code takes more than

@@ -1,14 +1,14 @@
 //! A whole script, folded.
 
 ghost use Rattle.std.specs.Prelude.{◌≡◌, IfOk};
-ghost use Rattle.ts_syntax.specs.Checked.{checked_shape, tree_of};
+ghost use Rattle.ts_checked.specs.Checked.{checked_shape, tree_of};
 ghost use Rattle.ts_fold.specs.Folded.{folded};
 ghost use Rattle.ts_fold.specs.Laws.{RunsAs, UsesNoMore, TakesNoMore};
 
 use crate::statements::block;
 use mate_num::NoMemory;
 use std::alloc::Global;
-use ts_syntax::Checked;
+use ts_checked::Checked;
 
 /// Folds a script: an operation on numbers becomes the number that it gives, an `if` whose test is a number becomes
 /// the statements that it would run, and a `while` whose test is 0 goes. `/` and `%` by 0 stay, and so does every

@@ -1,14 +1,14 @@
 //! The run of a whole script.
 
 ghost use Rattle.std.specs.Prelude.{◌≡◌, IfOk};
-ghost use Rattle.ts_syntax.specs.Checked.{checked_shape, tree_of};
+ghost use Rattle.ts_checked.specs.Checked.{checked_shape, tree_of};
 ghost use Rattle.ts_meaning.specs.Meaning.{run_of};
 ghost use Rattle.ts_meaning.specs.Uses.{IsSameOutside, block_writes};
 
 use crate::evaluator::{Evaluator, Stop};
 use mate_num::{End, NoMemory, Outcome, Payload, Store};
 use std::alloc::Global;
-use ts_syntax::Checked;
+use ts_checked::Checked;
 
 /// What a run leaves: its end, its store and its calls in their order.
 pub type Played = Outcome;

@@ -1,9 +1,9 @@
 use Rattle.std.proofs.Common.{◌≡◌, negsuc, IfOk, refl, ap, subst, ◌∙◌}
 use Rattle.std.specs.Int.{int_wrap}
 use Rattle.mate_num.specs.declared.id.BufId.{BufId}
-use Rattle.ts_syntax.specs.Checked.{tree_of}
-use Rattle.ts_syntax.specs.Expression.{Num, Neg}
-use Rattle.ts_syntax.specs.Statement.{Block, Append}
+use Rattle.ts_checked.specs.Checked.{tree_of}
+use Rattle.ts_checked.specs.Expression.{Num, Neg}
+use Rattle.ts_checked.specs.Statement.{Block, Append}
 use Rattle.ts_fold.specs.Folded.{folded}
 use Rattle.language_callers.specs.Scripts.{only}
 use Rattle.language_callers.proofs.folds.the_lowest_number_is_its_own_negative.Goals as goal

@@ -1,4 +1,4 @@
-use Rattle.ts_syntax.specs.Checked.{tree_of}
+use Rattle.ts_checked.specs.Checked.{tree_of}
 use Rattle.mate_steps.proofs.AcceptingLemmas.{text_refused, script_accepted, script_refused}
 use Rattle.mate_steps.proofs.accepting.accept.Goals as goal
 

@@ -1,6 +1,6 @@
 use Rattle.std.proofs.Common.{ap, sym, ◌∙◌}
 use Rattle.mate_code.specs.Table.{table_of}
-use Rattle.ts_syntax.specs.Checked.{tree_of, checked_shape as shape_of_script}
+use Rattle.ts_checked.specs.Checked.{tree_of, checked_shape as shape_of_script}
 use Rattle.vm_desc.specs.Shapes.{shape_of}
 use Rattle.mate_steps.proofs.CodeLemmas.{filled, folded_code, folded_no_code}
 use Rattle.mate_steps.proofs.code.folded_code.Goals as goal

@@ -1,6 +1,6 @@
 use Rattle.std.proofs.Common.{false, refl, subst}
 use Rattle.mate_num.specs.declared.shape.Shape.{Shape}
-use Rattle.ts_syntax.specs.Checked.{tree_of, checked_shape as shape_of_script}
+use Rattle.ts_checked.specs.Checked.{tree_of, checked_shape as shape_of_script}
 use Rattle.mate_steps.specs.SourceCode.{IsCodeOf}
 use Rattle.mate_steps.proofs.CodeLemmas.{filled}
 use Rattle.mate_steps.proofs.code.plain_code.Goals as goal

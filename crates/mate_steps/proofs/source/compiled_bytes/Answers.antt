@@ -1,4 +1,4 @@
-use Rattle.ts_syntax.specs.Checked.{tree_of}
+use Rattle.ts_checked.specs.Checked.{tree_of}
 use Rattle.mate_steps.specs.Steps.{goes_on}
 use Rattle.mate_steps.proofs.Laws.{stops_by}
 use Rattle.mate_steps.proofs.source.compiled_bytes.Goals as goal

@@ -1,4 +1,4 @@
-use Rattle.ts_syntax.specs.Checked.{checked_shape, tree_of}
+use Rattle.ts_checked.specs.Checked.{checked_shape, tree_of}
 use Rattle.ts_compiler.proofs.compiling.compile.Goals as goal
 
 pub returns-then-extent-clause-uses : goal.returns-then-extent-clause-uses

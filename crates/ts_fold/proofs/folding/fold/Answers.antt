@@ -1,10 +1,10 @@
 use Rattle.std.proofs.Common.{◌≡◌, ◌∙◌, ap, sym, subst}
 use Rattle.std.specs.Prelude.{IsTrue}
 use Rattle.mate_num.specs.declared.shape.Shape.{Shape}
-use Rattle.ts_syntax.specs.Checked.{checked_shape, tree_of}
-use Rattle.ts_syntax.specs.Right.{is_right}
-use Rattle.ts_syntax.specs.Statement.{Block, block}
-use Rattle.ts_syntax.specs.TreeOf.{block_tree}
+use Rattle.ts_checked.specs.Checked.{checked_shape, tree_of}
+use Rattle.ts_checked.specs.Right.{is_right}
+use Rattle.ts_checked.specs.Statement.{Block, block}
+use Rattle.ts_checked.specs.TreeOf.{block_tree}
 use Rattle.ts_fold.specs.Folded.{folded}
 use Rattle.ts_fold.specs.Laws.{RunsAs, UsesNoMore, TakesNoMore}
 use Rattle.ts_fold.proofs.StatementLemmas.{RunsAs-folded, UsesNoMore-folded, TakesNoMore-folded, right-folded}

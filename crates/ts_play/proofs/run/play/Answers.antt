@@ -1,5 +1,5 @@
 use Rattle.std.proofs.Common.{rules}
-use Rattle.ts_syntax.specs.Checked.{checked_shape, tree_of}
+use Rattle.ts_checked.specs.Checked.{checked_shape, tree_of}
 use Rattle.ts_play.proofs.StoreLemmas.{outside_writes}
 use Rattle.ts_play.proofs.run.play.Goals as goal
 

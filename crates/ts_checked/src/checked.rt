@@ -1,8 +1,8 @@
 //! A checked script: a body, and the shape of the machine for which it is right.
 
 ghost use Rattle.std.specs.Prelude.{IsTrue};
-ghost use Rattle.ts_syntax.specs.Right.{is_right};
-ghost use Rattle.ts_syntax.specs.TreeOf.{block_tree};
+ghost use Rattle.ts_checked.specs.Right.{is_right};
+ghost use Rattle.ts_checked.specs.TreeOf.{block_tree};
 
 use crate::checked_stmt::CBlock;
 use mate_num::Shape;
@@ -28,9 +28,9 @@ impl Drop for Checked {
 
 impl Checked {
     ghost use Rattle.std.specs.Prelude.{◌≡◌, IsTrue};
-    ghost use Rattle.ts_syntax.specs.Checked.{checked_shape, tree_of};
-    ghost use Rattle.ts_syntax.specs.Right.{is_right};
-    ghost use Rattle.ts_syntax.specs.TreeOf.{block_tree};
+    ghost use Rattle.ts_checked.specs.Checked.{checked_shape, tree_of};
+    ghost use Rattle.ts_checked.specs.Right.{is_right};
+    ghost use Rattle.ts_checked.specs.TreeOf.{block_tree};
 
     /// A body with the shape for which it is right, as `is_right` tells. It takes no memory.
     pub fn new(shape: Shape, body: CBlock) -> Checked
