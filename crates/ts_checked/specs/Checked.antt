@@ -9,5 +9,5 @@ abbrev pub checked_shape : Checked → Shape
 checked_shape c = c.shape
 
 -- the script's statements
-abbrev pub tree_of : Checked → Block
-tree_of c = block_tree c.body
+abbrev pub checked_tree : Checked → Block
+checked_tree c = block_tree c.body

@@ -28,7 +28,7 @@ impl Drop for Checked {
 
 impl Checked {
     ghost use Rattle.std.specs.Prelude.{◌≡◌, IsTrue};
-    ghost use Rattle.ts_checked.specs.Checked.{checked_shape, tree_of};
+    ghost use Rattle.ts_checked.specs.Checked.{checked_shape, checked_tree};
     ghost use Rattle.ts_checked.specs.Right.{is_right};
     ghost use Rattle.ts_checked.specs.TreeOf.{block_tree};
 
@@ -36,7 +36,7 @@ impl Checked {
     pub fn new(shape: Shape, body: CBlock) -> Checked
         requires { IsTrue (is_right shape (block_tree body)) }
         ensures shape { checked_shape result ≡ shape }
-        ensures body { tree_of result ≡ block_tree body }
+        ensures body { checked_tree result ≡ block_tree body }
     {
         Checked { shape, body }
     }
@@ -48,7 +48,7 @@ impl Checked {
     }
 
     pub fn body(&self) -> &CBlock
-        ensures { block_tree result.now ≡ tree_of self.now }
+        ensures { block_tree result.now ≡ checked_tree self.now }
     {
         &self.body
     }
