@@ -64,7 +64,8 @@ impl Reader {
         requires count { length self.old.steps.files < number }
         requires small { number < 2 ^ 32 }
         requires keeps { KeepsProgress desc.now (progress_of self.old) }
-        ensures value { FollowsLine (after_line desc.now (progress_of self.old) (split_words line.now)) number result (progress_of self.new) }
+        ensures value { FollowsLine (after_line desc.now (progress_of self.old) (split_words line.now))
+            number result (progress_of self.new) }
         ensures files { OnOk result (length self.new.steps.files ≤ number) }
         ensures keeps { OnOk result (KeepsProgress desc.now (progress_of self.new)) }
     {

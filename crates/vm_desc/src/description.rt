@@ -9,12 +9,12 @@ use crate::settings::{RadioSet, TrickleSet};
 use arrayvec::ArrayVec;
 use mate_num::{ContextId, HandlerId, Name};
 
-/// The handlers, functions, variables and settings of a machine. A number of one of its parts is
+/// The handlers, functions, variables and settings of a machine. The number of one of its parts is
 /// the position in its list.
 ///
-/// Every description keeps the rules of its text: the lengths of its lists, the ranges of its
+/// Every description keeps the rules of a description's text: the lengths of its lists, the ranges of its
 /// numbers, the form of its names, no name twice in a list (shared variables and buffers count as
-/// one list), and the longest Trickle interval is long enough for a round of all handlers' packets.
+/// one list), and a longest Trickle interval that is long enough for a round of all handlers' packets.
 #[derive(Drop)]
 pub struct Description {
     /// The machine's number, which its capsules and packets have.

@@ -12,7 +12,7 @@ use crate::{Function, Handler, RadioSet, TrickleSet};
 use arrayvec::ArrayVec;
 use mate_num::Name;
 
-/// Whether the handlers have at most 16 contexts in all.
+/// `OverLimit` at `Key::HandlerContexts` if the handlers have more than 16 contexts in all.
 pub fn few_contexts(handlers: &ArrayVec<Handler, 8>) -> Result<(), DescFault>
     ensures value { result ≡ few_contexts handlers.now.items }
     ensures few { OnOk result (context_sum handlers.now.items ≤ 16) }
@@ -26,7 +26,7 @@ pub fn few_contexts(handlers: &ArrayVec<Handler, 8>) -> Result<(), DescFault>
     Ok(())
 }
 
-/// Whether no name stands twice in its list.
+/// `Duplicate` if a name is in its list twice.
 pub fn no_repeat(
     shared: &ArrayVec<Name, 16>,
     buffers: &ArrayVec<Name, 8>,
@@ -34,8 +34,10 @@ pub fn no_repeat(
     handlers: &ArrayVec<Handler, 8>,
     functions: &ArrayVec<Function, 32>,
 ) -> Result<(), DescFault>
-    ensures value { result ≡ no_repeat (duplicate_among shared.now.items buffers.now.items devices.now.items handlers.now.items functions.now.items) }
-    ensures none { OnOk result (duplicate_among shared.now.items buffers.now.items devices.now.items handlers.now.items functions.now.items ≡ None) }
+    ensures value { result ≡ no_repeat (duplicate_among shared.now.items buffers.now.items devices.now.items
+        handlers.now.items functions.now.items) }
+    ensures none { OnOk result (duplicate_among shared.now.items buffers.now.items devices.now.items
+        handlers.now.items functions.now.items ≡ None) }
 {
     only_once(variable_names(shared.as_slice(), buffers.as_slice()).as_slice())?;
     only_once(devices.as_slice())?;
@@ -87,7 +89,8 @@ fn function_names(functions: &ArrayVec<Function, 32>) -> ArrayVec<Name, 32>
     names
 }
 
-/// Whether the longest interval has the time that a round of all handlers' packets needs.
+/// `SlowImax` if the longest interval is shorter than the time that a round of all handlers' packets needs: for each
+/// handler 22 fragments, `gap` ms apart, and three times the delay.
 pub fn in_time(handlers: usize, trickle: TrickleSet, radio: RadioSet) -> Result<(), DescFault>
     requires handlers { handlers ≤ 8 }
     requires trickle { IsTrue (is_trickle trickle) }
