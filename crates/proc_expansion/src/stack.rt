@@ -36,8 +36,8 @@ pub(crate) fn push_next<'a>(
 ) -> Result<(), NoMemory>
     ensures left { (procs : List Proc) → OnOk result (left_on procs stack.new.items ≡ left_if procs body.entry
         ++ (acts_left procs rest.entry ++ left_on procs stack.old.items)) }
-    ensures steps { (procs : List Proc) → OnOk result (steps_on procs stack.new.items ≡ (steps_on procs stack.old.items + steps_left procs rest.entry)
-        + steps_if procs body.entry) }
+    ensures steps { (procs : List Proc) → OnOk result (steps_on procs stack.new.items
+        ≡ (steps_on procs stack.old.items + steps_left procs rest.entry) + steps_if procs body.entry) }
 {
     stack.push(rest)?;
     push_if(stack, body)?;

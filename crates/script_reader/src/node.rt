@@ -101,7 +101,7 @@ impl Reader {
     }
 }
 
-// Notes the version of an install.
+// Records the version of an install.
 fn note_version(newest: &mut [u32; 8], step: &Step)
     ensures { newest.new ≡ newest_after newest.old step.now }
 {
@@ -115,7 +115,7 @@ fn note_version(newest: &mut [u32; 8], step: &Step)
     }
 }
 
-// What a whole line says, where `files` files were named before it.
+// What a whole line says, if `files` files were named before it.
 #[tactic(auto, unfolding(crate::specs::NodeScript::a_line))]
 fn line_in<'a>(
     desc: &Description,
@@ -136,7 +136,7 @@ fn line_in<'a>(
     }
 }
 
-// What the words behind a line's first word say.
+// What the words after a line's first word say.
 #[tactic(auto, unfolding(crate::specs::NodeScript::behind))]
 fn behind<'a>(
     desc: &Description,
@@ -161,7 +161,7 @@ fn behind<'a>(
     }
 }
 
-// The same of the lines that name no file, no handler and no number of instructions.
+// The same for the lines that name no file, no handler and no number of instructions.
 #[tactic(auto, unfolding(crate::specs::NodeScript::behind_others))]
 fn behind_others<'a>(
     desc: &Description,
