@@ -13,9 +13,9 @@ use ts_checker::check;
 use ts_parser::read;
 use vm_desc::Description;
 
-/// The checked script of a source of at most 1,048,576 bytes for the machine of `desc`, or the first refusal of it: of
-/// its tokens over the whole text, then of its grammar and depth, then of its checks. Want of memory may come in place of
-/// any answer.
+/// The checked script of a source of at most 1,048,576 bytes for the machine of `desc`, or its first refusal: of its
+/// tokens over the whole text, then of its grammar and depth, then of its checks. `NoMemory` may come instead of any
+/// answer.
 pub fn accept(alloc: Global, desc: &Description, bytes: &[u8]) -> Result<Checked, SourceRefusal>
     requires { length bytes.now ≤ FILE_MAX }
     ensures tells { TellsAcceptance desc.now bytes.now result }

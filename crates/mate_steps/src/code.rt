@@ -18,7 +18,7 @@ use vm_desc::Description;
 pub struct CompiledScript {
     /// The accepted script, or the folded one.
     pub script: Checked,
-    /// 1 to `CODE_MAX` bytes.
+    /// From 1 to `CODE_MAX` bytes.
     pub code: Code,
 }
 
@@ -27,12 +27,13 @@ pub struct CompiledScript {
 pub enum CodeFault {
     /// The tree that is compiled needs too deep a stack, or its code is too long.
     Uncompiled(CompileFault),
-    /// No memory was left for the folded tree. It comes only where folding is asked.
+    /// No memory was left for the folded tree. It comes only if folding is asked for.
     NoMemory,
 }
 
-/// The code of a script that the machine accepts, folded before it is compiled where `folded` says so. `Uncompiled` comes
-/// exactly where the tree that is compiled needs a stack of more than 16 values, or its code takes more than `CODE_MAX` bytes.
+/// The code of a script that the machine accepts, folded before it is compiled if `folded` says so. `Uncompiled`
+/// comes exactly if the tree that is compiled needs a stack of more than 16 values, or its code takes more than
+/// `CODE_MAX` bytes.
 pub fn compiled_script(
     alloc: Global,
     desc: &Description,

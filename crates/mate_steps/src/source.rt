@@ -16,7 +16,7 @@ use std::alloc::Global;
 use ts_checked::Checked;
 use vm_desc::Description;
 
-/// The compiled script of a source with its code, folded before it is compiled where `fold` says so.
+/// The compiled script of a source with its code, folded before it is compiled if `fold` says so.
 pub fn source_of<F: Files>(
     alloc: Global,
     files: &mut F,
@@ -33,7 +33,7 @@ pub fn source_of<F: Files>(
     compiled_bytes(alloc, desc, fold, name, bytes.as_slice())
 }
 
-/// That of the bytes of the source `name`.
+/// The same for the bytes of the source `name`.
 #[inline(never)]
 pub fn compiled_bytes(
     alloc: Global,

@@ -18,7 +18,7 @@ use std::alloc::Global;
 use std::marker::Model;
 use vm_desc::Description;
 
-/// A compiled script, whose tree is in one place for all programs that it gives. Contracts see the compiled script.
+/// A compiled script, whose tree is kept once for all programs that it gives. Contracts see the compiled script.
 #[derive(Drop)]
 pub struct SharedSource {
     script: SharedScript,
@@ -61,7 +61,7 @@ impl SharedSource {
         }
     }
 
-    /// The same for one owner more.
+    /// The same source, with one more owner.
     pub fn share(&self) -> Result<SharedSource, Refusal>
         ensures { obtained (λ shared. shared ≡ self.now) result }
     {
@@ -74,7 +74,7 @@ impl SharedSource {
         }
     }
 
-    /// The program that it is for a handler of the machine, as a version.
+    /// The program that it gives for a handler of the machine, with a version.
     #[inline(never)]
     pub fn program(
         self,

@@ -3,7 +3,7 @@
 use mate_num::{BufId, FunId};
 use ts_checked::{CArgs, CExpr, CStmt};
 
-/// A call of a function that sends a buffer, or of another one.
+/// A call: of a function that sends a buffer, or of another one.
 #[derive(Drop)]
 pub(crate) enum Called {
     Sends(FunId, BufId),

@@ -14,9 +14,8 @@ use ts_scope::{CheckFault, Scope};
 use ts_syntax::Script;
 use vm_desc::{Description, shape};
 
-/// Checks a script for the machine of `desc`, and resolves its names. The answer is the checked tree, or the
-/// first refusal: declarations from left to right, then the statements word by word. `NoMemory` may come in
-/// place of either.
+/// Checks a script for the machine of `desc`, and resolves its names. The answer is the checked tree, or the first
+/// refusal: declarations from left to right, then the statements word by word. `NoMemory` may come instead of either.
 pub fn check(alloc: Global, desc: &Description, script: &Script) -> Result<Checked, CheckFault>
     ensures tree { GivesChecked checked_tree result (checked_source desc.now (source_seen script.now)) }
     ensures shape { IfOk result (λ checked. checked_shape checked ≡ shape_of_machine desc.now) }

@@ -20,7 +20,7 @@ use ts_scope::{CheckFault, Scope};
 use ts_syntax::{Args, Expr, Word};
 use vm_desc::FunKind;
 
-/// Checks an expression, where calls are allowed or not.
+/// Checks an expression; `calls` says whether calls are allowed in it.
 #[cycle(expression)]
 pub(crate) fn expression(
     alloc: Global,
@@ -49,8 +49,8 @@ pub(crate) fn expression(
     }
 }
 
-// The forms of an expression stay calls of their own: a function pays at its entry for all that it may hold, and few
-// nodes are of one form.
+// The forms of an expression aren't inlined: a function pays at its entry for all that it may hold, and few nodes are
+// of one form.
 
 // Checks a part of an expression, and boxes it.
 #[inline(never)]
@@ -175,7 +175,7 @@ fn arguments(alloc: Global, scope: &Scope, calls: bool, args: &[Expr]) -> Result
     Ok(checked)
 }
 
-// The number that a literal writes.
+// The number that a literal stands for, modulo 65536, from -32768 to 32767.
 fn number_of(literal: u16) -> i16
     ensures { result ≡ wrap (pos literal) }
 {
@@ -213,7 +213,7 @@ fn arg_count(kind: FunKind) -> u8
     }
 }
 
-// The buffer that a call sends, of a function whose name stands at `place`: its one argument, a name alone.
+// The buffer that a call sends, of a function whose name is at `place`: its one argument, a name alone.
 fn sent(scope: &Scope, place: u32, args: &[Expr]) -> Result<BufId, CheckFault>
     ensures { result ≡ sent (scope_names scope.now) place (trees_of args.now) }
 {
@@ -226,7 +226,7 @@ fn sent(scope: &Scope, place: u32, args: &[Expr]) -> Result<BufId, CheckFault>
     }
 }
 
-// The name that an expression is alone.
+// The name that an expression is, if it is a name alone.
 fn name_alone(expr: &Expr) -> Option<&Word>
     ensures { option_map (λ word. word.now) result ≡ name_alone (tree_of expr.now) }
 {

@@ -28,7 +28,7 @@ pub(crate) fn block(alloc: Global, scope: &Scope, stmts: &Block) -> Result<CBloc
     Ok(checked)
 }
 
-// A block that takes so many statements with no more memory.
+// An empty block with room for `count` statements.
 fn room_for(alloc: Global, count: usize) -> Result<CBlock, NoMemory>
     ensures { IfOk result (λ room. block_trees room ≡ []) }
 {
@@ -180,7 +180,7 @@ fn for_head(alloc: Global, scope: &Scope, head: &ForHead) -> Result<CForHead, Ch
     })
 }
 
-// The step of a `for`: 1 where none is written, else from -32767 to 32767, and not 0.
+// The step of a `for`: 1 if none is written, else from -32767 to 32767, and not 0; `Kind` for any other.
 fn step_size(step: Option<Step>) -> Result<i16, CheckFault>
     ensures { result ≡ checked_step step }
 {

@@ -18,9 +18,9 @@ use ts_meaning::{
     code_is_encodable, code_is_verified, code_runs_as_its_script, code_uses_as_its_script,
 };
 
-/// The code of a checked script, for the machine whose table it is. `StackDepth` comes exactly where the script
-/// needs a stack of more than 16 values, and `TooLong` exactly where it doesn't but its code takes more than
-/// `CODE_MAX` bytes. It takes no memory. One pass measures the script; only code that has room is written.
+/// The code of a checked script, for the machine that the table is of. `StackDepth` comes exactly if the script needs
+/// a stack of more than 16 values, and `TooLong` exactly if it doesn't but its code takes more than `CODE_MAX` bytes.
+/// It takes no memory. One pass measures the script; code is written only if it fits.
 pub fn compile(table: &Table, script: &Checked) -> Result<Code, CompileFault>
     requires { table.now ≡ table_of (checked_shape script.now) }
     ensures gives { Compiles (checked_shape script.now) (checked_tree script.now) result }
@@ -31,7 +31,7 @@ pub fn compile(table: &Table, script: &Checked) -> Result<Code, CompileFault>
     // They are verified, with the depth of the stack at each place.
     ensures verified { IfOk result (λ code. AreAccepted (checked_shape script.now) (checked_tree script.now) code) }
 
-    // The code runs as the script, and uses what the script uses.
+    // The code runs as the script does, and uses what the script uses.
     ensures runs { IfOk result (λ _. RunsAsItsScript (checked_shape script.now) (checked_tree script.now)) }
     ensures uses { UsesAsItsScript (checked_shape script.now) (checked_tree script.now) }
 {

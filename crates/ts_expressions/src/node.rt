@@ -1,5 +1,5 @@
-//! The nodes of expressions, each made of its parts and boxed. They stay calls of their own: a node is large, and the parser
-//! that calls them recurs.
+//! The nodes of expressions, each made of its parts and boxed. They aren't inlined: a node is large, and the parser
+//! that calls them is recursive.
 
 ghost use Rattle.std.specs.Prelude.{◌≡◌, IfOk};
 ghost use Rattle.ts_expressions.specs.Boxed.{boxed_tree};

@@ -1,4 +1,4 @@
-//! Statements: what is left of them goes into the block that they stand in.
+//! Statements: what is left of them goes into the block that they are in.
 
 ghost use Rattle.std.specs.Prelude.{◌≡◌, ◌++◌, OnOk, IfOk};
 ghost use Rattle.ts_checked.specs.Expression.{arguments};
@@ -155,7 +155,7 @@ fn for_head(alloc: Global, head: &CForHead) -> Result<CForHead, NoMemory>
     })
 }
 
-// Whether a test holds, where it is a number.
+// Whether a test holds, if it is a number.
 fn decision(test: &CExpr) -> Option<bool>
     ensures { result ≡ decision (expr_tree test.now) }
 {

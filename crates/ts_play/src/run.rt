@@ -10,11 +10,11 @@ use mate_num::{End, NoMemory, Outcome, Payload, Store};
 use std::alloc::Global;
 use ts_checked::Checked;
 
-/// What a run leaves: its end, its store and its calls in their order.
+/// What a run leaves: its end, its store, and its calls in their order.
 pub type Played = Outcome;
 
-/// Runs `script` on `store`, with the message `msg`, with `answers` to its calls in their order, and with
-/// `turns` goings back of its loops. `NoMemory` comes only where memory for the list of calls is refused.
+/// Runs `script` on `store`, with the message `msg`, with `answers` to its calls in their order, and with `turns`
+/// turns: how often its loops may go back. `NoMemory` comes only if memory for the list of calls is refused.
 pub fn play(
     alloc: Global,
     script: &Checked,

@@ -1,4 +1,4 @@
-//! Expressions: their parts are evaluated from left to right, all of them.
+//! Expressions: all their parts are evaluated, from left to right.
 
 ghost use Rattle.std.specs.Prelude.{◌≡◌, ◌≤◌, [], ◌∷◌, ◌++◌, length};
 ghost use Rattle.ts_checked.specs.Expression.{arguments, Call};
@@ -12,7 +12,7 @@ use mate_num::{BufId, FunId, Num16, Payload};
 use ts_checked::{CArgs, CExpr};
 use ts_meaning::apply;
 
-// One more argument; one past the tenth has no room.
+// One argument more; there is no room for one past the tenth.
 #[tactic(auto, using(crate::proofs::ArgumentLemmas::full))]
 fn push_within_ten(values: &mut Payload, value: i16)
     ensures values { values.new ≡ first_ten (values.old.items ++ value ∷ []) }

@@ -10,7 +10,7 @@ use mate_num::{BufId, FunId, Shape, VarId};
 use ts_checked::{CArgs, CBlock, CExpr, CForHead, CStmt, CVar};
 
 /// Whether a body is right for a shape: the shape is within the limits of a machine, each name is in
-/// range, each call has its function's arguments, no call stands in the limit of a `for`, and each step is
+/// range, each call has its function's arguments, no call is in the limit of a `for`, and each step is
 /// from -32767 to 32767 and not 0.
 pub fn is_right(shape: &Shape, body: &CBlock) -> bool
     ensures { result ≡ is_right_for shape.now (block_tree body.now) }
