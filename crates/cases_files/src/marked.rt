@@ -2,7 +2,7 @@
 
 use std::alloc::{AllocError, Global};
 
-/// The bytes of a text in which `⏎` is the end of a line, `⟨3×ab⟩` for `ababab`, and `⟨255⟩` for that byte.
+/// The bytes of a text in which `⏎` is the end of a line, `⟨3×ab⟩` is `ababab`, and `⟨255⟩` is that byte.
 pub fn marked_bytes(alloc: Global, text: &str) -> Result<Vec<u8>, AllocError> {
     let text = text.replace(alloc, "⏎", "\n")?;
     let mut bytes = Vec::new(alloc);
