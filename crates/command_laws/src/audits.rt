@@ -12,7 +12,7 @@ ghost use Rattle.mate_files.specs.Files.{Names};
 ghost use Rattle.mate_refusals.specs.declared.refusal.Refusal.{Refusal};
 ghost use Rattle.mate_steps.specs.OneAnswer.{steady};
 
-/// `audit` finds serial what `node` and `sim` wrote. Say that the files are steady, the command owes a run, a text is
+/// `audit` finds serial what `node` and `sim` wrote. Suppose that the files are steady, the command owes a run, a text is
 /// that of the run's whole report or of the one up to where its log was full, and a file holds this text, of
 /// 1,048,576 bytes or less: then `audit` with the same machine, the same script and this file owes `serial` and a
 /// line feed, unless memory runs out.
