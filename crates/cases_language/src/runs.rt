@@ -4,8 +4,8 @@ use crate::sources::accepted;
 use cases_files::{call_words, end_words, store_words, zero_store};
 use mate_num::{Call, Outcome, Payload};
 use std::alloc::{AllocError, Global};
+use ts_checked::Checked;
 use ts_play::play;
-use ts_syntax::Checked;
 use vm_desc::{Description, shape};
 
 /// How the run of a case `TURNS | MESSAGE | ANSWERS | SOURCE` ends, the store that it leaves, and the calls that were

@@ -4,8 +4,8 @@ use crate::sources::accepted;
 use cases_files::marked_bytes;
 use mate_num::{FunId, Shape, VarId};
 use std::alloc::{AllocError, Global};
+use ts_checked::{CArgs, CBlock, CExpr, CForHead, CStmt, CVar};
 use ts_right::is_right;
-use ts_syntax::{CArgs, CBlock, CExpr, CForHead, CStmt, CVar};
 use vm_desc::{Description, shape};
 use vm_reader::read;
 

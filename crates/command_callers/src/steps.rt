@@ -5,7 +5,7 @@ ghost use Rattle.mate_num.specs.declared.bounds.TheConstants.{FILE_MAX};
 ghost use Rattle.vm_desc.specs.Limits.{Parts};
 ghost use Rattle.vm_desc.specs.Shapes.{shape_of};
 ghost use Rattle.vm_reader.specs.Text.{description_of};
-ghost use Rattle.ts_syntax.specs.Checked.{tree_of, checked_shape as shape_of_script};
+ghost use Rattle.ts_checked.specs.Checked.{checked_tree, checked_shape as shape_of_script};
 ghost use Rattle.ts_checker.specs.Accepted.{IsAccepted};
 ghost use Rattle.command_line.specs.Commands.{builtin_word};
 ghost use Rattle.mate_refusals.specs.declared.cause.Cause.TheVariants.{Unread as UnreadCause};
@@ -20,7 +20,8 @@ use mate_steps::{
     CodeFault, CompiledScript, compiled_script, expansion_of, machine_of, read_file, source_of,
 };
 use std::alloc::Global;
-use ts_syntax::{Checked, Script};
+use ts_checked::Checked;
+use ts_syntax::Script;
 use vm_desc::Description;
 
 /// No other description is read instead of one that isn't there.
@@ -54,7 +55,7 @@ pub fn an_unfolded_source_keeps_its_tree<F: Files>(
     name: &str,
 ) -> Result<CompiledScript, Refusal>
     ensures { (bytes : List ℕ) → HoldsFile (record { told = F.contents files.old; steady = F.steady files.old }) name.now (Some bytes)
-        → IfOk result (λ c. IsAccepted desc.now bytes (tree_of c.script)) }
+        → IfOk result (λ c. IsAccepted desc.now bytes (checked_tree c.script)) }
 {
     source_of(alloc, files, desc, false, name)
 }

@@ -10,8 +10,8 @@ use Rattle.vm_desc.specs.declared.function.FunKind.{FunKind}
 use Rattle.ts_syntax.specs.declared.script.Decl.{Decl}
 use Rattle.ts_syntax.specs.declared.stmt.Step.{Step}
 use Rattle.ts_syntax.specs.declared.word.Word.{Word}
-use Rattle.ts_syntax.specs.Expression.{Arguments}
-use Rattle.ts_syntax.specs.Statement.{Block}
+use Rattle.ts_checked.specs.Expression.{Arguments}
+use Rattle.ts_checked.specs.Statement.{Block}
 use Rattle.ts_syntax.specs.Tree as given
 use Rattle.ts_syntax.specs.Tree.{Tree, Trees, no_trees, tree_then, Act, Acts, no_acts, act_then, Source}
 use Rattle.ts_scope.specs.declared.fault.CheckFault.{CheckFault}

@@ -5,9 +5,9 @@ use Rattle.vm_desc.specs.declared.description.Description.{Description}
 use Rattle.ts_syntax.specs.Cut.{cut}
 use Rattle.ts_syntax.specs.Faults.{Spells}
 use Rattle.ts_syntax.specs.Seen.{source_seen}
-use Rattle.ts_syntax.specs.Statement.{Block}
+use Rattle.ts_checked.specs.Statement.{Block}
 use Rattle.ts_syntax.specs.Tree.{Source}
-use Rattle.ts_syntax.specs.declared.checked.Checked.{Checked}
+use Rattle.ts_checked.specs.declared.checked.Checked.{Checked}
 use Rattle.ts_syntax.specs.declared.script.Script.{Script}
 use Rattle.ts_syntax.specs.declared.token.Token.{Token}
 use Rattle.ts_parser.specs.Cutting.{CutsScript}

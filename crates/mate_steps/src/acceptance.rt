@@ -2,7 +2,7 @@
 
 ghost use Rattle.std.specs.Prelude.{◌≡◌, ◌≢◌, ◌⊎◌, ℕ, List};
 ghost use Rattle.vm_desc.specs.declared.description.Description.{Description};
-ghost use Rattle.ts_syntax.specs.Statement.{Block};
+ghost use Rattle.ts_checked.specs.Statement.{Block};
 ghost use Rattle.ts_scope.specs.declared.fault.CheckFault.TheVariants.{NoMemory};
 ghost use Rattle.ts_checker.specs.Accepted.{IsAccepted, IsRefusedBy, TextRefusal, by_check};
 

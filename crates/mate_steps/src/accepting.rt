@@ -3,14 +3,14 @@
 ghost use Rattle.std.specs.Prelude.{◌≡◌, ◌≤◌, length, IfOk};
 ghost use Rattle.mate_num.specs.declared.bounds.TheConstants.{FILE_MAX};
 ghost use Rattle.vm_desc.specs.Shapes.{shape_of as shape_of_machine};
-ghost use Rattle.ts_syntax.specs.Checked.{checked_shape};
+ghost use Rattle.ts_checked.specs.Checked.{checked_shape};
 ghost use Rattle.mate_steps.specs.Answers.{TellsAcceptance};
 
 use crate::refusal::SourceRefusal;
 use std::alloc::Global;
+use ts_checked::Checked;
 use ts_checker::check;
 use ts_parser::read;
-use ts_syntax::Checked;
 use vm_desc::Description;
 
 /// The checked script of a source of at most 1,048,576 bytes for the machine of `desc`, or its first refusal: of its

@@ -5,7 +5,7 @@ ghost use Rattle.arrayvec.specs.ArrayVec.{ArrayVec};
 ghost use Rattle.mate_num.specs.Uses.{IsSameUses};
 ghost use Rattle.mate_num.specs.declared.lock_set.LockSet.{LockSet as LockSetValue};
 ghost use Rattle.mate_num.specs.declared.shape.Shape.{Shape};
-ghost use Rattle.ts_syntax.specs.Statement.{Block};
+ghost use Rattle.ts_checked.specs.Statement.{Block};
 ghost use Rattle.ts_meaning.specs.Uses.{script_uses};
 ghost use Rattle.ts_meaning.specs.Translation.{code_of};
 ghost use Rattle.ts_compiler.specs.Compiled.{AreAccepted};

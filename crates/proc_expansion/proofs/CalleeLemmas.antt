@@ -7,7 +7,7 @@ use Rattle.std.proofs.lemmas.List.Sums.{sum_by-append}
 use Rattle.ts_syntax.specs.declared.expr.Expr.{Expr}
 use Rattle.ts_syntax.specs.declared.procedure.Proc.{Proc}
 use Rattle.ts_syntax.specs.Seen.{procedure_of}
-use Rattle.ts_syntax.proofs.ListLemmas.{drop_item}
+use Rattle.ts_checked.proofs.ListLemmas.{drop_item}
 use Rattle.proc_names.specs.Heads.{parameter_count}
 use Rattle.proc_expansion.specs.Expansion.{Callee, callee}
 use Rattle.proc_expansion.specs.Plan.{bodies_of, firsts_of}

@@ -5,7 +5,7 @@ ghost use Rattle.mate_steps.specs.SourceCode.{IsCompiledOf};
 ghost use Rattle.mate_steps.specs.Steps.{obtained};
 ghost use Rattle.node_programs.specs.Right.{IsRightProgram};
 ghost use Rattle.script_programs.specs.Programs.{IsInstalled};
-ghost use Rattle.ts_syntax.specs.Statement.{Block};
+ghost use Rattle.ts_checked.specs.Statement.{Block};
 ghost use Rattle.vm_desc.specs.Shapes.{shape_of};
 
 use crate::image::stored_image;
@@ -27,7 +27,7 @@ pub struct SharedSource {
 
 impl Model for SharedSource {
     ghost use Rattle.std.specs.Coded.{codes};
-    ghost use Rattle.ts_syntax.specs.contracts.checked_stmt.CStmt as stmt;
+    ghost use Rattle.ts_checked.specs.contracts.checked_stmt.CStmt as stmt;
     ghost use Rattle.mate_steps.specs.declared.code.CompiledScript.{CompiledScript as Compiled};
 
     ghost Value = { Compiled };

@@ -6,7 +6,7 @@ ghost use Rattle.vm_desc.specs.Limits.{function_args};
 ghost use Rattle.vm_desc.specs.Shapes.{sends_buffer};
 ghost use Rattle.ts_syntax.specs.Seen.{tree_of, trees_of};
 ghost use Rattle.ts_syntax.specs.Tree as given;
-ghost use Rattle.ts_syntax.specs.TreeOf.{expr_tree};
+ghost use Rattle.ts_checked.specs.TreeOf.{expr_tree};
 ghost use Rattle.ts_checker.specs.Answer.{GivesChecked};
 ghost use Rattle.ts_checker.specs.Checks.{variable_expression, name_alone, sent, checked_call, checked_expr, checked_args};
 ghost use Rattle.ts_scope.specs.Seen.{scope_names};
@@ -15,8 +15,9 @@ ghost use Rattle.ts_checker.specs.Seen.{arguments_of, boxed_expression, call_of}
 use crate::called::Called;
 use mate_num::BufId;
 use std::alloc::Global;
+use ts_checked::{BinOp, CArgs, CExpr, CVar};
 use ts_scope::{CheckFault, Scope};
-use ts_syntax::{Args, BinOp, CArgs, CExpr, CVar, Expr, Word};
+use ts_syntax::{Args, Expr, Word};
 use vm_desc::FunKind;
 
 /// Checks an expression; `calls` says whether calls are allowed in it.

@@ -3,9 +3,9 @@
 ghost use Rattle.std.specs.Prelude.{◌≡◌, ◌≤◌, ◌∷◌, ◌++◌, []};
 ghost use Rattle.mate_num.specs.declared.bounds.TheConstants.{CODE_MAX};
 ghost use Rattle.mate_code.specs.declared.instr.Instr.TheVariants.{Add, BSet, BTake, Drop, Fun};
-ghost use Rattle.ts_syntax.specs.Expression.{arguments};
-ghost use Rattle.ts_syntax.specs.Statement.{If, For, While};
-ghost use Rattle.ts_syntax.specs.TreeOf.{expr_tree, args_trees, stmt_tree, block_tree};
+ghost use Rattle.ts_checked.specs.Expression.{arguments};
+ghost use Rattle.ts_checked.specs.Statement.{If, For, While};
+ghost use Rattle.ts_checked.specs.TreeOf.{expr_tree, args_trees, stmt_tree, block_tree};
 ghost use Rattle.ts_meaning.specs.Translation.{size_of_instrs, get_code, set_code, expr_code, args_code, stmt_code, block_code, for_test};
 ghost use Rattle.ts_meaning.specs.Translation.{script_code, script_size};
 ghost use Rattle.ts_compiler.specs.Parts.{HasRoom, WritesInstrs, guarded_code, head_code, other_code};
@@ -16,7 +16,7 @@ use arrayvec::ArrayVec;
 use mate_code::Instr;
 use mate_num::{BufId, CODE_MAX, FunId};
 use std::marker::Model;
-use ts_syntax::{CArgs, CBlock, CExpr, CForHead, CStmt, CVar};
+use ts_checked::{CArgs, CBlock, CExpr, CForHead, CStmt, CVar};
 
 // How many bytes a jump takes.
 const JUMP: u16 = 3;

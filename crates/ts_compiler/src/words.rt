@@ -5,7 +5,7 @@ ghost use Rattle.mate_code.specs.Instr.{size_of};
 ghost use Rattle.ts_meaning.specs.Translation.{number_code, get_code, set_code, operator_code, within_code};
 
 use mate_code::Instr;
-use ts_syntax::{BinOp, CVar};
+use ts_checked::{BinOp, CVar};
 
 /// Pushes a number: by one byte if it is from 0 to 255, else by two.
 pub(crate) fn number_instr(value: i16) -> Instr

@@ -12,10 +12,11 @@ use crate::node::{
     buffer_size, call, inverse, item, message_item, message_size, negative, number, paren, variable,
 };
 use std::alloc::Global;
+use ts_checked::BinOp;
 use ts_syntax::expect::{
     after, after_comparison_sign, after_product_sign, after_sum_sign, ended, expect, name,
 };
-use ts_syntax::{Args, BinOp, Expr, Halt, Token, TokenKind, Word};
+use ts_syntax::{Args, Expr, Halt, Token, TokenKind, Word};
 
 /// Reads an expression, with all the operators that follow its parts: the expression, and the tokens after it, of
 /// which the first is no `or`. It stops at the first token that doesn't fit, or after all tokens if they end too

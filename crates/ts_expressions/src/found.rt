@@ -5,7 +5,8 @@ ghost use Rattle.ts_expressions.specs.Finding.{Made, Joined};
 
 use crate::node::two;
 use std::alloc::{AllocError, Global};
-use ts_syntax::{BinOp, Expr, Halt, Token};
+use ts_checked::BinOp;
+use ts_syntax::{Expr, Halt, Token};
 
 /// What a part of the parser found, and the tokens after it. It is boxed at once, so that recursive functions need little stack.
 pub type Found<'a> = Result<(Box<Expr>, &'a [Token]), Halt<'a>>;

@@ -7,7 +7,8 @@ ghost use Rattle.ts_syntax.specs.Tree.{number, variable, size, message_size, cal
 ghost use Rattle.ts_syntax.specs.Seen.{trees_of};
 
 use std::alloc::{AllocError, Global};
-use ts_syntax::{Args, BinOp, Expr, Word};
+use ts_checked::BinOp;
+use ts_syntax::{Args, Expr, Word};
 
 #[inline(never)]
 pub fn number(alloc: Global, value: u16) -> Result<Box<Expr>, AllocError>

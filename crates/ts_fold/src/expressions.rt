@@ -1,14 +1,14 @@
 //! Expressions: an operation whose operands are numbers becomes its value.
 
 ghost use Rattle.std.specs.Prelude.{◌≡◌, IfOk};
-ghost use Rattle.ts_syntax.specs.Expression.{arguments};
-ghost use Rattle.ts_syntax.specs.TreeOf.{expr_tree, args_trees};
+ghost use Rattle.ts_checked.specs.Expression.{arguments};
+ghost use Rattle.ts_checked.specs.TreeOf.{expr_tree, args_trees};
 ghost use Rattle.ts_fold.specs.Folded.{literal_of, negated, inverted, operated, negation, inverse, operation, folded_expr, folded_args};
 
 use mate_num::{NoMemory, Num16};
 use std::alloc::Global;
+use ts_checked::{BinOp, CArgs, CExpr};
 use ts_meaning::apply;
-use ts_syntax::{BinOp, CArgs, CExpr};
 
 /// An expression, folded.
 #[cycle(expression)]

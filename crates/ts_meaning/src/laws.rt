@@ -3,8 +3,8 @@
 ghost use Rattle.std.specs.Prelude.{◌≡◌, ◌≤◌, IsTrue};
 ghost use Rattle.mate_num.specs.declared.bounds.TheConstants.{STACK_MAX};
 ghost use Rattle.mate_num.specs.declared.shape.Shape.{Shape};
-ghost use Rattle.ts_syntax.specs.Right.{is_right};
-ghost use Rattle.ts_syntax.specs.Statement.{Block};
+ghost use Rattle.ts_checked.specs.Right.{is_right};
+ghost use Rattle.ts_checked.specs.Statement.{Block};
 ghost use Rattle.ts_meaning.specs.Laws.{RunsAsItsScript, UsesAsItsScript, IsVerifiedScript, IsEncodable};
 ghost use Rattle.ts_meaning.specs.Translation.{script_need};
 

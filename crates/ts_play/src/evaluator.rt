@@ -5,7 +5,7 @@ use mate_num::{
     BufId, Call, Calls, End, FaultKind, FunId, Outcome, PRIVATES, Payload, Store, VarId, copy_of,
 };
 use std::alloc::Global;
-use ts_syntax::CVar;
+use ts_checked::CVar;
 
 /// A run that goes on.
 #[derive(Drop)]

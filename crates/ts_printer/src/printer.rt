@@ -11,7 +11,8 @@ ghost use Rattle.ts_syntax.specs.Spelling.{act_spelled, acts_spelled, decls_spel
 ghost use Rattle.ts_syntax.specs.Text.{space, token_text, text_of};
 
 use mate_files::{Pen, Sink, SinkFault};
-use ts_syntax::{Args, BinOp, Block, Decl, DeclKind, Expr, ForHead, Script, Step, Stmt, Word};
+use ts_checked::BinOp;
+use ts_syntax::{Args, Block, Decl, DeclKind, Expr, ForHead, Script, Step, Stmt, Word};
 
 /// Prints tokens with one space between two.
 #[derive(Drop)]

@@ -17,7 +17,7 @@ use Rattle.vm_desc.proofs.DescriptionLemmas.{bounds_of}
 use Rattle.vm_desc.specs.declared.description.Description.{Description}
 use Rattle.ts_syntax.specs.declared.script.DeclKind.{DeclKind}
 use Rattle.ts_syntax.specs.declared.script.DeclKind.TheVariants as of
-use Rattle.ts_syntax.specs.declared.checked_stmt.CVar.TheVariants.{Shared, Private}
+use Rattle.ts_checked.specs.declared.checked_stmt.CVar.TheVariants.{Shared, Private}
 use Rattle.ts_scope.specs.declared.scope.Symbol.{Symbol}
 use Rattle.ts_scope.specs.declared.scope.Symbol.TheVariants.{Variable, Buffer}
 use Rattle.ts_scope.specs.declared.scope.Entry.{Entry}

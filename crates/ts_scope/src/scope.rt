@@ -6,7 +6,8 @@ ghost use Rattle.ts_scope.specs.Names.{listed, symbol_of, function_from};
 use crate::fault::CheckFault;
 use arrayvec::ArrayVec;
 use mate_num::{BufId, FunId, Name, VarId};
-use ts_syntax::{CVar, Decl, DeclKind, Word};
+use ts_checked::CVar;
+use ts_syntax::{Decl, DeclKind, Word};
 use vm_desc::{Description, FunKind, Function};
 
 /// What a declared name names.

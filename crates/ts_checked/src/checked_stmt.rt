@@ -90,7 +90,7 @@ impl Drop for CBlock {
 }
 
 impl CBlock {
-    ghost use Rattle.ts_syntax.specs.TreeOf.{stmt_tree, block_trees};
+    ghost use Rattle.ts_checked.specs.TreeOf.{stmt_tree, block_trees};
 
     /// No statements. It takes no memory.
     pub fn new(alloc: Global) -> CBlock

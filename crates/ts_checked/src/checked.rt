@@ -1,8 +1,8 @@
 //! A checked script: a body, and the shape of the machine for which it is right.
 
 ghost use Rattle.std.specs.Prelude.{IsTrue};
-ghost use Rattle.ts_syntax.specs.Right.{is_right};
-ghost use Rattle.ts_syntax.specs.TreeOf.{block_tree};
+ghost use Rattle.ts_checked.specs.Right.{is_right};
+ghost use Rattle.ts_checked.specs.TreeOf.{block_tree};
 
 use crate::checked_stmt::CBlock;
 use mate_num::Shape;
@@ -28,15 +28,15 @@ impl Drop for Checked {
 
 impl Checked {
     ghost use Rattle.std.specs.Prelude.{◌≡◌, IsTrue};
-    ghost use Rattle.ts_syntax.specs.Checked.{checked_shape, tree_of};
-    ghost use Rattle.ts_syntax.specs.Right.{is_right};
-    ghost use Rattle.ts_syntax.specs.TreeOf.{block_tree};
+    ghost use Rattle.ts_checked.specs.Checked.{checked_shape, checked_tree};
+    ghost use Rattle.ts_checked.specs.Right.{is_right};
+    ghost use Rattle.ts_checked.specs.TreeOf.{block_tree};
 
     /// A body with the shape for which it is right, as `is_right` tells. It takes no memory.
     pub fn new(shape: Shape, body: CBlock) -> Checked
         requires { IsTrue (is_right shape (block_tree body)) }
         ensures shape { checked_shape result ≡ shape }
-        ensures body { tree_of result ≡ block_tree body }
+        ensures body { checked_tree result ≡ block_tree body }
     {
         Checked { shape, body }
     }
@@ -48,7 +48,7 @@ impl Checked {
     }
 
     pub fn body(&self) -> &CBlock
-        ensures { block_tree result.now ≡ tree_of self.now }
+        ensures { block_tree result.now ≡ checked_tree self.now }
     {
         &self.body
     }

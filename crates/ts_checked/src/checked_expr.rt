@@ -63,7 +63,7 @@ impl Drop for CArgs {
 }
 
 impl CArgs {
-    ghost use Rattle.ts_syntax.specs.TreeOf.{expr_tree, args_trees};
+    ghost use Rattle.ts_checked.specs.TreeOf.{expr_tree, args_trees};
 
     /// No arguments. It takes no memory.
     pub fn new(alloc: Global) -> CArgs
