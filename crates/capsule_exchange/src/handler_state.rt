@@ -16,6 +16,7 @@ use packet_codec::Packet;
 pub struct Form {
     /// From 1 to 22.
     pub count: u8,
+    /// Whether the pieces have up to 48 bytes, and not 24.
     pub large: bool,
 }
 

@@ -7,8 +7,8 @@ ghost use Rattle.capsule_exchange.specs.Happenings.{Happening, heard_since, targ
 ghost use Rattle.capsule_exchange.specs.Laws.{IsPutTogether, AreFragmentsOf};
 
 /// A complete image is made of the fragments of one version of its handler, of one count and one kind, all of them
-/// received since that version became the target. If all fragments of this version that were received are of one
-/// image, it is that image.
+/// received since the handler's last install or forgetting. If all fragments of this version that were received since
+/// then are of one image, it is that image.
 pub fn fragments_go_together()
     ensures together { (h : ℕ) (hs : List Happening) (image : ArrayVec ℕ) → collected_image h hs ≡ Some image
         → IsPutTogether h hs image.items }

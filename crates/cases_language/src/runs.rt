@@ -9,7 +9,7 @@ use ts_play::play;
 use vm_desc::{Description, shape};
 
 /// How the run of a case `TURNS | MESSAGE | ANSWERS | SOURCE` ends, the store that it leaves, and the calls that were
-/// answered. Numbers stand with a space between two, and `-` is none.
+/// answered. Numbers have a space between two, and `-` is none.
 pub fn answer(alloc: Global, machine: &Description, case: &str) -> Result<String, AllocError> {
     let (turns, rest) = case.split_once(" | ").unwrap_or((case, ""));
     let (msg, rest) = rest.split_once(" | ").unwrap_or((rest, ""));

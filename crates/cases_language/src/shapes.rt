@@ -1,4 +1,4 @@
-//! Bodies that are right for one machine, and asked of another.
+//! Bodies that are right for one machine, tested for another.
 
 use crate::sources::accepted;
 use cases_files::marked_bytes;

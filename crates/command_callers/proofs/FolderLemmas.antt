@@ -1,4 +1,4 @@
--- What a step on a file answers where it is known what the files hold.
+-- What a step on a file answers, if it is known what the files hold.
 use Rattle.std.proofs.Common.{◌≡◌, ◌≢◌, ◌<◌, ◌≤◌, ◌∙◌, inl, inr, ℕ, List, length, Option, None, Some, Result, Ok, Err, false, refl, sym, ap, subst, arith}
 use Rattle.std.specs.Prelude.{IsSomeAnd, IfErr, IfOk}
 use Rattle.std.specs.Global.{Vec}

@@ -22,7 +22,7 @@ use script_reader::Steps;
 use std::alloc::Global;
 use vm_desc::Description;
 
-/// Of two files that are missing the first one is told.
+/// Of two missing files the first one is reported.
 pub fn files_are_taken_in_order<F: Files>(
     alloc: Global,
     files: &mut F,

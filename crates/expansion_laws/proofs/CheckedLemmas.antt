@@ -1,4 +1,4 @@
--- The checks of a script don't depend on its places, but for those of a refusal.
+-- The checks of a script don't depend on its places, except for those of a refusal.
 use Rattle.std.proofs.Common.{◌≡◌, ℕ, suc, ◌==◌, nat_lt, nat_le, Bool, true, false, ◌&&◌, if◌then◌else◌, List, [], ◌∷◌, map, Option, Some, None, Result, Ok, Err, refl, sym, ◌∙◌, ap}
 use Rattle.std.specs.Prelude.{bytes_eq, ok_or}
 use Rattle.std.specs.Result.{result_ok}

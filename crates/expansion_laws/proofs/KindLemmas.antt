@@ -1,4 +1,4 @@
--- The tokens of an expansion are of kinds that some text is cut into, where a text spells the source with procedures.
+-- The tokens of an expansion are of kinds that some text is cut into, if a text spells the source with procedures.
 use Rattle.std.proofs.Common.{◌≡◌, ℕ, zero, suc, ◌+◌, ◌%◌, ◌<◌, ◌≤◌, nat_le, ◌==◌, Bool, true, false, cond, if◌then◌else◌, List, [], ◌∷◌, ◌++◌, length, map, decimal, Option, Some, None, Result, Ok, Err, refl, sym, subst, arith}
 use Rattle.std.specs.Prelude.{bytes_eq, sum_by, IfSome}
 use Rattle.std.proofs.lemmas.Bool.{and_from, le-leb, or_right}

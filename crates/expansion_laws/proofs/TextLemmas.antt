@@ -1,4 +1,4 @@
--- The text of an expansion is cut and parsed into it, but for its places.
+-- The text of an expansion is cut and parsed into it, except for its places.
 use Rattle.std.proofs.Common.{◌≡◌, ℕ, List, ◌++◌, None, Result, Ok, sym, ◌∙◌, ap, subst}
 use Rattle.std.specs.Prelude.{codes}
 use Rattle.vm_desc.specs.declared.description.Description.{Description}

@@ -52,7 +52,7 @@ fn buffers<W: Write + Drop>(alloc: Global, writer: W) -> Result<(BufWriter<W>, V
 }
 
 /// Writes what is left in the buffer of standard output, and then the line of the status. If the former fails, not
-/// all that was done is written; then that is the status, also for a run that a full log ended.
+/// all that was done is written: the status is then a fault of standard output, also for a run that a full log ended.
 fn finished<W: Write + Drop, E: Sink>(
     status: Status,
     mut writer: W,

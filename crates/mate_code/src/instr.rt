@@ -80,9 +80,9 @@ pub enum Instr {
     BSize(BufId),
     /// Empties the buffer.
     BClear(BufId),
-    /// Pops the function's arguments, the last one first, asks, and pushes the answer.
+    /// Pops the function's arguments, the last one first, calls it, and pushes the answer.
     Fun(FunId),
-    /// Asks a function that sends the buffer's values, and pushes the answer.
+    /// Calls a function that sends the buffer's values, and pushes the answer.
     FunBuf(FunId, BufId),
 }
 

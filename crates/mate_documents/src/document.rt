@@ -26,7 +26,7 @@ pub enum Document {
     Listing(BoxedMachine, Box<VerifiedCapsule>),
     /// The tokens of a plain script, in one line.
     Expansion(Script),
-    /// What a new node of this machine answers to the frames of this stream, a line each.
+    /// What a new node of this machine answers to the frames of this stream, a line for each.
     Answers(BoxedMachine, Vec<u8>),
     /// That a report shows serial behaviour: one word.
     Serial,

@@ -7,7 +7,7 @@ ghost use Rattle.mate_num.specs.Locks.{bit_of, is_resource, has, lock_uses, Shar
 use crate::resource::Resource;
 
 /// A set of resources to read and a set of resources to write. Bit v is shared variable v,
-/// bit 16 + b for buffer b and bit 24 + d for device d.
+/// bit 16 + b is buffer b and bit 24 + d is device d.
 #[derive(Clone, Copy)]
 pub struct LockSet {
     read: u32,

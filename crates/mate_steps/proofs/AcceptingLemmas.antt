@@ -1,4 +1,4 @@
--- Each answer to a source is what the cut of its bytes, the reading of its tokens and the checks of its script tell.
+-- Each answer to a source is what the cut of its bytes, the reading of its tokens and the checks of its script give.
 use Rattle.std.proofs.Common.{◌≡◌, ℕ, List, length, Result, Ok, Err, sym, subst}
 use Rattle.std.specs.Result.{IsErrAnd}
 use Rattle.vm_desc.specs.declared.description.Description.{Description}

@@ -1,4 +1,4 @@
--- Where compiler, verifier and lock inference meet.
+-- Compiler, verifier and lock inference together.
 use Rattle.std.proofs.Common.{◌≡◌, ℕ, List, Result, Ok, Err, sym, ◌∙◌, ap, subst}
 use Rattle.arrayvec.specs.ArrayVec.{ArrayVec}
 use Rattle.mate_num.specs.Uses.{Uses, IsSameUses}

@@ -20,7 +20,7 @@ pub struct VerifiedCapsule {
     pub code: Verified,
 }
 
-/// The capsule of a file, with its verified code. It is boxed at once: it takes over a thousand bytes.
+/// The capsule of a file, with its verified code. It is boxed at once: it takes several thousand bytes.
 pub fn capsule_of<F: Files>(
     alloc: Global,
     files: &mut F,

@@ -61,6 +61,7 @@ impl<T: Copy + Drop> Pieces<T> {
         self.items.capacity() - self.items.len()
     }
 
+    /// The piece at `n`, from 0; there must be one.
     pub(crate) fn piece(&self, n: usize) -> &[T]
         requires { n < length self.now.pieces }
         ensures { result.now ≡ slice_index_or self.now.pieces n [] }

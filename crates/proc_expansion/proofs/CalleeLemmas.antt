@@ -1,4 +1,4 @@
--- The numbers of parameters: how many stand before a procedure's, and that all fit.
+-- The numbers of parameters: how many come before a procedure's, and that all fit.
 use Rattle.std.proofs.Common.{◌≡◌, ℕ, suc, zero, ◌+◌, ◌<◌, ◌≤◌, List, [], ◌∷◌, ◌++◌, length, map, take, drop, get_or, Some, option_map, slice_get, ap, sym, ◌∙◌, arith}
 use Rattle.std.specs.Prelude.{◌^◌, min, sum_by}
 use Rattle.std.proofs.lemmas.List.{get_or_default, map-append, take_all, drop_all, length-map, length-take}

@@ -35,7 +35,7 @@ pub const DEPTH_MAX: u32 = 32;
 /// parameter hides a variable or a buffer of its name within the body, but no function.
 ///
 /// `TooLarge` comes exactly if the expansion has more than 10,000 statements, and `TooNested` exactly if it has at
-/// most so many and its blocks nest more than 32 deep; neither writes the expansion out. `NoMemory` may come instead
+/// most that many and its blocks nest more than 32 deep; neither writes the expansion out. `NoMemory` may come instead
 /// of any answer.
 pub fn expand(alloc: Global, script: &PScript) -> Result<Script, ProcFault>
     ensures { Expands (written_of script.now) result }

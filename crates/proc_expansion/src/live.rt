@@ -21,7 +21,6 @@ use ts_syntax::{Args, Block, Proc, Stmt, Word};
 /// The procedures with fewer calls: a call that adds nothing is left out, and one of a procedure that does nothing
 /// but run another goes to that other. So a body with many such calls is gone through once, and not at each of its
 /// calls. And for each procedure, one whose body expands to the same.
-/// such calls is gone through once, and not at each of its calls. And for each procedure one whose body becomes the same.
 pub(crate) fn live_procs(
     alloc: Global,
     plan: &Plan,

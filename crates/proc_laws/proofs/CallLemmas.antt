@@ -1,4 +1,5 @@
--- Calls of procedures: the arguments' values make a frame with frames, and stand in the parameters' variables in the expansion.
+-- Calls of procedures: the arguments' values make a frame in the run with frames, and are in the parameters'
+-- variables in the expansion.
 use Rattle.std.proofs.Common.{◌≡◌, ℕ, zero, suc, ◌+◌, ◌<◌, ◌≤◌, ℤ, pos, true, List, [], ◌∷◌, length, get_or, drop, set, None, Result, Ok, Err, refl, ap, sym, ◌∙◌, subst, arith}
 use Rattle.std.specs.Prelude.{⊤}
 use Rattle.std.proofs.lemmas.List.{get_or-set_same, get_or-set_other}

@@ -1,4 +1,4 @@
--- The names of a script with procedures and those of its expansion: what each name stands for.
+-- The names of a script with procedures and those of its expansion: what each names.
 use Rattle.std.proofs.Common.{◌≡◌, ℕ, zero, suc, ◌+◌, ◌<◌, ◌≤◌, ℤ, Bool, true, false, cond, List, [], ◌∷◌, ◌++◌, length, Option, Some, None, Result, Ok, Err, refl, ap, sym, ◌∙◌, subst, arith, inl, inr, ◌⊎◌}
 use Rattle.std.specs.Prelude.{⊤, ◌==◌, ◌&&◌, nat_lt, is_none, if◌then◌else◌, bytes_eq, ok_or, decimal}
 use Rattle.std.specs.List.{position_from}

@@ -1,4 +1,4 @@
--- What an answer tells of a whole, by what it tells of the parts.
+-- What an answer says of a whole, by what it says of the parts.
 use Rattle.std.proofs.Common.{◌≡◌, ℕ, ◌+◌, ◌<◌, ◌≤◌, List, [], ◌∷◌, ◌++◌, length, drop, get_or, Option, Some, None, Result, Ok, Err, ap, sym, ◌∙◌}
 use Rattle.std.specs.Prelude.{IsErrAnd, is_some}
 use Rattle.std.specs.Result.{result_err}

@@ -10,8 +10,7 @@ use std::collections::BTreeMap;
 use ts_syntax::{Proc, Word};
 
 /// The first place of each of some names, counted from 0. It borrows the names, and finds one by the order of their
-/// texts: the time that takes grows with the logarithm of their number, whatever the names are.
-/// that takes grows with the logarithm of their number, whatever the names are.
+/// texts: the time that this takes grows with the logarithm of their number, whatever the names are.
 #[derive(Drop)]
 pub struct NameTable<'a> {
     numbers: BTreeMap<&'a str, usize>,

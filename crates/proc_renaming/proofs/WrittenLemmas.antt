@@ -1,4 +1,4 @@
--- What stands behind the statements that were written before.
+-- What comes after the statements that were written before.
 use Rattle.std.proofs.Common.{◌≡◌, ℕ, ◌+◌, ◌<◌, ◌≤◌, List, [], ◌∷◌, ◌++◌, length, get_or, drop, ap, sym, ◌∙◌, subst, map, arith, append_assoc}
 use Rattle.std.specs.Prelude.{Result, Ok, Err, OnOk, MatchResult, IsErrAnd}
 use Rattle.std.proofs.lemmas.List.{map-append, append-nil, drop_all}

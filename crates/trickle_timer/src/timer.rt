@@ -11,7 +11,7 @@ use rand_pcg::Lcg64Xsh32;
 use std::marker::Model;
 use vm_desc::TrickleSet;
 
-/// What a node does at the point of its interval: RFC 6206, section 4.2, step 4.
+/// What a node does at the point of its interval.
 #[derive(Clone, Copy, PartialEq, Eq, Debug)]
 pub enum Fire {
     /// It sends the versions that it holds.
@@ -20,7 +20,7 @@ pub enum Fire {
     Keep,
 }
 
-/// A running timer. Times are in ms, up to an hour.
+/// A running timer. Times are in ms, up to an hour. The steps that are named below are those of RFC 6206, section 4.2.
 #[derive(Drop)]
 pub struct Trickle {
     set: TrickleSet,
@@ -43,7 +43,7 @@ impl Model for Trickle {
     ghost invariant = { λ t. IsRightTimer (timer_of t) };
 }
 
-/// Draws the point of an interval of this length, in ms, that begins now.
+/// Draws the point of an interval of this length, in ms, that begins now (step 2 of RFC 6206, section 4.2).
 fn draw(words: &mut Lcg64Xsh32, length: u32, now: u32) -> u32
     requires two { 2 ≤ length }
     requires room { now + length < 2 ^ 32 }
@@ -80,7 +80,7 @@ impl Trickle {
     }
 
     /// A packet is received. A consistent one is counted, up to 65,535. Any other begins an interval of the shortest
-    /// length, unless the running one has that length. True exactly if an interval begins.
+    /// length, unless the running one has that length (steps 3 and 6). True exactly if an interval begins.
     pub fn hear(&mut self, consistent: bool, now: u32) -> bool
         requires hour { now ≤ HOUR }
         requires within { self.old.running.begin ≤ now }
@@ -111,7 +111,7 @@ impl Trickle {
     }
 
     /// What the node does at the point: it is silent exactly if `suppress` is true and at least k packets were
-    /// counted in the interval.
+    /// counted in the interval (step 4).
     pub fn fire(&mut self, suppress: bool) -> Fire
         ensures rule { Decides self.old suppress result }
         ensures same { self.new ≡ self.old }
@@ -123,7 +123,7 @@ impl Trickle {
         }
     }
 
-    /// The interval ends; one twice as long begins, or one of the longest length if that is shorter.
+    /// The interval ends; one twice as long begins, or one of the longest length if that is shorter (step 5).
     pub fn expire(&mut self, now: u32)
         requires hour { now ≤ HOUR }
         requires end { now ≡ self.old.running.begin + self.old.running.length }

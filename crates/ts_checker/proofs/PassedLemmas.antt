@@ -1,4 +1,4 @@
--- What a check gives where all its parts pass.
+-- What a check gives if all its parts pass.
 use Rattle.std.proofs.Common.{◌≡◌, ◌∙◌, Bool, true, List, Option, Ok, ap, sym}
 use Rattle.std.specs.declared.alloc.Global.{Global}
 use Rattle.std.specs.declared.boxed.Box.{Box}

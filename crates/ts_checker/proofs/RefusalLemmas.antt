@@ -1,4 +1,4 @@
--- What is returned where a part of a check refuses.
+-- What is returned if a part of a check refuses.
 use Rattle.std.proofs.Common.{◌≡◌, Bool, true, List, Option, Some, None, Result, Ok, Err, ◌∙◌, ap, sym, subst}
 use Rattle.std.specs.Prelude.{IsErrAnd}
 use Rattle.std.specs.declared.alloc.Global.{Global}

@@ -1,4 +1,4 @@
--- A folded expression means what the expression does, uses nothing more, is right where it is, and takes no more room.
+-- A folded expression means what the expression does, uses nothing more, is right if it is, and takes no more room.
 use Rattle.std.proofs.Common.{◌≡◌, ℕ, zero, suc, ◌+◌, ◌≤◌, ℤ, pos, negsuc, Bool, true, false, List, [], ◌∷◌, ◌++◌, Option, Some, None, Result, Ok, Err, refl, ap, sym, ◌∙◌, arith}
 use Rattle.std.specs.Prelude.{neg_ℤ, not, ◌&&◌, ◌||◌, max, nat_lt, if◌then◌else◌}
 use Rattle.std.specs.Option.{option_map}

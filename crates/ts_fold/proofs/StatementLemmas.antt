@@ -1,4 +1,4 @@
--- A folded block runs as the block, uses nothing more, is right where it is, and takes no more room.
+-- A folded block runs as the block does, uses nothing more, is right if it is, and takes no more room.
 use Rattle.std.proofs.Common.{◌≡◌, ℕ, ◌+◌, ◌≤◌, ℤ, Bool, true, false, List, [], ◌∷◌, ◌++◌, Option, Some, None, refl, ap, sym, ◌∙◌, arith}
 use Rattle.std.specs.Prelude.{⊤, ◌&&◌, ◌||◌, max, IsTrue}
 use Rattle.std.proofs.lemmas.Bool.{or_parts, and_parts}

@@ -1,4 +1,4 @@
--- A loop is a round, and then, where it goes back, the loop again.
+-- A loop is a round, and then, if it goes back, the loop again.
 use Rattle.std.proofs.Common.{◌≡◌, ℕ, zero, suc, ◌≤◌, ◌<◌, ℤ, Bool, true, false, arith, refl, ap, ◌∙◌}
 use Rattle.std.specs.Prelude.{⊤}
 use Rattle.mate_num.specs.declared.call.End.{End}

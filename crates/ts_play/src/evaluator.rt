@@ -191,6 +191,7 @@ impl<'a> Evaluator<'a> {
         self.set_buffer(buffer, Payload::new());
     }
 
+    /// Sets the value at an index of a buffer, from 0; the fault `Index` outside its values.
     pub(crate) fn set_item(&mut self, buffer: BufId, index: i16, value: i16) -> Result<(), Stop>
         ensures follows { let old = buffer_at self.old.store buffer.0 in
             FollowsMeaning (buffer_changed buffer (item_set old index value)) self.old result self.new }
@@ -202,6 +203,7 @@ impl<'a> Evaluator<'a> {
         Ok(())
     }
 
+    /// Appends a value to a buffer; the fault `BufferFull` if it holds 10.
     pub(crate) fn append(&mut self, buffer: BufId, value: i16) -> Result<(), Stop>
         ensures follows { let old = buffer_at self.old.store buffer.0 in
             FollowsMeaning (buffer_changed buffer (appended old value)) self.old result self.new }

@@ -1,4 +1,4 @@
--- At most 32 names are ever declared: none stands twice, and each is the machine's or one of at most 8 private ones.
+-- At most 32 names are ever declared: none is there twice, and each is the machine's or one of at most 8 private ones.
 use Rattle.std.proofs.Common.{◌≡◌, ℕ, ◌+◌, ◌<◌, ◌≤◌, nat_lt, Bool, true, false, cond, ◌||◌, List, [], ◌∷◌, ◌++◌, length, map, Option, Some, None, Result, Ok, refl, ap, sym, ◌∙◌, subst, arith, length-append, ◌⊎◌, inl, inr}
 use Rattle.std.specs.Prelude.{IfOk, bytes_eq, is_none, position, ok_or, if◌then◌else◌}
 use Rattle.std.specs.List.{IsDistinct, list_all, list_any}

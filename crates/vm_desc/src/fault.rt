@@ -15,7 +15,7 @@ pub enum DescFault {
     /// The list of `key` is too long. `Key::HandlerContexts`, after all other keys, says that the
     /// handlers have more than 16 contexts in all.
     OverLimit { key: Key },
-    /// `name` is the first that comes earlier in its list, too: shared variables and buffers are one list, which is
+    /// `name` is the first name that is in its list a second time: shared variables and buffers are one list, which is
     /// checked before those of the devices, the handlers and the functions.
     Duplicate { name: Name },
     /// A round of all handlers' packets needs `need` ms, but the longest interval has `have` ms.
