@@ -99,7 +99,8 @@ pub fn in_time(handlers: usize, trickle: TrickleSet, radio: RadioSet) -> Result<
     ensures value { result ≡ in_time (round_time handlers radio) (longest trickle) }
     ensures timely { OnOk result (round_time handlers radio ≤ longest trickle) }
 {
-    let need = handlers as u64 * FRAGMENTS_MAX as u64 * u64::from(radio.gap) + 3 * u64::from(radio.delay);
+    let need = handlers as u64 * FRAGMENTS_MAX as u64 * u64::from(radio.gap)
+        + 3 * u64::from(radio.delay);
     let have = u64::from(trickle.longest());
     if need > have {
         return Err(DescFault::SlowImax { need, have });
