@@ -80,7 +80,7 @@ impl CArgs {
         self.items.len()
     }
 
-    /// The argument at `index`, from 0; None exactly from the length on.
+    /// The argument at `index`, from 0; None exactly if `index` is the length or more.
     pub fn get(&self, index: usize) -> Option<&CExpr>
         ensures { option_map (λ e. expr_tree e.now) result ≡ slice_get (args_trees self.now) index }
     {

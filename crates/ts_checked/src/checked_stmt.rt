@@ -20,7 +20,7 @@ pub struct CForHead {
     pub var: CVar,
     pub from: CExpr,
     pub to: CExpr,
-    /// 1 where none is written.
+    /// 1 if none is written.
     pub step: i16,
 }
 
@@ -107,7 +107,7 @@ impl CBlock {
         self.items.len()
     }
 
-    /// The statement at `index`, from 0; None exactly from the length on.
+    /// The statement at `index`, from 0; None exactly if `index` is the length or more.
     pub fn get(&self, index: usize) -> Option<&CStmt>
         ensures { option_map (λ s. stmt_tree s.now) result ≡ slice_get (block_trees self.now) index }
     {

@@ -58,7 +58,8 @@ is_trickle t = ((between 2 60000 t.imin && t.imin % 2 == 0) && (nat_le t.doublin
 abbrev pub is_radio : RadioSet → Bool
 is_radio r = between 1 10000 r.delay && between 1 10000 r.gap
 
--- the time, in ms, that one round of all handlers' packets takes at most: a capsule has up to FRAGMENTS_MAX fragments, each in a packet of its own
+-- the time, in ms, that one round of all handlers' packets takes at most: a capsule has up to FRAGMENTS_MAX
+-- fragments, each in a packet of its own
 abbrev pub round_time : ℕ → RadioSet → ℕ
 round_time handlers r = handlers * FRAGMENTS_MAX * r.gap + 3 * r.delay
 

@@ -91,7 +91,7 @@ fn function_names(functions: &ArrayVec<Function, 32>) -> ArrayVec<Name, 32>
 }
 
 /// `SlowImax` if the longest interval is shorter than the time that a round of all handlers' packets needs: for each
-/// handler 22 fragments, `gap` ms apart, and three times the delay.
+/// handler `FRAGMENTS_MAX` fragments, `gap` ms apart, and three times the delay.
 pub fn in_time(handlers: usize, trickle: TrickleSet, radio: RadioSet) -> Result<(), DescFault>
     requires handlers { handlers ≤ HANDLERS_MAX }
     requires trickle { IsTrue (is_trickle trickle) }
