@@ -5,7 +5,7 @@ use Rattle.vm_desc.specs.declared.description.Description.{Description}
 use Rattle.ts_syntax.specs.Cut.{cut, cut_from, CutFault, bad_byte, big_literal}
 use Rattle.ts_syntax.specs.Faults.{Spells, IsUnexpected, IsTooDeep}
 use Rattle.ts_syntax.specs.Tree.{Source}
-use Rattle.ts_syntax.specs.declared.checked.Checked.{Checked}
+use Rattle.ts_checked.specs.declared.checked.Checked.{Checked}
 use Rattle.ts_syntax.specs.declared.token.Token.{Token}
 use Rattle.ts_parser.specs.Verdict.{Verdict, spelled, unexpected, too_deep, IsSo}
 use Rattle.ts_parser.specs.declared.fault.SourceFault.{SourceFault}
