@@ -1,2 +1,3 @@
 pub mod WireLemmas
+pub mod WaitingLemmas
 pub mod RadioLemmas

@@ -6,8 +6,10 @@ use Rattle.mate_journal.specs.declared.air.Aired.{Aired}
 use Rattle.world_script.specs.declared.world.World.{World}
 use Rattle.vm_desc.specs.declared.description.Description.{Description}
 use Rattle.radio_sim.specs.declared.event.Event.{Event}
+use Rattle.radio_sim.specs.declared.waiting.Waiting.{Waiting}
 use Rattle.radio_sim.specs.declared.wire.Wire.{Wire}
 use Rattle.radio_sim.specs.declared.wire.Sending.{Sending}
+use Rattle.radio_sim.specs.Waiting.{IsOnTime}
 use Rattle.radio_sim.specs.Wires.{leaving, turned_wire, losts, delivered}
 use Rattle.radio_sim.specs.Sending.{sent_record}
 
@@ -55,9 +57,10 @@ pub record StartsRadio (w : World) (d : Description) (e : Ether) : Type 0 where
   pub stands : IsEtherOf w [] e
 
 -- what the radio keeps, with the records that are gone and those that are at hand
-pub record IsRightRadio (past : List Aired) (gone : ℕ) (airs : List Aired) (sent delay : ℕ) (wires : List (List Wire))
-    (left : List Event) : Type 0 where
-  pub none_left : left ≡ []
+pub record IsRightRadio (queue : Agenda Waiting) (came : ℕ) (past : List Aired) (gone : ℕ) (airs : List Aired) (sent delay : ℕ)
+    (wires : List (List Wire)) : Type 0 where
+  pub now_is : came ≡ queue.now
+  pub ahead : IsOnTime queue
   pub gone_is : gone ≡ length past
   pub gone_few : gone < 4000000000
   pub counted : sent ≤ length (past ++ airs)

@@ -9,6 +9,7 @@ use Rattle.mate_journal.specs.declared.air.Aired.{Aired}
 use Rattle.world_script.specs.declared.world.Link.{Link}
 use Rattle.radio_sim.specs.declared.event.Event.{Event}
 use Rattle.radio_sim.specs.declared.event.Event.TheVariants as event
+use Rattle.radio_sim.specs.declared.waiting.Delivery.{Delivery}
 use Rattle.radio_sim.specs.declared.wire.Wire.{Wire}
 use Rattle.radio_sim.specs.declared.wire.Sending.{Sending}
 
@@ -52,9 +53,15 @@ lost_on s w = if loses w then Some (record { stamp = s.at; node = s.node; air = 
 abbrev pub delivered_on : Sending → ArrayVec ℕ → Wire → Option Event
 delivered_on s bytes w = if loses w then None else Some (event.Deliver w.link s.number bytes)
 
+abbrev pub carried_on : Sending → ArrayVec ℕ → Wire → Option Delivery
+carried_on s bytes w = if loses w then None else Some (record { link = w.link; number = s.number; bytes = bytes })
+
 -- what the links lose, and what they deliver, in their order
 abbrev pub losts : Sending → List Wire → List Aired
 losts s ws = filter_map (lost_on s) ws
 
 abbrev pub delivered : Sending → ArrayVec ℕ → List Wire → List Event
 delivered s bytes ws = filter_map (delivered_on s bytes) ws
+
+abbrev pub carried_by : Sending → ArrayVec ℕ → List Wire → List Delivery
+carried_by s bytes ws = filter_map (carried_on s bytes) ws

@@ -5,6 +5,7 @@ pub mod event;
 pub mod past;
 pub mod radio;
 pub mod shared;
+pub mod waiting;
 pub mod wire;
 
 pub use event::{Cancel, Event};

@@ -7,7 +7,7 @@ ghost use Rattle.mate_journal.specs.declared.air.Aired.{Aired};
 use mate_journal::Airs;
 use std::marker::Model;
 
-/// Records that stand nowhere in memory. It takes no bytes, and nothing is known of it but what clauses say.
+/// Records that are nowhere in memory. It takes no bytes, and nothing is known of it but what clauses say.
 #[derive(Drop)]
 pub struct PastAir {
     pub ghost air: { List Aired },

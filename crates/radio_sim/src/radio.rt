@@ -1,18 +1,21 @@
 //! The radio of a world.
 
 ghost use Rattle.std.specs.Prelude.{◌≡◌, ◌+◌, ◌<◌, ◌≤◌, ◌^◌, [], ◌∷◌, ◌++◌, ℕ, drop, filter, slice_index_or, length, MatchOption};
-ghost use Rattle.std.specs.Prelude.{MatchResult, IfNone, IfOk, OnOk};
+ghost use Rattle.std.specs.Prelude.{MatchResult, List, IfNone, IfOk, OnOk};
 ghost use Rattle.event_queue.specs.Agenda.{scheduled, scheduled_all, is_other, Adds, AddsAll, Comes};
 ghost use Rattle.world_script.specs.World.{IsRightWorld};
 ghost use Rattle.std.specs.List.{All};
 ghost use Rattle.mate_num.specs.declared.bounds.TheConstants.{HOUR};
 ghost use Rattle.world_script.specs.declared.world.Link.{Link};
 ghost use Rattle.radio_sim.specs.Events.{group_of, cancel_number};
+ghost use Rattle.radio_sim.specs.declared.waiting.Delivery.{Delivery as Coming};
+ghost use Rattle.radio_sim.specs.Waiting.{first_event, later_deliveries, radio_agenda, IsOnTime};
 ghost use Rattle.radio_sim.specs.Wires.{losts, delivered};
 ghost use Rattle.radio_sim.specs.Sending.{sent_record, AreLeaving, IsFurther};
 
 use crate::event::{Cancel, Event};
 use crate::past::PastAir;
+use crate::waiting::{Delivery, Flight, Waiting};
 use crate::wire::{Sending, Wire, Wires, copy_of};
 use event_queue::{Queue, Timed};
 use mate_journal::{Air, Aired, Airs};
@@ -30,7 +33,12 @@ const NODES: usize = 256;
 /// the air; memory has what was recorded since the last `forget`.
 #[derive(Drop)]
 pub struct Radio {
-    queue: Queue<Event>,
+    alloc: Global,
+    queue: Queue<Waiting>,
+    /// When the last event came, in ms.
+    came: u32,
+    /// What is still to come then of the transmission whose packet came last.
+    coming: VecDeque<Delivery>,
     past: PastAir,
     // how many records are gone
     gone: usize,
@@ -41,8 +49,6 @@ pub struct Radio {
     delay: u32,
     /// The links that leave each node.
     wires: Vec<Wires>,
-    /// The deliveries of a transmission, none between two calls.
-    carried: VecDeque<Event>,
 }
 
 impl Model for Radio {
@@ -51,9 +57,10 @@ impl Model for Radio {
     ghost Value = { Ether };
 
     ghost use Rattle.std.specs.Prelude.{◌++◌};
+    ghost use Rattle.radio_sim.specs.Waiting.{radio_agenda};
 
     ghost view = { λ r. record {
-      agenda = r.queue;
+      agenda = radio_agenda r.coming.items r.queue;
       air = r.past.air
           ++ r.air;
       gone = r.gone;
@@ -62,7 +69,7 @@ impl Model for Radio {
       wires = r.wires.items;
     } };
 
-    ghost invariant = { λ r. IsRightRadio r.past.air r.gone r.air r.sent r.delay r.wires.items r.carried.items };
+    ghost invariant = { λ r. IsRightRadio r.queue r.came r.past.air r.gone r.air r.sent r.delay r.wires.items };
 }
 
 impl Radio {
@@ -78,14 +85,16 @@ impl Radio {
         let wires = wires_of(alloc, world.random, world.links.as_slice())?;
         let queue = Queue::new(alloc, world.until)?;
         Ok(Radio {
+            alloc,
             queue,
+            came: 0,
+            coming: VecDeque::new(alloc),
             past: PastAir::new(),
             gone: 0,
             air: Airs::new(alloc),
             sent: 0,
             delay: desc.radio.delay,
             wires,
-            carried: VecDeque::new(alloc),
         })
     }
 
@@ -98,7 +107,9 @@ impl Radio {
         ensures due { OnOk result (Adds self.old.agenda time event self.new.agenda) }
         ensures now { self.new.agenda.now ≡ self.old.agenda.now }
     {
-        self.queue.schedule(time, event)
+        let waiting = Waiting::of_event(self.alloc, event)?;
+        self.queue.schedule(time, waiting)?;
+        Ok(())
     }
 
     /// The node sends a packet in the event `at`. It has the next number. On each link that leaves the node, in their
@@ -130,6 +141,7 @@ impl Radio {
         let before = self.air.len();
         let wires = &mut self.wires[node as usize];
         let result = send(
+            self.alloc,
             wires,
             desc,
             sending,
@@ -137,11 +149,9 @@ impl Radio {
             self.delay,
             &mut self.queue,
             &mut self.air,
-            &mut self.carried,
         );
         if result.is_err() {
             self.air.truncate(before);
-            self.carried.clear();
             return Err(NoMemory);
         }
         wires.turn();
@@ -149,15 +159,19 @@ impl Radio {
         Ok(())
     }
 
-    /// Takes out the first event with its time. None where no event waits, which changes nothing.
+    /// Takes out the first event with its time. None if no event waits, which changes nothing.
     pub fn next(&mut self) -> Option<(u32, Event)>
         ensures first { MatchOption result (self.old.agenda.items ≡ [])
             (λ first. Comes self.old.agenda (record { time = first.0; item = first.1 }) self.new.agenda) }
         ensures others { self.new ≡ record self.old { agenda = self.new.agenda } }
         ensures none { IfNone result (self.new ≡ self.old) }
     {
+        if let Some(delivery) = self.coming.pop_front() {
+            return Some((self.came, delivery.into_event()));
+        }
         let Timed { time, item } = self.queue.next()?;
-        Some((time, item))
+        self.came = time;
+        Some((time, come(item, &mut self.coming)))
     }
 
     /// Cancels events of a node: the others stay, in their order.
@@ -184,7 +198,7 @@ impl Radio {
         self.air.as_slice()
     }
 
-    /// Hands out what happened on the air, where nothing was forgotten.
+    /// Hands out what happened on the air, if nothing was forgotten.
     pub fn into_air(self) -> Airs
         requires { self.gone ≡ 0 }
         ensures { result ≡ self.air }
@@ -210,27 +224,59 @@ impl Radio {
     }
 }
 
+/// The event that comes first of what waited; what comes behind it is in `coming` then.
+fn come(waiting: Waiting, coming: &mut VecDeque<Delivery>) -> Event
+    requires { coming.old.items ≡ [] }
+    ensures first { result ≡ first_event waiting }
+    ensures later { coming.new.items ≡ later_deliveries waiting }
+{
+    match waiting {
+        Waiting::Planned(line) => Event::Planned(line),
+        Waiting::Period { node, handler } => Event::Period { node, handler },
+        Waiting::Fire { node } => Event::Fire { node },
+        Waiting::Expire { node } => Event::Expire { node },
+        Waiting::Pump { node } => Event::Pump { node },
+        Waiting::Due {
+            node,
+            ctx,
+            inv,
+            value,
+        } => Event::Due {
+            node,
+            ctx,
+            inv,
+            value,
+        },
+        Waiting::Flight(flight) => {
+            let Flight { first, rest } = Box::into_inner(flight);
+            *coming = rest;
+            first.into_event()
+        }
+    }
+}
+
 /// Records the packet and what the links lose, and schedules what they deliver.
 fn send(
+    alloc: Global,
     wires: &Wires,
     desc: &Description,
     sending: Sending,
     bytes: &PacketBytes,
     delay: u32,
-    queue: &mut Queue<Event>,
+    queue: &mut Queue<Waiting>,
     air: &mut Airs,
-    carried: &mut VecDeque<Event>,
 ) -> Result<(), NoMemory>
-    requires none { carried.old.items ≡ [] }
     requires ahead { queue.old.now ≤ sending.at.time }
     requires room { sending.at.time + delay < 2 ^ 32 }
-    ensures queue { MatchResult result (λ _. queue.new
-        ≡ scheduled_all queue.old (sending.at.time + delay) (delivered sending bytes.now wires.now)) (λ _. queue.new ≡ queue.old) }
+    ensures queue { MatchResult result (λ _. (coming : List Coming) → radio_agenda coming queue.new
+        ≡ scheduled_all (radio_agenda coming queue.old) (sending.at.time + delay) (delivered sending bytes.now wires.now))
+        (λ _. queue.new ≡ queue.old) }
     ensures air { IfOk result (λ _. air.new ≡ air.old ++ sent_record sending bytes.now ∷ [] ++ losts sending wires.now) }
     ensures kept { IsFurther air.old air.new }
-    ensures due { OnOk result (AddsAll queue.old (sending.at.time + delay) (delivered sending bytes.now wires.now) queue.new) }
+    ensures due { OnOk result ((coming : List Coming) → AddsAll (radio_agenda coming queue.old) (sending.at.time + delay)
+        (delivered sending bytes.now wires.now) (radio_agenda coming queue.new)) }
     ensures now { queue.new.now ≡ queue.old.now }
-    ensures carried { OnOk result (carried.new.items ≡ []) }
+    ensures ahead { IsOnTime queue.old → IsOnTime queue.new }
 {
     air.push(Aired {
         stamp: sending.at,
@@ -240,8 +286,14 @@ fn send(
             bytes: copy_of(bytes),
         },
     })?;
-    wires.carry(desc, sending, bytes, air, carried)?;
-    queue.schedule_all(sending.at.time + delay, carried)
+    let mut carried = VecDeque::new(alloc);
+    wires.carry(desc, sending, bytes, air, &mut carried)?;
+    let Some(first) = carried.pop_front() else {
+        return Ok(());
+    };
+    let flight = Waiting::of_flight(alloc, first, carried)?;
+    queue.schedule(sending.at.time + delay, flight)?;
+    Ok(())
 }
 
 /// The links that leave each node, each with its stream of words.

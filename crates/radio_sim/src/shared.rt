@@ -18,11 +18,11 @@ struct Reading {
     /// The number of the machine, and how many handlers it has.
     vm_id: u32,
     handlers: usize,
-    /// The packet, where the bytes are one.
+    /// The packet, if the bytes are one.
     packet: Option<Packet>,
 }
 
-/// A packet, whose bytes stand in one place for all links that deliver it, with what they are to a machine, so that they are
+/// A packet, whose bytes are in one place for all links that deliver it, with what they are to a machine, so that they are
 /// read once. Contracts see the bytes.
 #[derive(Drop)]
 pub struct SharedPacket {
@@ -62,7 +62,7 @@ impl SharedPacket {
         }
     }
 
-    /// The same packet for one owner more. `NoMemory` comes where a machine word doesn't count the owners.
+    /// The same packet for one owner more. `NoMemory` comes if a machine word doesn't count the owners.
     pub fn share(&self) -> Result<SharedPacket, NoMemory>
         ensures { IfOk result (λ shared. shared ≡ self.now) }
     {
@@ -79,7 +79,7 @@ impl SharedPacket {
         &self.reading.as_ref().bytes
     }
 
-    /// The packet that the bytes are to the machine, where they were read for it and are one.
+    /// The packet that the bytes are to the machine, if they were read for it and are one.
     pub fn packet(&self, desc: &Description) -> Option<&Packet>
         ensures { IfSome result (λ packet. IsPacketOf desc.now.vm_id (length desc.now.handlers.items) self.now.items packet.now) }
     {

@@ -2,10 +2,10 @@
 
 ghost use Rattle.std.specs.Prelude.{◌≡◌, ◌%◌, [], ◌∷◌, ◌++◌, nat_lt, map, MatchResult, IfOk};
 ghost use Rattle.radio_sim.specs.Sending.{IsFurther};
-ghost use Rattle.radio_sim.specs.Wires.{wire_after, turned_wire, losts, delivered};
+ghost use Rattle.radio_sim.specs.Wires.{wire_after, turned_wire, losts, carried_by};
 
-use crate::event::Event;
 use crate::shared::SharedPacket;
+use crate::waiting::Delivery;
 use mate_journal::{Air, Aired, Airs};
 use mate_num::{NoMemory, PacketBytes, Stamp};
 use rand_core::utils::NextWord;
@@ -112,10 +112,10 @@ impl Wires {
         sending: Sending,
         bytes: &PacketBytes,
         air: &mut Airs,
-        carried: &mut VecDeque<Event>,
+        carried: &mut VecDeque<Delivery>,
     ) -> Result<(), NoMemory>
         ensures air { IfOk result (λ _. air.new ≡ air.old ++ losts sending self.now) }
-        ensures carried { IfOk result (λ _. carried.new.items ≡ carried.old.items ++ delivered sending bytes.now self.now) }
+        ensures carried { IfOk result (λ _. carried.new.items ≡ carried.old.items ++ carried_by sending bytes.now self.now) }
         ensures kept { IsFurther air.old air.new }
     {
         let shared = SharedPacket::new(self.alloc, desc, bytes)?;
@@ -131,7 +131,7 @@ impl Wires {
                 })?;
             } else {
                 let copy = shared.share()?;
-                carried.push_back(Event::Deliver {
+                carried.push_back(Delivery {
                     link: wire.link,
                     number: sending.number,
                     bytes: copy,

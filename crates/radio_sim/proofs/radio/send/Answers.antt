@@ -1,7 +1,11 @@
-use Rattle.std.proofs.Common.{sym, subst, List}
+use Rattle.std.proofs.Common.{◌≡◌, [], rules, ◌∙◌, sym, ap, subst, List, ◌+◌, arith}
 use Rattle.mate_journal.specs.declared.air.Aired.{Aired}
 use Rattle.radio_sim.specs.Sending.{IsFurther}
 use Rattle.radio_sim.proofs.WireLemmas.{further_none, further_push, further_both}
+use Rattle.event_queue.specs.Agenda.{AddsAll, scheduled_all}
+use Rattle.radio_sim.specs.declared.event.Event.{Event}
+use Rattle.radio_sim.specs.Waiting.{radio_agenda}
+use Rattle.radio_sim.proofs.WaitingLemmas.{schedules_events, adds_events, adds_none, ahead_more, delivered_none, delivered_flight}
 use Rattle.radio_sim.proofs.radio.send.Goals as goal
 
 pub returns-in_err-push-clause-kept : goal.returns-in_err-push-clause-kept
@@ -12,3 +16,36 @@ returns-in_err-carry-clause-kept c = further_both _ _ _ (further_push c.args.air
 
 pub returns-clause-kept : goal.returns-clause-kept
 returns-clause-kept c = further_both _ _ _ (further_push c.args.air.now c.push.new.self _ c.in_ok-push.ensures) c.in_ok-carry.ensures.kept
+
+pub returns-in_default-clause-queue : goal.returns-in_default-clause-queue
+returns-in_default-clause-queue c = λ coming.
+    let none_carried : c.carry.new.carried.items ≡ [] = search rules in
+    let none_left = delivered_none c.args.sending c.args.bytes.now c.args.wires.now c.new-carried.result.items c.carry.new.carried.items c.new-carried.ensures.items c.in_ok-carry.ensures.carried none_carried in
+    ap (λ (es : List Event). scheduled_all (radio_agenda coming c.args.queue.now) (c.args.sending.at.time + c.args.delay) es) (sym none_left)
+
+pub returns-in_default-clause-due : goal.returns-in_default-clause-due
+returns-in_default-clause-due c = λ coming.
+    let none_carried : c.carry.new.carried.items ≡ [] = search rules in
+    let none_left = delivered_none c.args.sending c.args.bytes.now c.args.wires.now c.new-carried.result.items c.carry.new.carried.items c.new-carried.ensures.items c.in_ok-carry.ensures.carried none_carried in
+    subst (λ (es : List Event). AddsAll (radio_agenda coming c.args.queue.now) (c.args.sending.at.time + c.args.delay) es (radio_agenda coming c.args.queue.now)) (sym none_left)
+    (adds_none (radio_agenda coming c.args.queue.now) (c.args.sending.at.time + c.args.delay))
+
+pub returns-clause-queue : goal.returns-clause-queue
+returns-clause-queue c = λ coming.
+    let flight = delivered_flight c.args.sending c.args.bytes.now c.args.wires.now c.new-carried.result.items c.carry.new.carried.items c.pop_front.new.self.items c.in-Some.first c.in_ok-flight.flight c.new-carried.ensures.items
+    c.in_ok-carry.ensures.carried c.in-Some.ensures.items c.in_ok-flight.ensures in
+    let later = c.requires.ahead in
+    schedules_events coming c.args.queue.now c.schedule.new.self (c.args.sending.at.time + c.args.delay) c.in_ok-flight.flight (omega (arith, later)) c.in_ok-schedule.ensures.list
+    ∙ ap (λ (es : List Event). scheduled_all (radio_agenda coming c.args.queue.now) (c.args.sending.at.time + c.args.delay) es) flight
+
+pub returns-clause-due : goal.returns-clause-due
+returns-clause-due c = λ coming.
+    let flight = delivered_flight c.args.sending c.args.bytes.now c.args.wires.now c.new-carried.result.items c.carry.new.carried.items c.pop_front.new.self.items c.in-Some.first c.in_ok-flight.flight c.new-carried.ensures.items
+    c.in_ok-carry.ensures.carried c.in-Some.ensures.items c.in_ok-flight.ensures in
+    subst (λ (es : List Event). AddsAll (radio_agenda coming c.args.queue.now) (c.args.sending.at.time + c.args.delay) es (radio_agenda coming c.schedule.new.self)) flight
+    (adds_events coming c.args.queue.now c.schedule.new.self (c.args.sending.at.time + c.args.delay) c.in_ok-flight.flight c.in_ok-schedule.ensures.now c.in_ok-schedule.ensures.due)
+
+pub returns-clause-ahead : goal.returns-clause-ahead
+returns-clause-ahead c = λ ahead.
+    let later = c.requires.ahead in
+    ahead_more c.args.queue.now c.schedule.new.self (c.args.sending.at.time + c.args.delay) c.in_ok-flight.flight (omega (arith, later)) c.in_ok-schedule.ensures.now c.in_ok-schedule.ensures.list c.in_ok-schedule.ensures.due ahead

@@ -1,0 +1,146 @@
+//! What waits in a radio's queue: one event, or all that a transmission delivers.
+
+ghost use Rattle.std.specs.Prelude.{◌≡◌, [], ◌∷◌, map, IfOk};
+ghost use Rattle.radio_sim.specs.Events.{cancelled_by};
+ghost use Rattle.radio_sim.specs.Waiting.{delivery_event, first_event, events_of};
+
+use crate::event::{Cancel, Event};
+use crate::shared::SharedPacket;
+use event_queue::Grouped;
+use mate_num::{ContextId, HandlerId, NoMemory};
+use std::alloc::Global;
+use std::collections::VecDeque;
+
+/// The packet of transmission `number` on its way over the link at this position.
+#[derive(Drop)]
+pub struct Delivery {
+    pub link: u32,
+    pub number: u32,
+    pub bytes: SharedPacket,
+}
+
+impl Delivery {
+    /// The event in which it arrives.
+    pub fn into_event(self) -> Event
+        ensures { result ≡ delivery_event self }
+    {
+        let Delivery {
+            link,
+            number,
+            bytes,
+        } = self;
+        Event::Deliver {
+            link,
+            number,
+            bytes,
+        }
+    }
+}
+
+/// What a transmission delivers, over one link at least, in the order of the links.
+#[derive(Drop)]
+pub struct Flight {
+    pub first: Delivery,
+    pub rest: VecDeque<Delivery>,
+}
+
+/// What waits for its time: an event that isn't a delivery, or all deliveries of a transmission, which come one after another.
+#[derive(Drop)]
+pub enum Waiting {
+    Planned(u32),
+    Period {
+        node: u8,
+        handler: HandlerId,
+    },
+    Fire {
+        node: u8,
+    },
+    Expire {
+        node: u8,
+    },
+    Pump {
+        node: u8,
+    },
+    Due {
+        node: u8,
+        ctx: ContextId,
+        inv: u32,
+        value: i16,
+    },
+    Flight(Box<Flight>),
+}
+
+impl Waiting {
+    /// The event waits. Only a delivery takes memory.
+    pub fn of_event(alloc: Global, event: Event) -> Result<Waiting, NoMemory>
+        ensures { IfOk result (λ waiting. events_of waiting ≡ event ∷ []) }
+    {
+        match event {
+            Event::Planned(line) => Ok(Waiting::Planned(line)),
+            Event::Period { node, handler } => Ok(Waiting::Period { node, handler }),
+            Event::Fire { node } => Ok(Waiting::Fire { node }),
+            Event::Expire { node } => Ok(Waiting::Expire { node }),
+            Event::Pump { node } => Ok(Waiting::Pump { node }),
+            Event::Due {
+                node,
+                ctx,
+                inv,
+                value,
+            } => Ok(Waiting::Due {
+                node,
+                ctx,
+                inv,
+                value,
+            }),
+            Event::Deliver {
+                link,
+                number,
+                bytes,
+            } => {
+                let first = Delivery {
+                    link,
+                    number,
+                    bytes,
+                };
+                Waiting::of_flight(alloc, first, VecDeque::new(alloc))
+            }
+        }
+    }
+
+    /// The deliveries wait.
+    pub fn of_flight(
+        alloc: Global,
+        first: Delivery,
+        rest: VecDeque<Delivery>,
+    ) -> Result<Waiting, NoMemory>
+        ensures { IfOk result (λ waiting. events_of waiting ≡ delivery_event first ∷ map delivery_event rest.items) }
+    {
+        match Box::new(alloc, Flight { first, rest }) {
+            Ok(flight) => Ok(Waiting::Flight(flight)),
+            Err(_) => Err(NoMemory),
+        }
+    }
+
+    /// Which cancel takes the events, if one does.
+    fn cancelled_by(&self) -> Option<Cancel>
+        ensures { result ≡ cancelled_by (first_event self.now) }
+    {
+        match self {
+            Waiting::Fire { node } | Waiting::Expire { node } => Some(Cancel::Timer(*node)),
+            Waiting::Pump { node } => Some(Cancel::Pump(*node)),
+            Waiting::Due { node, .. } => Some(Cancel::Answers(*node)),
+            Waiting::Planned(_) | Waiting::Period { .. } | Waiting::Flight(_) => None,
+        }
+    }
+}
+
+impl Grouped for Waiting {
+    ghost use Rattle.radio_sim.specs.Waiting.{waiting_group};
+
+    ghost group_of = { waiting_group };
+
+    fn group(&self) -> Option<u16> {
+        let cancel = self.cancelled_by()?;
+        Some(cancel.number())
+    }
+}
