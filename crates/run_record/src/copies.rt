@@ -1,4 +1,4 @@
-//! Copies of what was told.
+//! Copies of what was recorded.
 
 ghost use Rattle.std.specs.Prelude.{◌≡◌, ◌≤◌, ◌<◌, ◌+◌, ◌++◌, map, length, All};
 ghost use Rattle.mate_journal.specs.Log.{IsSameLog};
@@ -9,7 +9,7 @@ ghost use Rattle.run_record.specs.Records.{NumberFits, FitsBehind};
 use mate_journal::{Air, Aired, Entry, Images, NodeLog, Stamped, Stores};
 use mate_num::copy_of;
 
-/// The entry again, where so many images and stores stand before those of its own log.
+/// The entry again, if so many images and stores come before those of its own log.
 #[inline(never)]
 fn entry_again(entry: &Entry, images: u32, stores: u32) -> Entry
     requires { NumberFits images stores entry.now }

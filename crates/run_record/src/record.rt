@@ -14,7 +14,7 @@ use std::alloc::Global;
 pub struct Record {
     logs: Vec<NodeLog>,
     air: Airs,
-    // the places where the logs are put when they are handed out
+    // the places to which the logs go when they are handed out
     places: NodeLogs,
 }
 
@@ -35,7 +35,7 @@ impl Record {
         })
     }
 
-    /// Appends what a node told since and what happened on the air since. `NoMemory` leaves the record as it was, but for its room.
+    /// Appends what a node recorded since and what happened on the air since. `NoMemory` leaves the record as it was, but for its room.
     pub fn add(&mut self, node: u8, told: &NodeLog, aired: &[Aired]) -> Result<(), NoMemory>
         requires node { node < length self.old.logs.items }
         requires told { MayAdd self.old node told.now }
@@ -59,7 +59,7 @@ impl Record {
         Ok(())
     }
 
-    /// Appends what a node told since, within the room that there is. The other nodes keep their room.
+    /// Appends what a node recorded since, within the room that there is. The other nodes keep their room.
     pub fn add_within(&mut self, node: u8, told: &NodeLog)
         requires node { node < length self.old.logs.items }
         requires told { MayAdd self.old node told.now }

@@ -146,7 +146,7 @@ fn message_by(desc: &Description, fun: FunId, args: &Payload) -> Option<Packet>
     }
 }
 
-/// What the function does; that of `Id` where there is none.
+/// What the function does; that of `Id` if there is none.
 fn kind_in(desc: &Description, fun: FunId) -> FunKind
     ensures { result ≡ option_map_or (λ (f : CalledFunction). f.kind) (slice_get desc.now.functions.items fun.0) kinds.Id }
 {

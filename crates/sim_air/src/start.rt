@@ -13,7 +13,7 @@ use trickle_timer::Trickle;
 use vm_desc::{Description, HandlerKind};
 use world_script::World;
 
-/// The stamp of what stands before the first event.
+/// The stamp of what is recorded before the first event.
 const BEGINNING: Stamp = Stamp { event: 0, time: 0 };
 
 /// The lines of the script are due, in their order.

@@ -70,7 +70,7 @@ impl Calls {
         CallAnswer { time, value }
     }
 
-    /// The value of an answer at its time, where `place` calls of the function were counted before.
+    /// The value of an answer at its time, if `place` calls of the function were counted before.
     fn value(
         &mut self,
         kind: FunKind,
@@ -136,7 +136,7 @@ fn series_value(series: &[Series], node: u8, fun: FunId, place: u64) -> i16
     0
 }
 
-/// The value at a place, the last one behind all; 0 where there is none.
+/// The value at a place, the last one behind all; 0 if there is none.
 fn value_at(values: &[i16], place: u64) -> i16
     ensures { (n : ℕ) → place ≡ min n u64.MAX → result ≡ series_value values.now n }
 {

@@ -124,7 +124,7 @@ fn schedule_next(
     }
 }
 
-/// The period of the handler in ms; None where it is no timer's.
+/// The period of the handler in ms; None if it is no timer's.
 fn period_of(desc: &Description, handler: HandlerId) -> Option<u32>
     ensures value { result ≡ handler_period desc.now handler }
     ensures range { (p : ℕ) → result ≡ Some p → p ≤ HOUR }
@@ -170,7 +170,7 @@ pub(crate) fn send_packets(
     Ok(())
 }
 
-/// Schedules a pump where none is due and something is marked. True exactly where one is due then.
+/// Schedules a pump if none is due and something is marked. True exactly if one is due then.
 pub(crate) fn schedule_pump(
     radio: &mut Radio,
     desc: &Description,

@@ -15,7 +15,7 @@ use journal_laws::{settling_leaves_waiting, settling_tells_few, waits_are_apart}
 use mate_num::{NoMemory, Stamp};
 use open_node::OpenNode;
 
-/// The node has turns until nobody is ready there, none where nobody is. They tell at most 32 entries, and what calls in them waits
+/// The node has turns until nobody is ready there, none if nobody is. They record at most 32 entries, and what calls in them waits
 /// behind them.
 pub(crate) fn have_turns(node: &mut OpenNode, at: Stamp) -> Result<(), NoMemory>
     requires timely { IsTimely at node.old.log }

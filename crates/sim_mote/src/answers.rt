@@ -41,7 +41,7 @@ fn waits_in(node: &OpenNode, ctx: ContextId, inv: u32) -> bool
     }
 }
 
-/// The context in which the invocation waits; None where it waits in none.
+/// The context in which the invocation waits; None if it waits in none.
 fn context_of(node: &OpenNode, inv: u32) -> Option<ContextId>
     ensures { WaitApart (heard_of node.now) → WaitsWithin (heard_of node.now) inv
         → result ≡ Some ((heard_of node.now).invocations inv).context }
@@ -94,7 +94,7 @@ fn answer_call(
     }
 }
 
-/// The call that an entry tells, by its invocation and its function.
+/// The call that an entry records, by its invocation and its function.
 fn asked_in(entry: &Entry) -> Option<(u32, FunId)>
     ensures value { (l : Log) → result ≡ asked_of (journal_entry l entry.now) }
     ensures range { (d : Machine) (n : ℕ) (f : FunName) → IsEntryInRange d entry.now → result ≡ Some (n, f)
@@ -115,7 +115,7 @@ fn asked_in(entry: &Entry) -> Option<(u32, FunId)>
     }
 }
 
-/// Schedules the answer to the call that the entry tells, if it tells one.
+/// Schedules the answer to the call that the entry records, if it records one.
 fn answer_entry(
     radio: &mut Radio,
     calls: &mut Calls,
@@ -151,7 +151,7 @@ fn answer_entry(
     }
 }
 
-/// Schedules the answers to the calls that the entries tell, in their order: each comes after its function's latency, to an
+/// Schedules the answers to the calls that the entries record, in their order: each comes after its function's latency, to an
 /// invocation that waits on the node.
 pub fn schedule_answers(
     radio: &mut Radio,

@@ -78,7 +78,7 @@ impl Mote {
         Ok(())
     }
 
-    /// The call that the context waits with is answered. Where none waits nothing is done.
+    /// The call that the context waits with is answered. If none waits, nothing is done.
     pub fn answer(&mut self, ctx: ContextId, value: i16, at: Stamp) -> Result<(), NoMemory>
         requires context { ctx.0 < CONTEXTS_MAX }
         requires tellable { IsTellable self.old.node at }
@@ -200,7 +200,7 @@ impl Mote {
         effect.begins = self.count(heard.consistent, at.time);
     }
 
-    /// A Vector that is consistent or not counts for the timer. True exactly where an interval begins.
+    /// A Vector that is consistent or not counts for the timer. True exactly if an interval begins.
     fn count(&mut self, consistent: Option<bool>, now: u32) -> bool
         requires hour { now ≤ HOUR }
         requires within { self.old.timer.running.begin ≤ now }

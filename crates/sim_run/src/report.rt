@@ -17,10 +17,10 @@ use mate_num::{NoMemory, Stamp};
 use report_ranges::{LogSize, log_is_in_range_from, report_is_in_range};
 use sim_mote::Mote;
 
-/// How many entries a log has at most where a store is seen.
+/// How many entries a log has at most when a store is seen.
 const ENTRIES_MAX: usize = 4000000000;
 
-/// Forgets what each node told. `NoMemory` comes where a node's log has 3,999,999,999 entries or more.
+/// Forgets what each node recorded. `NoMemory` comes if a node's log has 3,999,999,999 entries or more.
 pub fn forget_all(motes: &mut Vec<Mote>) -> Result<(), NoMemory>
     ensures { OnOk result (HaveForgotten (length motes.old.items) motes.old.items motes.new.items) }
 {
@@ -30,7 +30,7 @@ pub fn forget_all(motes: &mut Vec<Mote>) -> Result<(), NoMemory>
     Ok(())
 }
 
-/// Forgets what the node told.
+/// Forgets what the node recorded.
 fn forget(mote: &mut Mote) -> Result<(), NoMemory>
     ensures { OnOk result (HasForgotten mote.old mote.new) }
 {

@@ -1,4 +1,4 @@
-//! A world between its events: the radio, the nodes, and how many records stand.
+//! A world between its events: the radio, the nodes, and how many records there are.
 
 ghost use Rattle.std.specs.Prelude.{◌≡◌, ◌+◌, ◌<◌, ◌≤◌, ◌∷◌, [], List, length, slice_get, Some, All, IfOk, OnOk, ◌⊎◌};
 ghost use Rattle.world_script.specs.World.{IsRightWorld};
@@ -36,7 +36,7 @@ use world_script::World;
 use world_state_laws::states_are_sound;
 use world_text_laws::text_grows_by_events;
 
-/// What becomes of what was told once it is written.
+/// What becomes of what was recorded once it is written.
 #[derive(Clone, Copy)]
 pub enum Written {
     Kept,
@@ -48,7 +48,7 @@ pub enum Written {
 pub struct Simulation {
     pub radio: Radio,
     pub motes: Vec<Mote>,
-    /// How many records stand, in journals and of the air.
+    /// How many records there are, in journals and of the air.
     pub records: usize,
 }
 
@@ -73,8 +73,8 @@ impl Simulation {
         })
     }
 
-    /// The event comes, with this stamp. What its node and the radio told before it is forgotten, where that is to be forgotten, and
-    /// the node then has the spare room, if it may tell something. It answers its node. The effect is nothing before it and after it.
+    /// The event comes, with this stamp. What its node and the radio recorded before it is forgotten, if that is to be forgotten, and
+    /// the node then has the spare room, if it may record something. It answers its node. The effect is nothing before it and after it.
     pub fn step(
         &mut self,
         desc: &Description,
@@ -127,7 +127,7 @@ impl Simulation {
         Ok(number)
     }
 
-    /// Behind an event of the node, where a next one may come: lets go what it told, and has the room back.
+    /// Behind an event of the node, if a next one may come: lets go what it recorded, and has the room back.
     pub fn leave(&mut self, desc: &Description, event: &Event, number: u8, room: &mut NodeLog)
         requires node { number < length self.old.motes.items }
         requires few { self.old.records < 1000000 → IsFew self.old number }
@@ -143,7 +143,7 @@ impl Simulation {
         let _kept = self.motes[usize::from(number)].node.kept();
     }
 
-    /// Forgets what a node and the radio told, where that is to be forgotten, and trades the node's room for the spare one, where it
+    /// Forgets what a node and the radio recorded, if that is to be forgotten, and trades the node's room for the spare one, if it
     /// trades.
     pub(crate) fn let_go(&mut self, number: u8, written: Written, trades: bool, room: &mut NodeLog)
         requires node { number < length self.old.motes.items }
@@ -164,7 +164,7 @@ impl Simulation {
     }
 }
 
-/// Forgets what the node told, and trades its room for the spare one, where it trades.
+/// Forgets what the node recorded, and trades its room for the spare one, if it trades.
 fn forget_told(node: &mut OpenNode, trades: bool, room: &mut NodeLog)
     requires few { length node.old.log.entries < 4000000000 }
     requires empty { IsEmpty room.old }
@@ -181,7 +181,7 @@ fn forget_told(node: &mut OpenNode, trades: bool, room: &mut NodeLog)
     node.trade(room);
 }
 
-/// So many records, with those of one event more. `NoMemory` comes where a machine word doesn't count them.
+/// So many records, with those of one event more. `NoMemory` comes if a machine word doesn't count them.
 fn counted(records: usize, told: usize, aired: usize) -> Result<usize, NoMemory>
     ensures { IfOk result (λ n. n ≡ records + told + aired) }
 {
@@ -248,7 +248,7 @@ fn node_of(world: &World, event: &Event) -> u8
     }
 }
 
-/// Whether the node may tell something in the event. Of its timer's events and of most packets it tells nothing, so it needs no
+/// Whether the node may record something in the event. Of its timer's events and of most packets it records nothing, so it needs no
 /// room then.
 fn may_tell(desc: &Description, event: &Event) -> bool {
     match event {

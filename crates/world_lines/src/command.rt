@@ -9,7 +9,7 @@ pub enum Command<'a> {
     Random(u64),
     Until(u32),
     Suppress(bool),
-    /// A link, and where `both` is true the one back as well.
+    /// A link, and if `both` is true the one back as well.
     Link {
         link: Link,
         both: bool,

@@ -88,7 +88,7 @@ impl Draft {
         }
     }
 
-    // Whether a link may join the nodes, and where `both` is true the one back as well.
+    // Whether a link may join the nodes, and if `both` is true the one back as well.
     fn is_free(&self, both: bool, from: u8, to: u8) -> bool
         requires from { from < 64 }
         requires to { to < 64 }

@@ -70,7 +70,7 @@ fn assignment(
     Text::of(alloc, text.as_str())
 }
 
-// What stands before the sensor and the digit.
+// What is before the sensor and the digit.
 fn head(alloc: Global, shared: &str) -> Result<String, NoMemory>
     ensures { IfOk result (λ text. string_bytes text ≡ source_head shared.now) }
 {

@@ -18,7 +18,7 @@ use vm_desc::Description;
 use world_script::{Planned, What, World};
 
 /// The programs of the files that the world injects, in the order of its lines; or the first refusal of them. Sources are
-/// folded before they are compiled where `fold` says so. The world can be run with them.
+/// folded before they are compiled if `fold` says so. The world can be run with them.
 pub fn programs_of_world<F: Files>(
     alloc: Global,
     files: &mut F,

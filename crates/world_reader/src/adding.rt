@@ -40,7 +40,7 @@ pub fn take(draft: &mut Draft, command: Command<'_>) -> Result<(), ScriptFault>
     Ok(())
 }
 
-// Adds a link, and where `both` is true the one back as well.
+// Adds a link, and if `both` is true the one back as well.
 fn join(draft: &mut Draft, link: Link, both: bool) -> Result<(), NoMemory>
     requires from { link.from < 64 }
     requires to { link.to < 64 }

@@ -96,7 +96,7 @@ fn read_line(
     }
 }
 
-// The world, where none of the first three lines is missing.
+// The world, if none of the first three lines is missing.
 fn finish(draft: Draft, number: u32) -> Result<World, ScriptFault>
     ensures { result ≡ world_at_end draft.stage number (world_progress_of draft) }
 {

@@ -15,7 +15,7 @@ pub struct World {
     pub random: u64,
     /// The last time at which events are run, in ms: 1 to 3,600,000.
     pub until: u32,
-    /// Whether a node keeps its versions to itself where it has heard them often enough.
+    /// Whether a node keeps its versions to itself if it has heard them often enough.
     pub suppress: bool,
     pub links: Links,
     pub series: SeriesList,

@@ -29,8 +29,8 @@ use world_run_laws::reports_keep_the_promise;
 use world_script::World;
 use world_state_laws::states_are_sound;
 
-/// Runs a world as `run` does, and gives the summary of its report. What a node told in an event, and what happened on the air in it, is
-/// counted and then forgotten before the next one, so that a long run takes no more memory than its nodes and its longest event.
+/// Runs a world as `run` does, and gives the summary of its report. What a node recorded in an event, and what happened on the air in it,
+/// is counted and then forgotten before the next one, so that a long run takes no more memory than its nodes and its longest event.
 pub fn sum_world(
     alloc: Global,
     desc: &Description,
@@ -90,7 +90,7 @@ fn start_counted(
     Ok((sim, tally))
 }
 
-/// The event comes, with this stamp, and what was told in it is counted. Where a next one may come, it is then forgotten, and the room of
+/// The event comes, with this stamp, and what was recorded in it is counted. If a next one may come, it is then forgotten, and the room of
 /// the node's log is spare again.
 #[inline(never)]
 fn count_step(

@@ -14,7 +14,7 @@ use sim_run::Simulation;
 /// How many entries a node's log has at most in a record.
 const ENTRIES_MAX: usize = 4000000000;
 
-/// Records what a node and the radio have at hand, where a record is kept. `NoMemory` leaves it as it was, but for its room.
+/// Records what a node and the radio have at hand, if a record is kept. `NoMemory` leaves it as it was, but for its room.
 pub(crate) fn record_event(
     records: &mut Option<Record>,
     sim: &Simulation,
@@ -31,7 +31,7 @@ pub(crate) fn record_event(
     }
 }
 
-/// Records the stores that the nodes have at hand, where a record is kept. `NoMemory` leaves it as it was, but for its room.
+/// Records the stores that the nodes have at hand, if a record is kept. `NoMemory` leaves it as it was, but for its room.
 pub(crate) fn record_stores(records: &mut Option<Record>, sim: &Simulation) -> Result<(), NoMemory>
     requires few { length sim.now.motes.items ≤ 64 }
     requires before { AreStoresBefore records.old sim.now }

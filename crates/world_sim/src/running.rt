@@ -14,7 +14,7 @@ use world_script::World;
 use world_state_laws::states_are_sound;
 
 /// Runs a world on nodes of this machine, with the programs of its files: each event is the next that is due, and at the end
-/// each node's store is seen. `LogFull` comes exactly where 1,000,000 records stand or more and an event is left, with the
+/// each node's store is seen. `LogFull` comes exactly if there are 1,000,000 records or more and an event is left, with the
 /// report so far.
 pub fn run(
     alloc: Global,

@@ -68,7 +68,7 @@ pub fn run_into<S: Sink>(
     }
 }
 
-/// The same text, without a report: what a node told in an event, and what happened on the air in it, is forgotten before the next
+/// The same text, without a report: what a node recorded in an event, and what happened on the air in it, is forgotten before the next
 /// one, and the room of its log goes to the node of the next one: so a long run takes no more memory than its nodes and its longest
 /// event.
 pub fn write_world<S: Sink>(
@@ -107,7 +107,7 @@ fn start_recorded(
     Ok((sim, record))
 }
 
-/// Runs a world from its start, and writes each event's lines when it ends, and then the last line. Where a record is kept, it has what
+/// Runs a world from its start, and writes each event's lines when it ends, and then the last line. If a record is kept, it has what
 /// the report has that was written, or a part of it.
 #[inline(never)]
 fn write_run<S: Sink>(
@@ -200,8 +200,8 @@ fn write_start<S: Sink>(
     }
 }
 
-/// The event comes, with this stamp; it is recorded, where a record is kept, and its lines are written. Where a next one may come, what
-/// was told is then forgotten, and the room of the node's log is spare again.
+/// The event comes, with this stamp; it is recorded, if a record is kept, and its lines are written. If a next one may come, what
+/// was recorded is then forgotten, and the room of the node's log is spare again.
 #[inline(never)]
 fn write_step<S: Sink>(
     desc: &Description,
@@ -252,7 +252,7 @@ fn write_step<S: Sink>(
     Ok(())
 }
 
-/// Each node's store is seen; they are recorded, where a record is kept; and their lines are written, and the last line.
+/// Each node's store is seen; they are recorded, if a record is kept; and their lines are written, and the last line.
 #[inline(never)]
 fn write_ending<S: Sink>(
     desc: &Description,
@@ -335,7 +335,7 @@ fn write_stores<S: Sink>(desc: &Description, motes: &[Mote], out: &mut S) -> Res
     Ok(())
 }
 
-/// Writes the last line of the report of what stands, behind its other lines, and so ends the run.
+/// Writes the last line of the report so far, behind its other lines, and so ends the run.
 #[inline(never)]
 fn write_last<S: Sink>(sim: &Simulation, events: u64, whole: bool, out: &mut S) -> Pass
     requires { length sim.now.motes.items ≤ 64 }
@@ -350,7 +350,7 @@ fn write_last<S: Sink>(sim: &Simulation, events: u64, whole: bool, out: &mut S) 
     }
 }
 
-/// Writes that last line. (`NoMemory` comes also where 64 bits don't count the records; nothing is written then.)
+/// Writes that last line. (`NoMemory` comes also if 64 bits don't count the records; nothing is written then.)
 fn put_last<S: Sink>(
     sim: &Simulation,
     events: u64,
@@ -367,7 +367,7 @@ fn put_last<S: Sink>(
     }
 }
 
-/// How many records stand; None where 64 bits don't count them.
+/// How many records there are; None if 64 bits don't count them.
 fn records_in(sim: &Simulation) -> Option<u64>
     ensures { IfSome result (λ n. n ≡ length sim.now.radio.air + sum_by (λ l. length l.entries) (mote_logs sim.now.motes.items)) }
 {
@@ -375,7 +375,7 @@ fn records_in(sim: &Simulation) -> Option<u64>
     (sim.radio.aired() as u64).checked_add(told)
 }
 
-/// How many entries the nodes told; None where 64 bits don't count them.
+/// How many entries the nodes recorded; None if 64 bits don't count them.
 fn entries_in(motes: &[Mote]) -> Option<u64>
     ensures { IfSome result (λ n. n ≡ sum_by (λ l. length l.entries) (mote_logs motes.now)) }
 {
