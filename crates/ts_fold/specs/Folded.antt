@@ -14,17 +14,7 @@ use Rattle.ts_meaning.specs.Meaning.{applied}
 -- the number that an expression is
 abbrev pub literal_of : Expression → Option ℤ
 literal_of (Num n) = Some n
-literal_of (Shared v) = None
-literal_of (Private i) = None
-literal_of (Item p e) = None
-literal_of (Size p) = None
-literal_of (MsgItem e) = None
-literal_of MsgSize = None
-literal_of (Call f args) = None
-literal_of (SendBuf f p) = None
-literal_of (Neg e) = None
-literal_of (Not e) = None
-literal_of (Two op l r) = None
+literal_of _ = None
 
 -- the values of the operations on numbers, as the meaning gives them; `/` and `%` by 0 give a fault, and no value
 abbrev pub negated : Option ℤ → Option ℤ
