@@ -1,11 +1,11 @@
-//! The steps of commands on files that tell what they hold.
+//! The steps of commands on files whose contents contracts can say.
 
 ghost use Rattle.std.specs.Prelude.{◌≡◌, ◌≢◌, ◌<◌, ◌≤◌, ℕ, List, length, codes, None, Some, Ok, IfOk, IfErr};
 ghost use Rattle.mate_num.specs.declared.bounds.TheConstants.{FILE_MAX};
 ghost use Rattle.vm_desc.specs.Limits.{Parts};
 ghost use Rattle.vm_desc.specs.Shapes.{shape_of};
 ghost use Rattle.vm_reader.specs.Text.{description_of};
-ghost use Rattle.ts_syntax.specs.Checked.{tree_of, checked_shape as shape_of_script};
+ghost use Rattle.ts_checked.specs.Checked.{checked_tree, checked_shape as shape_of_script};
 ghost use Rattle.ts_checker.specs.Accepted.{IsAccepted};
 ghost use Rattle.command_line.specs.Commands.{builtin_word};
 ghost use Rattle.mate_refusals.specs.declared.cause.Cause.TheVariants.{Unread as UnreadCause};
@@ -20,10 +20,11 @@ use mate_steps::{
     CodeFault, CompiledScript, compiled_script, expansion_of, machine_of, read_file, source_of,
 };
 use std::alloc::Global;
-use ts_syntax::{Checked, Script};
+use ts_checked::Checked;
+use ts_syntax::Script;
 use vm_desc::Description;
 
-/// No other description is read in the place of one that isn't there.
+/// No other description is read instead of one that isn't there.
 pub fn a_missing_description_is_told_by_its_name<F: Files>(
     alloc: Global,
     files: &mut F,
@@ -54,12 +55,12 @@ pub fn an_unfolded_source_keeps_its_tree<F: Files>(
     name: &str,
 ) -> Result<CompiledScript, Refusal>
     ensures { (bytes : List ℕ) → HoldsFile (record { told = F.contents files.old; steady = F.steady files.old }) name.now (Some bytes)
-        → IfOk result (λ c. IsAccepted desc.now bytes (tree_of c.script)) }
+        → IfOk result (λ c. IsAccepted desc.now bytes (checked_tree c.script)) }
 {
     source_of(alloc, files, desc, false, name)
 }
 
-/// What isn't folded takes no memory.
+/// A script that isn't folded takes no memory.
 pub fn an_unfolded_script_never_wants_memory(
     alloc: Global,
     desc: &Description,
@@ -71,7 +72,7 @@ pub fn an_unfolded_script_never_wants_memory(
     compiled_script(alloc, desc, false, script)
 }
 
-/// A text of a machine that isn't read for want of memory is no bad description.
+/// A description that isn't read because memory ran out is no bad description.
 pub fn a_right_description_is_refused_for_memory_alone<F: Files>(
     alloc: Global,
     files: &mut F,
@@ -85,7 +86,7 @@ pub fn a_right_description_is_refused_for_memory_alone<F: Files>(
     machine_of(alloc, files, word)
 }
 
-/// A source that isn't expanded for want of memory was read.
+/// A source that isn't expanded because memory ran out was read.
 pub fn a_source_that_is_there_is_never_unread<F: Files>(
     alloc: Global,
     files: &mut F,

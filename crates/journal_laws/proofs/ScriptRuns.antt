@@ -32,7 +32,7 @@ HaveMade-on Ends m records n r p (step ∷ steps) more es back q (few, told, res
       makes,
       HaveMade-on Ends m (records + length told) (suc n) (state_after_entries m r told) then steps more rest back q later
           (moved (λ j k s. HaveMade Ends m j k s q more back) (records + length es) (records + length told + length rest) (n + length (step ∷ steps)) (suc n + length steps) (state_after_all m r es)
-              (state_after_all m (state_after_entries m r told) rest) (omega arith) (omega arith) (ap (λ (all : List TimedEntry). state_after_all m r all) is ∙ heard_all-made m r n told rest) next),
+          (state_after_all m (state_after_entries m r told) rest) (omega arith) (omega arith) (ap (λ (all : List TimedEntry). state_after_all m r all) is ∙ heard_all-made m r n told rest) next),
     )
 
 -- one more step

@@ -1,4 +1,5 @@
-//! The byte code of a Maté machine: instructions, their opcodes, and what they mean.
+//! The byte code of a machine in the manner of Maté (Levis, Gay and Culler, "Active Sensor Networks", NSDI 2005):
+//! instructions, their opcodes, and what they mean.
 #![tactic(auto)]
 
 pub mod codec_laws;

@@ -25,7 +25,7 @@ pub fn an_open_escape_is_broken(alloc: Global) -> Result<Frames, NoMemory>
     Ok(frames)
 }
 
-/// A piece that closes one frame of more than 1,056 bytes gives none of them.
+/// A piece that ends one frame of more than 1,056 bytes gives none of its bytes.
 pub fn a_long_frame_has_no_bytes(alloc: Global, piece: &[u8]) -> Result<Frames, NoMemory>
     ensures { IfOk result (λ frames. (bytes whole : List ℕ) → closed_pieces [] piece.now ≡ bytes ∷ [] → bytes ≢ []
         → unescaped false bytes ≡ Some whole → IMAGE_MAX < length whole

@@ -1,7 +1,7 @@
 use Rattle.std.proofs.lemmas.Result.{IfOk-from_err}
-use Rattle.ts_syntax.proofs.BlockLemmas.{block_kept, block_pushed}
-use Rattle.ts_syntax.proofs.FailureLemmas.{told_on_err}
-use Rattle.ts_syntax.proofs.checked_stmt.CBlock.push.Goals as goal
+use Rattle.ts_checked.proofs.BlockLemmas.{block_kept, block_pushed}
+use Rattle.ts_checked.proofs.FailureLemmas.{told_on_err}
+use Rattle.ts_checked.proofs.checked_stmt.CBlock.push.Goals as goal
 
 pub returns-in_err-push-clause-pushed : goal.returns-in_err-push-clause-pushed
 returns-in_err-push-clause-pushed c = IfOk-from_err c.from_residual.result _ c.from_residual.ensures.0

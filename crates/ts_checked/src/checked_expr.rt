@@ -63,7 +63,7 @@ impl Drop for CArgs {
 }
 
 impl CArgs {
-    ghost use Rattle.ts_syntax.specs.TreeOf.{expr_tree, args_trees};
+    ghost use Rattle.ts_checked.specs.TreeOf.{expr_tree, args_trees};
 
     /// No arguments. It takes no memory.
     pub fn new(alloc: Global) -> CArgs
@@ -80,7 +80,7 @@ impl CArgs {
         self.items.len()
     }
 
-    /// The argument at `index`, from 0; None exactly from the length on.
+    /// The argument at `index`, from 0; None exactly if `index` is the length or more.
     pub fn get(&self, index: usize) -> Option<&CExpr>
         ensures { option_map (λ e. expr_tree e.now) result ≡ slice_get (args_trees self.now) index }
     {

@@ -1,8 +1,8 @@
 use Rattle.std.proofs.Common.{◌∙◌, map, ap, sym}
-use Rattle.ts_syntax.specs.TreeOf.{expr_tree}
-use Rattle.ts_syntax.proofs.ArgsLemmas.{args_seen}
-use Rattle.ts_syntax.proofs.ListLemmas.{looked_up}
-use Rattle.ts_syntax.proofs.checked_expr.CArgs.get.Goals as goal
+use Rattle.ts_checked.specs.TreeOf.{expr_tree}
+use Rattle.ts_checked.proofs.ArgsLemmas.{args_seen}
+use Rattle.ts_checked.proofs.ListLemmas.{looked_up}
+use Rattle.ts_checked.proofs.checked_expr.CArgs.get.Goals as goal
 
 pub returns : goal.returns
 returns c =

@@ -1,4 +1,4 @@
--- What is told of a call that fails.
+-- What is known of a call that fails.
 use Rattle.std.proofs.Common.{Result, Ok, Err, OnErr}
 
 pub told_on_err : {T E P : Type 0} (r : Result T E) → P → OnErr r P

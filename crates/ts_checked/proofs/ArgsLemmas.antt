@@ -1,9 +1,9 @@
 -- The data of checked arguments, by the list that holds them.
 use Rattle.std.proofs.Common.{◌≡◌, rules, [], ◌∷◌, ◌++◌, map, ap, sym, ◌∙◌}
 use Rattle.std.proofs.lemmas.List.{map-append}
-use Rattle.ts_syntax.specs.TreeOf.{expr_tree, args_trees}
-use Rattle.ts_syntax.specs.declared.checked_expr.CExpr.{CExpr, the_lemmas}
-use Rattle.ts_syntax.specs.declared.checked_expr.CArgs.{CArgs}
+use Rattle.ts_checked.specs.TreeOf.{expr_tree, args_trees}
+use Rattle.ts_checked.specs.declared.checked_expr.CExpr.{CExpr, the_lemmas}
+use Rattle.ts_checked.specs.declared.checked_expr.CArgs.{CArgs}
 
 pub args_seen : (a : CArgs) → args_trees a ≡ map expr_tree a.items.items
 args_seen a = search (rules, the_lemmas)

@@ -1,15 +1,15 @@
 -- The data of a checked tree.
 use Rattle.std.specs.Prelude.{List, Option, Some, None}
-use Rattle.ts_syntax.specs.Expression.{Expression, arguments, Num, Shared, Private, Item, Size, MsgItem, MsgSize, Call, SendBuf, Neg, Not, Two}
-use Rattle.ts_syntax.specs.Statement.{Statement, Block, block, Set, SetItem, Append, Take, Clear, Do, DoSend, If, IfElse, For, While}
-use Rattle.ts_syntax.specs.declared.checked_expr.CExpr.{CExpr}
-use Rattle.ts_syntax.specs.declared.checked_expr.CArgs.{CArgs}
-use Rattle.ts_syntax.specs.declared.checked_expr.CExpr.TheOpen.{CExpr-F, CArgs-F}
-use Rattle.ts_syntax.specs.declared.checked_expr.CExpr.TheFolds.{fold-CExpr, fold-CArgs}
-use Rattle.ts_syntax.specs.declared.checked_stmt.CStmt.{CStmt}
-use Rattle.ts_syntax.specs.declared.checked_stmt.CBlock.{CBlock}
-use Rattle.ts_syntax.specs.declared.checked_stmt.CStmt.TheOpen.{CStmt-F, CBlock-F}
-use Rattle.ts_syntax.specs.declared.checked_stmt.CStmt.TheFolds.{fold-CStmt, fold-CBlock}
+use Rattle.ts_checked.specs.Expression.{Expression, arguments, Num, Shared, Private, Item, Size, MsgItem, MsgSize, Call, SendBuf, Neg, Not, Two}
+use Rattle.ts_checked.specs.Statement.{Statement, Block, block, Set, SetItem, Append, Take, Clear, Do, DoSend, If, IfElse, For, While}
+use Rattle.ts_checked.specs.declared.checked_expr.CExpr.{CExpr}
+use Rattle.ts_checked.specs.declared.checked_expr.CArgs.{CArgs}
+use Rattle.ts_checked.specs.declared.checked_expr.CExpr.TheOpen.{CExpr-F, CArgs-F}
+use Rattle.ts_checked.specs.declared.checked_expr.CExpr.TheFolds.{fold-CExpr, fold-CArgs}
+use Rattle.ts_checked.specs.declared.checked_stmt.CStmt.{CStmt}
+use Rattle.ts_checked.specs.declared.checked_stmt.CBlock.{CBlock}
+use Rattle.ts_checked.specs.declared.checked_stmt.CStmt.TheOpen.{CStmt-F, CBlock-F}
+use Rattle.ts_checked.specs.declared.checked_stmt.CStmt.TheFolds.{fold-CStmt, fold-CBlock}
 
 -- one node, with the data of its parts in their places
 abbrev pub expr_step : CExpr-F Expression (List Expression) → Expression

@@ -1,9 +1,9 @@
 -- The data of checked statements, by the list that holds them.
 use Rattle.std.proofs.Common.{◌≡◌, rules, [], ◌∷◌, ◌++◌, map, ap, sym, ◌∙◌}
 use Rattle.std.proofs.lemmas.List.{map-append}
-use Rattle.ts_syntax.specs.TreeOf.{stmt_tree, block_trees}
-use Rattle.ts_syntax.specs.declared.checked_stmt.CStmt.{CStmt, the_lemmas}
-use Rattle.ts_syntax.specs.declared.checked_stmt.CBlock.{CBlock}
+use Rattle.ts_checked.specs.TreeOf.{stmt_tree, block_trees}
+use Rattle.ts_checked.specs.declared.checked_stmt.CStmt.{CStmt, the_lemmas}
+use Rattle.ts_checked.specs.declared.checked_stmt.CBlock.{CBlock}
 
 pub block_seen : (a : CBlock) → block_trees a ≡ map stmt_tree a.items.items
 block_seen a = search (rules, the_lemmas)

@@ -1,22 +1,22 @@
 //! A checked script: a body, and the shape of the machine for which it is right.
 
 ghost use Rattle.std.specs.Prelude.{IsTrue};
-ghost use Rattle.ts_syntax.specs.Right.{is_right};
-ghost use Rattle.ts_syntax.specs.TreeOf.{block_tree};
+ghost use Rattle.ts_checked.specs.Right.{is_right};
+ghost use Rattle.ts_checked.specs.TreeOf.{block_tree};
 
 use crate::checked_stmt::CBlock;
 use mate_num::Shape;
 
-/// A script that passed all checks for a machine of its shape. The type keeps that its body is right for
-/// the shape: each name is in range, each call has its function's arguments, no call stands in the limit
-/// of a `for`, and no step is 0.
+/// A script that passed all checks for a machine of its shape. The type says that its body is right for the shape:
+/// each name is in range, each call has its function's arguments, no call is in the limit of a `for`, and each step
+/// is from -32767 to 32767 and not 0.
 pub struct Checked {
     shape: Shape,
     body: CBlock,
     pub ghost right: { IsTrue (is_right shape (block_tree body)) },
 }
 
-/// What is to be dropped of it is dropped in one function, and so by one call wherever a script ends.
+/// All that has to be dropped is dropped in one function, so each place at which a script ends has one call.
 impl Drop for Checked {
     fn drop(self) {
         let Checked {
@@ -28,15 +28,15 @@ impl Drop for Checked {
 
 impl Checked {
     ghost use Rattle.std.specs.Prelude.{◌≡◌, IsTrue};
-    ghost use Rattle.ts_syntax.specs.Checked.{checked_shape, tree_of};
-    ghost use Rattle.ts_syntax.specs.Right.{is_right};
-    ghost use Rattle.ts_syntax.specs.TreeOf.{block_tree};
+    ghost use Rattle.ts_checked.specs.Checked.{checked_shape, checked_tree};
+    ghost use Rattle.ts_checked.specs.Right.{is_right};
+    ghost use Rattle.ts_checked.specs.TreeOf.{block_tree};
 
-    /// A body with the shape for which it is right, as `is_right` tells. It takes no memory.
+    /// A body with the shape that it is right for, as `is_right` says. It takes no memory.
     pub fn new(shape: Shape, body: CBlock) -> Checked
         requires { IsTrue (is_right shape (block_tree body)) }
         ensures shape { checked_shape result ≡ shape }
-        ensures body { tree_of result ≡ block_tree body }
+        ensures body { checked_tree result ≡ block_tree body }
     {
         Checked { shape, body }
     }
@@ -48,7 +48,7 @@ impl Checked {
     }
 
     pub fn body(&self) -> &CBlock
-        ensures { block_tree result.now ≡ tree_of self.now }
+        ensures { block_tree result.now ≡ checked_tree self.now }
     {
         &self.body
     }

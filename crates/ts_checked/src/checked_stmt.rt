@@ -20,7 +20,7 @@ pub struct CForHead {
     pub var: CVar,
     pub from: CExpr,
     pub to: CExpr,
-    /// 1 where none is written.
+    /// 1 if none is written.
     pub step: i16,
 }
 
@@ -90,7 +90,7 @@ impl Drop for CBlock {
 }
 
 impl CBlock {
-    ghost use Rattle.ts_syntax.specs.TreeOf.{stmt_tree, block_trees};
+    ghost use Rattle.ts_checked.specs.TreeOf.{stmt_tree, block_trees};
 
     /// No statements. It takes no memory.
     pub fn new(alloc: Global) -> CBlock
@@ -107,7 +107,7 @@ impl CBlock {
         self.items.len()
     }
 
-    /// The statement at `index`, from 0; None exactly from the length on.
+    /// The statement at `index`, from 0; None exactly if `index` is the length or more.
     pub fn get(&self, index: usize) -> Option<&CStmt>
         ensures { option_map (λ s. stmt_tree s.now) result ≡ slice_get (block_trees self.now) index }
     {

@@ -1,6 +1,6 @@
 //! The operators between two expressions.
 
-/// An operator, in the order of binding: `or` binds least.
+/// An operator, in the order of binding: `or` binds least tightly.
 #[derive(Clone, Copy)]
 pub enum BinOp {
     Or,

@@ -2,8 +2,8 @@
 use Rattle.std.specs.Prelude.{ℤ, List, [], ◌∷◌}
 use Rattle.mate_num.specs.declared.id.BufId.{BufId}
 use Rattle.mate_num.specs.declared.id.FunId.{FunId}
-use Rattle.ts_syntax.specs.declared.checked_stmt.CVar.{CVar}
-use Rattle.ts_syntax.specs.Expression.{Expression, Arguments}
+use Rattle.ts_checked.specs.declared.checked_stmt.CVar.{CVar}
+use Rattle.ts_checked.specs.Expression.{Expression, Arguments}
 
 mutual
   -- a statement; the parts of `For` are the variable, the first value, the limit, the step and the body

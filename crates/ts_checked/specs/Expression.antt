@@ -3,7 +3,7 @@ use Rattle.std.specs.Prelude.{ℕ, ℤ, List, [], ◌∷◌}
 use Rattle.mate_num.specs.declared.id.VarId.{VarId}
 use Rattle.mate_num.specs.declared.id.BufId.{BufId}
 use Rattle.mate_num.specs.declared.id.FunId.{FunId}
-use Rattle.ts_syntax.specs.declared.bin_op.BinOp.{BinOp}
+use Rattle.ts_checked.specs.declared.bin_op.BinOp.{BinOp}
 
 mutual
   -- an expression; the number of a private variable goes from 0 to 7
