@@ -18,7 +18,7 @@ use Rattle.mate_journal.specs.Turns.{entry_at, Turn, IsTurn, mark_of, after_turn
 use Rattle.mate_journal.specs.NodeScript.{Step, Install, Post, StepIn, Run, Answer, Show, ResetNode, Occasion, Installs, IsNotNewer, AnswersCall, IsNotWaiting, Makes, HaveMade}
 use Rattle.mate_journal.specs.declared.report.TheConstants.{RECORDS_MAX}
 use Rattle.mate_journal.proofs.JournalLemmas.{told_by-made}
-use Rattle.journal_laws.specs.Growth.{StopsAt}
+use Rattle.journal_laws.specs.Growth.{EndsWithPace}
 use Rattle.journal_laws.proofs.Moves.{Moves, Joins, started-Moves, asked-Moves, answered-Moves, ended-Moves, posted-Joins}
 use Rattle.journal_laws.proofs.Apart.{IsNumbered, live_posted, numbered-step, nothing_heard-orderly}
 
@@ -211,7 +211,7 @@ makes-few m r p ResetNode told q made = let e = ap outside made.0.made in omega 
 -- ---- the run
 
 -- the last event that was begun brings three at most
-made-few : (m : Machine) (records n : ℕ) (r : NodeState) (p : Pace) (steps : List Step) (es : List TimedEntry) (q : Pace) → HaveMade (StopsAt q) m records n r p steps es
+made-few : (m : Machine) (records n : ℕ) (r : NodeState) (p : Pace) (steps : List Step) (es : List TimedEntry) (q : Pace) → HaveMade (EndsWithPace q) m records n r p steps es
     → (outside (untimed es) ≡ 0) ⊎ (records + outside (untimed es) < RECORDS_MAX + 3)
 made-few m records n r p [] es q made = inl (ap (λ (xs : List TimedEntry). outside (untimed xs)) made.0)
 made-few m records n r p (step ∷ steps) es q (few, told, rest, pace, is, makes, later) =
@@ -227,7 +227,7 @@ made-few m records n r p (step ∷ steps) es q (few, told, rest, pace, is, makes
       by (inr less) = let long = outside-all told in let all = sum in inr (omega (arith, less, long, all))
 
 -- a run's log is far from a position's end
-pub run-few : (m : Machine) (steps : List Step) (es : List TimedEntry) (q : Pace) → HaveMade (StopsAt q) m 0 1 (first_state m) no_pace steps es → AtEachEntry (MayFollow m) m (first_state m) es
+pub run-few : (m : Machine) (steps : List Step) (es : List TimedEntry) (q : Pace) → HaveMade (EndsWithPace q) m 0 1 (first_state m) no_pace steps es → AtEachEntry (MayFollow m) m (first_state m) es
     → length es ≤ 3 * (RECORDS_MAX + 3)
 run-few m steps es q made follow =
     let all = owing-all m (first_state m) es follow (record { numbered = (nothing_heard-orderly m).numbered }) in

@@ -7,7 +7,7 @@ use Rattle.mate_journal.specs.Pace.{Pace}
 use Rattle.mate_journal.specs.declared.report.TheConstants.{RECORDS_MAX}
 use Rattle.mate_journal.specs.NodeScript.{Step, made_at, Makes, HaveMade}
 use Rattle.mate_journal.proofs.JournalLemmas.{heard_all-made}
-use Rattle.journal_laws.specs.Growth.{StopsAt}
+use Rattle.journal_laws.specs.Growth.{EndsWithPace}
 
 -- at other numbers and another state that are the same
 moved : (P : ℕ → ℕ → NodeState → Type 0) (records records' n n' : ℕ) (r r' : NodeState) → records ≡ records' → n ≡ n' → r ≡ r' → P records n r → P records' n' r'
@@ -15,7 +15,7 @@ moved P records records' n n' r r' a b c h = subst (λ (x : ℕ). P x n' r') a (
 
 -- what goes on behind some steps goes on behind all of them
 pub HaveMade-on : (Ends : ℕ → ℕ → NodeState → Pace → List TimedEntry → Type 0) (m : Machine) (records n : ℕ) (r : NodeState) (p : Pace) (steps more : List Step) (es back : List TimedEntry) (q : Pace)
-    → HaveMade (StopsAt q) m records n r p steps es → HaveMade Ends m (records + length es) (n + length steps) (state_after_all m r es) q more back
+    → HaveMade (EndsWithPace q) m records n r p steps es → HaveMade Ends m (records + length es) (n + length steps) (state_after_all m r es) q more back
     → HaveMade Ends m records n r p (steps ++ more) (es ++ back)
 HaveMade-on Ends m records n r p [] more es back q made next =
     subst (λ (all : List TimedEntry). HaveMade Ends m records n r p more (all ++ back)) (sym made.0)
@@ -37,8 +37,8 @@ HaveMade-on Ends m records n r p (step ∷ steps) more es back q (few, told, res
 
 -- one more step
 pub HaveMade-push : (m : Machine) (records n : ℕ) (r : NodeState) (p : Pace) (steps : List Step) (es : List TimedEntry) (q : Pace) (step : Step) (told : List JournalEntry) (then : Pace)
-    → HaveMade (StopsAt q) m records n r p steps es → records + length es < RECORDS_MAX
-    → Makes m (state_after_all m r es) q step told then → HaveMade (StopsAt then) m records n r p (steps ++ step ∷ []) (es ++ map (made_at (n + length steps)) told)
+    → HaveMade (EndsWithPace q) m records n r p steps es → records + length es < RECORDS_MAX
+    → Makes m (state_after_all m r es) q step told then → HaveMade (EndsWithPace then) m records n r p (steps ++ step ∷ []) (es ++ map (made_at (n + length steps)) told)
 HaveMade-push m records n r p steps es q step told then made room makes =
-    HaveMade-on (StopsAt then) m records n r p steps (step ∷ []) es (map (made_at (n + length steps)) told) q made
+    HaveMade-on (EndsWithPace then) m records n r p steps (step ∷ []) es (map (made_at (n + length steps)) told) q made
     (room, told, [], then, sym (append-nil (map (made_at (n + length steps)) told)), makes, (refl, refl))

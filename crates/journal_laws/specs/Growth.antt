@@ -88,5 +88,5 @@ GrantsBefore m r last (e ∷ es) = IsGranted m r last e.told × GrantsBefore m (
 -- ---- the run of a script so far
 
 -- nothing follows, and the pace is this one
-abbrev pub StopsAt : Pace → ℕ → ℕ → NodeState → Pace → List TimedEntry → Type 0
-StopsAt q records n r p es = (es ≡ []) × (p ≡ q)
+abbrev pub EndsWithPace : Pace → ℕ → ℕ → NodeState → Pace → List TimedEntry → Type 0
+EndsWithPace q records n r p es = (es ≡ []) × (p ≡ q)

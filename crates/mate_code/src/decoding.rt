@@ -49,8 +49,8 @@ fn read_all(table: &Table, bytes: &[u8]) -> Result<Instrs, DecodeFault>
     Ok(instrs)
 }
 
-// The instruction at `place`, by its opcode and the bytes after it, and what is left of these.
-fn read_instr<'a>(
+/// The instruction at `place`, by its opcode and the bytes after it, and what is left of these; or why it can't be read.
+pub fn read_instr<'a>(
     table: &Table,
     place: u16,
     opcode: u8,

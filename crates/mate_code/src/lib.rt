@@ -16,7 +16,7 @@ pub mod table;
 pub mod uses;
 
 pub use codec_laws::{each_opcode_once, one_encoding};
-pub use decoding::{DecodeFault, decode};
+pub use decoding::{DecodeFault, decode, read_instr};
 pub use encoding::{TooLong, encode};
 pub use flow::{Flow, args};
 pub use instr::Instr;

@@ -22,7 +22,7 @@ use Rattle.mate_journal.specs.declared.program.Program.{Program}
 use Rattle.mate_journal.specs.declared.entry.Stamped.{Stamped}
 use Rattle.mate_journal.specs.declared.report.Report.{Report}
 use Rattle.mate_journal.specs.declared.report.TheConstants.{RECORDS_MAX}
-use Rattle.journal_laws.specs.Growth.{FollowsLast, StopsAt}
+use Rattle.journal_laws.specs.Growth.{FollowsLast, EndsWithPace}
 use Rattle.journal_laws.proofs.Append.{journal_of-same, journal_of-empty, FollowsLast-later}
 use Rattle.journal_laws.proofs.FewLemmas.{run-few}
 use Rattle.journal_laws.proofs.ScriptRuns.{HaveMade-on, HaveMade-push}
@@ -87,7 +87,7 @@ HasRun-same d ps done old new described same paces ranges h =
       pace = h.pace;
       has = paces h.pace h.has;
       made =
-          subst (λ (es : List TimedEntry). HaveMade (StopsAt h.pace) (machine_in d) 0 1 (first_state (machine_in d)) no_pace (map (step_of ps) done) es) (sym journals) h.made;
+          subst (λ (es : List TimedEntry). HaveMade (EndsWithPace h.pace) (machine_in d) 0 1 (first_state (machine_in d)) no_pace (map (step_of ps) done) es) (sym journals) h.made;
       timely = same-timely (stamp_at (length done)) new.log old.log same h.timely;
       ranges = ranges h.ranges;
       few = h.few;
@@ -115,7 +115,7 @@ one-more d ps done step old new h few t ranges stamp =
     subst (λ (x : Description). Makes (machine_in x) (heard_of old) h.pace (step_of ps step) t.told made.0) h.description made.1 in
     let makes : Makes (machine_in d) (state_after_all (machine_in d) (first_state (machine_in d)) (journal_of old.log)) h.pace (step_of ps step) t.told made.0 =
     subst (λ (r : NodeState). Makes (machine_in d) r h.pace (step_of ps step) t.told made.0) (heard-is d old h.description) by_description in
-    let P : List node.Step → List TimedEntry → Type 0 = λ steps es. HaveMade (StopsAt made.0) (machine_in d) 0 1 (first_state (machine_in d)) no_pace steps es in
+    let P : List node.Step → List TimedEntry → Type 0 = λ steps es. HaveMade (EndsWithPace made.0) (machine_in d) 0 1 (first_state (machine_in d)) no_pace steps es in
     record {
       description = t.description ∙ h.description;
       pace = made.0;
