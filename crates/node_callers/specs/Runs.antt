@@ -15,7 +15,7 @@ pub record IsStepIn (m : Machine) (records n : ℕ) (first : NodeState) (before 
   pub front : List TimedEntry
   pub told : List JournalEntry
   pub rest : List TimedEntry
-  pub are : es ≡ front ++ map (made_at (n + length before)) told ++ rest
+  pub are : es ≡ front ++ (map (made_at (n + length before)) told ++ rest)
   pub room : records + length front < 1000000
   pub state : NodeState
   pub state_is : state ≡ state_after_all m first front
