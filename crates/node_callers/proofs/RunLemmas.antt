@@ -1,5 +1,5 @@
 -- A step of a run, and the run's end.
-use Rattle.std.proofs.Common.{◌≡◌, ◌<◌, ◌≤◌, ◌≢◌, ℕ, suc, ◌+◌, true, false, List, [], ◌∷◌, ◌++◌, map, length, Option, Some, None, Result, Ok, Err, refl, sym, ap, ◌∙◌, subst, append_assoc, append-nil, length-append, arith, inl, inr}
+use Rattle.std.proofs.Common.{◌≡◌, ◌<◌, ◌≤◌, ℕ, suc, ◌+◌, true, false, List, [], ◌∷◌, ◌++◌, map, length, Option, Result, Ok, Err, refl, sym, ap, ◌∙◌, subst, append_assoc, append-nil, length-append, arith, inl, inr}
 use Rattle.std.specs.Prelude.{IfOk, IfErr, IsSomeAnd, slice_get}
 use Rattle.std.proofs.lemmas.List.{length-map}
 use Rattle.mate_files.specs.Sink.{Sent, SentPart}
@@ -10,8 +10,7 @@ use Rattle.mate_journal.specs.Journal.{JournalEntry, TimedEntry, NodeState, Seen
 use Rattle.mate_journal.specs.Log.{Log}
 use Rattle.mate_journal.specs.Machine.{Machine}
 use Rattle.mate_journal.specs.declared.entry.Stamped.{Stamped}
-use Rattle.mate_journal.specs.NodeReport.{IsNodeReport}
-use Rattle.mate_journal.specs.NodeScript.{Step, RunEnd, Whole, Full, Cut, Makes, HaveMade, EndsRun, made_at}
+use Rattle.mate_journal.specs.NodeScript.{Step, RunEnd, Whole, Full, Cut, HaveMade, EndsRun, made_at}
 use Rattle.mate_journal.specs.Pace.{Pace, no_pace}
 use Rattle.mate_journal.specs.declared.program.Program.{Program}
 use Rattle.mate_journal.specs.declared.report.Report.{Report}
