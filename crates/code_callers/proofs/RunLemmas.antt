@@ -1,13 +1,11 @@
 -- Single instructions lead to one place.
-use Rattle.std.proofs.Common.{◌≡◌, ◌<◌, ℕ, zero, suc, ◌+◌, ◌-◌, List, [], refl, sym, ap, ◌∙◌, subst, arith}
-use Rattle.arrayvec.specs.ArrayVec.{ArrayVec}
+use Rattle.std.proofs.Common.{◌≡◌, ℕ, zero, suc, ◌+◌, ◌-◌, [], refl, sym, ap, ◌∙◌, subst, arith}
 use Rattle.mate_num.specs.declared.store.Store.{Store}
-use Rattle.mate_num.specs.declared.id.FunId.{FunId}
 use Rattle.mate_code.specs.Effect.{Private}
-use Rattle.mate_code.specs.Run.{Own, Run, Status, Going, Over, step}
+use Rattle.mate_code.specs.Run.{Own, Run, Going, step}
 use Rattle.code_verifier.specs.Verified.{VerifiedCode}
-use Rattle.exec_unit.specs.Running.{GoFor, StopsAfter, HasRunTo, HasExecuted}
-use Rattle.exec_unit.specs.Step.{IsStep, going, own_after}
+use Rattle.exec_unit.specs.Running.{GoFor, StopsAfter, HasExecuted}
+use Rattle.exec_unit.specs.Step.{IsStep, own_after}
 use Rattle.exec_unit.specs.declared.running.Ran.{Ran}
 use Rattle.exec_unit.specs.declared.step_end.StepEnd.{StepEnd}
 use Rattle.exec_unit.specs.declared.step_end.StepEnd.TheVariants.{Next, Ask, Halt, Fault}
