@@ -32,8 +32,8 @@ pub fn start_of(entry: &Entry) -> u32
     }
 }
 
-/// Whether the entry may stand where it does: at a start the invocation isn't held back, and has a higher number than the one that
-/// the entry before started; at another entry each queued one is held back.
+/// Whether the entry keeps the grant rule: at a start the invocation isn't held back, and has a higher number than the one that the
+/// entry before started, if it started one; at another entry each queued one is held back.
 pub fn is_granted(trial: &Trial, roll: &ReadyRoll, place: usize, last: u32, entry: &Entry) -> bool
     requires { HasReadUpTo trial.now place roll.now }
     ensures { let l = trial.now.log.now in

@@ -30,7 +30,7 @@ fn holds_back(trial: &Trial, roll: &ReadyRoll, queued: &Seat, other: &Seat) -> b
     is_ahead(queued, other) && roll.conflict(trial, queued, other)
 }
 
-/// Whether someone who comes before this queued one conflicts with it.
+/// Whether another one comes before this queued one and conflicts with it.
 fn is_held_back(trial: &Trial, roll: &ReadyRoll, queued: &Seat) -> bool
     requires queued { IsSeatReady trial.now roll.now queued.now }
     requires ready { All (IsSeatReady trial.now roll.now) roll.now.roll.seats.items }
@@ -45,7 +45,7 @@ fn is_held_back(trial: &Trial, roll: &ReadyRoll, queued: &Seat) -> bool
     false
 }
 
-/// Whether it is held back, if it is queued.
+/// Whether it is held back; true of one that isn't queued.
 fn waits_rightly(trial: &Trial, roll: &ReadyRoll, seat: &Seat) -> bool
     requires seat { IsSeatReady trial.now roll.now seat.now }
     requires ready { All (IsSeatReady trial.now roll.now) roll.now.roll.seats.items }
@@ -56,7 +56,7 @@ fn waits_rightly(trial: &Trial, roll: &ReadyRoll, seat: &Seat) -> bool
     !seat.phase.is(Stage::Queued) || is_held_back(trial, roll, seat)
 }
 
-/// Whether it isn't held back, if it has that number.
+/// Whether it isn't held back; true of one with another number.
 fn starts_rightly(trial: &Trial, roll: &ReadyRoll, seat: &Seat, number: u32) -> bool
     requires seat { IsSeatReady trial.now roll.now seat.now }
     requires ready { All (IsSeatReady trial.now roll.now) roll.now.roll.seats.items }
@@ -80,7 +80,7 @@ pub fn all_held_back(trial: &Trial, roll: &ReadyRoll) -> bool
     true
 }
 
-/// Whether nobody of that number is held back.
+/// Whether nobody of this number is held back.
 pub(crate) fn is_free_to_start(trial: &Trial, roll: &ReadyRoll, number: u32) -> bool
     requires { All (IsSeatReady trial.now roll.now) roll.now.roll.seats.items }
     ensures { result ≡ told.is_free_to_start (conflict_of trial.now.desc.now) (roll_in trial.now.log.now.images roll.now.roll) number }

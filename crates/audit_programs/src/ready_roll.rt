@@ -14,7 +14,7 @@ use mate_num::{Call, HandlerId, NoMemory, Outcome, Resource, Store};
 use std::alloc::Global;
 use whole_runs::{ReadyProgram, ReadyPrograms};
 
-/// The program that an install names, looked for from `place` on; `place` then is its own.
+/// The program that an install names. The search begins at `place`, which then is the position of the program.
 fn program_named<'a>(
     trial: &Trial<'a>,
     place: &mut usize,
@@ -38,7 +38,7 @@ fn program_named<'a>(
     &trial.programs.as_slice()[found]
 }
 
-/// The answers to the calls.
+/// The answers to these calls.
 fn answers_of(alloc: Global, calls: &[Call]) -> Result<Vec<i16>, NoMemory>
     ensures { IfOk result (λ answers. answers.items ≡ map (λ (call : Answered). call.result) calls.now) }
 {
@@ -49,12 +49,12 @@ fn answers_of(alloc: Global, calls: &[Call]) -> Result<Vec<i16>, NoMemory>
     Ok(answers)
 }
 
-/// The roll of a journal that is read, and the programs that are installed, made ready.
+/// The roll of a journal that is being read, and the programs that are installed, made ready.
 #[derive(Drop)]
 pub struct ReadyRoll<'a> {
     pub roll: Roll,
     ready: ReadyPrograms<'a>,
-    /// The position of the program that was installed last.
+    /// The position of the program that was looked for last.
     last: usize,
 }
 
@@ -88,7 +88,7 @@ impl<'a> ReadyRoll<'a> {
         })
     }
 
-    /// After the entry at the place.
+    /// Reads the entry at this place.
     pub fn hear(&mut self, alloc: Global, trial: &Trial<'a>, place: usize) -> Result<(), NoMemory>
         requires tried { IsTried trial.now }
         requires within { place < length trial.now.log.now.entries }
@@ -102,7 +102,7 @@ impl<'a> ReadyRoll<'a> {
         self.roll.hear(alloc, entry)
     }
 
-    /// What the entry installs, if it installs something, is made ready.
+    /// Makes ready what the entry installs, if it installs something.
     fn make_ready(
         &mut self,
         alloc: Global,

@@ -23,8 +23,8 @@ struct Stores<'a> {
     after: &'a Store,
 }
 
-/// Whether one that is started, and conflicts with the one of that number that ended, has its calls so far on the store before the end
-/// and on the one after it.
+/// Whether an invocation that is started, and conflicts with the one that ended, makes its calls so far both on the store before that
+/// end and on the store after it. Of others it is true.
 fn is_undisturbed(
     alloc: Global,
     trial: &Trial,
@@ -55,7 +55,7 @@ fn is_undisturbed(
     is_so_far(alloc, trial, roll, seat, stores.after)
 }
 
-/// Whether that holds of each one.
+/// Whether each one is undisturbed.
 fn all_undisturbed(
     alloc: Global,
     trial: &Trial,
@@ -82,7 +82,7 @@ fn all_undisturbed(
     Ok(true)
 }
 
-/// Whether a run ended so, with the calls of the invocation.
+/// Whether a run ended in this way, after the calls of the invocation.
 fn ends_so(outcome: &Outcome, how: &End, ended: &Seat) -> bool
     ensures { result ≡ (are_one_end outcome.now.end how.now && are_one_calls outcome.now.calls ended.now.calls) }
 {

@@ -19,7 +19,7 @@ use mate_num::{ContextId, HandlerId, NoMemory, Stamp};
 use std::alloc::Global;
 use vm_desc::Description;
 
-/// Whether neither the number nor the time of an event falls, and one event has one time.
+/// Whether neither the number of the event nor the time falls, and the same event has the same time.
 fn not_before(old: Stamp, new: Stamp) -> bool
     ensures { result ≡ told.not_before old new }
 {
@@ -43,7 +43,7 @@ fn stamps_rise(entries: &[Stamped]) -> bool
     true
 }
 
-/// Whether n is the number after `posts`.
+/// Whether `n` is the number after `posts`.
 fn is_next(posts: u32, n: u32) -> bool
     ensures { result ≡ (n == suc posts) }
 {
@@ -69,7 +69,7 @@ fn is_context_of(desc: &Description, handler: HandlerId, context: ContextId) -> 
     first <= place && place < first + count
 }
 
-/// Whether the entry may follow on what was heard.
+/// Whether the entry may follow those that were heard.
 fn may_follow(desc: &Description, roll: &Roll, entry: &Entry) -> bool
     requires few { length desc.now.handlers.items ≤ 8 }
     requires handler { HasHandlerBelow (length desc.now.handlers.items) entry.now }
@@ -105,7 +105,7 @@ fn may_follow(desc: &Description, roll: &Roll, entry: &Entry) -> bool
     }
 }
 
-/// Whether the entries of a tidy log's journal follow one another, and stamps don't fall. `NoMemory` comes only where memory for live
+/// Whether the entries of a tidy log's journal follow one another, and stamps don't fall. `NoMemory` comes only if memory for live
 /// invocations and their calls is refused.
 pub fn entries_follow(alloc: Global, desc: &Description, log: &NodeLog) -> Result<bool, NoMemory>
     requires few { length desc.now.handlers.items ≤ 8 }

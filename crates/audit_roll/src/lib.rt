@@ -1,4 +1,4 @@
-//! The roll of a node, kept while its journal is read, and the test whether the entries of a journal follow one another.
+//! The roll of a node, which is kept while its journal is read, and the test whether the entries of a journal follow one another.
 #![tactic(auto)]
 
 pub mod following;

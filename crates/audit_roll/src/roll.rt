@@ -1,4 +1,4 @@
-//! The roll.
+//! The roll: what is installed, and who is live.
 
 ghost use Rattle.std.specs.Prelude.{◌≡◌, ◌<◌, ◌++◌, ◌∷◌, [], length, filter, OnOk};
 ghost use Rattle.mate_journal.specs.Journal.{journal_entry};
@@ -27,7 +27,7 @@ pub struct Roll {
     pub seats: Vec<Seat>,
 }
 
-/// The others keep their seats.
+/// Whoever has this number leaves; the others keep their seats.
 fn leave(seats: &mut Vec<Seat>, number: u32)
     ensures { seats.new.items ≡ filter (keeps_seat number) seats.old.items }
 {
@@ -46,7 +46,7 @@ impl Roll {
         }
     }
 
-    /// What it is after one more entry.
+    /// Reads one more entry.
     pub fn hear(&mut self, alloc: Global, entry: &Entry) -> Result<(), NoMemory>
         requires { HasHandlerBelow 8 entry.now }
         ensures { (l : Log) → OnOk result (roll_in l.images self.new ≡ told.rolled (roll_in l.images self.old) (journal_entry l entry.now)) }

@@ -22,7 +22,7 @@ pub struct Seat {
 }
 
 impl Seat {
-    /// The call that it waits for is answered, if it waits.
+    /// Answers the call that it waits for, if it waits.
     pub fn answer(&mut self, value: &i16) -> Result<(), NoMemory>
         ensures { OnOk result (self.new ≡ seat_answered value.now self.old) }
     {
@@ -38,7 +38,7 @@ impl Seat {
         Ok(())
     }
 
-    /// It comes to another phase, if it has this number.
+    /// Puts it into another phase, if it has this number.
     pub fn come_to(&mut self, number: u32, phase: &Phase)
         ensures { self.new ≡ come_to number phase.now self.old }
     {
@@ -47,7 +47,7 @@ impl Seat {
         }
     }
 
-    /// The call that it waits for is answered, if it waits and has this number.
+    /// Answers the call that it waits for, if it waits and has this number.
     pub fn answer_at(&mut self, number: u32, value: &i16) -> Result<(), NoMemory>
         ensures { OnOk result (self.new ≡ answered_at number value.now self.old) }
     {
@@ -58,7 +58,7 @@ impl Seat {
     }
 }
 
-/// Whether a seat of that number is at this stage.
+/// Whether a seat of this number is at this stage.
 pub fn is_at(seats: &[Seat], number: u32, stage: Stage) -> bool
     ensures { result ≡ list_any (sits_at number stage) seats.now }
 {
@@ -74,7 +74,7 @@ pub fn is_taken(seats: &[Seat], context: ContextId) -> bool
     seats.iter().any(|s| s.context.0 == context.0)
 }
 
-/// The seat of that number comes to another phase.
+/// Puts the seat of this number into another phase.
 pub fn move_to(seats: &mut [Seat], number: u32, phase: &Phase)
     ensures { seats.new ≡ map (come_to number phase.now) seats.old }
 {
@@ -83,7 +83,7 @@ pub fn move_to(seats: &mut [Seat], number: u32, phase: &Phase)
     }
 }
 
-/// The call that the seat of that number waits for is answered, if it waits.
+/// Answers the call that the seat of this number waits for, if it waits.
 pub fn answer(seats: &mut [Seat], number: u32, value: &i16) -> Result<(), NoMemory>
     ensures { OnOk result (seats.new ≡ map (answered_at number value.now) seats.old) }
 {

@@ -31,7 +31,7 @@ pub fn devices_follow()
         AsksDevicesInOrder (machine_by d ps).device_of es }
 {}
 
-/// What the tests of journals ask of a machine holds where its programs are right, and what they ask of stores that are seen holds in
+/// What the tests of journals need of a machine is so if its programs are right, and what they need of stores that are seen is so in
 /// tidy logs.
 pub fn right_programs_can_be_told()
     ensures parts { (d : Description) (ps : List Program) → AreRightPrograms d ps → GoesByParts (machine_by d ps).meaning }
@@ -41,25 +41,25 @@ pub fn right_programs_can_be_told()
     ensures seen { (d : Description) (ps : List Program) (l : Log) → IsTidyLog d l → SeenLengths (machine_by d ps) (journal_of l) }
 {}
 
-/// The tests tell the first law that a tidy log fails, where the programs are right: each law is decided.
+/// The tests give the first law that a tidy log fails, if the programs are right: each law is decided.
 pub fn the_first_failure_is_told()
     ensures { (d : Description) (ps : List Program) (l : Log) → AreRightPrograms d ps → IsTidyLog d l
         → MatchOption (failed_by d ps l) (LogKeepsAll d ps l) (LogFails d ps l) }
 {}
 
-/// The tests tell the verdict on a tidy report, where the programs are right.
+/// The tests give the verdict on a tidy report, if the programs are right.
 pub fn the_verdict_is_told()
     ensures { (d : Description) (ps : List Program) (r : Report) → AreRightPrograms d ps → IsTidy d r
         → IsVerdict d ps r (verdict_of d ps r) }
 {}
 
-/// A verdict is on the journals of a report alone, whatever room is left in its logs.
+/// A verdict depends on the journals of a report alone, and not on the room that is left in its logs.
 pub fn verdicts_are_on_journals()
     ensures { (d : Description) (ps : List Program) (r s : Report) (v : Verdict) → TellSameJournals r s → IsVerdict d ps r v
         → IsVerdict d ps s v }
 {}
 
-/// A report has one verdict; and a tidy one is found serial exactly where it is a serial report.
+/// A report has one verdict; and a tidy one is found serial exactly if it is a serial report.
 pub fn one_verdict()
     ensures one { (d : Description) (ps : List Program) (r : Report) (v w : Verdict) → IsVerdict d ps r v → IsVerdict d ps r w → v ≡ w }
     ensures serial { (d : Description) (ps : List Program) (r : Report) → IsTidy d r → IsVerdict d ps r Serial ↔ IsSerialReport d ps r }

@@ -2,16 +2,16 @@
 
 ghost use Rattle.std.specs.Prelude.{◌≡◌};
 
-/// What a node's journal owes, in the order in which it is told. Each variant is named by the word that stands for it in a refusal.
+/// The laws of a node's journal, in the order in which they are tested. Each variant has the name that a refusal gives it.
 #[derive(Clone, Copy)]
 pub enum Law {
     /// Following: entries follow one another as they may, and stamps never fall.
     D7,
     /// Images: what is installed is one of the programs, and newer than what was installed for its handler.
     Image,
-    /// Serial replay: the invocations, run whole and one at a time in the order of their ends, give what is told.
+    /// Serial replay: the invocations, run whole and one at a time in the order of their ends, give what the journal records.
     D8,
-    /// Stores seen: what a store shows is as it is.
+    /// Stores seen: a store that is shown has the values that follow from the journal.
     D9,
     /// Grant rule: an invocation waits to start only for conflicting ones.
     D10,
@@ -22,7 +22,7 @@ pub enum Law {
 impl Law {
     ghost use Rattle.audit_verdict.specs.Words.{law_word};
 
-    /// The word that stands for it in a refusal.
+    /// Its word in a refusal.
     pub fn word(self) -> &'static str
         ensures { result.now ≡ law_word self }
     {

@@ -1,13 +1,11 @@
 -- Single instructions lead to one place.
-use Rattle.std.proofs.Common.{◌≡◌, ◌<◌, ℕ, zero, suc, ◌+◌, ◌-◌, List, [], refl, sym, ap, ◌∙◌, subst, arith}
-use Rattle.arrayvec.specs.ArrayVec.{ArrayVec}
+use Rattle.std.proofs.Common.{◌≡◌, ℕ, zero, suc, ◌+◌, ◌-◌, [], refl, sym, ap, ◌∙◌, subst, arith}
 use Rattle.mate_num.specs.declared.store.Store.{Store}
-use Rattle.mate_num.specs.declared.id.FunId.{FunId}
 use Rattle.mate_code.specs.Effect.{Private}
-use Rattle.mate_code.specs.Run.{Own, Run, Status, Going, Over, step}
+use Rattle.mate_code.specs.Run.{Own, Run, Going, step}
 use Rattle.code_verifier.specs.Verified.{VerifiedCode}
-use Rattle.exec_unit.specs.Running.{GoFor, StopsAfter, HasRunTo, HasExecuted}
-use Rattle.exec_unit.specs.Step.{IsStep, going, own_after}
+use Rattle.exec_unit.specs.Running.{GoFor, StopsAfter, HasExecuted}
+use Rattle.exec_unit.specs.Step.{IsStep, own_after}
 use Rattle.exec_unit.specs.declared.running.Ran.{Ran}
 use Rattle.exec_unit.specs.declared.step_end.StepEnd.{StepEnd}
 use Rattle.exec_unit.specs.declared.step_end.StepEnd.TheVariants.{Next, Ask, Halt, Fault}
@@ -44,9 +42,13 @@ record GoesOn (v : VerifiedCode) (n : ℕ) (a : Private) (s : Store) : Type 0 wh
   after : Store
   next : IsStep v mid store Next new after
 
-goes_on : (v : VerifiedCode) (k more : ℕ) (a : Private) (s : Store) (b : Private) (t : Store) → GoFor v (suc (more + k)) a s b t → GoesOn v k a s
-goes_on v k zero a s b t (mid, store, x, last) = record { mid = mid; store = store; goes = x; new = b; after = t; next = last }
-goes_on v k (suc more) a s b t (mid, store, x, last) = goes_on v k more a s mid store x
+goes_on : (v : VerifiedCode) (k more total : ℕ) (a : Private) (s : Store) (b : Private) (t : Store) → total ≡ more + k → GoFor v (suc total) a s b t → GoesOn v k a s
+goes_on v k zero total a s b t is (mid, store, x, last) =
+    let same : total ≡ k = omega (arith, is) in
+    record { mid = mid; store = store; goes = subst (λ (j : ℕ). GoFor v j a s mid store) same x; new = b; after = t; next = last }
+goes_on v k (suc more) zero a s b t is goes = absurd (omega (arith, is))
+goes_on v k (suc more) (suc total) a s b t is (mid, store, x, last) =
+    goes_on v k more total a s mid store (let less : total ≡ more + k = omega (arith, is) in less) x
 
 -- a step that asks or ends doesn't go on
 stops : (how : StepEnd) (a b c : Private) → own_after Next b (alone a) ≡ own_after how c (alone a) → (how ≡ Next → ⊥) → ⊥
@@ -60,7 +62,7 @@ never_stops v a s n ran new after b t goes other stop =
     let few = stop.few in
     let more : ℕ = n - suc stop.gone in
     let is : n ≡ suc (more + stop.gone) = omega (arith, few) in
-    let on = goes_on v stop.gone more a s b t (subst (λ (k : ℕ). GoFor v k a s b t) is goes) in
+    let on = goes_on v stop.gone more (more + stop.gone) a s b t refl (subst (λ (k : ℕ). GoFor v k a s b t) is goes) in
     let same = goes_once v stop.gone a s on.mid stop.mid on.store stop.store on.goes stop.goes in
     let moved : IsStep v stop.mid stop.store Next on.new on.after =
     subst (λ (p : Private). IsStep v p stop.store Next on.new on.after) same.0 (subst (λ (st : Store). IsStep v on.mid st Next on.new on.after) same.1 on.next) in

@@ -1,6 +1,6 @@
 //! Frames of a serial line.
 
-ghost use Rattle.std.specs.Prelude.{◌≡◌, ◌≢◌, ◌<◌, ℕ, List, ◌∷◌, [], length, IfOk, MatchResult, Some, true, false, ⊥};
+ghost use Rattle.std.specs.Prelude.{◌≡◌, ◌≢◌, ◌<◌, ℕ, List, ◌∷◌, [], length, IfOk, MatchResult, Some, true, false};
 ghost use Rattle.mate_num.specs.declared.bounds.TheConstants.{IMAGE_MAX};
 ghost use Rattle.slip_gateway.specs.Stream.{closed_pieces, unescaped};
 ghost use Rattle.slip_gateway.specs.declared.frames.Frame.TheVariants as frame;

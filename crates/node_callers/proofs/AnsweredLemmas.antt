@@ -1,6 +1,6 @@
 -- What an invocation does behind an answer.
-use Rattle.std.proofs.Common.{◌≡◌, ◌≤◌, ◌<◌, ◌⊎◌, ℕ, ◌+◌, ℤ, List, [], ◌∷◌, ◌++◌, map, length, Result, Ok, Err, refl, sym, ap, ◌∙◌, subst, append_assoc, inl, inr, arith}
-use Rattle.std.specs.Prelude.{All, IsTrue, MatchResult, IsOk, OnOk}
+use Rattle.std.proofs.Common.{◌≡◌, ◌≤◌, ℕ, ◌+◌, ℤ, List, [], ◌∷◌, ◌++◌, map, length, Result, Ok, Err, refl, sym, ap, ◌∙◌, subst, append_assoc, inl, inr, arith}
+use Rattle.std.specs.Prelude.{MatchResult, IsOk, OnOk}
 use Rattle.std.proofs.lemmas.List.{map-append}
 use Rattle.std.proofs.lemmas.Bool.{cases_lt}
 use Rattle.mate_num.specs.declared.call.Call.{Call}
@@ -8,13 +8,11 @@ use Rattle.mate_num.specs.declared.call.Stamp.{Stamp}
 use Rattle.mate_num.specs.declared.id.ContextId.{ContextId}
 use Rattle.vm_desc.specs.declared.description.Description.{Description}
 use Rattle.mate_journal.specs.Log.{Log}
-use Rattle.mate_journal.specs.Grants.{IsStart}
-use Rattle.mate_journal.specs.Journal.{JournalEntry, Answered, TimedEntry, Invocation, NodeState, Phase, Ready, Waiting, is_live, next_state, state_after_entries, answers_of, journal_of, first_state, whole_run}
+use Rattle.mate_journal.specs.Journal.{JournalEntry, Answered, TimedEntry, Invocation, NodeState, Phase, Ready, is_live, next_state, state_after_entries, answers_of, journal_of, first_state, whole_run}
 use Rattle.mate_journal.specs.Machine.{Machine}
 use Rattle.mate_journal.specs.NodeScript.{AnswersCall, IsReadyIn}
 use Rattle.mate_journal.specs.Pace.{Pace}
 use Rattle.mate_journal.specs.Turns.{entry_at, mark_of}
-use Rattle.mate_journal.specs.WellFormed.{IsWaiting}
 use Rattle.journal_laws.proofs.Changed.{changed-here}
 use Rattle.journal_laws.proofs.WaitsApart.{LiveApart, apart-after, nothing_heard-apart}
 use Rattle.node_invariant.specs.Keeps.{reading, event_at}

@@ -1,22 +1,20 @@
 -- What an install records, and what goes on behind it.
-use Rattle.std.proofs.Common.{◌≡◌, ◌≤◌, ◌<◌, ◌⊎◌, ℕ, ◌+◌, Bool, true, false, List, [], ◌∷◌, ◌++◌, length, Result, Ok, Err, refl, sym, ap, ◌∙◌, subst, arith, inl, inr}
+use Rattle.std.proofs.Common.{◌≡◌, ◌≤◌, ℕ, true, false, List, [], ◌∷◌, Result, Ok, Err, refl, sym, ap, ◌∙◌, subst, arith, inl, inr}
 use Rattle.std.specs.Prelude.{MatchResult, OnOk, IsTrue, if◌then◌else◌, ⊤}
 use Rattle.mate_num.specs.declared.call.Stamp.{Stamp}
-use Rattle.mate_num.specs.declared.id.ContextId.{ContextId}
 use Rattle.mate_num.specs.declared.id.HandlerId.{HandlerId}
 use Rattle.vm_desc.specs.declared.description.Description.{Description}
 use Rattle.capsule_codec.specs.Image.{CapsuleParts}
 use Rattle.capsule_codec.specs.Reading.{capsule_in}
-use Rattle.capsule_codec.specs.declared.decoding.CapsuleFault.{CapsuleFault}
 use Rattle.mate_code.specs.BytesVerification.{bytes_verification}
 use Rattle.vm_desc.specs.Shapes.{shape_of}
-use Rattle.mate_journal.specs.Journal.{JournalEntry, Installed, Reset, Seen, NodeState, Phase, Unposted, Queued, Ready, Waiting, Over, is_live, held, next_state, state_after_entries}
+use Rattle.mate_journal.specs.Journal.{JournalEntry, Installed, Seen, NodeState, Phase, Unposted, Queued, Ready, Waiting, Over, is_live, held, state_after_entries}
 use Rattle.mate_journal.specs.Machine.{Machine}
 use Rattle.mate_journal.specs.NodeScript.{Installs, Resets, Occasion}
 use Rattle.mate_journal.specs.Pace.{Pace}
 use Rattle.journal_laws.specs.Progress.{IsNoneLive}
 use Rattle.node_invariant.specs.Meaning.{machine_in}
-use Rattle.node_calls.specs.Installing.{IsRightCapsule, InstallsBytes, Refuses, IsNoNewer, capsule_handler, program_by}
+use Rattle.node_calls.specs.Installing.{IsRightCapsule, InstallsBytes, Refuses, capsule_handler, program_by}
 use Rattle.node_calls.specs.declared.installing.InstallFault.{InstallFault}
 use Rattle.node_calls.specs.declared.installing.InstallFault.TheVariants as fault
 use Rattle.open_node.proofs.CallLemmas.{Tells-by}
@@ -25,7 +23,7 @@ use Rattle.open_node.specs.View.{NodeView, Tells, HasPace, heard_of}
 use Rattle.open_node.specs.declared.standing.Standing.{Standing}
 use Rattle.open_node.specs.declared.standing.Standing.TheVariants.{Can, Outside, Idle}
 use Rattle.node_callers.proofs.NodeLemmas.{heard-behind}
-use Rattle.node_callers.specs.Told.{InstallsThis, BeginsWithEvent, IsEventFor}
+use Rattle.node_callers.specs.Told.{InstallsThis, BeginsWithEvent}
 
 -- ---- an era's end cuts all
 

@@ -1,8 +1,5 @@
 -- What a call's entries say of the node behind it.
-use Rattle.std.proofs.Common.{◌≡◌, ◌≤◌, ◌<◌, ◌⊎◌, ℕ, ◌+◌, ℤ, List, [], ◌∷◌, ◌++◌, map, length, Result, Ok, Err, refl, sym, ap, ◌∙◌, subst, append_assoc, arith, inl, inr}
-use Rattle.std.specs.Prelude.{All, MatchResult, IsTrue, IfOk, IsOk, OnOk}
-use Rattle.std.proofs.lemmas.Bool.{eq-eqb}
-use Rattle.std.proofs.lemmas.List.{map-append}
+use Rattle.std.proofs.Common.{◌≡◌, ℤ, List, ap, ◌∙◌, subst}
 use Rattle.arrayvec.specs.ArrayVec.{ArrayVec}
 use Rattle.mate_num.specs.declared.call.Stamp.{Stamp}
 use Rattle.mate_num.specs.declared.id.ContextId.{ContextId}
@@ -12,12 +9,11 @@ use Rattle.mate_journal.specs.Log.{Log}
 use Rattle.mate_journal.specs.Grants.{AllHeldBack, GrantsInOrder}
 use Rattle.mate_journal.specs.Journal.{JournalEntry, TimedEntry, NodeState, state_after_entries, journal_of, first_state, AtEachPlace}
 use Rattle.mate_journal.specs.Machine.{Machine, IsContextOf}
-use Rattle.mate_journal.specs.NodeScript.{AnswersCall, IsReadyIn}
 use Rattle.mate_journal.specs.Pace.{Pace}
 use Rattle.mate_journal.specs.WellFormed.{IsBusy, IsIdle, IsWellFormed}
 use Rattle.journal_laws.proofs.Append.{GrantsInOrder-last, AtEachPlace-last}
 use Rattle.journal_laws.specs.Apart.{AreApart}
-use Rattle.node_invariant.specs.Keeps.{reading, Grows, event_at}
+use Rattle.node_invariant.specs.Keeps.{reading}
 use Rattle.node_invariant.specs.Meaning.{machine_in}
 use Rattle.node_calls.proofs.SettleLemmas.{reading-grows}
 use Rattle.node_calls.specs.Posting.{PostGives}

@@ -1,15 +1,16 @@
 -- A step of a run, and the run's end.
-use Rattle.std.proofs.Common.{◌≡◌, ◌<◌, ◌≤◌, ◌≢◌, ℕ, suc, ◌+◌, true, false, List, [], ◌∷◌, ◌++◌, map, length, Option, Some, None, Result, Ok, Err, refl, sym, ap, ◌∙◌, subst, append_assoc, append-nil, length-append, length-map, arith, inl, inr}
+use Rattle.std.proofs.Common.{◌≡◌, ◌<◌, ◌≤◌, ℕ, suc, ◌+◌, true, false, List, [], ◌∷◌, ◌++◌, map, length, Option, Result, Ok, Err, refl, sym, ap, ◌∙◌, subst, append_assoc, append-nil, length-append, arith, inl, inr}
 use Rattle.std.specs.Prelude.{IfOk, IfErr, IsSomeAnd, slice_get}
+use Rattle.std.proofs.lemmas.List.{length-map}
 use Rattle.mate_files.specs.Sink.{Sent, SentPart}
 use Rattle.vm_desc.specs.declared.description.Description.{Description}
 use Rattle.script_reader.specs.Steps.{NodeScript}
 use Rattle.mate_journal.specs.Described.{machine_of}
-use Rattle.mate_journal.specs.Journal.{JournalEntry, TimedEntry, NodeState, Seen, journal_of, first_state, state_after_all, state_after_entries}
+use Rattle.mate_journal.specs.Journal.{JournalEntry, TimedEntry, NodeState, Seen, journal_entry, journal_of, first_state, next_state, state_after_all, state_after_entries}
 use Rattle.mate_journal.specs.Log.{Log}
 use Rattle.mate_journal.specs.Machine.{Machine}
-use Rattle.mate_journal.specs.NodeReport.{IsNodeReport}
-use Rattle.mate_journal.specs.NodeScript.{Step, RunEnd, Whole, Full, Cut, Makes, HaveMade, EndsRun, made_at}
+use Rattle.mate_journal.specs.declared.entry.Stamped.{Stamped}
+use Rattle.mate_journal.specs.NodeScript.{Step, RunEnd, Whole, Full, Cut, HaveMade, EndsRun, made_at}
 use Rattle.mate_journal.specs.Pace.{Pace, no_pace}
 use Rattle.mate_journal.specs.declared.program.Program.{Program}
 use Rattle.mate_journal.specs.declared.report.Report.{Report}
@@ -30,7 +31,7 @@ Ending = ℕ → ℕ → NodeState → Pace → List TimedEntry → Type 0
 
 heard-made : (m : Machine) (r : NodeState) (n : ℕ) (told : List JournalEntry) → state_after_all m r (map (made_at n) told) ≡ state_after_entries m r told
 heard-made m r n [] = refl
-heard-made m r n (t ∷ told) = heard-made m _ n told
+heard-made m r n (t ∷ told) = heard-made m (next_state m r t) n told
 
 -- ---- the end
 
@@ -54,7 +55,7 @@ ended Ends m records n r p (step ∷ done) es made =
     let further = ended Ends m (records + length made.1) (suc n) (state_after_entries m r made.1) made.3 done made.2 made.6 in
     let mine = map (made_at n) made.1 in
     let long = length-append mine further.front in
-    let size : length mine ≡ length made.1 = length-map _ made.1 in
+    let size : length mine ≡ length made.1 = length-map made.1 (made_at n) in
     let count = further.count in
     let number = further.number in
     record {
@@ -75,7 +76,7 @@ ended Ends m records n r p (step ∷ done) es made =
 stands : (Ends : Ending) (m : Machine) (records n : ℕ) (r : NodeState) (p : Pace) (before after : List Step) (step : Step) (es : List TimedEntry) → HaveMade Ends m records n r p (before ++ step ∷ after) es
     → IsStepIn m records n r before step es
 stands Ends m records n r p [] after step es made =
-    let few = made.0 in
+    let few : records < 1000000 = made.0 in
     let same : n ≡ n + 0 = omega arith in
     record {
       front = [];
@@ -93,7 +94,7 @@ stands Ends m records n r p (first ∷ before) after step es made =
     let further = stands Ends m (records + length made.1) (suc n) (state_after_entries m r made.1) made.3 before after step made.2 made.6 in
     let mine = map (made_at n) made.1 in
     let long = length-append mine further.front in
-    let count : length mine ≡ length made.1 = length-map _ made.1 in
+    let count : length mine ≡ length made.1 = length-map made.1 (made_at n) in
     let few = further.room in
     let same : suc n + length before ≡ n + suc (length before) = omega arith in
     record {
@@ -177,11 +178,11 @@ full_log d script ps r l told is few =
     let n = told.report in
     let run = n.run.events in
     let e = ended (EndsRun m Full run.left) m 0 1 (first_state m) no_pace run.done (journal_of n.log) run.made in
-    let full = e.ends.1 in
+    let full : 1000000 ≤ e.before = e.ends.1 in
     let count = e.count in
     let same : n.log ≡ l = one_log r.nodes n.log l n.one_node is in
     let parts : length (journal_of n.log) ≡ length e.front + length e.last = ap length e.are ∙ length-append e.front e.last in
-    let size : length (journal_of n.log) ≡ length n.log.entries = length-map _ n.log.entries in
+    let size : length (journal_of n.log) ≡ length n.log.entries = length-map n.log.entries (λ (e : Stamped). let x : TimedEntry = record { stamp = e.stamp; told = journal_entry n.log e.entry } in x) in
     let of : length n.log.entries ≡ length l.entries = ap (λ (x : Log). length x.entries) same in
     omega (arith, full, count, parts, size, of, few)
 

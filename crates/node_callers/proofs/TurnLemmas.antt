@@ -1,13 +1,13 @@
 -- Whose turns come, and how long they are.
-use Rattle.std.proofs.Common.{◌≡◌, ◌≢◌, ◌≤◌, ◌<◌, ℕ, ◌+◌, Bool, true, false, Result, Ok, Err, List, [], ◌∷◌, ◌++◌, length, min, refl, sym, ap, ◌∙◌, subst, append_assoc, arith}
-use Rattle.std.specs.Prelude.{◌==◌, IsTrue, MatchBool, MatchResult, IfOk}
+use Rattle.std.proofs.Common.{◌≡◌, ◌≢◌, ◌≤◌, ◌<◌, ℕ, ◌+◌, Bool, true, false, Result, Ok, Err, List, [], ◌∷◌, ◌++◌, min, refl, sym, ap, ◌∙◌, subst, arith}
+use Rattle.std.specs.Prelude.{MatchBool, MatchResult, IfOk}
 use Rattle.std.proofs.lemmas.Bool.{eq-eqb, ne_eqb}
 use Rattle.mate_num.specs.declared.call.Stamp.{Stamp}
 use Rattle.mate_num.specs.declared.id.ContextId.{ContextId}
-use Rattle.mate_journal.specs.Journal.{JournalEntry, NodeState, Ready, state_after_entries, whole_run}
+use Rattle.mate_journal.specs.Journal.{JournalEntry, NodeState, state_after_entries, whole_run}
 use Rattle.mate_journal.specs.Machine.{Machine}
 use Rattle.mate_journal.specs.Pace.{Pace, paced_all, gives_way, others}
-use Rattle.mate_journal.specs.Turns.{Turn, IsTurn, AreTurns, Settles, entry_at, mark_of, after_turn, after_step, pace_after, told_in}
+use Rattle.mate_journal.specs.Turns.{Turn, IsTurn, AreTurns, entry_at, mark_of, after_turn, after_step, pace_after, told_in}
 use Rattle.journal_laws.proofs.Changed.{changed-here, changed-other}
 use Rattle.journal_laws.specs.Progress.{IsSomeReady}
 use Rattle.node_invariant.specs.Meaning.{machine_in}

@@ -10,11 +10,12 @@ use Rattle.mate_journal.specs.declared.report.Report.{Report}
 
 -- behind these steps, of which the first is this event and has so many entries before it, the step is the next event: it begins with
 -- fewer than 1,000,000 entries before it, and records what the step makes
-pub record IsStepIn (m : Machine) (records n : ℕ) (first : NodeState) (before : List Step) (step : Step) (es : List TimedEntry) : Type 0 where
+pub record IsStepIn (m : Machine) (records n : ℕ) (first : NodeState) (before : List Step) (step : Step)
+    (es : List TimedEntry) : Type 0 where
   pub front : List TimedEntry
   pub told : List JournalEntry
   pub rest : List TimedEntry
-  pub are : es ≡ front ++ map (made_at (n + length before)) told ++ rest
+  pub are : es ≡ front ++ (map (made_at (n + length before)) told ++ rest)
   pub room : records + length front < 1000000
   pub state : NodeState
   pub state_is : state ≡ state_after_all m first front

@@ -44,10 +44,12 @@ pub record BeginsWithEvent (h : HandlerId) (told : List JournalEntry) : Type 0 w
   pub event : IsEventFor h first
 
 -- the invocation in the context executes n instructions, if its next mark is farther, and nothing is recorded
-pub record ExecutesAll (m : Machine) (r : NodeState) (c : ContextId) (n ran : ℕ) (p : Pace) (told : List JournalEntry) (q : Pace) : Type 0 where
+pub record ExecutesAll (m : Machine) (r : NodeState) (c : ContextId) (n ran : ℕ) (p : Pace) (told : List JournalEntry)
+    (q : Pace) : Type 0 where
   pub invocation : ℕ
   pub context : (r.invocations invocation).context ≡ c
-  pub all : p.counts invocation + n < mark_of m r invocation → (ran ≡ n) × (told ≡ []) × (q.counts invocation ≡ p.counts invocation + n)
+  pub all : p.counts invocation + n < mark_of m r invocation
+      → (ran ≡ n) × (told ≡ []) × (q.counts invocation ≡ p.counts invocation + n)
 
 -- the entry is the first
 pub record TellsFirst (first : JournalEntry) (told : List JournalEntry) : Type 0 where

@@ -1,4 +1,4 @@
-//! Answers to the calls that a node's invocations wait with.
+//! Answers to the calls of invocations that wait.
 
 ghost use Rattle.std.specs.Prelude.{◌≡◌, ◌<◌, ◌≤◌, MatchResult};
 ghost use Rattle.mate_num.specs.declared.bounds.TheConstants.{CONTEXTS_MAX};
@@ -14,8 +14,8 @@ use node_invariant::{Parts, tell};
 use split_phase::NotWaiting;
 use vm_desc::Description;
 
-/// The invocation that waits in the context gets the answer to its call, and is ready, behind all others. `NotWaiting`
-/// comes exactly where none waits there, and then nothing changes.
+/// Gives the invocation that waits in the context the answer to its call: it is ready, behind all others. `NotWaiting`
+/// comes exactly if none waits there, and then nothing changes.
 pub fn answer_in(
     description: &Description,
     parts: &mut Parts,

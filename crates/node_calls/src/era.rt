@@ -14,7 +14,7 @@ use node_heap::Heap;
 use node_invariant::{Parts, tell};
 use vm_desc::Description;
 
-/// All live invocations are cut, all shared variables are 0, and all buffers are empty.
+/// Cuts all live invocations, sets all shared variables to 0, and empties all buffers.
 pub(crate) fn clear(description: &Description, parts: &mut Parts)
     ensures { IsCleared description.now parts.old parts.new }
 {
@@ -24,7 +24,7 @@ pub(crate) fn clear(description: &Description, parts: &mut Parts)
     parts.heap = Heap::new(shared, buffers);
 }
 
-/// The store is told, and an era begins: all live invocations are cut, all shared variables are 0, and all buffers are
+/// Records the store, and begins an era: all live invocations are cut, all shared variables are 0, and all buffers are
 /// empty. What is installed stays.
 pub fn reset_in(description: &Description, parts: &mut Parts, at: Stamp)
     requires rests { Rests description.now parts.old }

@@ -1,4 +1,4 @@
-//! Installs: a newer capsule takes the place of a handler's program, and an era begins.
+//! Installs: a newer capsule replaces a handler's program, and an era begins.
 
 ghost use Rattle.std.specs.Prelude.{◌≡◌, ◌<◌, ◌≤◌, ◌∷◌, [], true, false, length, slice_set, Option, IsTrue};
 ghost use Rattle.mate_journal.specs.Journal.{journal_of, Installed};
@@ -32,7 +32,7 @@ pub enum InstallFault {
     Capsule(CapsuleFault),
     /// The capsule's code isn't verified.
     Code(VerifyFault),
-    /// The node holds this version for the handler, which isn't older than the capsule's.
+    /// The node holds this version for the handler, and it isn't older than the capsule's.
     NotNewer { held: u32 },
 }
 
@@ -119,7 +119,7 @@ fn known_program(
     }
 }
 
-/// The program takes the place of what the handler had.
+/// Replaces what the handler had by the program.
 #[inline(never)]
 fn put(handlers: &mut Handlers, program: Installable)
     requires { program.handler.0 < length handlers.old.programs }
@@ -146,7 +146,7 @@ fn put(handlers: &mut Handlers, program: Installable)
     }
 }
 
-/// An era begins with the program in place of what the handler had.
+/// Begins an era with the program in place of what the handler had.
 #[inline(never)]
 fn begin(
     description: &Description,
@@ -183,7 +183,7 @@ fn runs_once(description: &Description, handler: HandlerId) -> bool
     }
 }
 
-/// The program is installed, where it is newer than what the node holds.
+/// Installs the program if it is newer than what the node holds.
 #[inline(never)]
 fn install_program(
     description: &Description,
@@ -213,8 +213,8 @@ fn install_program(
     Ok(())
 }
 
-/// The program of the capsule that the bytes are is installed, where it is newer than what the node holds. A program is large:
-/// each call that moves it or its code stands for itself, so that the stack holds few copies at once.
+/// Installs the program of the capsule that the bytes are, if it is newer than what the node holds. A program is large: each
+/// call that moves it or its code is in a function of its own, so that the stack holds few copies at once.
 #[inline(never)]
 fn install_code(
     description: &Description,
@@ -237,9 +237,9 @@ fn install_code(
     install_program(description, parts, bytes, program, at)
 }
 
-/// The capsule of the machine that the bytes are is installed for its handler, where it is newer than what the node holds:
-/// the store is told, all live invocations are cut, all shared variables are 0, all buffers are empty, and a handler of the
-/// kind `once` is then posted with an empty payload.
+/// Installs the capsule of the machine that the bytes are for its handler, if it is newer than what the node holds: the store
+/// is recorded, all live invocations are cut, all shared variables are 0, and all buffers are empty. A handler of the kind
+/// `once` is then posted with an empty payload.
 ///
 /// The refusals come in the order of `InstallFault`, and change nothing.
 pub fn install_in(

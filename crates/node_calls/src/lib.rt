@@ -1,7 +1,7 @@
-//! The calls of a node, from rest to rest: turns, posts, answers, installs, resets, stores that are told.
+//! The calls of a node, from rest to rest: turns, posts, answers, installs, resets, stores that are recorded.
 //!
 //! Each but `run_some` takes a node that rests, a stamp that may follow that of the last entry, room for the entries that it
-//! tells (their greatest number), and a log whose positions are far from a u32's end. After it the node rests again.
+//! makes (their greatest number), and a log whose positions are far from a u32's end. After it the node rests again.
 #![tactic(auto)]
 
 pub mod answering;

@@ -36,7 +36,7 @@ fn contexts_of(description: &Description, handler: HandlerId) -> u8
     description.handlers.as_slice()[usize::from(handler.0)].contexts
 }
 
-/// The handler's lowest context that no invocation has; None exactly where one has each.
+/// The handler's lowest context that no invocation is in; None exactly if there is one in each.
 fn first_free(
     description: &Description,
     contexts: &Contexts,
@@ -56,8 +56,8 @@ fn first_free(
     None
 }
 
-/// The context takes an invocation of the handler, which waits for these locks behind all that wait; its number is
-/// answered.
+/// Puts a new invocation of the handler into the context, where it waits for these locks behind all that wait. Answers its
+/// number.
 fn queue(
     description: &Description,
     parts: &mut Parts,
@@ -97,9 +97,9 @@ fn queue(
     inv
 }
 
-/// An event for the handler becomes an invocation in the handler's lowest idle context, which starts where nothing holds
-/// it back. It is dropped with `NoCode` exactly where nothing is installed for the handler, and else with `AllBusy` exactly
-/// where no context of the handler is idle; a `Dropped` entry tells which.
+/// An event for the handler becomes an invocation in the handler's lowest idle context, which starts if nothing holds it
+/// back. It is dropped with `NoCode` exactly if nothing is installed for the handler, and else with `AllBusy` exactly if no
+/// context of the handler is idle; a `Dropped` entry says which.
 pub fn post_in(
     description: &Description,
     parts: &mut Parts,

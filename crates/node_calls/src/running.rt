@@ -1,4 +1,4 @@
-//! The instructions of a turn, and what the node keeps over them.
+//! The instructions of a turn, and what holds of the node after them.
 
 ghost use Rattle.std.specs.Prelude.{◌≡◌, ◌<◌, true};
 ghost use Rattle.mate_num.specs.declared.bounds.TheConstants.{CONTEXTS_MAX};
@@ -12,7 +12,7 @@ use node_contexts::turn;
 use node_invariant::Parts;
 use vm_desc::Description;
 
-/// Executes n instructions of the invocation in the context, or fewer where it asks or is over.
+/// Executes n instructions of the invocation in the context, or fewer if it calls a function or ends.
 pub fn run_some(description: &Description, parts: &mut Parts, ctx: ContextId, n: u32) -> Ran
     requires order { KeepsOrder description.now parts.old }
     requires small { ctx.0 < CONTEXTS_MAX }

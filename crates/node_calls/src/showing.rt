@@ -1,4 +1,4 @@
-//! Entries that change nothing of a node: a store that is seen, and a step that could do nothing.
+//! Entries that change nothing of a node: a store that is recorded, and a step that could do nothing.
 
 ghost use Rattle.std.specs.Prelude.{◌≡◌, ◌<◌, ◌≤◌, ◌∷◌, [], length};
 ghost use Rattle.mate_journal.specs.Journal.{Void};
@@ -11,7 +11,7 @@ use mate_num::Stamp;
 use node_invariant::{Parts, tell};
 use vm_desc::Description;
 
-/// The shared variables and buffers are told as they are.
+/// Records the shared variables and buffers as they are.
 pub fn seen_in(description: &Description, parts: &mut Parts, at: Stamp)
     requires rests { Rests description.now parts.old }
     requires timely { IsTimely at parts.old.log.all }
@@ -24,7 +24,7 @@ pub fn seen_in(description: &Description, parts: &mut Parts, at: Stamp)
     parts.log.push_seen(at, &parts.heap.store());
 }
 
-/// It is told why a step did nothing.
+/// Records why a step did nothing.
 pub fn void_in(description: &Description, parts: &mut Parts, cause: VoidCause, at: Stamp)
     requires rests { Rests description.now parts.old }
     requires timely { IsTimely at parts.old.log.all }

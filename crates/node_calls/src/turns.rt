@@ -16,8 +16,8 @@ use node_contexts::number;
 use node_invariant::{Parts, start_all, tell};
 use vm_desc::Description;
 
-/// The ready invocation in the context has a turn of n instructions. Where it asks or is over, that is told; where it is
-/// over, whoever it held back starts. Answers how many instructions it executed.
+/// The ready invocation in the context has a turn of n instructions. If it calls a function or ends, that is recorded; if it
+/// ends, those that it held back start. Answers how many instructions it executed.
 pub fn take_turn(
     description: &Description,
     parts: &mut Parts,
@@ -65,8 +65,8 @@ pub fn take_turn(
     instructions
 }
 
-/// How many instructions whoever is first of so many ready ones has at once: a quantum, or where no other is ready, as
-/// many quanta as a number holds. Turns of one invocation, one after another, are one longer turn.
+/// How many instructions the first of this number of ready invocations executes at once: a quantum, or if no other is
+/// ready, as many quanta as a number holds. Turns of one invocation, one after another, are one longer turn.
 fn length_of_turn(quantum: u32, ready: usize) -> u32
     requires { 0 < quantum }
     ensures { AreQuanta quantum ready result }
@@ -78,7 +78,7 @@ fn length_of_turn(quantum: u32, ready: usize) -> u32
     }
 }
 
-/// Turns follow one another until nobody is ready.
+/// Turns follow one another until no invocation is ready.
 pub fn settle(description: &Description, parts: &mut Parts, at: Stamp)
     requires rests { Rests description.now parts.old }
     requires timely { IsTimely at parts.old.log.all }

@@ -1,5 +1,5 @@
 //! The contexts of a node: the invocation in each, the locks that it waits for or holds, whether it is ready,
-//! and the call that it waits with.
+//! and the call whose answer it waits for.
 
 ghost use Rattle.std.specs.Prelude.{◌≡◌, ◌<◌, ◌++◌, ◌∷◌, [], Some, None, IfOk, MatchBool, MatchOption, IsSome, IfSome, slice_get, true};
 ghost use Rattle.std.specs.Option.{option_copied};
@@ -27,7 +27,7 @@ impl Contexts {
     ghost use Rattle.node_contexts.specs.At.{at, idle, queued, ready, waiting, seat_at, Becomes, AreIdle, CanStart, StartsContext, Asks, Ends};
     ghost use Rattle.node_contexts.specs.At.{GivesWay, IsAsking, IsNoneAsking};
 
-    /// All contexts are idle. No other call takes memory.
+    /// Contexts that are all idle. No other call takes memory.
     pub fn new(alloc: Global) -> Result<Contexts, NoMemory>
         ensures { IfOk result AreIdle }
     {
@@ -40,7 +40,7 @@ impl Contexts {
         })
     }
 
-    /// Whether no invocation has the context.
+    /// Whether no invocation is in the context.
     pub fn is_idle(&self, ctx: ContextId) -> bool
         requires { ctx.0 < CONTEXTS_MAX }
         ensures { MatchBool result ((at self.now ctx).seat ≡ None) (IsSome (at self.now ctx).seat) }
@@ -56,7 +56,7 @@ impl Contexts {
         self.seats[usize::from(ctx.0)].as_ref()
     }
 
-    /// An invocation takes the idle context, and waits for its locks.
+    /// Puts an invocation into the idle context. It waits for its locks.
     pub fn post(&mut self, ctx: ContextId, seat: Seat, set: LockSet)
         requires context { ctx.0 < CONTEXTS_MAX }
         requires free { at self.old ctx ≡ idle }
@@ -68,8 +68,8 @@ impl Contexts {
         self.locks.enqueue(ctx, set);
     }
 
-    /// The first invocation that nothing holds back gets its locks, and is ready. None comes exactly where each is
-    /// held back.
+    /// Gives the first invocation that nothing holds back its locks: it is ready, and its context is the answer. None
+    /// exactly if each is held back.
     pub fn grant(&mut self) -> Option<ContextId>
         requires { CanStart self.old }
         ensures granted { MatchOption result (GrantsNone self.old.locks self.new.locks × (self.new ≡ self.old)) (StartsContext self.old self.new) }
@@ -81,7 +81,7 @@ impl Contexts {
         Some(ctx)
     }
 
-    /// The ready invocation of the context waits for the answer to a call.
+    /// The ready invocation in the context waits for the answer to a call from now on.
     pub fn ask(&mut self, ctx: ContextId, fun: FunId, args: Payload)
         requires context { ctx.0 < CONTEXTS_MAX }
         requires free { (at self.old ctx).call ≡ None }
@@ -91,7 +91,7 @@ impl Contexts {
         self.ring.remove(ctx);
     }
 
-    /// The function that the invocation of the context called and a copy of the arguments; None exactly where it doesn't
+    /// The function that the invocation in the context called and a copy of the arguments; None exactly if it doesn't
     /// wait for an answer.
     pub fn asked(&self, ctx: ContextId) -> Option<(FunId, Payload)>
         requires { ctx.0 < CONTEXTS_MAX }
@@ -100,7 +100,7 @@ impl Contexts {
         self.pending.asked(ctx)
     }
 
-    /// The ready invocation of the context is over: the context is idle.
+    /// Takes the ready invocation, which is over, from its context: the context is idle.
     pub fn finish(&mut self, ctx: ContextId)
         requires context { ctx.0 < CONTEXTS_MAX }
         requires started { IsSome (at self.old ctx).holds }
@@ -111,14 +111,14 @@ impl Contexts {
         self.ring.remove(ctx);
     }
 
-    /// Whether the invocation of the context is ready.
+    /// Whether the invocation in the context is ready.
     pub fn is_ready(&self, ctx: ContextId) -> bool
         ensures { result ≡ (at self.now ctx).ready }
     {
         self.ring.contains(ctx)
     }
 
-    /// The lowest context that waits for the answer to a call; None exactly where no invocation does.
+    /// The lowest context whose invocation waits for the answer to a call; None exactly if none does.
     pub fn first_waiting(&self) -> Option<ContextId>
         ensures { MatchOption result (IsNoneAsking self.now) (IsAsking self.now) }
     {
@@ -131,7 +131,7 @@ impl Contexts {
         None
     }
 
-    /// The ready context that has the next turn; None exactly where none is ready.
+    /// The ready context that has the next turn; None exactly if none is ready.
     pub fn first_ready(&self) -> Option<ContextId>
         ensures first { result ≡ slice_get self.now.ring 0 }
         ensures small { IfSome result (λ ctx. ctx.0 < CONTEXTS_MAX) }
@@ -141,7 +141,7 @@ impl Contexts {
         self.ring.first()
     }
 
-    /// The ready context has its next turn after all others.
+    /// Puts the ready context behind all others: it has its next turn after theirs.
     pub fn give_way(&mut self, last: ContextId)
         requires small { last.0 < CONTEXTS_MAX }
         requires ready { (at self.old last).ready ≡ true }
@@ -151,7 +151,7 @@ impl Contexts {
         self.ring.ready(last);
     }
 
-    /// All contexts are idle.
+    /// Makes all contexts idle.
     pub fn clear(&mut self)
         ensures { AreIdle self.new }
     {

@@ -25,7 +25,7 @@ pub fn number(contexts: &Contexts, ctx: ContextId) -> u32
     seat.inv
 }
 
-/// The invocation in the context executes n instructions, or fewer where one asks or ends.
+/// The invocation in the context executes n instructions, or fewer if one of them calls a function or ends it.
 pub fn turn(
     contexts: &mut Contexts,
     handlers: &Handlers,
@@ -49,8 +49,7 @@ pub fn turn(
     ran
 }
 
-/// The invocation in the context, which waits, is given the answer to its call: it is ready, and has its turn after all
-/// others.
+/// Gives the waiting invocation in the context the answer to its call: it is ready, and has its turn after all others.
 pub fn answer(contexts: &mut Contexts, handlers: &Handlers, ctx: ContextId, value: i16)
     requires { CanAnswer (held_at handlers.now.programs) contexts.old ctx }
     ensures { IsAnswered contexts.old contexts.new ctx value }

@@ -20,7 +20,7 @@ pub struct Held {
 
 /// The program of each handler. Contracts see the list of them.
 ///
-/// Programs are large, so they stand on the heap; each handler has its place there from the start, so that an install takes
+/// Programs are large, so they are on the heap; each handler has its place there from the start, so that an install takes
 /// no memory.
 #[derive(Drop)]
 pub struct Handlers {
@@ -38,7 +38,7 @@ impl Model for Handlers {
 impl Handlers {
     ghost use Rattle.node_contexts.specs.Programs.{held_at, renewed, held_version_in};
 
-    /// Places for so many handlers, in which nothing is installed. No other call takes memory.
+    /// Places for this number of handlers, with nothing installed. No other call takes memory.
     pub fn new(alloc: Global, count: usize) -> Result<Handlers, NoMemory>
         ensures none { IfOk result (λ handlers. (h : Handler) → held_at handlers.programs h ≡ None) }
         ensures places { IfOk result (λ handlers. length handlers.programs ≡ count) }
@@ -60,7 +60,7 @@ impl Handlers {
         }
     }
 
-    /// The program is installed in place of what was.
+    /// Installs the program in place of the one that was.
     pub fn install(&mut self, handler: HandlerId, held: Held)
         requires { handler.0 < length self.old.programs }
         ensures { self.new.programs ≡ slice_set self.old.programs handler.0 (Some held) }
@@ -68,8 +68,7 @@ impl Handlers {
         self.programs[usize::from(handler.0)] = Some(held);
     }
 
-    /// What is installed for the handler, if something is, has this version and this image from now on. Its code and its locks
-    /// stay.
+    /// Gives what is installed for the handler, if anything is, this version and this image. Its code and its locks stay.
     pub fn renew(&mut self, handler: HandlerId, version: u32, image: &Image)
         requires { handler.0 < length self.old.programs }
         ensures { self.new.programs ≡ slice_set self.old.programs handler.0

@@ -46,7 +46,7 @@ impl Node {
     ghost use Rattle.open_node.specs.View.{heard_of, HasPace, Tells, IsSameNode};
     ghost use Rattle.open_node.specs.Calls.{Pacing, HasStepped, StandsAs, IsAsked, IsImageOf};
 
-    /// A node of this machine. Nothing is installed, all variables are 0, all buffers are empty, and nothing was told.
+    /// A node of this machine. Nothing is installed, all variables are 0, all buffers are empty, and no entry was made.
     pub fn new(alloc: Global, description: &Description) -> Result<Node, NoMemory>
         ensures { IfOk result (λ node. (node.description ≡ description.now) × IsEmpty node.log × HasPace node no_pace) }
     {
@@ -56,7 +56,7 @@ impl Node {
         }
     }
 
-    /// Makes room for n more entries. `NoMemory` leaves the node as it was, but for its room.
+    /// Makes room for n more entries. `NoMemory` leaves all of the node but its room as it was.
     pub fn reserve(&mut self, n: usize) -> Result<(), NoMemory>
         ensures same { IsSameNode self.old self.new }
         ensures pace { (p : Pace) → HasPace self.old p → HasPace self.new p }
@@ -65,15 +65,15 @@ impl Node {
         self.node.reserve(n)
     }
 
-    /// How many entries, of whatever kind, are made without memory.
+    /// How many more entries, of whatever kind, it can make without memory.
     pub fn spare(&self) -> usize
         ensures { result ≡ self.now.log.spare }
     {
         self.node.spare()
     }
 
-    /// The invocation in the context executes n instructions, or fewer where it asks or is over before. Answers how many.
-    /// `NotReady` comes exactly where no ready invocation is in the context, and leaves the node as it was.
+    /// The invocation in the context executes n instructions, or fewer if it calls a function or ends before. Answers how
+    /// many. `NotReady` comes exactly if no ready invocation is in the context, and leaves the node as it was.
     pub fn step(&mut self, ctx: ContextId, n: u32, at: Stamp) -> Result<u32, NotReady>
         requires context { ctx.0 < CONTEXTS_MAX }
         requires some { 0 < n }
@@ -105,7 +105,7 @@ impl Node {
         self.node.standing()
     }
 
-    /// The call that the invocation in the context waits with; None exactly where none waits there.
+    /// The call whose answer the invocation in the context waits for; None exactly if none waits there.
     pub fn asked(&self, ctx: ContextId) -> Option<Asked>
         requires { ctx.0 < CONTEXTS_MAX }
         ensures { MatchOption result (NobodyWaits (heard_of self.now) ctx) (IsAsked (heard_of self.now) ctx) }
@@ -120,7 +120,7 @@ impl Node {
         self.node.held(handler)
     }
 
-    /// The image that is installed for the handler; None exactly where none is.
+    /// The image that is installed for the handler; None exactly if none is.
     pub fn image(&self, handler: HandlerId) -> Option<&Image>
         ensures { MatchOption result (held_version (heard_of self.now) handler
             ≡ 0) (λ image. IsImageOf (heard_of self.now) handler image.now) }
@@ -128,7 +128,7 @@ impl Node {
         self.node.image(handler)
     }
 
-    /// What happened on the node.
+    /// The log of what happened on the node.
     pub fn log(&self) -> &NodeLog
         ensures same { result.now ≡ self.now.log }
         ensures keeps { KeepsJournal self.now.description (machine_in self.now.description) self.now.log }
@@ -136,7 +136,7 @@ impl Node {
         self.node.log()
     }
 
-    /// What happened on the node, handed out.
+    /// The log, handed out.
     pub fn into_log(self) -> NodeLog
         ensures same { result ≡ self.log }
         ensures keeps { KeepsJournal self.description (machine_in self.description) self.log }
@@ -144,9 +144,9 @@ impl Node {
         self.node.into_log()
     }
 
-    /// An event for the handler becomes an invocation in the handler's lowest idle context, which starts where nothing
-    /// holds it back. It is dropped with `NoCode` exactly where nothing is installed for the handler, and else with
-    /// `AllBusy` exactly where no context of the handler is idle.
+    /// An event for the handler becomes an invocation in the handler's lowest idle context, which starts if nothing holds
+    /// it back. It is dropped with `NoCode` exactly if nothing is installed for the handler, and else with `AllBusy`
+    /// exactly if no context of the handler is idle.
     pub fn post(&mut self, handler: HandlerId, payload: &Payload, at: Stamp) -> PostAnswer
         requires handler { handler.0 < length self.old.description.handlers.items }
         requires timely { IsTimely at self.old.log }
@@ -158,8 +158,8 @@ impl Node {
         self.node.post(handler, payload, at)
     }
 
-    /// The invocation that waits in the context gets the answer to its call, and is ready, with its turn after all others.
-    /// `NotWaiting` comes exactly where none waits there, and leaves the node as it was.
+    /// Gives the invocation that waits in the context the answer to its call: it is ready, with its turn after all others.
+    /// `NotWaiting` comes exactly if none waits there, and leaves the node as it was.
     pub fn answer(&mut self, ctx: ContextId, value: i16, at: Stamp) -> Result<(), NotWaiting>
         requires context { ctx.0 < CONTEXTS_MAX }
         requires timely { IsTimely at self.old.log }
@@ -171,10 +171,9 @@ impl Node {
         self.node.answer(ctx, value, at)
     }
 
-    /// The capsule is installed, and an era begins: live invocations are cut, variables are 0 and buffers empty. A handler
-    /// that runs once is then posted with an empty payload. A refusal leaves the node as it was: the capsule's, then its
-    /// code's, then `NotNewer` exactly where the version that is held for the handler is at least the capsule's, with that
-    /// version.
+    /// Installs the capsule, and begins an era: live invocations are cut, variables are 0 and buffers empty. A handler that
+    /// runs once is then posted with an empty payload. A refusal leaves the node as it was: the capsule's, then its code's,
+    /// then `NotNewer` exactly if the version that is held for the handler is at least the capsule's, with that version.
     pub fn install(&mut self, bytes: &[u8], at: Stamp) -> Result<(), InstallFault>
         requires timely { IsTimely at self.old.log }
         requires few { length self.old.log.entries < 4000000000 }
@@ -186,7 +185,7 @@ impl Node {
         self.node.install(bytes, at)
     }
 
-    /// An era begins as with an install, but what is installed stays, and nothing is posted.
+    /// Begins an era as an install does, but what is installed stays, and nothing is posted.
     pub fn reset(&mut self, at: Stamp)
         requires timely { IsTimely at self.old.log }
         requires few { length self.old.log.entries < 4000000000 }
@@ -197,7 +196,7 @@ impl Node {
         self.node.reset(at);
     }
 
-    /// The shared variables and buffers are shown as they are.
+    /// Records the shared variables and buffers as they are.
     pub fn seen(&mut self, at: Stamp)
         requires timely { IsTimely at self.old.log }
         requires few { length self.old.log.entries < 4000000000 }
@@ -208,7 +207,7 @@ impl Node {
         self.node.seen(at);
     }
 
-    /// A step that could do nothing is told.
+    /// Records that a step could do nothing, and why.
     pub fn void(&mut self, cause: VoidCause, at: Stamp)
         requires timely { IsTimely at self.old.log }
         requires room { 1 ≤ self.old.log.spare }

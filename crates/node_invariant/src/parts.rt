@@ -1,4 +1,4 @@
-//! The parts of a node that its calls change, and what they write into its log.
+//! The parts of a node that its calls change, and what they record in its log.
 
 ghost use Rattle.std.specs.Prelude.{◌≡◌, ◌≤◌, ◌+◌};
 ghost use Rattle.journal_laws.specs.Growth.{IsPushed};
@@ -20,7 +20,7 @@ pub struct Parts {
     pub log: OpenLog,
 }
 
-/// Tells an entry that names neither an image nor a store.
+/// Records an entry that names neither an image nor a store.
 pub fn tell(log: &mut OpenLog, at: Stamp, entry: Entry)
     requires room { 1 ≤ log.old.all.spare }
     requires names { NamesNothing entry }

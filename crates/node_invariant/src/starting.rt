@@ -1,4 +1,4 @@
-//! The queued invocations that nothing holds back start, the one posted first before the others.
+//! The queued invocations that nothing holds back start, in the order of their posts.
 
 ghost use Rattle.std.specs.Prelude.{◌≡◌, MatchBool};
 ghost use Rattle.node_invariant.specs.Keeps.{IsTimely};
@@ -10,7 +10,7 @@ use mate_num::Stamp;
 use node_contexts::number;
 use vm_desc::Description;
 
-/// Starts the first queued invocation that nothing holds back. False comes exactly where there is none.
+/// Starts the first queued invocation that nothing holds back. Answers false exactly if there is none.
 pub fn start_next(description: &Description, parts: &mut Parts, at: Stamp) -> bool
     requires starting { IsStarting description.now parts.old }
     requires timely { IsTimely at parts.old.log.all }

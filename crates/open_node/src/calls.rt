@@ -1,4 +1,4 @@
-//! What a node is told from outside: events for its handlers, answers, capsules, resets.
+//! What comes to a node from outside: events for its handlers, answers, capsules, resets.
 
 ghost use Rattle.std.specs.Prelude.{◌≡◌, ◌<◌, ◌≤◌, ◌∷◌, [], length, MatchResult};
 ghost use Rattle.mate_num.specs.declared.bounds.TheConstants.{CONTEXTS_MAX};
@@ -22,9 +22,9 @@ impl OpenNode {
     ghost use Rattle.open_node.specs.View.{heard_of, Tells};
     ghost use Rattle.open_node.specs.Calls.{Pacing};
 
-    /// An event for the handler becomes an invocation in the handler's lowest idle context, which starts where nothing
-    /// holds it back. It is dropped with `NoCode` exactly where nothing is installed for the handler, and else with
-    /// `AllBusy` exactly where no context of the handler is idle.
+    /// An event for the handler becomes an invocation in the handler's lowest idle context, which starts if nothing holds
+    /// it back. It is dropped with `NoCode` exactly if nothing is installed for the handler, and else with `AllBusy`
+    /// exactly if no context of the handler is idle.
     pub fn post(&mut self, handler: HandlerId, payload: &Payload, at: Stamp) -> PostAnswer
         requires handler { handler.0 < length self.old.description.handlers.items }
         requires timely { IsTimely at self.old.log }
@@ -36,8 +36,8 @@ impl OpenNode {
         post_in(&self.description, &mut self.parts, handler, payload, at)
     }
 
-    /// The invocation that waits in the context gets the answer to its call, and is ready, with its turn after all others.
-    /// `NotWaiting` comes exactly where none waits there, and leaves the node as it was.
+    /// Gives the invocation that waits in the context the answer to its call: it is ready, with its turn after all others.
+    /// `NotWaiting` comes exactly if none waits there, and leaves the node as it was.
     pub fn answer(&mut self, ctx: ContextId, value: i16, at: Stamp) -> Result<(), NotWaiting>
         requires context { ctx.0 < CONTEXTS_MAX }
         requires timely { IsTimely at self.old.log }
@@ -49,10 +49,9 @@ impl OpenNode {
         answer_in(&self.description, &mut self.parts, ctx, value, at)
     }
 
-    /// The capsule is installed, and an era begins: live invocations are cut, variables are 0 and buffers empty. A handler
-    /// that runs once is then posted with an empty payload. A refusal leaves the node as it was: the capsule's, then its
-    /// code's, then `NotNewer` exactly where the version that is held for the handler is at least the capsule's, with that
-    /// version.
+    /// Installs the capsule, and begins an era: live invocations are cut, variables are 0 and buffers empty. A handler that
+    /// runs once is then posted with an empty payload. A refusal leaves the node as it was: the capsule's, then its code's,
+    /// then `NotNewer` exactly if the version that is held for the handler is at least the capsule's, with that version.
     pub fn install(&mut self, bytes: &[u8], at: Stamp) -> Result<(), InstallFault>
         requires timely { IsTimely at self.old.log }
         requires few { length self.old.log.entries < 4000000000 }
@@ -64,7 +63,7 @@ impl OpenNode {
         install_in(&self.description, &mut self.parts, bytes, at)
     }
 
-    /// An era begins as with an install, but what is installed stays, and nothing is posted.
+    /// Begins an era as an install does, but what is installed stays, and nothing is posted.
     pub fn reset(&mut self, at: Stamp)
         requires timely { IsTimely at self.old.log }
         requires few { length self.old.log.entries < 4000000000 }
@@ -75,7 +74,7 @@ impl OpenNode {
         reset_in(&self.description, &mut self.parts, at);
     }
 
-    /// The shared variables and buffers are shown as they are.
+    /// Records the shared variables and buffers as they are.
     pub fn seen(&mut self, at: Stamp)
         requires timely { IsTimely at self.old.log }
         requires few { length self.old.log.entries < 4000000000 }
@@ -86,7 +85,7 @@ impl OpenNode {
         seen_in(&self.description, &mut self.parts, at);
     }
 
-    /// A step that could do nothing is told.
+    /// Records that a step could do nothing, and why.
     pub fn void(&mut self, cause: VoidCause, at: Stamp)
         requires timely { IsTimely at self.old.log }
         requires room { 1 ≤ self.old.log.spare }

@@ -1,4 +1,4 @@
-//! A node of the network: what happens on it, in the order in which it is told to.
+//! A node of the network: what happens on it, in the order of its calls.
 #![tactic(auto)]
 
 pub mod calls;

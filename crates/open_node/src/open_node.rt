@@ -29,11 +29,11 @@ use std::alloc::Global;
 use std::marker::Model;
 use vm_desc::Description;
 
-/// A node whose told entries can be forgotten. Contracts see the node with its whole log, and how much of it is gone. After a
+/// A node whose entries can be forgotten. Contracts see the node with its whole log, and how much of it is gone. After a
 /// `reserve` its calls take no memory.
 ///
 /// Each call that takes a stamp has the conditions that neither the event nor the time of the stamp is below those of the
-/// last entry, that the time is the last entry's where the event is, and that there is room for the entries.
+/// last entry, that the time is the last entry's if the event is, and that there is room for the entries.
 pub struct OpenNode {
     pub(crate) description: Description,
     pub(crate) parts: Parts,
@@ -60,7 +60,7 @@ impl Model for OpenNode {
     ghost invariant = { IsResting };
 }
 
-/// What the log of a node that rests keeps.
+/// What holds of the log of a node that rests.
 fn keeps_journal(description: &Description, parts: &Parts)
     requires { Rests description.now parts.now }
     ensures { KeepsJournal description.now (machine_in description.now) parts.now.log.all }
@@ -74,7 +74,7 @@ impl OpenNode {
     ghost use Rattle.open_node.specs.View.{heard_of, HasPace, Tells, IsSameNode};
     ghost use Rattle.open_node.specs.Calls.{HasStepped, IsNoneReady, StandsAs, IsAsked, IsImageOf, TellFrom};
 
-    /// A node of this machine. Nothing is installed, all variables are 0, all buffers are empty, and nothing was told.
+    /// A node of this machine. Nothing is installed, all variables are 0, all buffers are empty, and no entry was made.
     pub fn new(alloc: Global, description: &Description) -> Result<OpenNode, NoMemory>
         ensures { IfOk result (λ made. (made.description ≡ description.now) × IsEmpty made.log × HasPace made no_pace
             × (made.gone ≡ nothing_gone)) }
@@ -94,7 +94,7 @@ impl OpenNode {
         })
     }
 
-    /// Makes room for n more entries. `NoMemory` leaves the node as it was, but for its room.
+    /// Makes room for n more entries. `NoMemory` leaves all of the node but its room as it was.
     pub fn reserve(&mut self, n: usize) -> Result<(), NoMemory>
         ensures same { IsSameNode self.old self.new }
         ensures pace { (p : Pace) → HasPace self.old p → HasPace self.new p }
@@ -103,15 +103,15 @@ impl OpenNode {
         self.parts.log.reserve(n)
     }
 
-    /// How many entries, of whatever kind, are made without memory.
+    /// How many more entries, of whatever kind, it can make without memory.
     pub fn spare(&self) -> usize
         ensures { result ≡ self.now.log.spare }
     {
         self.parts.log.spare()
     }
 
-    /// The invocation in the context executes n instructions, or fewer where it asks or is over before. Answers how many.
-    /// `NotReady` comes exactly where no ready invocation is in the context, and leaves the node as it was.
+    /// The invocation in the context executes n instructions, or fewer if it calls a function or ends before. Answers how
+    /// many. `NotReady` comes exactly if no ready invocation is in the context, and leaves the node as it was.
     pub fn step(&mut self, ctx: ContextId, n: u32, at: Stamp) -> Result<u32, NotReady>
         requires context { ctx.0 < CONTEXTS_MAX }
         requires some { 0 < n }
@@ -159,7 +159,7 @@ impl OpenNode {
         }
     }
 
-    /// The call that the invocation in the context waits with; None exactly where none waits there.
+    /// The call whose answer the invocation in the context waits for; None exactly if none waits there.
     pub fn asked(&self, ctx: ContextId) -> Option<Asked>
         requires { ctx.0 < CONTEXTS_MAX }
         ensures { MatchOption result (NobodyWaits (heard_of self.now) ctx) (IsAsked (heard_of self.now) ctx) }
@@ -176,7 +176,7 @@ impl OpenNode {
         self.parts.handlers.version(handler)
     }
 
-    /// The image that is installed for the handler; None exactly where none is.
+    /// The image that is installed for the handler; None exactly if none is.
     pub fn image(&self, handler: HandlerId) -> Option<&Image>
         ensures { MatchOption result (held_version (heard_of self.now) handler
             ≡ 0) (λ image. IsImageOf (heard_of self.now) handler image.now) }
@@ -187,7 +187,7 @@ impl OpenNode {
         }
     }
 
-    /// How many entries were told, with those that are forgotten.
+    /// How many entries were made, those that are forgotten included.
     pub fn told(&self) -> usize
         ensures count { result ≡ length self.now.log.entries }
         ensures gone { self.now.gone.entries ≤ result }
@@ -196,7 +196,7 @@ impl OpenNode {
         self.parts.log.told()
     }
 
-    /// Forgets all that was told until now: its memory is free for what comes.
+    /// Forgets all entries that were made until now: their memory is free for those that come.
     pub fn forget(&mut self)
         requires { length self.old.log.entries < 4000000000 }
         ensures same { IsSameNode (record self.old { gone = gone_of self.old.log }) self.new }
@@ -205,8 +205,8 @@ impl OpenNode {
         self.parts.log.forget();
     }
 
-    /// Where all that was told is forgotten: takes the room of another empty log, and leaves that one its own. So nodes that
-    /// are called in turn share one room.
+    /// Takes the room of another empty log, and leaves that one its own, if all entries are forgotten. So nodes that are
+    /// called in turn share one room.
     pub fn trade(&mut self, room: &mut NodeLog)
         requires gone { self.old.gone ≡ gone_of self.old.log }
         requires empty { IsEmpty room.old }
@@ -218,7 +218,7 @@ impl OpenNode {
         self.parts.log.trade(room);
     }
 
-    /// What was told since the last `forget`.
+    /// The log of the entries that were made since the last `forget`.
     pub fn kept(&self) -> &NodeLog
         ensures kept { IsKept (record { all = self.now.log; gone = self.now.gone }) result.now }
         ensures keeps { KeepsJournal self.now.description (machine_in self.now.description) self.now.log }
@@ -227,7 +227,7 @@ impl OpenNode {
         self.parts.log.kept()
     }
 
-    /// The entries that were told from this position on. Positions count what is forgotten too.
+    /// The entries from this position on. Positions count those that are forgotten, too.
     pub fn told_since(&self, from: usize) -> &[Stamped]
         requires kept { self.now.gone.entries ≤ from }
         requires within { from ≤ length self.now.log.entries }
@@ -240,7 +240,7 @@ impl OpenNode {
         &entries[from - gone..]
     }
 
-    /// What happened on the node, where nothing was forgotten.
+    /// The whole log, if nothing was forgotten.
     pub fn log(&self) -> &NodeLog
         requires { self.now.gone ≡ nothing_gone }
         ensures same { result.now ≡ self.now.log }

@@ -13,7 +13,7 @@ pub enum Standing {
     Idle,
 }
 
-/// The call that an invocation waits with.
+/// The call whose answer an invocation waits for.
 #[derive(Drop)]
 pub struct Asked {
     pub inv: u32,

@@ -45,9 +45,9 @@ fn first_failed(
     first_failed_of(alloc, &trial)
 }
 
-/// Whether a report shows serial behaviour of the programs: `Serial` exactly where each node's journal keeps each law, and else the least
-/// node whose journal fails one, with the first that it fails in their order. `NoMemory` comes only where memory is refused, for what is
-/// live on a node at a time, for programs that are made ready, and for the calls of runs.
+/// Whether a report shows serial behaviour of the programs: `Serial` exactly if each node's journal keeps each law, and otherwise the
+/// first node whose journal fails one, with the first law that it fails, in their order. `NoMemory` comes only if memory is refused: for
+/// what is live on a node at a time, for programs that are made ready, and for the calls of runs.
 pub fn audit(
     alloc: Global,
     desc: &Description,

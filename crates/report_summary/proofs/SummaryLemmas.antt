@@ -10,7 +10,7 @@ use Rattle.mate_journal.specs.declared.entry.Stamped.{Stamped}
 use Rattle.mate_journal.specs.declared.report.Report.{Report}
 use Rattle.report_text.specs.Words.{number, word, handler_name}
 use Rattle.report_text.specs.Text.{records, end_word}
-use Rattle.report_text.specs.Brief.{is_entry, versions, last, count_line, brief, air_of, entries_of as entries_of_logs, newest as newest_of_logs, holders as holders_of_logs, newest_line as line_of_logs, count_lines as lines_of_report}
+use Rattle.report_text.specs.Brief.{is_entry, versions, last, text_of_counts, brief, air_of, entries_of as entries_of_logs, newest as newest_of_logs, holders as holders_of_logs, newest_line as line_of_logs, count_lines as lines_of_report}
 use Rattle.report_text.specs.declared.summary.EntryKind.{EntryKind}
 use Rattle.report_text.specs.declared.summary.EntryKind.TheVariants as entry_kind
 use Rattle.report_text.specs.declared.summary.AirKind.TheVariants as air_kind
@@ -107,27 +107,20 @@ lines-below f g (suc n) same =
     ∙ ap (λ (xs : List ℕ). flat_map g (below n) ++ xs) (same n (omega arith))
     ∙ sym (flat_map-below_next g n)
 
--- the lines of eleven numbers
-abbrev lines_of : (n1 n2 n3 n4 n5 n6 n7 n8 n9 n10 n11 : ℕ) → List ℕ
-lines_of n1 n2 n3 n4 n5 n6 n7 n8 n9 n10 n11 =
-    count_line (codes "nodes") n1 ++ count_line (codes "events") n2 ++ count_line (codes "records") n3 ++ count_line (codes "posts") n4
-    ++ count_line (codes "drops") n5 ++ count_line (codes "halts") n6 ++ count_line (codes "faults") n7 ++ count_line (codes "installs") n8
-    ++ count_line (codes "sent") n9 ++ count_line (codes "got") n10 ++ count_line (codes "lost") n11
-
 lines-same : (n1 n2 n3 n4 n5 n6 n7 n8 n9 n10 n11 m1 m2 m3 m4 m5 m6 m7 m8 m9 m10 m11 : ℕ) → n1 ≡ m1 → n2 ≡ m2 → n3 ≡ m3 → n4 ≡ m4 → n5 ≡ m5 → n6 ≡ m6 → n7 ≡ m7 → n8 ≡ m8 → n9 ≡ m9 → n10 ≡ m10 → n11 ≡ m11
-    → lines_of n1 n2 n3 n4 n5 n6 n7 n8 n9 n10 n11 ≡ lines_of m1 m2 m3 m4 m5 m6 m7 m8 m9 m10 m11
+    → text_of_counts n1 n2 n3 n4 n5 n6 n7 n8 n9 n10 n11 ≡ text_of_counts m1 m2 m3 m4 m5 m6 m7 m8 m9 m10 m11
 lines-same n1 n2 n3 n4 n5 n6 n7 n8 n9 n10 n11 m1 m2 m3 m4 m5 m6 m7 m8 m9 m10 m11 p1 p2 p3 p4 p5 p6 p7 p8 p9 p10 p11 =
-    ap (λ (x : ℕ). lines_of x n2 n3 n4 n5 n6 n7 n8 n9 n10 n11) p1
-    ∙ ap (λ (x : ℕ). lines_of m1 x n3 n4 n5 n6 n7 n8 n9 n10 n11) p2
-    ∙ ap (λ (x : ℕ). lines_of m1 m2 x n4 n5 n6 n7 n8 n9 n10 n11) p3
-    ∙ ap (λ (x : ℕ). lines_of m1 m2 m3 x n5 n6 n7 n8 n9 n10 n11) p4
-    ∙ ap (λ (x : ℕ). lines_of m1 m2 m3 m4 x n6 n7 n8 n9 n10 n11) p5
-    ∙ ap (λ (x : ℕ). lines_of m1 m2 m3 m4 m5 x n7 n8 n9 n10 n11) p6
-    ∙ ap (λ (x : ℕ). lines_of m1 m2 m3 m4 m5 m6 x n8 n9 n10 n11) p7
-    ∙ ap (λ (x : ℕ). lines_of m1 m2 m3 m4 m5 m6 m7 x n9 n10 n11) p8
-    ∙ ap (λ (x : ℕ). lines_of m1 m2 m3 m4 m5 m6 m7 m8 x n10 n11) p9
-    ∙ ap (λ (x : ℕ). lines_of m1 m2 m3 m4 m5 m6 m7 m8 m9 x n11) p10
-    ∙ ap (λ (x : ℕ). lines_of m1 m2 m3 m4 m5 m6 m7 m8 m9 m10 x) p11
+    ap (λ (x : ℕ). text_of_counts x n2 n3 n4 n5 n6 n7 n8 n9 n10 n11) p1
+    ∙ ap (λ (x : ℕ). text_of_counts m1 x n3 n4 n5 n6 n7 n8 n9 n10 n11) p2
+    ∙ ap (λ (x : ℕ). text_of_counts m1 m2 x n4 n5 n6 n7 n8 n9 n10 n11) p3
+    ∙ ap (λ (x : ℕ). text_of_counts m1 m2 m3 x n5 n6 n7 n8 n9 n10 n11) p4
+    ∙ ap (λ (x : ℕ). text_of_counts m1 m2 m3 m4 x n6 n7 n8 n9 n10 n11) p5
+    ∙ ap (λ (x : ℕ). text_of_counts m1 m2 m3 m4 m5 x n7 n8 n9 n10 n11) p6
+    ∙ ap (λ (x : ℕ). text_of_counts m1 m2 m3 m4 m5 m6 x n8 n9 n10 n11) p7
+    ∙ ap (λ (x : ℕ). text_of_counts m1 m2 m3 m4 m5 m6 m7 x n9 n10 n11) p8
+    ∙ ap (λ (x : ℕ). text_of_counts m1 m2 m3 m4 m5 m6 m7 m8 x n10 n11) p9
+    ∙ ap (λ (x : ℕ). text_of_counts m1 m2 m3 m4 m5 m6 m7 m8 m9 x n11) p10
+    ∙ ap (λ (x : ℕ). text_of_counts m1 m2 m3 m4 m5 m6 m7 m8 m9 m10 x) p11
 
 counts-same : (d : Description) (s : Summary) (r : Report) → SumsReport d s r → counted_lines s ≡ lines_of_report r
 counts-same d s r is =

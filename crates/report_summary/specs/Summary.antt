@@ -6,7 +6,7 @@ use Rattle.mate_journal.specs.Tidy.{below}
 use Rattle.mate_journal.specs.declared.report.Report.{Report}
 use Rattle.report_text.specs.Words.{number, word, handler_name}
 use Rattle.report_text.specs.Text.{end_word}
-use Rattle.report_text.specs.Brief.{count_line}
+use Rattle.report_text.specs.Brief.{text_of_counts}
 use Rattle.report_text.specs.declared.summary.EntryKind.{EntryKind}
 use Rattle.report_text.specs.declared.summary.EntryKind.TheVariants as entry_kind
 use Rattle.report_summary.specs.Tally.{entries_counted, versions_at, IsUpTo, IsLogTally, AreLogTallies, IsAirTally}
@@ -64,17 +64,9 @@ newest_line_counted d ts h =
 
 abbrev pub counted_lines : Summary → List ℕ
 counted_lines s =
-    count_line (codes "nodes") (length s.nodes.items)
-    ++ count_line (codes "events") s.events
-    ++ count_line (codes "records") (s.air.records + sum_by (λ t. t.entries) s.nodes.items)
-    ++ count_line (codes "posts") (entries_summed entry_kind.Post s.nodes.items)
-    ++ count_line (codes "drops") (entries_summed entry_kind.Drop s.nodes.items)
-    ++ count_line (codes "halts") (entries_summed entry_kind.Halt s.nodes.items)
-    ++ count_line (codes "faults") (entries_summed entry_kind.Fault s.nodes.items)
-    ++ count_line (codes "installs") (entries_summed entry_kind.Install s.nodes.items)
-    ++ count_line (codes "sent") s.air.sent
-    ++ count_line (codes "got") s.air.got
-    ++ count_line (codes "lost") s.air.lost
+    let of : EntryKind → ℕ = λ kind. entries_summed kind s.nodes.items in
+    text_of_counts (length s.nodes.items) s.events (s.air.records + sum_by (λ t. t.entries) s.nodes.items) (of entry_kind.Post)
+    (of entry_kind.Drop) (of entry_kind.Halt) (of entry_kind.Fault) (of entry_kind.Install) s.air.sent s.air.got s.air.lost
 
 -- the counts, a line per handler, and whether the run is whole
 abbrev pub summary_text : Description → Summary → List ℕ

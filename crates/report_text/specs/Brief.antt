@@ -67,20 +67,20 @@ abbrev pub newest_line : Description → List Log → ℕ → List ℕ
 newest_line d logs h =
     codes "newest" ++ word (handler_name d (record { 0 = h })) ++ number (newest h logs) ++ number (holders h logs) ++ codes "\n"
 
--- the lines of counts
+-- the lines of these counts
+abbrev pub text_of_counts : (nodes events records posts drops halts faults installs sent got lost : ℕ) → List ℕ
+text_of_counts nodes events records posts drops halts faults installs sent got lost =
+    count_line (codes "nodes") nodes ++ count_line (codes "events") events ++ count_line (codes "records") records
+    ++ count_line (codes "posts") posts ++ count_line (codes "drops") drops ++ count_line (codes "halts") halts
+    ++ count_line (codes "faults") faults ++ count_line (codes "installs") installs
+    ++ count_line (codes "sent") sent ++ count_line (codes "got") got ++ count_line (codes "lost") lost
+
+-- those of a report
 abbrev pub count_lines : Report → List ℕ
 count_lines r =
-    count_line (codes "nodes") (length r.nodes)
-    ++ count_line (codes "events") r.events
-    ++ count_line (codes "records") (records r)
-    ++ count_line (codes "posts") (entries_of entry_kind.Post r.nodes)
-    ++ count_line (codes "drops") (entries_of entry_kind.Drop r.nodes)
-    ++ count_line (codes "halts") (entries_of entry_kind.Halt r.nodes)
-    ++ count_line (codes "faults") (entries_of entry_kind.Fault r.nodes)
-    ++ count_line (codes "installs") (entries_of entry_kind.Install r.nodes)
-    ++ count_line (codes "sent") (air_of air_kind.Sent r.air)
-    ++ count_line (codes "got") (air_of air_kind.Got r.air)
-    ++ count_line (codes "lost") (air_of air_kind.Lost r.air)
+    let of : EntryKind → ℕ = λ kind. entries_of kind r.nodes in
+    text_of_counts (length r.nodes) r.events (records r) (of entry_kind.Post) (of entry_kind.Drop) (of entry_kind.Halt) (of entry_kind.Fault)
+    (of entry_kind.Install) (air_of air_kind.Sent r.air) (air_of air_kind.Got r.air) (air_of air_kind.Lost r.air)
 
 -- the counts, a line per handler, and whether the run is whole
 abbrev pub brief : Description → Report → List ℕ

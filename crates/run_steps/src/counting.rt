@@ -1,4 +1,4 @@
-//! The run of a node script that is counted as its events end.
+//! The run of a node script whose entries are counted as its events end.
 
 ghost use Rattle.std.specs.Prelude.{◌^◌, length, take, IfOk};
 ghost use Rattle.vm_desc.specs.declared.description.Description.{Description};
@@ -17,7 +17,7 @@ use script_reader::Steps;
 use std::alloc::Global;
 use vm_desc::Description;
 
-/// The summary of a run of so many events on the node, of which all is counted but what is at hand.
+/// The summary of a run of this number of events on the node. All entries are counted already but those at hand.
 fn summary_of(
     alloc: Global,
     node: &HeapNode,

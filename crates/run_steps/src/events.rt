@@ -1,4 +1,4 @@
-//! The event that a step of a script is, on a node.
+//! What a step of a script does on a node, as one event.
 
 ghost use Rattle.std.specs.Prelude.{◌≡◌, ◌<◌, ◌≤◌, length};
 ghost use Rattle.vm_desc.specs.Whole.{context_count};
@@ -16,7 +16,7 @@ use node_calls::InstallFault;
 use open_node::OpenNode;
 use script_reader::Step;
 
-/// The program is installed, or it is told that the node holds a version that isn't older.
+/// Installs the program, or records that the node holds a version that isn't older.
 fn install(node: &mut OpenNode, program: &Program, at: Stamp)
     requires ready { IsReadyFor node.old at }
     requires right { IsRightProgram node.old.description program.now }
@@ -30,7 +30,7 @@ fn install(node: &mut OpenNode, program: &Program, at: Stamp)
     }
 }
 
-/// The context has one turn, or it is told that nobody is ready there.
+/// Gives the context one turn, or records that no invocation is ready there.
 fn take_turn(node: &mut OpenNode, ctx: ContextId, n: u32, at: Stamp)
     requires ready { IsReadyFor node.old at }
     requires right { IsRightTurn node.old.description ctx.0 n }
@@ -43,7 +43,7 @@ fn take_turn(node: &mut OpenNode, ctx: ContextId, n: u32, at: Stamp)
     }
 }
 
-/// The call that the context waits with is answered, or it is told that nobody waits there.
+/// Answers the call that the invocation in the context made, or records that none waits there.
 fn answer(node: &mut OpenNode, ctx: ContextId, value: i16, at: Stamp)
     requires ready { IsReadyFor node.old at }
     requires context { ctx.0 < 16 }
@@ -55,7 +55,7 @@ fn answer(node: &mut OpenNode, ctx: ContextId, value: i16, at: Stamp)
     }
 }
 
-/// The file's program is installed, or it is told that the node holds a version that isn't older.
+/// Installs the file's program, or records that the node holds a version that isn't older.
 fn install_file(node: &mut OpenNode, programs: &Programs, file: u32, at: Stamp)
     requires ready { IsReadyFor node.old at }
     requires below { file < length programs.now }
@@ -65,7 +65,7 @@ fn install_file(node: &mut OpenNode, programs: &Programs, file: u32, at: Stamp)
     install(node, &programs.as_slice()[file as usize], at);
 }
 
-/// The step is one event, with this stamp.
+/// Makes the step, as one event with this stamp.
 pub(crate) fn make_step(node: &mut OpenNode, step: &Step, programs: &Programs, at: Stamp)
     requires ready { IsReadyFor node.old at }
     requires right { IsRightStep node.old.description (length programs.now) step.now }

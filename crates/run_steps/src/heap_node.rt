@@ -77,7 +77,7 @@ impl HeapNode {
         self.node.reserve(n)
     }
 
-    /// The step is one event, with this stamp.
+    /// Makes the step, as one event with this stamp.
     pub(crate) fn make(&mut self, step: &Step, programs: &Programs, at: Stamp)
         requires ready { IsReadyFor self.old at }
         requires right { IsRightStep self.old.description (length programs.now) step.now }
@@ -94,7 +94,7 @@ impl HeapNode {
         log_is_in_range_from(self.node.kept(), size);
     }
 
-    /// The stores are shown as they are.
+    /// Records the shared variables and buffers as they are.
     pub(crate) fn seen(&mut self, at: Stamp)
         requires timely { IsTimely at self.old.log }
         requires few { length self.old.log.entries < 4000000000 }
@@ -109,7 +109,7 @@ impl HeapNode {
         log_is_in_range_from(self.node.kept(), size);
     }
 
-    /// Lets go of what was told, where that is to be forgotten, and makes room for n more entries.
+    /// Forgets the entries that were made, if they are to be forgotten, and makes room for n more.
     pub(crate) fn make_room(&mut self, written: Written, n: usize) -> Result<(), NoMemory>
         requires { length self.old.log.entries < 4000000000 }
         ensures same { IsSameNode (record self.old { gone = self.new.gone }) self.new }
@@ -122,7 +122,7 @@ impl HeapNode {
         self.reserve(n)
     }
 
-    /// Forgets what was told, where that is to be forgotten.
+    /// Forgets the entries that were made, if they are to be forgotten.
     fn let_go(&mut self, written: Written)
         requires { length self.old.log.entries < 4000000000 }
         ensures same { IsSameNode (record self.old { gone = self.new.gone }) self.new }
@@ -136,7 +136,7 @@ impl HeapNode {
         }
     }
 
-    /// Counts what is at hand and lets go of it, and makes room for n more entries.
+    /// Counts the entries at hand, forgets them, and makes room for n more.
     pub(crate) fn count(&mut self, tally: &mut LogTally, n: usize) -> Result<(), NoMemory>
         requires few { length self.old.log.entries < 4000000000 }
         requires up { IsUpTo (2 ^ 56) tally.old }
@@ -152,7 +152,7 @@ impl HeapNode {
         self.reserve(n)
     }
 
-    /// Counts what is at hand.
+    /// Counts the entries at hand.
     pub(crate) fn count_kept(&self, tally: &mut LogTally)
         requires { IsUpTo (2 ^ 63) tally.old }
         ensures tallies { (handlers : ℕ) → IsLogTally handlers tally.old (take self.now.gone.entries self.now.log.entries)
@@ -162,7 +162,7 @@ impl HeapNode {
         tally.add_all(self.node.kept().entries());
     }
 
-    /// Forgets what was told.
+    /// Forgets the entries that were made.
     fn forget(&mut self)
         requires { length self.old.log.entries < 4000000000 }
         ensures same { IsSameNode (record self.old { gone = gone_of self.old.log }) self.new }
@@ -172,7 +172,7 @@ impl HeapNode {
         self.node.forget();
     }
 
-    /// How many entries were told.
+    /// How many entries were made.
     pub(crate) fn told(&self) -> usize
         ensures count { result ≡ length self.now.log.entries }
         ensures keeps { KeepsJournal self.now.description (machine_in self.now.description) self.now.log }
@@ -181,7 +181,7 @@ impl HeapNode {
         self.node.told()
     }
 
-    /// What was told since the last entries were forgotten.
+    /// The log of the entries that were made since the last ones were forgotten.
     pub(crate) fn kept(&self) -> &NodeLog
         ensures kept { IsKept (record { all = self.now.log; gone = self.now.gone }) result.now }
         ensures keeps { KeepsJournal self.now.description (machine_in self.now.description) self.now.log }
@@ -189,7 +189,7 @@ impl HeapNode {
         self.node.kept()
     }
 
-    /// What happened on the node, where nothing was forgotten, handed out.
+    /// The whole log, handed out, if nothing was forgotten.
     #[inline(never)]
     pub(crate) fn into_log(self) -> NodeLog
         requires { self.gone ≡ nothing_gone }

@@ -1,4 +1,4 @@
-//! The run of a node script: its steps, one event each, and the report of them.
+//! The run of a node script: its steps, one event each, and their report.
 #![tactic(auto)]
 
 pub mod counting;

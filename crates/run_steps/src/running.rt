@@ -15,7 +15,7 @@ use script_reader::Steps;
 use std::alloc::Global;
 use vm_desc::Description;
 
-/// No further event is begun on the node.
+/// Whether no further event is begun on the node.
 pub(crate) fn is_full(node: &HeapNode) -> bool
     ensures full { result ≡ nat_le records_max (length node.now.log.entries) }
     ensures keeps { KeepsJournal node.now.description (machine_in node.now.description) node.now.log }
@@ -42,7 +42,7 @@ pub(crate) fn report_of(
 }
 
 /// Runs the steps of a script on a node of this machine, with the programs of its files: the k-th step is event k, at time
-/// 0, and at the end the store is seen. `LogFull` comes exactly where 1,000,000 records stand or more and a step is left, with
+/// 0, and at the end the store is recorded. `LogFull` comes exactly if a step is left after 1,000,000 records or more, with
 /// the report so far.
 pub fn run_steps(
     alloc: Global,

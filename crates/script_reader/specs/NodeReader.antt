@@ -21,13 +21,7 @@ files_after files (Some file) = files + 1
 -- an install is newer than the newest version of its handler
 abbrev pub IsNewer : List ℕ → Step → Type 0
 IsNewer newest (step.Install handler version program) = slice_index newest handler.0 < version
-IsNewer newest (step.Load program) = Unit {0}
-IsNewer newest (step.Post handler payload) = Unit {0}
-IsNewer newest (step.Step ctx n) = Unit {0}
-IsNewer newest step.Run = Unit {0}
-IsNewer newest (step.Answer ctx value) = Unit {0}
-IsNewer newest step.Show = Unit {0}
-IsNewer newest step.Reset = Unit {0}
+IsNewer newest _ = Unit {0}
 
 -- what a line says is right after this number of files and those versions
 pub record IsRightSaid (d : Description) (newest : List ℕ) (files : ℕ) (said : Said) : Type 0 where
@@ -37,13 +31,7 @@ pub record IsRightSaid (d : Description) (newest : List ℕ) (files : ℕ) (said
 -- an install's version is at most the newest one of its handler
 abbrev pub IsNoted : List ℕ → Step → Type 0
 IsNoted newest (step.Install handler version program) = version ≤ slice_index newest handler.0
-IsNoted newest (step.Load program) = Unit {0}
-IsNoted newest (step.Post handler payload) = Unit {0}
-IsNoted newest (step.Step ctx n) = Unit {0}
-IsNoted newest step.Run = Unit {0}
-IsNoted newest (step.Answer ctx value) = Unit {0}
-IsNoted newest step.Show = Unit {0}
-IsNoted newest step.Reset = Unit {0}
+IsNoted newest _ = Unit {0}
 
 -- what is right of every progress
 pub record KeepsProgress (d : Description) (p : Progress) : Type 0 where

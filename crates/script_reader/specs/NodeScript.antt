@@ -95,13 +95,7 @@ with_file files (Some file) = files ++ file ∷ []
 
 abbrev pub newest_after : List ℕ → Step → List ℕ
 newest_after newest (step.Install handler version program) = slice_set newest handler.0 version
-newest_after newest (step.Load program) = newest
-newest_after newest (step.Post handler payload) = newest
-newest_after newest (step.Step ctx n) = newest
-newest_after newest step.Run = newest
-newest_after newest (step.Answer ctx value) = newest
-newest_after newest step.Show = newest
-newest_after newest step.Reset = newest
+newest_after newest _ = newest
 
 abbrev pub with_said : Progress → Said → Progress
 with_said p said = record {

@@ -39,25 +39,9 @@ IsRightStep d files step.Show = Unit {0}
 IsRightStep d files step.Reset = Unit {0}
 
 -- two installs of one handler: the later one has the greater version
-abbrev pub RisesTo : HandlerId → ℕ → Step → Type 0
-RisesTo handler version (step.Install other later program) = handler ≡ other → version < later
-RisesTo handler version (step.Load program) = Unit {0}
-RisesTo handler version (step.Post other payload) = Unit {0}
-RisesTo handler version (step.Step ctx n) = Unit {0}
-RisesTo handler version step.Run = Unit {0}
-RisesTo handler version (step.Answer ctx value) = Unit {0}
-RisesTo handler version step.Show = Unit {0}
-RisesTo handler version step.Reset = Unit {0}
-
 abbrev pub Rises : Step → Step → Type 0
-Rises (step.Install handler version program) later = RisesTo handler version later
-Rises (step.Load program) later = Unit {0}
-Rises (step.Post other payload) later = Unit {0}
-Rises (step.Step ctx n) later = Unit {0}
-Rises step.Run later = Unit {0}
-Rises (step.Answer ctx value) later = Unit {0}
-Rises step.Show later = Unit {0}
-Rises step.Reset later = Unit {0}
+Rises (step.Install handler version program) (step.Install other later file) = handler ≡ other → version < later
+Rises _ _ = Unit {0}
 
 -- each step is right, and the versions of a handler rise from install to install
 pub record IsRightSteps (d : Description) (script : NodeScript) : Type 0 where

@@ -43,17 +43,8 @@ as_statement (calls f es) = Do f es
 
 -- the name that an expression is alone
 abbrev pub name_alone : Tree → Option Word
-name_alone (given.number n) = None
 name_alone (given.variable w) = Some w
-name_alone (given.item w e) = None
-name_alone (given.size w) = None
-name_alone (given.message_item e) = None
-name_alone given.message_size = None
-name_alone (given.call w es) = None
-name_alone (given.negative e) = None
-name_alone (given.inverse e) = None
-name_alone (given.two o l r) = None
-name_alone (given.paren e) = None
+name_alone _ = None
 
 -- the buffer of that name
 abbrev pub sent_name : ScriptNames → ℕ → Option Word → Result BufId CheckFault

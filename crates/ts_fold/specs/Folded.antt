@@ -1,6 +1,6 @@
 -- What folding makes of a script: an operation on numbers becomes its value, and a test that is a number is decided.
 use Rattle.std.specs.Prelude.{ℤ, Bool, true, false, List, [], ◌∷◌, ◌++◌, Option, Some, None}
-use Rattle.std.specs.Option.{option_map, option_and_then}
+use Rattle.std.specs.Option.{option_map, option_map_or, option_and_then}
 use Rattle.std.specs.Result.{result_ok}
 use Rattle.mate_num.specs.Number.{is_truth}
 use Rattle.mate_num.specs.Operators.{negative_of, not_of}
@@ -14,17 +14,7 @@ use Rattle.ts_meaning.specs.Meaning.{applied}
 -- the number that an expression is
 abbrev pub literal_of : Expression → Option ℤ
 literal_of (Num n) = Some n
-literal_of (Shared v) = None
-literal_of (Private i) = None
-literal_of (Item p e) = None
-literal_of (Size p) = None
-literal_of (MsgItem e) = None
-literal_of MsgSize = None
-literal_of (Call f args) = None
-literal_of (SendBuf f p) = None
-literal_of (Neg e) = None
-literal_of (Not e) = None
-literal_of (Two op l r) = None
+literal_of _ = None
 
 -- the values of the operations on numbers, as the meaning gives them; `/` and `%` by 0 give a fault, and no value
 abbrev pub negated : Option ℤ → Option ℤ
@@ -34,14 +24,11 @@ abbrev pub inverted : Option ℤ → Option ℤ
 inverted o = option_and_then (λ a. result_ok (not_of a)) o
 
 abbrev pub operated : BinOp → Option ℤ → Option ℤ → Option ℤ
-operated op None r = None
-operated op (Some a) None = None
-operated op (Some a) (Some b) = result_ok (applied op a b)
+operated op l r = option_and_then (λ a. option_and_then (λ b. result_ok (applied op a b)) r) l
 
 -- the value, and if there is none the operation
 abbrev pub value_or : Option ℤ → Expression → Expression
-value_or None e = e
-value_or (Some n) e = Num n
+value_or o e = option_map_or Num o e
 
 abbrev pub negation : Expression → Expression
 negation e = value_or (negated (literal_of e)) (Neg e)
@@ -55,18 +42,13 @@ operation op l r = value_or (operated op (literal_of l) (literal_of r)) (Two op 
 -- an expression and arguments, folded from the leaves; an item, a size and a call are no operations
 abbrev mutual
   pub folded_expr : Expression → Expression
-  folded_expr (Num n) = Num n
-  folded_expr (Shared v) = Shared v
-  folded_expr (Private i) = Private i
   folded_expr (Item p e) = Item p (folded_expr e)
-  folded_expr (Size p) = Size p
   folded_expr (MsgItem e) = MsgItem (folded_expr e)
-  folded_expr MsgSize = MsgSize
   folded_expr (Call f args) = Call f (folded_args args)
-  folded_expr (SendBuf f p) = SendBuf f p
   folded_expr (Neg e) = negation (folded_expr e)
   folded_expr (Not e) = inverse (folded_expr e)
   folded_expr (Two op l r) = operation op (folded_expr l) (folded_expr r)
+  folded_expr e = e
 
   pub folded_args : Arguments → Arguments
   folded_args no_arguments = no_arguments
@@ -98,14 +80,12 @@ abbrev mutual
   folded_stmt (Set x e) = Set x (folded_expr e) ∷ []
   folded_stmt (SetItem p i e) = SetItem p (folded_expr i) (folded_expr e) ∷ []
   folded_stmt (Append p e) = Append p (folded_expr e) ∷ []
-  folded_stmt (Take x p) = Take x p ∷ []
-  folded_stmt (Clear p) = Clear p ∷ []
   folded_stmt (Do f args) = Do f (folded_args args) ∷ []
-  folded_stmt (DoSend f p) = DoSend f p ∷ []
   folded_stmt (If e a) = if_left (folded_expr e) (folded_stmts a)
   folded_stmt (IfElse e a b) = if_else_left (folded_expr e) (folded_stmts a) (folded_stmts b)
   folded_stmt (For x from to step a) = For x (folded_expr from) (folded_expr to) step (block (folded_stmts a)) ∷ []
   folded_stmt (While e a) = while_left (folded_expr e) (folded_stmts a)
+  folded_stmt x = x ∷ []
 
   pub folded_stmts : Block → List Statement
   folded_stmts no_statements = []

@@ -29,11 +29,7 @@ table_below place.Document word =
     else if bytes_eq word (codes "trickle") then Some place.Trickle
     else if bytes_eq word (codes "radio") then Some place.Radio
     else None
-table_below place.Handler word = None
-table_below place.Function word = None
-table_below place.Trickle word = None
-table_below place.Radio word = None
-table_below place.Value word = None
+table_below _ word = None
 
 -- the place of what is under a key, and none for a key that isn't known there
 abbrev pub known_below : Place → List ℕ → Option Place
@@ -42,13 +38,9 @@ known_below p word = option_or (table_below p word) (value_place p word)
 -- each key inside, at any depth and through lists, is known where it is
 abbrev mutual
   pub has_known : Place → Data → Bool
-  has_known p (string s) = true
-  has_known p (integer z) = true
-  has_known p (float x) = true
-  has_known p (boolean b) = true
-  has_known p (datetime dt) = true
   has_known p (array ds) = items_have_known p ds
   has_known p (table ms) = members_have_known p ms
+  has_known p _ = true
 
   pub items_have_known : Place → Items → Bool
   items_have_known p no_items = true

@@ -31,10 +31,8 @@ handler_kind word =
 
 -- a timer has a period, and no other kind has one
 abbrev pub with_period : HandlerKind → Option Data → Result HandlerKind DescFault
-with_period Plain value = absent key.HandlerPeriod Plain value
 with_period (Timer unset) value = field key.HandlerPeriod (number 1 HOUR) None value >>= (λ period. Ok (Timer period))
-with_period Receive value = absent key.HandlerPeriod Receive value
-with_period Once value = absent key.HandlerPeriod Once value
+with_period kind value = absent key.HandlerPeriod kind value
 
 -- a handler's keys
 unfoldable pub handler_at : Members → Result Handler DescFault
@@ -66,12 +64,8 @@ fun_kind word =
 
 -- an actuator may have arguments, and no other kind may
 abbrev pub with_args : FunKind → Option Data → Result FunKind DescFault
-with_args Sense value = absent key.FunctionArgs Sense value
 with_args (Act unset) value = field key.FunctionArgs (number 0 4) (Some 0) value >>= (λ args. Ok (Act args))
-with_args Send value = absent key.FunctionArgs Send value
-with_args Id value = absent key.FunctionArgs Id value
-with_args Rand value = absent key.FunctionArgs Rand value
-with_args Clock value = absent key.FunctionArgs Clock value
+with_args kind value = absent key.FunctionArgs kind value
 
 -- one of the devices, by its name
 abbrev pub device : List (List ℕ) → Data → Option (Option DeviceId)

@@ -86,7 +86,7 @@ impl<'a> ReadyProgram<'a> {
     }
 
     /// The run of the program on a store, with a message, answers to its calls and a number of turns: of its source, if it has one,
-    /// and else of its code. `NoMemory` comes only where memory for the list of calls is refused.
+    /// or of its code. `NoMemory` comes only if memory for the list of calls is refused.
     pub fn run(
         &self,
         alloc: Global,

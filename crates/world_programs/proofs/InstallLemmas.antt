@@ -16,7 +16,7 @@ use Rattle.mate_steps.specs.Steps.{stops}
 use Rattle.node_programs.specs.ScriptSteps.{IsProgramOf, AreProgramsOf}
 use Rattle.script_programs.specs.Programs.{programs_after}
 use Rattle.script_programs.proofs.StepLaws.{step_wants}
-use Rattle.script_reader.specs.Steps.{NodeScript, IsRightStep, Rises, RisesTo, IsRightSteps}
+use Rattle.script_reader.specs.Steps.{NodeScript, IsRightStep, Rises, IsRightSteps}
 use Rattle.script_reader.specs.declared.steps.Step.{Step}
 use Rattle.script_reader.specs.declared.steps.Step.TheVariants as step
 use Rattle.vm_desc.specs.declared.description.Description.{Description}

@@ -1,4 +1,3 @@
-use Rattle.std.specs.Prelude.{OnOk}
 use Rattle.node_callers.proofs.EraLemmas.{on_ok, told_as_it_is}
 use Rattle.node_callers.proofs.installs.an_install_is_told_as_it_is.Goals as goal
 

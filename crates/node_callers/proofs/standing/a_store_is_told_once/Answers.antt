@@ -1,4 +1,4 @@
-use Rattle.std.proofs.Common.{◌∙◌, ℕ, ◌+◌, List, length, suc, ap, add-one}
+use Rattle.std.proofs.Common.{◌∙◌, ◌+◌, List, length, ap, add-one}
 use Rattle.mate_journal.specs.Journal.{JournalEntry}
 use Rattle.node_callers.proofs.standing.a_store_is_told_once.Goals as goal
 
