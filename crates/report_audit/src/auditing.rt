@@ -9,7 +9,7 @@ ghost use Rattle.audit_rules.specs.Verdicts.{IsVerdict};
 
 use crate::images::images_right;
 use crate::runs::first_failed_of;
-use audit_programs::Trial;
+use audit_programs::{ReadyRoll, Trial};
 use audit_roll::entries_follow;
 use audit_rules::{Law, Verdict};
 use mate_journal::{NodeLog, Programs, Report};
@@ -18,11 +18,12 @@ use std::alloc::Global;
 use vm_desc::Description;
 
 /// The first law that the log of a node fails, by the tests in their order.
-fn first_failed(
+fn first_failed<'a>(
     alloc: Global,
-    desc: &Description,
-    programs: &Programs,
-    log: &NodeLog,
+    desc: &'a Description,
+    programs: &'a Programs,
+    log: &'a NodeLog,
+    roll: &mut ReadyRoll<'a>,
 ) -> Result<Option<Law>, NoMemory>
     requires tidy { IsTidyLog desc.now log.now }
     requires right { AreRightPrograms desc.now programs.now }
@@ -42,7 +43,7 @@ fn first_failed(
         programs,
         log,
     };
-    first_failed_of(alloc, &trial)
+    first_failed_of(alloc, &trial, roll)
 }
 
 /// Whether a report shows serial behaviour of the programs: `Serial` exactly where each node's journal keeps each law, and else the least
@@ -59,8 +60,9 @@ pub fn audit(
     ensures { IfOk result (λ v. IsVerdict desc.now programs.now report.now v) }
 {
     let nodes = report.nodes();
+    let mut roll = ReadyRoll::new(alloc)?;
     for node in 0..nodes.len() {
-        let failed = first_failed(alloc, desc, programs, &nodes[node])?;
+        let failed = first_failed(alloc, desc, programs, &nodes[node], &mut roll)?;
         if let Some(law) = failed {
             return Ok(Verdict::Refuted {
                 node: node as u8,

@@ -62,11 +62,15 @@ fn still_granted(
 
 /// The first law that a log fails whose entries follow one another and whose installs are of the programs. Its journal is read once:
 /// where serial replay fails, no later law is asked; whether the others hold so far is kept to the end.
-pub(crate) fn first_failed_of(alloc: Global, trial: &Trial) -> Result<Option<Law>, NoMemory>
+pub(crate) fn first_failed_of<'a>(
+    alloc: Global,
+    trial: &Trial<'a>,
+    roll: &mut ReadyRoll<'a>,
+) -> Result<Option<Law>, NoMemory>
     requires { IsTried trial.now }
     ensures { IfOk result (λ law. law ≡ failed_by trial.now.desc.now trial.now.programs.now trial.now.log.now) }
 {
-    let mut roll = ReadyRoll::new(alloc, trial)?;
+    roll.begin(alloc, trial);
     let mut store = zero_store(trial.desc);
     let mut last = 0;
     let mut shown = true;
@@ -74,18 +78,18 @@ pub(crate) fn first_failed_of(alloc: Global, trial: &Trial) -> Result<Option<Law
     let entries = trial.log.entries();
     for place in 0..entries.len() {
         let entry = &entries[place].entry;
-        shown = still_shown(alloc, trial, &roll, &store, shown, entry)?;
-        granted = still_granted(trial, &roll, place, last, granted, entry);
-        if !run_at(alloc, trial, &roll, place, &mut store, entry)? {
+        shown = still_shown(alloc, trial, roll, &store, shown, entry)?;
+        granted = still_granted(trial, roll, place, last, granted, entry);
+        if !run_at(alloc, trial, roll, place, &mut store, entry)? {
             return Ok(Some(Law::D8));
         }
         roll.hear(alloc, trial, place)?;
         last = start_of(entry);
     }
-    if !all_so_far(alloc, trial, &roll, &store)? {
+    if !all_so_far(alloc, trial, roll, &store)? {
         return Ok(Some(Law::D8));
     }
-    let in_order = granted && all_held_back(trial, &roll);
+    let in_order = granted && all_held_back(trial, roll);
     Ok(law_behind(shown, in_order))
 }
 

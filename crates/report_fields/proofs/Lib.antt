@@ -1,6 +1,7 @@
 pub mod OptionLemmas
 pub mod WordsLemmas
 pub mod NumberLemmas
+pub mod NumeralLemmas
 pub mod ChoiceLemmas
 pub mod HexLemmas
 pub mod FieldLemmas

@@ -11,10 +11,10 @@ in_word b = not (b == 32)
 abbrev is_space : ℕ → Bool
 is_space b = b == 32
 
-prefix-space : (b : ℕ) (bs : List ℕ) → (b == 32) ≡ true → prefix_len in_word (b ∷ bs) ≡ 0
+pub prefix-space : (b : ℕ) (bs : List ℕ) → (b == 32) ≡ true → prefix_len in_word (b ∷ bs) ≡ 0
 prefix-space b bs h = rw h refl
 
-prefix-other : (b : ℕ) (bs : List ℕ) → (b == 32) ≡ false → prefix_len in_word (b ∷ bs) ≡ suc (prefix_len in_word bs)
+pub prefix-other : (b : ℕ) (bs : List ℕ) → (b == 32) ≡ false → prefix_len in_word (b ∷ bs) ≡ suc (prefix_len in_word bs)
 prefix-other b bs h = rw h (omega arith)
 
 -- the words behind a first word that ends at a space

@@ -1,5 +1,6 @@
 pub mod Words
 pub mod Numbers
+pub mod Numerals
 pub mod Hex
 pub mod Names
 pub mod Fields

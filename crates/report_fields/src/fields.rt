@@ -1,16 +1,16 @@
 //! The fields of a record, each the next word of a line.
 
-ghost use Rattle.std.specs.Prelude.{◌≡◌};
+ghost use Rattle.std.specs.Prelude.{◌≡◌, ◌<◌, IfSome};
 ghost use Rattle.std.specs.Option.{option_map};
 ghost use Rattle.report_fields.specs.Words.{first, rest};
-ghost use Rattle.report_fields.specs.Numbers.{unsigned_of, value_of, values_after};
+ghost use Rattle.report_fields.specs.Numbers.{unsigned_of, below_of, value_of, values_after};
 ghost use Rattle.report_fields.specs.Hex.{image_of, packet_of};
 ghost use Rattle.report_fields.specs.Names.{handler_of, function_of, context_of};
 ghost use Rattle.report_fields.specs.Fields.{number_of, node_of, drop_of, fault_of, payload_of};
 
 use crate::hex_words::{image_of, packet_of};
 use crate::names::{context_of, function_of, handler_of};
-use crate::numbers::{below, unsigned, value};
+use crate::numbers::value;
 use crate::words::Words;
 use mate_journal::DropCause;
 use mate_num::{ContextId, FaultKind, FunId, HandlerId, Image, PacketBytes, Payload};
@@ -21,7 +21,17 @@ pub fn next_event(words: &mut Words) -> Option<u64>
     ensures value { result ≡ first unsigned_of words.old }
     ensures left { words.new ≡ rest words.old }
 {
-    unsigned(words.next()?)
+    words.next_unsigned()
+}
+
+/// A number below `limit`.
+fn next_below(words: &mut Words, limit: u64) -> Option<u64>
+    ensures value { result ≡ first (below_of limit) words.old }
+    ensures within { IfSome result (λ n. n < limit) }
+    ensures left { words.new ≡ rest words.old }
+{
+    let number = words.next_unsigned()?;
+    if number < limit { Some(number) } else { None }
 }
 
 /// A number below 2^32.
@@ -29,7 +39,7 @@ pub fn next_number(words: &mut Words) -> Option<u32>
     ensures value { result ≡ first number_of words.old }
     ensures left { words.new ≡ rest words.old }
 {
-    let number = below(words.next()?, 1 << 32)?;
+    let number = next_below(words, 1 << 32)?;
     Some(number as u32)
 }
 
@@ -38,7 +48,7 @@ pub fn next_node(words: &mut Words) -> Option<u8>
     ensures value { result ≡ first node_of words.old }
     ensures left { words.new ≡ rest words.old }
 {
-    let number = below(words.next()?, 64)?;
+    let number = next_below(words, 64)?;
     Some(number as u8)
 }
 

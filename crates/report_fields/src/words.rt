@@ -2,7 +2,9 @@
 
 ghost use Rattle.std.specs.Prelude.{◌≡◌, ◌≤◌, not, ◌==◌, length};
 ghost use Rattle.std.specs.List.{prefix_len};
+ghost use Rattle.std.specs.Str.{bytes_eq};
 
+use crate::numbers::{first_numeral, unsigned};
 use std::marker::Model;
 
 /// What is left of a line. Contracts see the list of its words: one stands before each space, and one behind the
@@ -26,6 +28,7 @@ impl<'a> Words<'a> {
     ghost use Rattle.std.specs.Prelude.{[], Some, IsTrue, ◌↔◌};
     ghost use Rattle.std.specs.Option.{option_copied};
     ghost use Rattle.report_fields.specs.Words.{words_of, first, rest};
+    ghost use Rattle.report_fields.specs.Numbers.{unsigned_of};
 
     /// The words of a line.
     pub fn new(line: &'a [u8]) -> Words<'a>
@@ -55,6 +58,26 @@ impl<'a> Words<'a> {
         Some(&bytes[..length])
     }
 
+    /// Takes the next word, and gives the number that it tells; None where it tells none below 2^64.
+    pub fn next_unsigned(&mut self) -> Option<u64>
+        ensures value { result ≡ first unsigned_of self.old }
+        ensures left { self.new ≡ rest self.old }
+    {
+        if self.over {
+            return None;
+        }
+        let bytes = self.rest;
+        let Some(numeral) = first_numeral(bytes) else {
+            return unsigned(self.next()?);
+        };
+        if numeral.digits == bytes.len() {
+            self.over = true;
+            return Some(numeral.number);
+        }
+        self.rest = bytes.split_at(numeral.digits + 1).1;
+        Some(numeral.number)
+    }
+
     /// Whether no word is left.
     pub fn is_empty(&self) -> bool
         ensures { IsTrue result ↔ (self.now ≡ []) }
@@ -69,4 +92,19 @@ fn word_len(bytes: &[u8]) -> usize
     ensures within { result ≤ length bytes.now }
 {
     bytes.iter().take_while(|byte| **byte != b' ').count()
+}
+
+/// Whether the two are the same bytes. Words are short, so they are compared byte by byte.
+pub fn same_bytes(one: &[u8], other: &[u8]) -> bool
+    ensures { result ≡ bytes_eq one.now other.now }
+{
+    if one.len() != other.len() {
+        return false;
+    }
+    for place in 0..one.len() {
+        if one[place] != other[place] {
+            return false;
+        }
+    }
+    true
 }

@@ -3,6 +3,8 @@
 ghost use Rattle.std.specs.Prelude.{◌≡◌};
 ghost use Rattle.report_reader.specs.Verbs.{verb_word, likely, verb_of};
 
+use report_fields::words::same_bytes;
+
 /// What kind of record a line is of.
 #[derive(Clone, Copy, PartialEq, Eq, Debug)]
 pub enum Verb {
@@ -84,7 +86,7 @@ pub fn verb_of(word: &[u8]) -> Option<Verb>
         return None;
     };
     let verb = likely(*first, *third);
-    if verb.word() == word {
+    if same_bytes(verb.word(), word) {
         Some(verb)
     } else {
         None

@@ -1,3 +1,4 @@
+pub mod LengthLemmas
 pub mod OrderLemmas
 pub mod LastLineLemmas
 pub mod PartLemmas

@@ -16,6 +16,7 @@ use crate::fault::TextFault;
 use crate::last_line::last_line_of;
 use crate::parts::Parts;
 use mate_journal::Report;
+use memchr::memchr;
 use report_reader::{Bulk, light_line_of};
 use std::alloc::Global;
 use vm_desc::Description;
@@ -68,7 +69,7 @@ fn line_len(bytes: &[u8]) -> usize
     ensures value { result ≡ prefix_len (λ b. not (b == 10)) bytes.now }
     ensures within { result ≤ length bytes.now }
 {
-    bytes.iter().take_while(|byte| **byte != b'\n').count()
+    memchr(b'\n', bytes).unwrap_or(bytes.len())
 }
 
 /// Reads the last line, behind which nothing may stand.

@@ -6,11 +6,12 @@ use Rattle.report_reader.proofs.verb.verb_of.Goals as goal
 pub returns-in_default : goal.returns-in_default
 returns-in_default c = short-word c.args.word.now c.in_default.len_below
 
-pub returns-then-eq : goal.returns-then-eq
-returns-then-eq c =
-    word-named c.args.word.now c.likely-verb.result (sym ((bytes_eq-Decides c.word.result.now c.args.word.now).0 (sym c.if-eq.ensures)) ∙ c.word.ensures)
+pub returns-then-same_bytes : goal.returns-then-same_bytes
+returns-then-same_bytes c =
+    word-named c.args.word.now c.likely-verb.result
+    (sym ((bytes_eq-Decides c.word.result.now c.args.word.now).0 (sym c.same_bytes.ensures ∙ c.if-same_bytes.true)) ∙ c.word.ensures)
 
-pub returns-else-eq : goal.returns-else-eq
-returns-else-eq c =
+pub returns-else-same_bytes : goal.returns-else-same_bytes
+returns-else-same_bytes c =
     word-unnamed c.args.word.now c.likely-verb.result c.likely-verb.ensures
-    (λ same. let t : true ≡ false = sym ((bytes_eq-Decides c.word.result.now c.args.word.now).1 (c.word.ensures ∙ sym same)) ∙ sym c.if-eq.ensures in cc)
+    (λ same. let t : true ≡ false = sym ((bytes_eq-Decides c.word.result.now c.args.word.now).1 (c.word.ensures ∙ sym same)) ∙ sym c.same_bytes.ensures ∙ c.if-same_bytes.false in cc)
